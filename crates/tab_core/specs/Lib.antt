@@ -1,0 +1,4 @@
+pub mod Name
+pub mod Period
+pub mod VcpuSets
+pub mod Vcpus

@@ -1,0 +1,102 @@
+ghost use Rattle.std.specs.Prelude.{◌≡◌, ◌↔◌, IfOk, IsErrOf, IsTrue};
+ghost use Rattle.std.specs.List.{list_all};
+ghost use Rattle.tab_core.specs.Name.{IsName, is_name, is_dash_lem, is_name_byte_lem};
+ghost use Rattle.tab_core.specs.declared.name.NameFault.TheVariants.{NoMemory};
+
+use crate::MAX_NAME;
+use std::alloc::{AllocError, Global};
+use std::error::Error;
+use std::fmt;
+use std::marker::Model;
+
+/// A vCPU's name: 1 to 32 bytes out of `a-z A-Z 0-9 _ - .`, other than the single byte `-`, which
+/// stands for an idle core in texts. Contracts see its bytes.
+#[derive(Debug, Drop)]
+pub struct Name {
+    bytes: Vec<u8>,
+}
+
+impl Model for Name {
+    ghost use Rattle.std.specs.Prelude.{ℕ, List};
+    ghost use Rattle.tab_core.specs.Name.{IsName};
+
+    ghost Value = { List ℕ };
+
+    ghost view = { λ name. name.bytes.items };
+
+    ghost invariant = { λ name. IsName name.bytes.items };
+}
+
+/// Why bytes aren't made a name.
+#[derive(Clone, Copy, Debug, PartialEq, Eq, Hash)]
+pub enum NameFault {
+    /// The bytes aren't of the form of a name.
+    BadName,
+    NoMemory,
+}
+
+impl fmt::Display for NameFault {
+    fn fmt<W: fmt::Write>(&self, f: &mut fmt::Formatter<W>) -> fmt::Result {
+        match self {
+            NameFault::BadName => write!(f, "not of the form of a name"),
+            NameFault::NoMemory => write!(f, "want of memory"),
+        }
+    }
+}
+
+impl Error for NameFault {}
+
+impl From<AllocError> for NameFault {
+    ghost from_gives = { λ _ fault. fault ≡ NoMemory };
+
+    fn from(_: AllocError) -> NameFault {
+        NameFault::NoMemory
+    }
+}
+
+impl Name {
+    /// The name of these bytes.
+    pub fn of(alloc: Global, bytes: &[u8]) -> Result<Name, NameFault>
+        ensures ok { IfOk result (λ name. (name ≡ bytes.now) × IsName bytes.now) }
+        ensures bad_name { IsErrOf result NameFault.BadName → ¬ (IsName bytes.now) }
+    {
+        if !is_good(bytes) {
+            return Err(NameFault::BadName);
+        }
+        Ok(Name {
+            bytes: bytes.to_vec(alloc)?,
+        })
+    }
+
+    pub fn bytes(&self) -> &[u8]
+        ensures same { result.now ≡ self.now }
+        ensures good { IsName self.now }
+    {
+        &self.bytes
+    }
+}
+
+fn is_good(bytes: &[u8]) -> bool
+    ensures { result ≡ is_name bytes.now }
+{
+    let short = 1 <= bytes.len() && bytes.len() <= MAX_NAME;
+    short && !is_dash(bytes) && are_name_bytes(bytes)
+}
+
+fn is_dash(bytes: &[u8]) -> bool
+    ensures { result ≡ is_dash_lem bytes.now }
+{
+    bytes.len() == 1 && bytes[0] == b'-'
+}
+
+fn are_name_bytes(bytes: &[u8]) -> bool
+    ensures { result ≡ list_all is_name_byte_lem bytes.now }
+{
+    bytes.iter().all(|byte| is_name_byte(*byte))
+}
+
+fn is_name_byte(byte: u8) -> bool
+    ensures { result ≡ is_name_byte_lem byte }
+{
+    matches!(byte, b'a'..=b'z' | b'A'..=b'Z' | b'0'..=b'9' | b'_' | b'-' | b'.')
+}

@@ -1,0 +1,92 @@
+ghost use Rattle.std.specs.Prelude.{◌≡◌, ◌↔◌, ◌<◌, IsTrue, length, replicate, slice_set, false, true};
+ghost use Rattle.tab_core.specs.VcpuSets.{has_vcpu, has_bit, members_of};
+ghost use Rattle.tab_core.specs.declared.TheConstants.{MAX_VCPUS};
+
+use crate::number::VcpuNo;
+use std::marker::Model;
+
+/// A set of vCPUs, in 32 bytes. Contracts see 256 truth values, by vCPU number.
+#[derive(Debug, Drop)]
+pub struct VcpuSet {
+    words: [u64; 4],
+}
+
+impl Model for VcpuSet {
+    ghost use Rattle.std.specs.Prelude.{Bool, List};
+    ghost use Rattle.tab_core.specs.VcpuSets.{members_of};
+
+    ghost Value = { List Bool };
+
+    ghost view = { λ set. members_of set.words };
+}
+
+impl VcpuSet {
+    /// The set of no vCPU.
+    pub fn empty() -> VcpuSet
+        ensures { result ≡ replicate MAX_VCPUS false }
+    {
+        VcpuSet { words: [0; 4] }
+    }
+
+    /// Whether the vCPU is a member.
+    pub fn has(&self, vcpu: VcpuNo) -> bool
+        ensures { result ≡ has_vcpu self.now vcpu }
+    {
+        bit_of(&self.words, vcpu.index())
+    }
+
+    /// Makes the vCPU a member.
+    pub fn put(&mut self, vcpu: VcpuNo)
+        ensures { self.new ≡ slice_set self.old vcpu true }
+    {
+        set_bit(&mut self.words, vcpu.index());
+    }
+
+    /// Makes the vCPU no member.
+    pub fn take(&mut self, vcpu: VcpuNo)
+        ensures { self.new ≡ slice_set self.old vcpu false }
+    {
+        clear_bit(&mut self.words, vcpu.index());
+    }
+
+    /// Another set of the same members.
+    pub fn copy(&self) -> VcpuSet
+        ensures { result ≡ self.now }
+    {
+        VcpuSet { words: self.words }
+    }
+
+    /// Whether the sets have the same members.
+    pub fn same(&self, other: &VcpuSet) -> bool
+        ensures { IsTrue result ↔ (self.now ≡ other.now) }
+    {
+        same_words(&self.words, &other.words)
+    }
+}
+
+fn bit_of(words: &[u64; 4], bit: usize) -> bool
+    requires { bit < MAX_VCPUS }
+    ensures { result ≡ has_bit words.now bit }
+{
+    (words[bit / 64] >> (bit % 64)) & 1 == 1
+}
+
+fn set_bit(words: &mut [u64; 4], bit: usize)
+    requires { bit < MAX_VCPUS }
+    ensures { members_of words.new ≡ slice_set (members_of words.old) bit true }
+{
+    words[bit / 64] |= 1 << (bit % 64);
+}
+
+fn clear_bit(words: &mut [u64; 4], bit: usize)
+    requires { bit < MAX_VCPUS }
+    ensures { members_of words.new ≡ slice_set (members_of words.old) bit false }
+{
+    words[bit / 64] &= !(1 << (bit % 64));
+}
+
+fn same_words(a: &[u64; 4], b: &[u64; 4]) -> bool
+    ensures { IsTrue result ↔ (members_of a.now ≡ members_of b.now) }
+{
+    *a == *b
+}
