@@ -1,0 +1,4 @@
+pub mod Views
+pub mod Outside
+pub mod Memory
+pub mod Adapters
