@@ -1,0 +1,32 @@
+use Rattle.std.proofs.Common.{ap, rules, ◌≡◌, [], ◌∷◌, codes}
+use Rattle.std.proofs.lemmas.List.{nil_from_length}
+use Rattle.tab_words.specs.Commands.{texts}
+use Rattle.tab_words.proofs.Grammar.{reading_plan, reading_help, reading_version, fault_of_name, fault_of_none}
+use Rattle.tab_words.proofs.command.reading_of.Goals as goal
+
+pub returns-in_default : goal.returns-in_default
+returns-in_default c =
+    let none : texts c.args.words.now ≡ [] =
+    ap texts (nil_from_length c.args.words.now c.in_default.ensures.cases) in
+    rw none fault_of_none
+
+pub returns-in-plan : goal.returns-in-plan
+returns-in-plan c =
+    let words : texts c.args.words.now ≡ codes "plan" ∷ texts c.in-Some.rest.now = search rules in
+    rw words (reading_plan c.in-Some.rest.now c.read_alone.result c.read_alone.ensures)
+
+pub returns-in-text : goal.returns-in-text
+returns-in-text c =
+    let words : texts c.args.words.now ≡ codes "--help" ∷ texts c.in-Some.rest.now = search rules in
+    rw words (reading_help c.in-Some.rest.now c.read_alone-in-text.result c.read_alone-in-text.ensures)
+
+pub returns-in-text-2 : goal.returns-in-text-2
+returns-in-text-2 c =
+    let words : texts c.args.words.now ≡ codes "--version" ∷ texts c.in-Some.rest.now = search rules in
+    rw words (reading_version c.in-Some.rest.now c.read_alone-in-text-2.result c.read_alone-in-text-2.ensures)
+
+pub returns-in_default-as_str : goal.returns-in_default-as_str
+returns-in_default-as_str c =
+    let words : texts c.args.words.now ≡ c.as_str.result.now ∷ texts c.in-Some.rest.now = search rules in
+    rw words (fault_of_name c.as_str.result.now (texts c.in-Some.rest.now) c.in_default-as_str.not-plan
+    c.in_default-as_str.not-text c.in_default-as_str.not-text-2)

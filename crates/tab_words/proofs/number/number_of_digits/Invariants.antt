@@ -1,0 +1,11 @@
+-- the digits so far, and their number
+use Rattle.std.proofs.Common.{◌≡◌, ◌<◌, ◌^◌, take}
+use Rattle.std.specs.Str.Parse.{AllDigits, digits_value}
+use Rattle.tab_words.proofs.number.number_of_digits.Given as goal
+
+abbrev pub invariant-loop-byte : goal.invariant-loop-byte
+invariant-loop-byte l = record {
+  digits : AllDigits 10 (take l.byte-index l.bytes);
+  value : l.number ≡ digits_value 10 (take l.byte-index l.bytes);
+  fits : l.number < 2 ^ 64;
+}

@@ -1,0 +1,6 @@
+pub mod Commands
+pub mod Lines
+pub mod Numbers
+pub mod Pieces
+pub mod Sections
+pub mod Words

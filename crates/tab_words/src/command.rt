@@ -1,0 +1,112 @@
+ghost use Rattle.std.specs.Prelude.{◌≡◌, ℕ, ◌<◌, [], ◌++◌, length, codes, decimal, Some, Ok, Err, IfOk, IsErrOf, MatchResult};
+ghost use Rattle.tab_words.specs.Commands.{IsCommand, IsFaultAt, IsReading, texts};
+
+use crate::number::read_number;
+use std::error::Error;
+use std::fmt;
+
+/// What the words of the command line ask for.
+#[derive(Clone, Copy, Debug, PartialEq, Eq)]
+pub enum Command {
+    /// `plan`
+    Plan,
+    /// `--help`
+    Help,
+    /// `--version`
+    Version,
+}
+
+/// The words are no command: its first fault.
+#[derive(Clone, Copy, Debug, PartialEq, Eq)]
+pub struct Usage {
+    /// The number, from 0, of the first word such that no command begins with the words up to it, or
+    /// the count of the words where a command begins with all of them.
+    pub place: u32,
+}
+
+impl fmt::Display for Usage {
+    ghost output = { λ usage. Some (codes "usage at word " ++ decimal usage.place) };
+
+    fn fmt<W: fmt::Write>(&self, f: &mut fmt::Formatter<W>) -> fmt::Result {
+        write!(f, "usage at word {}", self.place)
+    }
+}
+
+impl Error for Usage {}
+
+/// The command that the words are, which come without the program's name.
+///
+/// `Usage` comes exactly where they are none, with the one place of their fault.
+pub fn read_words(words: &[String]) -> Result<Command, Usage>
+    ensures ok { IfOk result (λ command. IsCommand (texts words.now) command) }
+    ensures due { (command : Command) → IsCommand (texts words.now) command → result ≡ Ok command }
+    ensures usage { (place : ℕ) → IsErrOf result (record { place = place })
+        → IsFaultAt (texts words.now) place }
+    ensures usage_due { (place : ℕ) → IsFaultAt (texts words.now) place
+        → result ≡ Err (record { place = place }) }
+{
+    reading_of(words)
+}
+
+// The command that the words are, or the place of their fault.
+fn reading_of(words: &[String]) -> Result<Command, Usage>
+    ensures { IsReading (texts words.now) result }
+{
+    let Some((name, rest)) = words.split_first() else {
+        return Err(Usage { place: 0 });
+    };
+    match name.as_str() {
+        "plan" => read_alone(Command::Plan, rest),
+        "--help" => read_alone(Command::Help, rest),
+        "--version" => read_alone(Command::Version, rest),
+        _ => Err(Usage { place: 0 }),
+    }
+}
+
+// A command after whose name nothing stands.
+fn read_alone(command: Command, rest: &[String]) -> Result<Command, Usage>
+    ensures { MatchResult result (λ read. (read ≡ command) × (rest.now ≡ []))
+        (λ usage. (usage.place ≡ 1) × (0 < length rest.now)) }
+{
+    if rest.is_empty() {
+        Ok(command)
+    } else {
+        Err(Usage { place: 1 })
+    }
+}
+
+#[cfg(test)]
+mod tests {
+    use super::*;
+    use std::test::Fail;
+
+    #[test]
+    fn reads_commands_and_places_faults(rt: HostRuntime) -> Result<(), Fail> {
+        let fault = |place| Err(Usage { place });
+        // words with a space between, and the answer
+        let cases = [
+            ("plan", Ok(Command::Plan)),
+            ("--help", Ok(Command::Help)),
+            ("--version", Ok(Command::Version)),
+            ("plan plan", fault(1)),
+            ("plan --help", fault(1)),
+            ("--help plan", fault(1)),
+            ("--version --version x", fault(1)),
+            ("Plan", fault(0)),
+            ("pla", fault(0)),
+            ("plans x", fault(0)),
+            ("", fault(0)),
+            ("run 1", fault(0)),
+            ("plan --version x", fault(1)),
+        ];
+        for (line, expected) in cases {
+            let mut words = Vec::new(rt.alloc());
+            for word in line.split(' ') {
+                words.push(String::from_str(rt.alloc(), word)?)?;
+            }
+            assert_eq!(rt; read_words(&words), expected, "of {line}");
+        }
+        assert_eq!(rt; read_words(&[]), fault(0), "of no words");
+        Ok(())
+    }
+}

@@ -1,0 +1,20 @@
+//! The command line's words, and the small parts that texts are read and written by.
+//!
+//! Texts are lists of bytes. What their numbers, lines, words and sections are, and which words are
+//! a command, is defined in `specs/`, without the code. `proofs/FirstLine.antt` and
+//! `proofs/FirstWord.antt` have the equations by which a text is read line by line and word by word.
+#![tactic(auto)]
+
+mod command;
+mod line;
+mod number;
+mod section;
+mod text;
+mod word;
+
+pub use command::{Command, Usage, read_words};
+pub use line::Lines;
+pub use number::read_number;
+pub use section::{Sections, cut_sections};
+pub use text::{TextPiece, put_number, put_pieces};
+pub use word::Words;

@@ -1,0 +1,97 @@
+ghost use Rattle.std.specs.Prelude.{◌≡◌, ◌<◌, ◌≤◌, ◌∷◌, length};
+ghost use Rattle.std.specs.Iterator.{YieldsFirstRef, item_count};
+ghost use Rattle.tab_words.specs.Lines.{lines_of};
+
+use std::marker::Model;
+
+/// The lines of a text, one after the other. Contracts see the list of the lines that are left.
+///
+/// A line ends at a line feed, which is no part of it. A last line without one counts if it isn't
+/// empty. Every other byte belongs to its line, a carriage return too.
+#[derive(Drop)]
+pub struct Lines<'a> {
+    rest: &'a [u8],
+}
+
+impl<'a> Model for Lines<'a> {
+    ghost use Rattle.std.specs.Prelude.{ℕ, List};
+    ghost use Rattle.tab_words.specs.Lines.{lines_of};
+
+    ghost Value = { List (List ℕ) };
+
+    ghost view = { λ lines. lines_of lines.rest.now };
+}
+
+impl<'a> Lines<'a> {
+    /// The lines of these bytes, of which there are no more than bytes.
+    pub fn over(bytes: &'a [u8]) -> Lines<'a>
+        ensures lines { result ≡ lines_of bytes.now }
+        ensures few { length result ≤ length bytes.now }
+    {
+        Lines { rest: bytes }
+    }
+}
+
+impl<'a> Iterator for Lines<'a> {
+    type Item = &'a [u8];
+
+    ghost next_gives = { YieldsFirstRef (λ lines. lines) };
+
+    ghost remaining = { item_count (λ lines. lines) };
+
+    fn next(&mut self) -> Option<&'a [u8]> {
+        if self.rest.is_empty() {
+            return None;
+        }
+        let (line, rest) = first_line(self.rest);
+        self.rest = rest;
+        Some(line)
+    }
+}
+
+// The first line, and what follows its line feed.
+fn first_line(bytes: &[u8]) -> (&[u8], &[u8])
+    requires { 0 < length bytes.now }
+    ensures { lines_of bytes.now ≡ result.0.now ∷ lines_of result.1.now }
+{
+    match bytes.iter().position(|byte| *byte == b'\n') {
+        Some(end) => (&bytes[..end], &bytes[end + 1..]),
+        None => (bytes, &[]),
+    }
+}
+
+#[cfg(test)]
+mod tests {
+    use super::*;
+
+    #[test]
+    fn parts_at_line_feeds_alone(rt: HostRuntime) {
+        // bytes, and the first four answers
+        let cases: [(&[u8], [Option<&[u8]>; 4]); 9] = [
+            (b"", [None, None, None, None]),
+            (b"\n", [Some(b""), None, None, None]),
+            (b"plan", [Some(b"plan"), None, None, None]),
+            (b"plan\n", [Some(b"plan"), None, None, None]),
+            (b"\n\nend", [Some(b""), Some(b""), Some(b"end"), None]),
+            (b"end\n\n", [Some(b"end"), Some(b""), None, None]),
+            (
+                b"at 1\r\nat 2\r",
+                [Some(b"at 1\r"), Some(b"at 2\r"), None, None],
+            ),
+            (
+                b"\x00\n\x0b\x0c",
+                [Some(b"\x00"), Some(b"\x0b\x0c"), None, None],
+            ),
+            (
+                b"\xff\x80\n\xc2\x85",
+                [Some(b"\xff\x80"), Some(b"\xc2\x85"), None, None],
+            ),
+        ];
+        for (bytes, expected) in cases {
+            let mut lines = Lines::over(bytes);
+            for line in expected {
+                assert_eq!(rt; lines.next(), line, "of {bytes:?}");
+            }
+        }
+    }
+}

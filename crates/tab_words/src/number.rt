@@ -1,0 +1,96 @@
+ghost use Rattle.std.specs.Prelude.{◌≡◌, ℕ, ◌+◌, ◌*◌, ◌<◌, ◌^◌, ◌↔◌, length, slice_index, IsTrue, SomeIff, IfSome, IfNone};
+ghost use Rattle.std.specs.Char.{digit_value};
+ghost use Rattle.std.specs.Str.Parse.{AllDigits, digits_value};
+ghost use Rattle.tab_words.specs.Numbers.{Spells};
+
+/// The number that the bytes spell in decimal digits, with no sign and with no leading zero but in
+/// `0` itself.
+///
+/// `None` exactly where the bytes are no such spelling of a number below 2^64.
+pub fn read_number(bytes: &[u8]) -> Option<u64>
+    ensures some { IfSome result (λ n. Spells bytes.now n) }
+    ensures none { IfNone result ((n : ℕ) → Spells bytes.now n → ⊥) }
+{
+    if bytes.is_empty() || has_leading_zero(bytes) {
+        return None;
+    }
+    number_of_digits(bytes)
+}
+
+fn has_leading_zero(bytes: &[u8]) -> bool
+    ensures { IsTrue result ↔ ((1 < length bytes.now) × (slice_index bytes.now 0 ≡ 48)) }
+{
+    bytes.len() > 1 && bytes[0] == b'0'
+}
+
+// The number that the digits write, where it is below 2^64. Leading zeros don't matter.
+fn number_of_digits(bytes: &[u8]) -> Option<u64>
+    ensures { SomeIff result (AllDigits 10 bytes.now × (digits_value 10 bytes.now < 2 ^ 64))
+        (digits_value 10 bytes.now) }
+{
+    let mut number = 0;
+    for byte in bytes {
+        let Some(digit) = digit_of(*byte) else {
+            return None;
+        };
+        let Some(more) = with_digit(number, digit) else {
+            return None;
+        };
+        number = more;
+    }
+    Some(number)
+}
+
+fn digit_of(byte: u8) -> Option<u64>
+    ensures { SomeIff result (digit_value byte < 10) (digit_value byte) }
+{
+    if byte.is_ascii_digit() {
+        Some(u64::from(byte - b'0'))
+    } else {
+        None
+    }
+}
+
+fn with_digit(number: u64, digit: u64) -> Option<u64>
+    ensures { SomeIff result (number * 10 + digit < 2 ^ 64) (number * 10 + digit) }
+{
+    number.checked_mul(10)?.checked_add(digit)
+}
+
+#[cfg(test)]
+mod tests {
+    use super::*;
+
+    #[test]
+    fn reads_one_spelling_of_each_number(rt: HostRuntime) {
+        let cases: [(&[u8], Option<u64>); 24] = [
+            (b"0", Some(0)),
+            (b"7", Some(7)),
+            (b"10", Some(10)),
+            (b"102600", Some(102_600)),
+            (b"4294967296", Some(4_294_967_296)),
+            (b"9999999999999999999", Some(9_999_999_999_999_999_999)),
+            (b"18446744073709551615", Some(18_446_744_073_709_551_615)),
+            (b"18446744073709551616", None),
+            (b"18446744073709551625", None),
+            (b"20000000000000000000", None),
+            (b"184467440737095516160", None),
+            (b"36893488147419103239", None),
+            (b"", None),
+            (b"00", None),
+            (b"07", None),
+            (b"000000000000000000000", None),
+            (b"-1", None),
+            (b"+1", None),
+            (b" 1", None),
+            (b"1 ", None),
+            (b"1_000", None),
+            (b"0x10", None),
+            (b"1\x00", None),
+            (b"\xb2", None),
+        ];
+        for (bytes, number) in cases {
+            assert_eq!(rt; read_number(bytes), number, "of {bytes:?}");
+        }
+    }
+}

@@ -1,0 +1,141 @@
+ghost use Rattle.std.specs.Prelude.{◌≡◌, ◌+◌, ◌^◌, ◌<◌, ◌≤◌, [], ◌∷◌, ◌++◌, length, IfSome, MatchOption, slice_index_or};
+ghost use Rattle.tab_words.specs.Sections.{is_separator, rows_of, sections_of};
+
+use std::marker::Model;
+
+/// The sections of a text, which separators part. Contracts see the list of their bytes.
+///
+/// A separator is a line that is exactly `%%`, ended by a line feed or by the end of the text. It
+/// belongs to no section. A text without one is one section.
+#[derive(Drop)]
+pub struct Sections<'a> {
+    bytes: &'a [u8],
+    count: u32,
+}
+
+impl<'a> Model for Sections<'a> {
+    ghost use Rattle.std.specs.Prelude.{◌≡◌, ℕ, List, length};
+    ghost use Rattle.tab_words.specs.Sections.{sections_of};
+
+    ghost Value = { List (List ℕ) };
+
+    ghost view = { λ sections. sections_of sections.bytes.now };
+
+    ghost invariant = { λ sections. sections.count ≡ length (sections_of sections.bytes.now) };
+}
+
+impl<'a> Sections<'a> {
+    /// How many sections there are, which is at least one.
+    pub fn count(&self) -> u32
+        ensures { result ≡ length self.now }
+    {
+        self.count
+    }
+
+    /// The bytes of the section of this number, from 0. The number is below the count.
+    pub fn part(&self, i: u32) -> &'a [u8]
+        requires { i < length self.now }
+        ensures { result.now ≡ slice_index_or self.now i [] }
+    {
+        let mut rest = self.bytes;
+        for _ in 0..i {
+            let (_, after) = first_section(rest);
+            if let Some(more) = after {
+                rest = more;
+            }
+        }
+        let (part, _) = first_section(rest);
+        part
+    }
+}
+
+/// Cuts a text of less than 2^32 bytes into its sections.
+pub fn cut_sections(bytes: &[u8]) -> Sections<'_>
+    requires { length bytes.now < 2 ^ 32 }
+    ensures { result ≡ sections_of bytes.now }
+{
+    let mut count = 1;
+    let mut rest = bytes;
+    while let (_, Some(more)) = first_section(rest) {
+        count += 1;
+        rest = more;
+    }
+    Sections { bytes, count }
+}
+
+// The first section, and what follows the separator that ends it, if one does, which has two bytes
+// at least.
+fn first_section(bytes: &[u8]) -> (&[u8], Option<&[u8]>)
+    ensures sections { MatchOption result.1 (sections_of bytes.now ≡ result.0.now ∷ [])
+        (λ rest. sections_of bytes.now ≡ result.0.now ∷ sections_of rest.now) }
+    ensures shorter { IfSome result.1 (λ rest. length rest.now + 2 ≤ length bytes.now) }
+{
+    let mut at = 0;
+    while at < bytes.len() {
+        let (before, rest) = bytes.split_at(at);
+        let (row, after) = first_row(rest);
+        if is_separator(row) {
+            return (before, Some(after));
+        }
+        at += row.len();
+    }
+    (bytes, None)
+}
+
+// The first line with the line feed that ends it, and what follows.
+fn first_row(bytes: &[u8]) -> (&[u8], &[u8])
+    requires { 0 < length bytes.now }
+    ensures rows { rows_of bytes.now ≡ result.0.now ∷ rows_of result.1.now }
+    ensures some { 0 < length result.0.now }
+    ensures whole { bytes.now ≡ result.0.now ++ result.1.now }
+{
+    match bytes.iter().position(|byte| *byte == b'\n') {
+        Some(end) => bytes.split_at(end + 1),
+        None => (bytes, &[]),
+    }
+}
+
+fn is_separator(row: &[u8]) -> bool
+    ensures { result ≡ is_separator row.now }
+{
+    row == b"%%\n".as_slice() || row == b"%%".as_slice()
+}
+
+#[cfg(test)]
+mod tests {
+    use super::*;
+
+    #[test]
+    fn cuts_at_lines_of_two_percent_signs(rt: HostRuntime) {
+        // a text, how many sections it has, and the first three
+        let cases: [(&[u8], u32, [&[u8]; 3]); 15] = [
+            (b"", 1, [b"", b"", b""]),
+            (b"cores = 1", 1, [b"cores = 1", b"", b""]),
+            (b"cores = 1\n", 1, [b"cores = 1\n", b"", b""]),
+            (b"a\n%%\nb\n", 2, [b"a\n", b"b\n", b""]),
+            (b"a\n\n%%\n\nb", 2, [b"a\n\n", b"\nb", b""]),
+            (b"a\n%%\nb\n%%\nc\n", 3, [b"a\n", b"b\n", b"c\n"]),
+            (b"%%\na\n", 2, [b"", b"a\n", b""]),
+            (b"a\n%%", 2, [b"a\n", b"", b""]),
+            (b"%%", 2, [b"", b"", b""]),
+            (b"%%\n%%", 3, [b"", b"", b""]),
+            (b"a%%\n%%b\n%\n%%%\n", 1, [b"a%%\n%%b\n%\n%%%\n", b"", b""]),
+            (b"a\n %%\nb", 1, [b"a\n %%\nb", b"", b""]),
+            (b"a\n%% \nb", 1, [b"a\n%% \nb", b"", b""]),
+            (b"a\n%%\r\nb", 1, [b"a\n%%\r\nb", b"", b""]),
+            (b"\xff\n%%\n\x00", 2, [b"\xff\n", b"\x00", b""]),
+        ];
+        for (bytes, count, expected) in cases {
+            assert!(rt; bytes.len() < 100);
+            let sections = cut_sections(bytes);
+            assert_eq!(rt; sections.count(), count, "of {bytes:?}");
+            let mut i = 0;
+            for part in expected {
+                if i < sections.count() {
+                    assert_eq!(rt; sections.part(i), part, "{i} of {bytes:?}");
+                    i += 1;
+                }
+            }
+        }
+    }
+}
