@@ -1,0 +1,7 @@
+pub mod CourseLemmas
+pub mod RowLemmas
+pub mod Search
+pub mod Sets
+pub mod Shapes
+pub mod StretchLemmas
+pub mod SpotLemmas
