@@ -1,0 +1,5 @@
+use Rattle.period_choice.proofs.Best.{IsBestSoFar}
+use Rattle.period_choice.proofs.choice.choose.Given as goal
+
+abbrev pub invariant-loop-period : goal.invariant-loop-period
+invariant-loop-period l = IsBestSoFar l.r l.period-index l.best

@@ -1,0 +1,9 @@
+use Rattle.std.proofs.Common.{◌≡◌, length}
+use Rattle.period_choice.proofs.Listed.{AreTasksSoFar}
+use Rattle.period_choice.proofs.tasks.tasks_of.Given as goal
+
+abbrev pub invariant-loop-number : goal.invariant-loop-number
+invariant-loop-number l = record {
+  as_many : length l.tasks.items ≡ l.number;
+  each : AreTasksSoFar l.vcpus l.tasks.items;
+}

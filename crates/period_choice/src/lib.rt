@@ -1,0 +1,14 @@
+//! The period that each reservation gets.
+//!
+//! Layers above may rely on `IsChosen` of `specs/Choice.antt` for one reservation, and on
+//! `AreTasksOf` of `specs/Tasks.antt` for the vCPUs of a host. A reservation has at most one
+//! chosen budget, which a clause of `choose` states.
+#![tactic(auto)]
+
+mod choice;
+mod fault;
+mod tasks;
+
+pub use choice::choose;
+pub use fault::TaskFault;
+pub use tasks::tasks_of;
