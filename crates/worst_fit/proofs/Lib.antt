@@ -1,0 +1,9 @@
+pub mod Bound
+pub mod Counts
+pub mod Kept
+pub mod Least
+pub mod Loads
+pub mod Next
+pub mod Outcome
+pub mod Ranks
+pub mod Unique

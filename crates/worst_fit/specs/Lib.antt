@@ -1,0 +1,4 @@
+pub mod Bound
+pub mod Load
+pub mod Order
+pub mod Placement
