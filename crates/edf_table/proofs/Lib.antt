@@ -1,0 +1,17 @@
+pub mod Calm
+pub mod Cells
+pub mod Counts
+pub mod Criterion
+pub mod Few
+pub mod First
+pub mod Inside
+pub mod Misses
+pub mod Pieces
+pub mod Shorter
+pub mod Starts
+pub mod Steps
+pub mod Sums
+pub mod Turns
+pub mod Whole
+pub mod Windowed
+pub mod Windows

@@ -1,0 +1,15 @@
+use Rattle.std.proofs.Common.{◌≤◌, ◌-◌}
+use Rattle.tab_core.specs.declared.TheConstants.{ROUND}
+use Rattle.table_form.specs.Jobs.{jobs_of}
+use Rattle.edf_table.specs.Progress.{IsCounted, MetBefore}
+use Rattle.edf_table.proofs.fit.first_miss.Given as goal
+
+abbrev pub invariant-loop-tick : goal.invariant-loop-tick
+invariant-loop-tick l = record {
+  in_round : l.tick ≤ ROUND;
+  counted : IsCounted l.pieces l.given l.tick;
+  met : MetBefore (jobs_of l.pieces) l.tick;
+}
+
+abbrev pub decreases-loop-tick : goal.decreases-loop-tick
+decreases-loop-tick l = ROUND - l.tick

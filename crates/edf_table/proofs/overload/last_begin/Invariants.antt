@@ -1,0 +1,6 @@
+use Rattle.std.proofs.Common.{◌<◌}
+use Rattle.edf_table.specs.Progress.{NoBegin}
+use Rattle.edf_table.proofs.overload.last_begin.Given as goal
+
+abbrev pub invariant-loop-i : goal.invariant-loop-i
+invariant-loop-i l = record { earlier : l.begin < l.tick; none : NoBegin l.pieces l.i l.begin l.tick }

@@ -1,0 +1,4 @@
+pub mod Beside
+pub mod Overloads
+pub mod Progress
+pub mod Windows

@@ -1,0 +1,110 @@
+-- What the simulation keeps from tick to tick: private to this crate, and in no public contract.
+use Rattle.std.specs.List.{sum_by}
+use Rattle.std.specs.Prelude.{◌==◌, if◌then◌else◌, ◌≡◌, ℕ, ◌+◌, ◌-◌, ◌*◌, ◌/◌, ◌<◌, ◌≤◌, ◌&&◌, Bool, true, nat_le, nat_lt, min, List, [], ◌∷◌, length, slice_index, slice_index_or, Option, MatchOption, false}
+use Rattle.std.proofs.Common.{◌⊎◌}
+use Rattle.tab_core.specs.declared.TheConstants.{ROUND}
+use Rattle.tab_core.specs.declared.piece.Piece.{Piece}
+use Rattle.table_form.specs.Jobs.{Job, job_of, subtask_of, jobs_of}
+use Rattle.table_form.specs.Demand.{IsOverloaded}
+use Rattle.table_form.specs.EdfRow.{cells_of, edf_cells, first_pending, owner_of}
+
+-- the job is one of the list
+abbrev pub Among : List Job → Job → Type 0
+Among [] j = ⊥
+Among (i ∷ js) j = (i ≡ j) ⊎ Among js j
+
+-- whom the tick goes to, earliest deadline first
+abbrev pub cell : List Job → ℕ → Option Job
+cell js tick = first_pending (edf_cells js tick) tick js
+
+-- the ticks that a job has had before this one
+abbrev pub had : List Job → Job → ℕ → ℕ
+had js j tick = cells_of j (edf_cells js tick)
+
+-- the number of the piece's window that began last
+abbrev pub window_no : Piece → ℕ → ℕ
+window_no p tick = (tick - p.from) / p.period
+
+-- a window has begun, and the ticks that the piece was given do not cover it
+abbrev pub is_ready : Piece → ℕ → ℕ → Bool
+is_ready p given tick = nat_le p.from tick && nat_lt given ((window_no p tick + 1) * p.cost)
+
+abbrev pub due_at : Piece → ℕ → ℕ
+due_at p tick = window_no p tick * p.period + p.to
+
+-- the counts say what each job of each piece has had: a piece's jobs are served in order
+pub record IsCounted (ps : List Piece) (given : List ℕ) (tick : ℕ) : Type 0 where
+  pub enough : length ps ≤ length given
+  pub small : (i : ℕ) → slice_index given i ≤ tick
+  pub each : (i : ℕ) (d : Piece) → i < length ps → (k : ℕ) →
+      had (jobs_of ps) (job_of (subtask_of (slice_index_or ps i d)) k) tick
+      ≡ min (slice_index_or ps i d).cost (slice_index given i - k * (slice_index_or ps i d).cost)
+
+-- each job that is due before the tick has had its cost in time
+abbrev pub MetBefore : List Job → ℕ → Type 0
+MetBefore js tick = (j : Job) → Among js j → j.deadline < tick → j.cost ≤ had js j j.deadline
+
+-- at the tick, a is due before b, or with it and of a vCPU no higher
+abbrev pub IsDueFirst : ℕ → Piece → Piece → Type 0
+IsDueFirst tick a b = (due_at a tick < due_at b tick) ⊎ ((due_at a tick ≡ due_at b tick) × (a.vcpu ≤ b.vcpu))
+
+-- piece i is ready, and no ready piece of the first n is due before it
+pub record IsMostUrgent (ps : List Piece) (given : List ℕ) (tick n i : ℕ) : Type 0 where
+  pub in_range : i < length ps
+  pub ready : (d : Piece) → is_ready (slice_index_or ps i d) (slice_index given i) tick ≡ true
+  pub first : (k : ℕ) (d : Piece) → k < n → is_ready (slice_index_or ps k d) (slice_index given k) tick ≡ true →
+      IsDueFirst tick (slice_index_or ps i d) (slice_index_or ps k d)
+
+-- the most urgent of the first n pieces, or none of them is ready
+abbrev pub IsUrgentBelow : List Piece → List ℕ → ℕ → ℕ → Option ℕ → Type 0
+IsUrgentBelow ps given tick n best =
+    MatchOption best
+    ((k : ℕ) (d : Piece) → k < n → is_ready (slice_index_or ps k d) (slice_index given k) tick ≡ false)
+    (λ i. IsMostUrgent ps given tick n i)
+
+-- the piece's window that ends at the tick, if one does, was given its cost
+abbrev pub IsServedAt : Piece → ℕ → ℕ → Type 0
+IsServedAt p given tick = (k : ℕ) → k * p.period + p.to ≡ tick → (k + 1) * p.cost ≤ given
+
+-- a window of the piece ends at the tick and was not given its cost
+abbrev pub IsMissedAt : Piece → ℕ → ℕ → Type 0
+IsMissedAt p given tick = (k : ℕ) × (k * p.period + p.to ≡ tick) × (given < (k + 1) * p.cost)
+
+-- of the first n pieces, none has a window that ends at the tick without its cost
+abbrev pub ServedBelow : List Piece → List ℕ → ℕ → ℕ → Type 0
+ServedBelow ps given tick n = (i : ℕ) (d : Piece) → i < n → IsServedAt (slice_index_or ps i d) (slice_index given i) tick
+
+-- some piece has a window that ends at the tick without its cost
+pub record SomeMissed (ps : List Piece) (given : List ℕ) (tick : ℕ) : Type 0 where
+  pub at : ℕ
+  pub in_range : at < length ps
+  pub missed : (d : Piece) → IsMissedAt (slice_index_or ps at d) (slice_index given at) tick
+
+-- no window of the piece begins or ends at a tick above `tick` and below `until`
+pub record IsCalm (p : Piece) (tick until : ℕ) : Type 0 where
+  pub no_begin : (k : ℕ) → tick < k * p.period + p.from → until ≤ k * p.period + p.from
+  pub no_end : (k : ℕ) → tick < k * p.period + p.to → until ≤ k * p.period + p.to
+
+-- and of the first n pieces none has such a window
+abbrev pub AreCalm : List Piece → ℕ → ℕ → ℕ → Type 0
+AreCalm ps n tick until = (i : ℕ) (d : Piece) → i < n → IsCalm (slice_index_or ps i d) tick until
+
+-- of the first n pieces none has a window that begins at a tick above `from` and below `tick`
+abbrev pub NoBegin : List Piece → ℕ → ℕ → ℕ → Type 0
+NoBegin ps n from tick = (i : ℕ) (d : Piece) → i < n →
+    (k : ℕ) → from < k * (slice_index_or ps i d).period + (slice_index_or ps i d).from → tick ≤ k * (slice_index_or ps i d).period + (slice_index_or ps i d).from
+
+-- each tick from the first up to the second goes to the owner, or to nobody
+abbrev pub GoesTo : List Job → ℕ → ℕ → Option ℕ → Type 0
+GoesTo js tick end owner = (x : ℕ) → tick ≤ x → x < end → owner_of (cell js x) ≡ owner
+
+-- the demand of the windows that begin at `start` and end by `end`
+unfoldable pub demand_from : List Job → ℕ → ℕ → ℕ
+demand_from jobs start end = sum_by (λ j. if (j.release == start) && nat_le j.deadline end then j.cost else 0) jobs
+
+-- some interval that ends there is overloaded, and none that ends earlier
+pub record IsFirstEnd (jobs : List Job) (end : ℕ) : Type 0 where
+  pub within : end ≤ ROUND
+  pub begin : ℕ
+  pub overloaded : IsOverloaded jobs begin end
+  pub least : (f t : ℕ) → IsOverloaded jobs f t → end ≤ t

@@ -1,0 +1,62 @@
+ghost use Rattle.std.specs.Prelude.{◌≡◌, IfNone, IfSome, true, false};
+ghost use Rattle.table_form.specs.Demand.{Fits};
+ghost use Rattle.table_form.specs.Jobs.{jobs_of};
+ghost use Rattle.edf_table.specs.Overloads.{IsOverloadOf};
+ghost use Rattle.edf_table.specs.Progress.{IsFirstEnd};
+ghost use Rattle.edf_table.specs.Windows.{DistinctVcpus};
+
+use crate::light::are_whole_and_light;
+use crate::overload::{Overload, last_overload};
+use crate::turn::{NO_TICKS, any_missed, run_turn};
+use tab_core::{Piece, ROUND};
+
+// The first tick at which a window ends without its cost.
+fn first_miss(pieces: &[Piece]) -> Option<u32>
+    requires { DistinctVcpus pieces.now }
+    ensures none { IfNone result (Fits (jobs_of pieces.now)) }
+    ensures some { IfSome result (λ end. IsFirstEnd (jobs_of pieces.now) end) }
+{
+    if are_whole_and_light(pieces) {
+        return None;
+    }
+    let mut given = NO_TICKS;
+    let mut tick = 0;
+    while tick < ROUND {
+        if any_missed(pieces, &given, tick) {
+            return Some(tick);
+        }
+        tick = run_turn(pieces, &mut given, tick).end;
+    }
+    if any_missed(pieces, &given, ROUND) {
+        Some(ROUND)
+    } else {
+        None
+    }
+}
+
+/// The overloaded interval of one core's pieces, and none exactly where they fit.
+///
+/// Of the overloaded intervals it is the one of least end, and of those the one of greatest begin.
+/// No two pieces may be of one vCPU. It takes no memory, and builds no row.
+///
+/// Source: the processor-demand criterion of S. K. Baruah, L. E. Rosier and R. R. Howell,
+/// Real-Time Systems 2, 1990.
+pub fn find_overload(pieces: &[Piece]) -> Option<Overload>
+    requires distinct { DistinctVcpus pieces.now }
+    ensures fits { IfNone result (Fits (jobs_of pieces.now)) }
+    ensures overload { IfSome result (λ overload. IsOverloadOf (jobs_of pieces.now) overload) }
+{
+    match first_miss(pieces) {
+        None => None,
+        Some(end) => Some(last_overload(pieces, end)),
+    }
+}
+
+/// Whether the pieces fit on one core: `find_overload` without the search for the interval.
+pub fn fits(pieces: &[Piece]) -> bool
+    requires distinct { DistinctVcpus pieces.now }
+    ensures yes { result ≡ true → Fits (jobs_of pieces.now) }
+    ensures no { result ≡ false → Fits (jobs_of pieces.now) → ⊥ }
+{
+    first_miss(pieces).is_none()
+}

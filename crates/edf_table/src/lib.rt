@@ -1,0 +1,22 @@
+//! One core's row by earliest deadline first (EDF), and the test whether the core's pieces fit.
+//!
+//! Pieces fit exactly where no interval of the round is asked for more ticks than it has: the
+//! processor-demand criterion, which `Fits` in table_form states. Their row is `edf_row` there,
+//! and it gives each job its cost inside its window. `specs/Windows.antt` says what a row keeps.
+#![tactic(auto)]
+
+mod due;
+mod fault;
+mod fit;
+pub mod laws;
+mod light;
+mod overload;
+mod simulation;
+#[cfg(test)]
+mod tests;
+mod turn;
+
+pub use fault::EdfFault;
+pub use fit::{find_overload, fits};
+pub use overload::Overload;
+pub use simulation::simulate;

@@ -1,0 +1,75 @@
+ghost use Rattle.std.specs.Prelude.{◌≡◌, ◌+◌, ◌++◌, ◌≤◌, IfErr, IfOk, OnOk, length, replicate};
+ghost use Rattle.edf_table.specs.declared.fault.EdfFault.TheVariants.{Miss};
+ghost use Rattle.tab_core.specs.declared.TheConstants.{ROUND};
+ghost use Rattle.table_form.specs.Demand.{Fits};
+ghost use Rattle.table_form.specs.EdfRow.{edf_row};
+ghost use Rattle.table_form.specs.Jobs.{jobs_of};
+ghost use Rattle.edf_table.specs.Overloads.{IsFaultOf};
+ghost use Rattle.edf_table.specs.Windows.{DistinctVcpus, KeepsToWindows, ServesWindows};
+
+use crate::fault::EdfFault;
+use crate::fit::find_overload;
+use crate::overload::Overload;
+use crate::turn::{NO_TICKS, run_turn};
+use std::alloc::{AllocError, Global};
+use tab_core::{Piece, ROUND, VcpuNo};
+use table_form::{CoreTable, RowBuilder};
+
+/// The row of one core's pieces by earliest deadline first, exactly where they fit.
+///
+/// Each tick goes to the pending job of earliest deadline, and of equal ones to the lower vCPU.
+/// So each job has exactly its cost of cells inside its window, and all other cells are idle. No
+/// two pieces may be of one vCPU. Where they don't fit, the fault names `find_overload`'s interval.
+///
+/// Source: C. L. Liu and J. W. Layland, Journal of the ACM 20, 1973.
+pub fn simulate(alloc: Global, pieces: &[Piece]) -> Result<CoreTable, EdfFault>
+    requires distinct { DistinctVcpus pieces.now }
+    ensures row { IfOk result (λ row. row ≡ edf_row (jobs_of pieces.now)) }
+    ensures fits { IfOk result (λ _. Fits (jobs_of pieces.now)) }
+    ensures windows { IfOk result (λ row. ServesWindows pieces.now row) }
+    ensures inside { IfOk result (λ row. KeepsToWindows pieces.now row) }
+    ensures miss { IfErr result (λ fault. IsFaultOf (jobs_of pieces.now) fault) }
+{
+    match find_overload(pieces) {
+        Some(overload) => Err(miss_of(overload)),
+        None => Ok(build_row(alloc, pieces)?),
+    }
+}
+
+// The fault of an overloaded interval.
+fn miss_of(overload: Overload) -> EdfFault
+    ensures { result ≡ Miss overload.from overload.to overload.demand }
+{
+    let Overload { from, to, demand } = overload;
+    EdfFault::Miss { from, to, demand }
+}
+
+// The row of pieces that fit.
+fn build_row(alloc: Global, pieces: &[Piece]) -> Result<CoreTable, AllocError>
+    requires distinct { DistinctVcpus pieces.now }
+    requires fits { Fits (jobs_of pieces.now) }
+    ensures row { IfOk result (λ row. row ≡ edf_row (jobs_of pieces.now)) }
+    ensures windows { IfOk result (λ row. ServesWindows pieces.now row) }
+    ensures inside { IfOk result (λ row. KeepsToWindows pieces.now row) }
+{
+    let mut given = NO_TICKS;
+    let mut row = RowBuilder::new(alloc);
+    let mut tick = 0;
+    while tick < ROUND {
+        let turn = run_turn(pieces, &mut given, tick);
+        push_cells(&mut row, &turn.owner, turn.end - tick)?;
+        tick = turn.end;
+    }
+    Ok(row.finish())
+}
+
+// Appends so many cells of one owner.
+fn push_cells(row: &mut RowBuilder, owner: &Option<VcpuNo>, count: u32) -> Result<(), AllocError>
+    requires { length row.old + count ≤ ROUND }
+    ensures { OnOk result (row.new ≡ row.old ++ replicate count owner.now) }
+{
+    for _ in 0..count {
+        row.push(*owner)?;
+    }
+    Ok(())
+}

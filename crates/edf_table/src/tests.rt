@@ -1,0 +1,144 @@
+ghost use Rattle.std.specs.Prelude.{◌≡◌, ◌≤◌};
+ghost use Rattle.tab_core.specs.Period.{IsPeriod};
+ghost use Rattle.edf_table.specs.Windows.{DistinctVcpus};
+
+use crate::{EdfFault, Overload, find_overload, fits, simulate};
+use std::test::Fail;
+use tab_core::{CoreNo, Piece, VcpuNo};
+use table_form::CoreTable;
+
+// Whether the row's first segments have these owners and ends.
+fn begins_with(row: &CoreTable, begin: &[(Option<VcpuNo>, u32)]) -> bool {
+    let segments = row.segments();
+    for i in 0..begin.len() {
+        if i >= segments.len() {
+            return false;
+        }
+        let (owner, end) = &begin[i];
+        if segments[i].owner != *owner || segments[i].end != *end {
+            return false;
+        }
+    }
+    true
+}
+
+// vCPU 0 over whole periods, and vCPU 1 inside them.
+#[tactic(auto, unfolding(tab_core::specs::Period::is_period))]
+fn around(cost: u32) -> [Piece; 2]
+    requires some { 1 ≤ cost }
+    requires within { cost ≤ 100 }
+    ensures { DistinctVcpus result }
+{
+    [
+        Piece {
+            vcpu: VcpuNo(0),
+            core: CoreNo(0),
+            cost,
+            from: 0,
+            to: 100,
+            period: 100,
+        },
+        Piece {
+            vcpu: VcpuNo(1),
+            core: CoreNo(0),
+            cost: 30,
+            from: 50,
+            to: 80,
+            period: 100,
+        },
+    ]
+}
+
+#[test]
+fn an_overload(rt: HostRuntime) {
+    let pieces = around(80);
+    let overload = Overload {
+        from: 0,
+        to: 100,
+        demand: 110,
+    };
+    assert_eq!(rt; find_overload(&pieces), Some(overload));
+    assert!(rt; !fits(&pieces));
+    let miss = EdfFault::Miss {
+        from: 0,
+        to: 100,
+        demand: 110,
+    };
+    assert_eq!(rt; simulate(rt.alloc(), &pieces).err(), Some(miss));
+}
+
+#[test]
+fn a_full_core(rt: HostRuntime) -> Result<(), Fail> {
+    let pieces = around(70);
+    assert!(rt; fits(&pieces));
+    let row = simulate(rt.alloc(), &pieces).ok().ok_or("the pieces fit")?;
+    let begin = [
+        (Some(VcpuNo(0)), 50),
+        (Some(VcpuNo(1)), 80),
+        (Some(VcpuNo(0)), 150),
+        (Some(VcpuNo(1)), 180),
+    ];
+    assert!(rt; begins_with(&row, &begin));
+    Ok(())
+}
+
+fn whole(vcpu: VcpuNo, cost: u32, period: u32) -> Piece
+    requires some { 1 ≤ cost }
+    requires within { cost ≤ period }
+    requires listed { IsPeriod period }
+    ensures { result.vcpu ≡ vcpu }
+{
+    Piece {
+        vcpu,
+        core: CoreNo(0),
+        cost,
+        from: 0,
+        to: period,
+        period,
+    }
+}
+
+#[tactic(auto, unfolding(tab_core::specs::Period::is_period))]
+fn quarters() -> [Piece; 4]
+    ensures { DistinctVcpus result }
+{
+    [
+        whole(VcpuNo(0), 2850, 11_400),
+        whole(VcpuNo(1), 2850, 11_400),
+        whole(VcpuNo(2), 2850, 11_400),
+        whole(VcpuNo(3), 2850, 11_400),
+    ]
+}
+
+#[tactic(auto, unfolding(tab_core::specs::Period::is_period))]
+fn three_periods() -> [Piece; 3]
+    ensures { DistinctVcpus result }
+{
+    [
+        whole(VcpuNo(0), 2850, 11_400),
+        whole(VcpuNo(1), 17_100, 34_200),
+        whole(VcpuNo(2), 5130, 51_300),
+    ]
+}
+
+#[test]
+fn whole_periods(rt: HostRuntime) -> Result<(), Fail> {
+    let row = simulate(rt.alloc(), &quarters())
+        .ok()
+        .ok_or("the core is just full")?;
+    assert_eq!(rt; row.segments().len(), 36);
+    let row = simulate(rt.alloc(), &three_periods())
+        .ok()
+        .ok_or("the pieces fit")?;
+    let begin = [
+        (Some(VcpuNo(0)), 2850),
+        (Some(VcpuNo(1)), 11_400),
+        (Some(VcpuNo(0)), 14_250),
+        (Some(VcpuNo(1)), 22_800),
+        (Some(VcpuNo(0)), 25_650),
+        (Some(VcpuNo(2)), 30_780),
+        (None, 34_200),
+    ];
+    assert!(rt; begins_with(&row, &begin));
+    Ok(())
+}
