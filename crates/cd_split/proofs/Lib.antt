@@ -1,0 +1,8 @@
+pub mod Cuts
+pub mod Lists
+pub mod Loads
+pub mod Orders
+pub mod Shares
+pub mod Steps
+pub mod Trials
+pub mod Unique

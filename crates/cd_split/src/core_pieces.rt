@@ -1,0 +1,75 @@
+ghost use Rattle.std.specs.Prelude.{◌≡◌, ◌<◌, ◌≤◌, ◌++◌, [], ◌∷◌, All, IfOk, OnErr, OnOk, length, replicate, slice_set};
+ghost use Rattle.tab_core.specs.declared.TheConstants.{MAX_CORES};
+ghost use Rattle.table_form.specs.Demand.{Fits};
+ghost use Rattle.table_form.specs.Jobs.{jobs_of};
+ghost use Rattle.edf_table.specs.Windows.{DistinctVcpus};
+ghost use Rattle.cd_split.specs.Cores.{HaveRoomFor, LackVcpu, pieces_on};
+
+use crate::one_core::OneCore;
+use std::alloc::Global;
+use std::marker::Model;
+use tab_core::{CoreNo, NoMemory, Piece};
+
+/// The pieces on each core, by core number. Contracts see the list of the cores' lists.
+///
+/// Each piece stands on its own core, and the pieces of a core are of distinct vCPUs and fit.
+#[derive(Debug, Drop)]
+pub struct CorePieces {
+    cores: Vec<OneCore>,
+}
+
+impl Model for CorePieces {
+    ghost use Rattle.std.specs.Prelude.{List};
+    ghost use Rattle.tab_core.specs.declared.piece.Piece.{Piece};
+    ghost use Rattle.cd_split.specs.Cores.{KeepCores};
+
+    ghost Value = { List (List Piece) };
+
+    ghost view = { λ pieces. pieces.cores.items };
+
+    ghost invariant = { λ pieces. KeepCores pieces.cores.items };
+}
+
+impl CorePieces {
+    /// This many cores, none with a piece.
+    pub fn empty(alloc: Global, cores: u32) -> Result<CorePieces, NoMemory>
+        requires { cores ≤ MAX_CORES }
+        ensures { IfOk result (λ pieces. pieces ≡ replicate cores []) }
+    {
+        let mut lists = Vec::new(alloc);
+        for _ in 0..cores {
+            lists.push(OneCore::empty(alloc))?;
+        }
+        Ok(CorePieces { cores: lists })
+    }
+
+    /// The number of cores.
+    pub fn cores(&self) -> u32
+        ensures count { result ≡ length self.now }
+        ensures few { result ≤ MAX_CORES }
+    {
+        self.cores.len() as u32
+    }
+
+    /// The pieces on the core.
+    pub fn of_core(&self, core: CoreNo) -> &[Piece]
+        requires { core < length self.now }
+        ensures same { result.now ≡ pieces_on self.now core }
+        ensures own { All (λ p. p.core ≡ core) result.now }
+        ensures distinct { DistinctVcpus result.now }
+        ensures fit { Fits (jobs_of result.now) }
+    {
+        self.cores[core.index()].pieces()
+    }
+
+    /// Adds a piece after the others of its core, whose vCPU has none there yet.
+    pub fn add(&mut self, piece: Piece) -> Result<(), NoMemory>
+        requires there { piece.core < length self.old }
+        requires new { LackVcpu piece.vcpu (pieces_on self.old piece.core) }
+        requires room { HaveRoomFor (pieces_on self.old piece.core) piece }
+        ensures ok { OnOk result (self.new ≡ slice_set self.old piece.core (pieces_on self.old piece.core ++ piece ∷ [])) }
+        ensures err { OnErr result (self.new ≡ self.old) }
+    {
+        self.cores[piece.core.index()].add(piece)
+    }
+}

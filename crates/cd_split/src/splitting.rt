@@ -1,0 +1,76 @@
+ghost use Rattle.std.specs.Prelude.{◌≡◌, ℕ, ◌≤◌, All, IfErr, IfOk, List};
+ghost use Rattle.std.specs.List.{AllZip, range_with_len, sum_by};
+ghost use Rattle.tab_core.specs.declared.TheConstants.{MAX_CORES};
+ghost use Rattle.tab_core.specs.declared.over.Over.{Over};
+ghost use Rattle.tab_core.specs.declared.piece.Piece.{Piece};
+ghost use Rattle.cd_split.specs.Cores.{LackVcpu};
+ghost use Rattle.cd_split.specs.Faults.{IsSplitFault};
+ghost use Rattle.cd_split.specs.Shares.{AreOf, FitTheirCores, FollowOn, IsSamePiece, StandApart};
+ghost use Rattle.cd_split.specs.Splitting.{IsRefused, IsSplit};
+
+use crate::core_pieces::CorePieces;
+use crate::fault::SplitFault;
+use crate::left::Left;
+use crate::order::order_of;
+use crate::refusal::overs_of;
+use crate::search::{find_cut, find_home};
+use std::alloc::Global;
+use tab_core::{CoreNo, NoMemory, Periodic, Pieces, VcpuNo};
+
+// The numbers of so many cores, rising.
+fn numbers_of(alloc: Global, count: u32) -> Result<Vec<CoreNo>, NoMemory>
+    requires { count ≤ MAX_CORES }
+    ensures { IfOk result (λ numbers. numbers.items ≡ range_with_len 0 count) }
+{
+    let mut numbers = Vec::new(alloc);
+    for number in 0..count {
+        numbers.push(CoreNo(number))?;
+    }
+    Ok(numbers)
+}
+
+/// The pieces of a vCPU that is split over the cores, the last of them on its home.
+///
+/// The first unused core, by rising load and then number, that takes all that is left is the home.
+/// Where there is none, the first core on which at least `LEAST_CUT` ticks fit without slack takes
+/// as many of them as fit. `NoRoom` comes exactly where neither step finds a core.
+pub fn split(
+    alloc: Global,
+    vcpu: VcpuNo,
+    task: Periodic,
+    cores: &CorePieces,
+) -> Result<Pieces, SplitFault>
+    requires { All (LackVcpu vcpu) cores.now }
+    ensures pieces { IfOk result (IsSplit cores.now vcpu task) }
+    ensures only { IfOk result (λ pieces. (other : List Piece) → IsSplit cores.now vcpu task other → AllZip IsSamePiece other pieces) }
+    ensures room { IfOk result (λ _. (rest : ℕ) (over : List Over) → IsRefused cores.now vcpu task rest over → ⊥) }
+    ensures fault { IfErr result (IsSplitFault cores.now vcpu task) }
+    ensures of { IfOk result (AreOf vcpu task.period) }
+    ensures fit { IfOk result (FitTheirCores cores.now) }
+    ensures apart { IfOk result StandApart }
+    ensures windows { IfOk result (FollowOn 0 task.period) }
+    ensures cost { IfOk result (λ pieces. sum_by (λ p. p.cost) pieces ≡ task.cost) }
+{
+    let order = order_of(alloc, cores)?;
+    let mut unused = numbers_of(alloc, cores.cores())?;
+    let mut left = Left::whole(vcpu, &task);
+    let mut pieces = Vec::new(alloc);
+    loop {
+        if let Some(piece) = find_home(alloc, &left, cores, &order, &unused)? {
+            pieces.push(piece)?;
+            return Ok(Pieces::of(pieces));
+        }
+        match find_cut(alloc, &left, cores, &order, &unused)? {
+            None => {
+                let over = overs_of(alloc, &left, cores, &unused)?;
+                let rest = left.rest;
+                return Err(SplitFault::NoRoom { vcpu, rest, over });
+            }
+            Some(piece) => {
+                unused.retain(|core| *core != piece.core);
+                left = left.after(piece.cost);
+                pieces.push(piece)?;
+            }
+        }
+    }
+}
