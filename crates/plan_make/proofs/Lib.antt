@@ -1,0 +1,14 @@
+pub mod Added
+pub mod Allotting
+pub mod Exact
+pub mod Made
+pub mod Members
+pub mod Places
+pub mod Plans
+pub mod Sequence
+pub mod Serving
+pub mod Shares
+pub mod Standing
+pub mod Starting
+pub mod Supplies
+pub mod Wholes

@@ -1,0 +1,139 @@
+-- The vCPUs that stand whole have their pieces.
+use Rattle.std.proofs.Common.{◌≡◌, ℕ, zero, suc, ◌+◌, ◌<◌, ◌≤◌, cond, eqb, List, [], ◌∷◌, length, get_or, set, slice_get, map, sum_by, Option, Some, None, refl, ap, subst, sym, ◌∙◌, inl, inr, arith, length-set, get_or-set_same, get_or-set_other}
+use Rattle.std.specs.List.{All}
+use Rattle.std.proofs.lemmas.Bool.{cases_Bool, cases_eq, cases_lt, eq-eqb, ne_eqb}
+use Rattle.std.proofs.lemmas.List.{get_or_past}
+use Rattle.std.proofs.lemmas.List.Elements.{All-from_get_or, All-weaker}
+use Rattle.std.proofs.lemmas.List.Sums.{sum_by-append, sum_by-cons, sum_by-le, sum_by-set}
+use Rattle.tab_core.specs.declared.periodic.Periodic.{Periodic}
+use Rattle.tab_core.specs.declared.piece.Piece.{Piece}
+use Rattle.table_form.specs.Jobs.{Subtask, subtask_of}
+use Rattle.worst_fit.specs.Placement.{PlacesEach}
+use Rattle.worst_fit.specs.declared.placed.Placed.{Placed}
+use Rattle.cd_split.specs.Cores.{LackVcpu, pieces_on}
+use Rattle.plan_make.specs.Allotted.{cost_on}
+use Rattle.plan_make.specs.Layout.{StandWhole, whole, whole_at, wholes_from}
+use Rattle.plan_make.specs.Steps.{AreAllottedTo, AreLaidOut}
+use Rattle.plan_make.proofs.Members.{all_at, all_from_places}
+use Rattle.plan_make.proofs.Shares.{cost_on_none}
+use Rattle.plan_make.proofs.Wholes.{All-from_map, IsWholeOn, all_whole_on}
+
+-- a piece on a core is all of a vCPU whose home is the core
+whole_on : (tasks : List (Option Periodic)) (homes : List (Option ℕ)) (count : ℕ) (cores : List (List Piece)) → StandWhole tasks homes count cores → (core i : ℕ) (p : Piece) →
+    slice_get (pieces_on cores core) i ≡ Some p → IsWholeOn core 0 tasks homes (subtask_of p)
+whole_on tasks homes count cores stand core i p at = elim (cases_lt core count) [
+  | inl lt ↦ all_at (λ (q : Piece). IsWholeOn core 0 tasks homes (subtask_of q)) (pieces_on cores core) i p
+      (All-from_map subtask_of (IsWholeOn core 0 tasks homes) (pieces_on cores core) (subst (All (IsWholeOn core 0 tasks homes)) (sym (stand.stand core lt)) (all_whole_on core 0 tasks homes))) at
+  | inr past ↦ (let past' : length cores ≤ core = subst (λ n. n ≤ core) (sym stand.size) past in
+      let nothing = ap (λ ps. slice_get ps i) (sym (get_or_past cores core [] past')) ∙ at in absurd (cc))
+]
+
+-- the vCPU of the piece has this number
+number_is : (core : ℕ) (tasks : List (Option Periodic)) (homes : List (Option ℕ)) (p : Piece) (w : IsWholeOn core 0 tasks homes (subtask_of p)) → p.vcpu ≡ w.number
+number_is core tasks homes p w = let e = ap (λ (s : Subtask). s.vcpu) w.is in omega arith
+
+home_is : (core : ℕ) (tasks : List (Option Periodic)) (homes : List (Option ℕ)) (p : Piece) → IsWholeOn core 0 tasks homes (subtask_of p) → slice_get homes p.vcpu ≡ Some (Some core)
+home_is core tasks homes p w = ap (slice_get homes) (number_is core tasks homes p w) ∙ w.home
+
+-- what a vCPU gets where it stands whole
+
+abbrev cost_of : ℕ → Subtask → ℕ
+cost_of vcpu s = cond (eqb s.vcpu vcpu) s.cost 0
+
+cost_on_subtasks : (vcpu : ℕ) (ps : List Piece) → cost_on vcpu ps ≡ sum_by (cost_of vcpu) (map subtask_of ps)
+unfolding cost_on
+cost_on_subtasks vcpu [] = refl
+cost_on_subtasks vcpu (p ∷ ps) =
+    let rest = cost_on_subtasks vcpu ps in
+    let one = sum_by-cons (λ (q : Piece). cond (eqb q.vcpu vcpu) q.cost 0) p ps in
+    let other = sum_by-cons (cost_of vcpu) (subtask_of p) (map subtask_of ps) in
+    omega arith
+
+no_cost : (vcpu : ℕ) (ss : List Subtask) → All (λ s. s.vcpu ≡ vcpu → ⊥) ss → sum_by (cost_of vcpu) ss ≡ 0
+no_cost vcpu ss none =
+    let zero_sum = sum_by-le (cost_of vcpu) 0 ss (λ k d lt. rw (ne_eqb (get_or ss k d).vcpu vcpu (none k d lt)) (omega arith)) in
+    omega arith
+
+later_cost : (core first vcpu : ℕ) (tasks : List (Option Periodic)) (homes : List (Option ℕ)) → vcpu < first → sum_by (cost_of vcpu) (wholes_from core first tasks homes) ≡ 0
+later_cost core first vcpu tasks homes lt = no_cost vcpu (wholes_from core first tasks homes)
+    (All-weaker (IsWholeOn core first tasks homes) (λ s. s.vcpu ≡ vcpu → ⊥) (λ s w same. (let e = ap (λ (x : Subtask). x.vcpu) w.is in absurd (omega arith))) (wholes_from core first tasks homes) (all_whole_on core first tasks homes))
+
+-- the cost of one vCPU, of itself and of another
+own_cost : (core vcpu : ℕ) (task : Periodic) (home : ℕ) → sum_by (cost_of vcpu) (whole_at core vcpu (Some task) (Some home)) ≡ cond (eqb home core) task.cost 0
+own_cost core vcpu task home = elim (cases_Bool (eqb home core)) [
+  | inl same ↦ rw same (sum_by-cons (cost_of vcpu) (whole vcpu task) [] ∙ rw (eq-eqb vcpu vcpu refl) (omega arith))
+  | inr not ↦ rw not refl
+]
+
+other_cost : (core vcpu other : ℕ) (task : Option Periodic) (home : Option ℕ) → (other ≡ vcpu → ⊥) → sum_by (cost_of vcpu) (whole_at core other task home) ≡ 0
+other_cost core vcpu other None home ne = refl
+other_cost core vcpu other (Some task) None ne = refl
+other_cost core vcpu other (Some task) (Some home) ne = elim (cases_Bool (eqb home core)) [
+  | inl same ↦ rw same (sum_by-cons (cost_of vcpu) (whole other task) [] ∙ rw (ne_eqb other vcpu ne) refl)
+  | inr not ↦ rw not refl
+]
+
+cost_of_wholes : (core first n : ℕ) (tasks : List (Option Periodic)) (homes : List (Option ℕ)) (task : Periodic) (home : ℕ) → slice_get tasks n ≡ Some (Some task) → slice_get homes n ≡ Some (Some home) →
+    sum_by (cost_of (first + n)) (wholes_from core first tasks homes) ≡ cond (eqb home core) task.cost 0
+unfolding wholes_from
+cost_of_wholes core first n [] homes task home at at' = absurd (cc)
+cost_of_wholes core first n (t ∷ tasks) [] task home at at' = absurd (cc)
+cost_of_wholes core first zero (t ∷ tasks) (h ∷ homes) task home at at' =
+    let number : first + 0 ≡ first = omega arith in
+    let all = sum_by-append (cost_of first) (whole_at core first t h) (wholes_from core (first + 1) tasks homes) in
+    let rest = later_cost core (first + 1) first tasks homes (omega arith) in
+    let t_is : t ≡ Some task = cc in
+    let h_is : h ≡ Some home = cc in
+    let here = ap (λ x. sum_by (cost_of first) (whole_at core first x h)) t_is ∙ ap (λ x. sum_by (cost_of first) (whole_at core first (Some task) x)) h_is ∙ own_cost core first task home in
+    ap (λ v. sum_by (cost_of v) (wholes_from core first (t ∷ tasks) (h ∷ homes))) number ∙ omega arith
+cost_of_wholes core first (suc n) (t ∷ tasks) (h ∷ homes) task home at at' =
+    let number : first + suc n ≡ (first + 1) + n = omega arith in
+    let all = sum_by-append (cost_of ((first + 1) + n)) (whole_at core first t h) (wholes_from core (first + 1) tasks homes) in
+    let rest = cost_of_wholes core (first + 1) n tasks homes task home at at' in
+    let here = other_cost core ((first + 1) + n) first t h (λ e. omega arith) in
+    ap (λ v. sum_by (cost_of v) (wholes_from core first (t ∷ tasks) (h ∷ homes))) number ∙ omega arith
+
+-- on its home a vCPU gets its cost, and on no other core anything
+cost_where : (tasks : List (Option Periodic)) (homes : List (Option ℕ)) (count : ℕ) (cores : List (List Piece)) → StandWhole tasks homes count cores → (core vcpu home : ℕ) (task : Periodic) → core < count →
+    slice_get tasks vcpu ≡ Some (Some task) → slice_get homes vcpu ≡ Some (Some home) → cost_on vcpu (pieces_on cores core) ≡ cond (eqb home core) task.cost 0
+cost_where tasks homes count cores stand core vcpu home task lt at at' =
+    let number : 0 + vcpu ≡ vcpu = omega arith in
+    cost_on_subtasks vcpu (pieces_on cores core) ∙ ap (sum_by (cost_of vcpu)) (stand.stand core lt)
+    ∙ sym (ap (λ v. sum_by (cost_of v) (wholes_from core 0 tasks homes)) number) ∙ cost_of_wholes core 0 vcpu tasks homes task home at at'
+
+-- a sum of which one term alone counts
+sum_at_one : {X : Type 0} (f : X → ℕ) (xs : List X) (at : ℕ) (d : X) (value : ℕ) → at < length xs → f d ≡ 0 → f (get_or xs at d) ≡ value → ((k : ℕ) → k < length xs → (k ≡ at → ⊥) → f (get_or xs k d) ≡ 0) → sum_by f xs ≡ value
+sum_at_one f xs at d value lt none here elsewhere =
+    let change = sum_by-set f xs at d d lt in
+    let nothing = sum_by-le f 0 (set xs at d) (All-from_get_or (λ x. f x ≤ 0) (set xs at d) d (λ k lt'. elim (cases_eq k at) [
+      | inl same ↦ (let read = ap (λ j. f (get_or (set xs at d) j d)) same ∙ ap f (get_or-set_same xs at d d lt) in omega arith)
+      | inr ne ↦ (let read = ap f (get_or-set_other xs at k d d ne) in let e = elsewhere k (omega (arith, length-set xs at d)) ne in omega arith)
+    ])) in
+    omega arith
+
+pub start_is_allotted : (tasks : List (Option Periodic)) (homes : List (Option ℕ)) (count : ℕ) (cores : List (List Piece)) → StandWhole tasks homes count cores →
+    ((vcpu home : ℕ) → slice_get homes vcpu ≡ Some (Some home) → home < count) → AreAllottedTo tasks homes cores
+start_is_allotted tasks homes count cores stand there = record {
+  of_tasks = λ core i p at. (let w = whole_on tasks homes count cores stand core i p at in
+      record { task = w.task; at = ap (slice_get tasks) (number_is core tasks homes p w) ∙ w.at; period = ap (λ (s : Subtask). s.period) w.is });
+  costs = λ vcpu home task at at'. (
+      let below = there vcpu home at in
+      sum_at_one (cost_on vcpu) cores home [] task.cost (subst (λ n. home < n) (sym stand.size) below) (cost_on_none vcpu [] (λ k d lt e. absurd (omega arith)))
+      (cost_where tasks homes count cores stand home vcpu home task below at' at ∙ rw (eq-eqb home home refl) refl)
+      (λ k lt ne. cost_where tasks homes count cores stand k vcpu home task (subst (λ n. k < n) stand.size lt) at' at ∙ rw (ne_eqb home k (λ e. ne (sym e))) refl));
+  lack = λ vcpu homeless. All-from_get_or (LackVcpu vcpu) cores [] (λ core lt. all_from_places (λ (p : Piece). p.vcpu ≡ vcpu → ⊥) (pieces_on cores core) (λ i p at same.
+      homeless (core, ap (slice_get homes) (sym same) ∙ home_is core tasks homes p (whole_on tasks homes count cores stand core i p at))));
+  apart = λ core other i j p q at at' one. inl (same_home core other p q
+      (home_is core tasks homes p (whole_on tasks homes count cores stand core i p at)) (home_is other tasks homes q (whole_on tasks homes count cores stand other j q at')) one);
+}
+  where
+    same_home : (core other : ℕ) (p q : Piece) → slice_get homes p.vcpu ≡ Some (Some core) → slice_get homes q.vcpu ≡ Some (Some other) → p.vcpu ≡ q.vcpu → core ≡ other
+    same_home core other p q a b one = (let e = sym a ∙ ap (slice_get homes) one ∙ b in cc)
+
+-- at first those that stand whole are laid out
+pub start_is_laid_out : (tasks : List (Option Periodic)) (placed : Placed) (count : ℕ) (cores : List (List Piece)) → PlacesEach tasks count placed → StandWhole tasks placed.core_of count cores →
+    AreLaidOut tasks cores placed.core_of placed.left
+start_is_laid_out tasks placed count cores places stand = record {
+  places = subst (λ n. PlacesEach tasks n placed) (sym stand.size) places;
+  allotted = start_is_allotted tasks placed.core_of count cores stand (λ vcpu home at. (places.on_core vcpu home at).0);
+}

@@ -1,0 +1,40 @@
+use Rattle.std.proofs.Common.{◌≡◌, [], drop, length, subst, sym, ◌∙◌, arith}
+use Rattle.std.proofs.lemmas.List.{take_at}
+use Rattle.std.proofs.lemmas.Result.{err_from_is_err_and}
+use Rattle.plan_make.specs.Layout.{StandWhole}
+use Rattle.plan_make.specs.Planned.{IsStart}
+use Rattle.plan_make.specs.Steps.{AreLaidOut, IsStuckFault}
+use Rattle.plan_make.proofs.Sequence.{layout_fault}
+use Rattle.plan_make.proofs.Starting.{start_is_laid_out}
+use Rattle.plan_make.proofs.layout.lay_out.Goals as goal
+
+pub split_each-requires : goal.split_each-requires
+split_each-requires c =
+    let placed = c.in_ok-placed.placed in
+    let stand = subst (λ hs. StandWhole c.args.tasks.now hs c.args.host.now.cores c.in_ok-cores.cores) c.items-core_of.ensures.same
+    (subst (λ ts. StandWhole ts c.items-core_of.result.now c.args.host.now.cores c.in_ok-cores.cores) c.items.ensures.same c.in_ok-cores.ensures) in
+    let homes_are = c.deref_mut.ensures.value ∙ c.in_ok-homes.ensures.items ∙ c.items-core_of.ensures.same in
+    subst (λ ts. AreLaidOut ts c.in_ok-cores.cores c.deref_mut.result.now c.items-3.result.now) (sym c.items-2.ensures.same)
+    (subst (λ hs. AreLaidOut c.args.tasks.now c.in_ok-cores.cores hs c.items-3.result.now) (sym homes_are)
+    (subst (λ left. AreLaidOut c.args.tasks.now c.in_ok-cores.cores placed.core_of left) (sym c.items-3.ensures)
+    (start_is_laid_out c.args.tasks.now placed c.args.host.now.cores c.in_ok-cores.cores c.in_ok-placed.ensures.each stand)))
+
+pub returns-in_err-split_each-clause-fault : goal.returns-in_err-split_each-clause-fault
+returns-in_err-split_each-clause-fault c =
+    let p = err_from_is_err_and c.from_residual-in_err-split_each.result c.from_residual-in_err-split_each.ensures.1 in
+    let placed = c.in_ok-placed.placed in
+    let stand = subst (λ hs. StandWhole c.args.tasks.now hs c.args.host.now.cores c.in_ok-cores.cores) c.items-core_of.ensures.same
+    (subst (λ ts. StandWhole ts c.items-core_of.result.now c.args.host.now.cores c.in_ok-cores.cores) c.items.ensures.same c.in_ok-cores.ensures) in
+    let homes_are = c.deref_mut.ensures.value ∙ c.in_ok-homes.ensures.items ∙ c.items-core_of.ensures.same in
+    let start : IsStart c.args.host.now c.args.tasks.now placed c.in_ok-cores.cores = record { tasks_are = c.requires; placement = c.in_ok-placed.ensures.placement; stand = stand } in
+    rw (p.1, p.2) (layout_fault c.args.host.now c.args.tasks.now placed c.in_ok-cores.cores _ start
+    (subst (λ ts. IsStuckFault ts c.in_ok-cores.cores placed.core_of placed.left c.in_err-split_each.field-0.0) c.items-2.ensures.same
+    (subst (λ hs. IsStuckFault c.items-2.result.now c.in_ok-cores.cores hs placed.left c.in_err-split_each.field-0.0) homes_are
+    (subst (λ left. IsStuckFault c.items-2.result.now c.in_ok-cores.cores c.deref_mut.result.now left c.in_err-split_each.field-0.0) c.items-3.ensures c.in_err-split_each.ensures.fault))))
+
+pub returns-clause-laid_out : goal.returns-clause-laid_out
+returns-clause-laid_out c =
+    let size : length c.split_each.new.homes ≡ c.in_ok-homes.homes.len = omega (arith, c.split_each.auto.homes, c.deref_mut.ensures.len) in
+    let homes_are = take_at c.split_each.new.homes (drop (length c.split_each.new.homes) c.in_ok-homes.homes.items) c.in_ok-homes.homes.len size in
+    subst (λ hs. AreLaidOut c.args.tasks.now c.split_each.new.cores hs []) (sym homes_are)
+    (subst (λ ts. AreLaidOut ts c.split_each.new.cores c.split_each.new.homes []) c.items-2.ensures.same c.in_ok-split_each.ensures.laid_out)

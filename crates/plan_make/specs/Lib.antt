@@ -1,0 +1,5 @@
+pub mod Allotted
+pub mod Faults
+pub mod Layout
+pub mod Planned
+pub mod Steps

@@ -1,0 +1,42 @@
+ghost use Rattle.std.specs.Prelude.{◌≡◌, IfErr, IfOk, [], length};
+ghost use Rattle.cd_split.specs.declared.fault.SplitFault.TheVariants.{NoMemory};
+ghost use Rattle.period_choice.specs.Tasks.{AreTasksOf};
+ghost use Rattle.worst_fit.specs.Bound.{IsWithinBound};
+ghost use Rattle.plan_make.specs.Steps.{AreLaidOut, IsLayout, IsLayoutFault};
+
+use crate::splitting::split_each;
+use crate::whole::stand_whole;
+use cd_split::{CorePieces, SplitFault};
+use std::alloc::Global;
+use tab_core::{CoreNo, Host, Tasks};
+use worst_fit::place;
+
+// Where the vCPUs of a host stand: the pieces on each core, and the home of each vCPU.
+#[derive(Debug, Drop)]
+pub(crate) struct Layout {
+    pub(crate) cores: CorePieces,
+    pub(crate) homes: Vec<Option<CoreNo>>,
+}
+
+// Places the vCPUs whole, and then splits those that are left over.
+pub(crate) fn lay_out(alloc: Global, host: &Host, tasks: &Tasks) -> Result<Layout, SplitFault>
+    requires { AreTasksOf host.now.vcpus tasks.now }
+    ensures layout { IfOk result (λ layout. IsLayout host.now tasks.now layout.cores layout.homes.items) }
+    ensures laid_out { IfOk result (λ layout. AreLaidOut tasks.now layout.cores layout.homes.items []) }
+    ensures count { IfOk result (λ layout. length layout.cores ≡ host.now.cores) }
+    ensures fault { IfErr result (IsLayoutFault host.now) }
+    ensures bound { IsWithinBound tasks.now host.now.cores → IfErr result (λ fault. fault ≡ NoMemory) }
+{
+    let placed = place(alloc, tasks, host.cores)?;
+    let core_of = placed.core_of.items();
+    let mut cores = stand_whole(alloc, tasks.items(), core_of, host.cores)?;
+    let mut homes = Vec::from_slice(alloc, core_of)?;
+    split_each(
+        alloc,
+        tasks.items(),
+        placed.left.items(),
+        &mut cores,
+        &mut homes,
+    )?;
+    Ok(Layout { cores, homes })
+}

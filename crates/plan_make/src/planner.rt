@@ -1,0 +1,44 @@
+ghost use Rattle.std.specs.Prelude.{◌≡◌, ℕ, IfErr, IfOk, IsErrOf, List, Option};
+ghost use Rattle.tab_core.specs.declared.over.Over.{Over};
+ghost use Rattle.tab_core.specs.declared.periodic.Periodic.{Periodic};
+ghost use Rattle.table_form.specs.Plans.{IsPlanFor, PlanView};
+ghost use Rattle.table_form.specs.Views.{plan_view};
+ghost use Rattle.period_choice.specs.Tasks.{AreTasksOf, IsFirstWithoutPeriod};
+ghost use Rattle.worst_fit.specs.Bound.{IsWithinBound};
+ghost use Rattle.plan_make.specs.Planned.{IsFirstWithoutRoom, IsPlanned};
+
+use crate::fault::PlanFault;
+use crate::layout::lay_out;
+use crate::rows::rows_of;
+use period_choice::tasks_of;
+use std::alloc::Global;
+use std::thread::Threads;
+use tab_core::Host;
+use table_form::{Homes, Plan, Tables};
+
+/// The plan of a host: its vCPUs are placed whole by worst fit, the left-over ones are split, and
+/// each core's row is made by earliest deadline first.
+///
+/// `NoPeriod` comes exactly where an admitted vCPU has no admissible period. `NoRoom` comes
+/// exactly where a left-over vCPU can't be split, which never happens within the bound of worst
+/// fit.
+pub fn plan<R: Threads + Sync>(rt: &R, alloc: Global, host: &Host) -> Result<Plan, PlanFault>
+    ensures ok { IfOk result (λ plan. IsPlanned host.now (plan_view plan)) }
+    ensures only { IfOk result (λ plan. (other : PlanView) → IsPlanned host.now other → other ≡ plan_view plan) }
+    ensures fits_host { IfOk result (λ plan. IsPlanFor host.now (plan_view plan)) }
+    ensures no_period { (vcpu : ℕ) → IsErrOf result (PlanFault.NoPeriod vcpu) → IsFirstWithoutPeriod host.now.vcpus vcpu }
+    ensures no_room { (vcpu rest : ℕ) (over : List Over) → IsErrOf result (PlanFault.NoRoom vcpu rest over)
+        → IsFirstWithoutRoom host.now vcpu rest over }
+    ensures bound { (tasks : List (Option Periodic)) → AreTasksOf host.now.vcpus tasks → IsWithinBound tasks host.now.cores
+        → IfErr result (λ fault. fault ≡ PlanFault.NoMemory) }
+    ensures planned { (plan : PlanView) → IsPlanned host.now plan → IfErr result (λ fault. fault ≡ PlanFault.NoMemory) }
+{
+    let tasks = tasks_of(alloc, host)?;
+    let layout = lay_out(alloc, host, &tasks)?;
+    let rows = rows_of(rt, alloc, &layout.cores)?;
+    let homes = Homes::of(layout.homes);
+    Ok(Plan {
+        tasks,
+        tables: Tables { homes, rows },
+    })
+}

@@ -1,0 +1,72 @@
+ghost use Rattle.std.specs.Prelude.{◌≡◌, ℕ, ◌<◌, ◌≤◌, IfOk, Result, length, map, slice_index_or};
+ghost use Rattle.std.specs.declared.alloc.AllocError.{AllocError};
+ghost use Rattle.tab_core.specs.declared.TheConstants.{MAX_CORES};
+ghost use Rattle.table_form.specs.EdfRow.{edf_row};
+ghost use Rattle.table_form.specs.Jobs.{jobs_of};
+ghost use Rattle.table_form.specs.Rows.{Row};
+ghost use Rattle.edf_table.specs.Windows.{DistinctVcpus};
+ghost use Rattle.cd_split.specs.Cores.{pieces_on};
+ghost use Rattle.plan_make.specs.Allotted.{AreRowsOf, IsRowOf};
+
+use cd_split::CorePieces;
+use edf_table::{EdfFault, simulate};
+use std::alloc::{AllocError, Global};
+use std::thread::{Threads, map_indices};
+use tab_core::{CoreNo, NoMemory};
+use table_form::{CoreTable, Rows};
+
+// The row of one core.
+fn row_of(alloc: Global, cores: &CorePieces, core: usize) -> Result<CoreTable, NoMemory>
+    requires there { core < length cores.now }
+    requires few { length cores.now ≤ MAX_CORES }
+    ensures { IfOk result (IsRowOf (pieces_on cores.now core)) }
+{
+    match simulate(alloc, cores.of_core(CoreNo(core as u32))) {
+        Ok(row) => Ok(row),
+        Err(EdfFault::NoMemory) => Err(AllocError),
+        Err(EdfFault::Miss { .. }) => unreachable!(),
+    }
+}
+
+// What is made of each core: its row, or want of memory for it.
+fn make_each<R: Threads + Sync>(
+    rt: &R,
+    alloc: Global,
+    cores: &CorePieces,
+) -> Result<Vec<Result<CoreTable, NoMemory>>, NoMemory>
+    ensures count { IfOk result (λ made. length made.items ≡ length cores.now) }
+    ensures few { IfOk result (λ made. length made.items ≤ MAX_CORES) }
+    ensures each { IfOk result (λ made. (core : ℕ) (d : Result Row AllocError) → core < length cores.now
+        → IfOk (slice_index_or made.items core d) (IsRowOf (pieces_on cores.now core))) }
+{
+    let count = cores.cores() as usize;
+    map_indices(rt, alloc, count, &|core| row_of(alloc, cores, core))
+}
+
+// The rows, if each was made.
+fn all_made(
+    alloc: Global,
+    made: Vec<Result<CoreTable, NoMemory>>,
+) -> Result<Vec<CoreTable>, NoMemory>
+    ensures { IfOk result (λ rows. map Ok rows.items ≡ made.items) }
+{
+    let mut rows = Vec::with_capacity(alloc, made.len())?;
+    for row in made {
+        rows.push(row?)?;
+    }
+    Ok(rows)
+}
+
+// The row of each core. They are made side by side.
+pub(crate) fn rows_of<R: Threads + Sync>(
+    rt: &R,
+    alloc: Global,
+    cores: &CorePieces,
+) -> Result<Rows, NoMemory>
+    ensures rows { IfOk result (λ rows. rows ≡ map (λ pieces. edf_row (jobs_of pieces)) cores.now) }
+    ensures of { IfOk result (AreRowsOf cores.now) }
+    ensures distinct { IfOk result (λ _. (core : ℕ) → DistinctVcpus (pieces_on cores.now core)) }
+{
+    let made = make_each(rt, alloc, cores)?;
+    Ok(Rows::of(all_made(alloc, made)?))
+}

@@ -1,0 +1,187 @@
+ghost use Rattle.std.specs.Prelude.{◌≡◌, ◌≤◌};
+ghost use Rattle.tab_core.specs.declared.TheConstants.{MAX_CORES, WHOLE_PPM};
+
+use crate::{PlanFault, plan};
+use std::alloc::Global;
+use std::test::Fail;
+use tab_core::{Host, Name, Reservation, Vcpu, VcpuNo, Vcpus};
+use table_form::{CoreTable, Plan};
+
+fn vcpu_of(name: Name, reservation: Option<Reservation>) -> Vcpu
+    ensures { result.name ≡ name }
+{
+    Vcpu {
+        name,
+        reservation,
+        runnable: true,
+    }
+}
+
+// The vCPUs a, b and c.
+fn three_vcpus(alloc: Global, reservations: [Option<Reservation>; 3]) -> Result<Vcpus, Fail> {
+    let [first, second, third] = reservations;
+    let a = Name::of(alloc, b"a")?;
+    let b = Name::of(alloc, b"b")?;
+    let c = Name::of(alloc, b"c")?;
+    let mut vcpus = Vec::new(alloc);
+    vcpus.push(vcpu_of(a, first))?;
+    vcpus.push(vcpu_of(b, second))?;
+    vcpus.push(vcpu_of(c, third))?;
+    Ok(Vcpus::of(vcpus))
+}
+
+fn host_of(alloc: Global, cores: u32, reservations: [Option<Reservation>; 3]) -> Result<Host, Fail>
+    requires some_core { 1 ≤ cores }
+    requires few_cores { cores ≤ MAX_CORES }
+{
+    Ok(Host {
+        cores,
+        lag: 1000,
+        sliver: 30,
+        quantum: 1000,
+        vcpus: three_vcpus(alloc, reservations)?,
+    })
+}
+
+// A share in ppm that may wait a tenth of a second.
+fn patient(share_ppm: u32) -> Option<Reservation>
+    requires some { 1 ≤ share_ppm }
+    requires whole { share_ppm ≤ WHOLE_PPM }
+{
+    Some(Reservation {
+        share_ppm,
+        latency_ns: 100_000_000,
+    })
+}
+
+fn number_of(vcpu: Option<VcpuNo>) -> Option<u32> {
+    match vcpu {
+        None => None,
+        Some(vcpu) => Some(vcpu.0),
+    }
+}
+
+// Whether the vCPUs have these homes.
+fn has_homes(plan: &Plan, expected: &[u32]) -> bool {
+    let homes = plan.tables.homes.items();
+    if homes.len() != expected.len() {
+        return false;
+    }
+    for i in 0..homes.len() {
+        match homes[i] {
+            None => return false,
+            Some(home) => {
+                if home.0 != expected[i] {
+                    return false;
+                }
+            }
+        }
+    }
+    true
+}
+
+// Whether the row's segments have these owners and ends.
+fn has_segments(row: &CoreTable, expected: &[(Option<u32>, u32)]) -> bool {
+    let segments = row.segments();
+    if segments.len() != expected.len() {
+        return false;
+    }
+    for i in 0..segments.len() {
+        let segment = &segments[i];
+        if (number_of(segment.owner), segment.end) != expected[i] {
+            return false;
+        }
+    }
+    true
+}
+
+// Whether the core has a row of these owners and ends.
+fn core_has(plan: &Plan, core: usize, expected: &[(Option<u32>, u32)]) -> bool {
+    match plan.tables.rows.items().get(core) {
+        None => false,
+        Some(row) => has_segments(row, expected),
+    }
+}
+
+fn is_without_period(fault: &PlanFault, number: u32) -> bool {
+    let PlanFault::NoPeriod { vcpu } = fault else {
+        return false;
+    };
+    vcpu.0 == number
+}
+
+// The core, the begin and the end of the interval, and its demand.
+fn is_without_room(
+    fault: &PlanFault,
+    number: u32,
+    left: u32,
+    expected: (u32, u32, u32, u64),
+) -> bool {
+    let PlanFault::NoRoom { vcpu, rest, over } = fault else {
+        return false;
+    };
+    if vcpu.0 != number || *rest != left {
+        return false;
+    }
+    let [over] = over.items() else {
+        return false;
+    };
+    (over.core.0, over.from, over.to, over.demand) == expected
+}
+
+#[test]
+fn the_third_vcpu_is_split(rt: HostRuntime) -> Result<(), Fail> {
+    let host = host_of(rt.alloc(), 2, [patient(600_000); 3])?;
+    let made = plan(&rt, rt.alloc(), &host)
+        .ok()
+        .ok_or("the host has a plan")?;
+    assert!(rt; has_homes(&made, &[0, 1, 1]));
+    assert!(rt; core_has(&made, 0, &[(Some(2), 41_040), (Some(0), 102_600)]));
+    let second = [(Some(1), 61_560), (Some(2), 82_080), (None, 102_600)];
+    assert!(rt; core_has(&made, 1, &second));
+    Ok(())
+}
+
+#[test]
+fn nobody_is_split_at_the_bound(rt: HostRuntime) -> Result<(), Fail> {
+    let (large, small) = (patient(600_000), patient(200_000));
+    let host = host_of(rt.alloc(), 2, [large, large, small])?;
+    let made = plan(&rt, rt.alloc(), &host)
+        .ok()
+        .ok_or("the host has a plan")?;
+    assert!(rt; has_homes(&made, &[0, 1, 0]));
+    let first = [
+        (Some(2), 10_260),
+        (Some(0), 71_820),
+        (Some(2), 82_080),
+        (None, 102_600),
+    ];
+    assert!(rt; core_has(&made, 0, &first));
+    assert!(rt; core_has(&made, 1, &[(Some(1), 61_560), (None, 102_600)]));
+    Ok(())
+}
+
+#[test]
+fn no_room_on_one_core(rt: HostRuntime) -> Result<(), Fail> {
+    let large = patient(600_000);
+    let host = host_of(rt.alloc(), 1, [large, large, None])?;
+    let fault = plan(&rt, rt.alloc(), &host)
+        .err()
+        .ok_or("the host has no plan")?;
+    assert!(rt; is_without_room(&fault, 1, 61_560, (0, 0, 102_600, 123_120)));
+    Ok(())
+}
+
+#[test]
+fn no_period_within_the_latency(rt: HostRuntime) -> Result<(), Fail> {
+    let impatient = Reservation {
+        share_ppm: 100_000,
+        latency_ns: 180_179,
+    };
+    let host = host_of(rt.alloc(), 1, [patient(600_000), None, Some(impatient)])?;
+    let fault = plan(&rt, rt.alloc(), &host)
+        .err()
+        .ok_or("the host has no plan")?;
+    assert!(rt; is_without_period(&fault, 2));
+    Ok(())
+}
