@@ -1,0 +1,4 @@
+pub mod Causes
+pub mod Keys
+pub mod Texts
+pub mod Walk

@@ -1,0 +1,9 @@
+use Rattle.std.proofs.Common.{ℕ, List, ap, ◌∙◌}
+use Rattle.toml.specs.Data.{get_member}
+use Rattle.toml.specs.View.{table_view}
+use Rattle.toml.proofs.Views.{table_get}
+use Rattle.host_doc.proofs.value.value_at.Goals as goal
+
+pub returns : goal.returns
+returns c = table_get c.get.result c.word.result.now c.args.table.now.entries c.get.ensures.value
+    ∙ ap (λ (word : List ℕ). get_member word (table_view c.args.table.now)) c.word.ensures

@@ -1,0 +1,5 @@
+use Rattle.host_doc.proofs.Walk.{AreRead}
+use Rattle.host_doc.proofs.vcpus.vcpus_of.Given as goal
+
+abbrev pub invariant-loop-index : goal.invariant-loop-index
+invariant-loop-index l = AreRead l.values l.index l.names l.vcpus.items

@@ -1,0 +1,6 @@
+pub mod Document
+pub mod KeyTable
+pub mod Names
+pub mod Path
+pub mod Value
+pub mod Vcpus

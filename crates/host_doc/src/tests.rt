@@ -1,0 +1,260 @@
+use crate::read_host;
+use std::alloc::{AllocError, Global};
+use std::test::Fail;
+use tab_core::{Host, Vcpu};
+
+// What a document is read as: its fault, or its four numbers.
+fn told(alloc: Global, document: &[u8]) -> Result<String, AllocError> {
+    match read_host(alloc, document) {
+        Ok(host) => numbers_of(alloc, &host),
+        Err(fault) => format!(in alloc; "{fault}"),
+    }
+}
+
+fn numbers_of(alloc: Global, host: &Host) -> Result<String, AllocError> {
+    format!(in alloc;
+        "{} {} {} {}",
+        host.cores, host.lag, host.sliver, host.quantum
+    )
+}
+
+// What a document of two cores and two vCPUs is read as, where these lines make the second one.
+fn second(alloc: Global, lines: &str) -> Result<String, AllocError> {
+    let document = format!(in alloc;
+        "cores = 2\n[[vcpu]]\nname = \"a\"\nadmitted = false\n[[vcpu]]\n{lines}"
+    )?;
+    told(alloc, document.as_bytes())
+}
+
+#[test]
+fn documents(rt: HostRuntime) -> Result<(), Fail> {
+    let cases: [(&[u8], &str); 58] = [
+        (b"", "host key cores"),
+        (b"cores = 0", "host value cores"),
+        (b"cores = 1\nlag = 1.5", "host key lag"),
+        (b"cores = 1\nspeed = 3", "host key unknown key"),
+        (b"cores = 1\nvcpu = [1]", "host key vcpu 0"),
+        (b"cores = 1\n[[vcpu]]", "host key vcpu 0 name"),
+        (b"cores = 1", "1 1000 30 1000"),
+        (b"cores = 0x10\nlag = 1_000", "16 1000 30 1000"),
+        (
+            b"format = 1\ncores = 32\nlag = 102600\nsliver = 1000\nquantum = 102600",
+            "32 102600 1000 102600",
+        ),
+        (
+            b"cores = 1\nlag = 1\nsliver = 0\nquantum = 1\nvcpu = []",
+            "1 1 0 1",
+        ),
+        (b"quantum = 7\ncores = 3", "3 1000 30 7"),
+        // each number beyond each edge of its range
+        (b"cores = 1\nformat = 0", "host value format"),
+        (b"cores = 1\nformat = 2", "host value format"),
+        (b"cores = 33", "host value cores"),
+        (b"cores = -1", "host value cores"),
+        (b"cores = 4294967297", "host value cores"),
+        (b"cores = 9223372036854775807", "host value cores"),
+        (b"cores = 1\nlag = 0", "host value lag"),
+        (b"cores = 1\nlag = 102601", "host value lag"),
+        (b"cores = 1\nsliver = -1", "host value sliver"),
+        (b"cores = 1\nsliver = 1001", "host value sliver"),
+        (b"cores = 1\nquantum = 0", "host value quantum"),
+        (b"cores = 1\nquantum = 102601", "host value quantum"),
+        // each key with a value of another type
+        (b"cores = 1\nformat = \"1\"", "host key format"),
+        (b"cores = 1.0", "host key cores"),
+        (b"cores = 1\nlag = 1979-05-27", "host key lag"),
+        (b"cores = 1\nsliver = true", "host key sliver"),
+        (b"cores = 1\nquantum = [1]", "host key quantum"),
+        (b"cores = 1\nvcpu = 1", "host key vcpu"),
+        (b"cores = 1\n[vcpu]\nname = \"a\"", "host key vcpu"),
+        // the first fault by the order of the keys
+        (b"lag = 1.5\ncores = 0", "host value cores"),
+        (
+            b"speed = 3\nquantum = 0\nsliver = 1.5\ncores = 1",
+            "host key sliver",
+        ),
+        (b"cores = 1\nquantum = 0\nvcpu = 1", "host value quantum"),
+        (b"cores = 1\nspeed = 3\nvcpu = 1", "host key vcpu"),
+        (b"cores = 1\nspeed = 3\nvcpu = [1]", "host key unknown key"),
+        (b"cores = 1\nvcpu = [1]\nzebra = 3", "host key unknown key"),
+        (b"cores = 1\nvcpu = [{}, 1]", "host key vcpu 0 name"),
+        (
+            b"cores = 1\nvcpu = [{name = \"a\", admitted = false}, []]",
+            "host key vcpu 1",
+        ),
+        (b"cores = 1\nCores = 1", "host key unknown key"),
+        (b"cores = 1\n\"\" = 1", "host key unknown key"),
+        // no TOML
+        (b"cores = 1\nformat = \"", "host is not TOML"),
+        (b"cores = 1\ncores = 1", "host is not TOML"),
+        (b"cores = 9223372036854775808", "host is not TOML"),
+        (b"cores = 1 # \xff", "host is not TOML"),
+        (b"cores = 01", "host is not TOML"),
+        (b"cores 1", "host is not TOML"),
+        // a vCPU of the document
+        (
+            b"cores = 1\n[[vcpu]]\nname = \"a\"",
+            "host key vcpu 0 share_ppm",
+        ),
+        (
+            b"cores = 1\n[[vcpu]]\nname = \"a\"\nshare_ppm = 1",
+            "host key vcpu 0 latency_ns",
+        ),
+        (
+            b"cores = 1\n[[vcpu]]\nname = \"a\"\nlatency_ns = 1",
+            "host key vcpu 0 share_ppm",
+        ),
+        (
+            b"cores = 1\n[[vcpu]]\nname = \"a\"\nshare_ppm = 1\nlatency_ns = 0",
+            "1 1000 30 1000",
+        ),
+        (
+            b"cores = 1\n[[vcpu]]\nname = \"a\"\nshare_ppm = 1000000\nlatency_ns = 1000000000000",
+            "1 1000 30 1000",
+        ),
+        (
+            b"cores = 1\n[[vcpu]]\nname = \"a\"\nshare_ppm = 0\nlatency_ns = 0",
+            "host value vcpu 0 share_ppm",
+        ),
+        (
+            b"cores = 1\n[[vcpu]]\nname = \"a\"\nshare_ppm = 1000001\nlatency_ns = 0",
+            "host value vcpu 0 share_ppm",
+        ),
+        (
+            b"cores = 1\n[[vcpu]]\nname = \"a\"\nshare_ppm = 1\nlatency_ns = -1",
+            "host value vcpu 0 latency_ns",
+        ),
+        (
+            b"cores = 1\n[[vcpu]]\nname = \"a\"\nshare_ppm = 1\nlatency_ns = 1000000000001",
+            "host value vcpu 0 latency_ns",
+        ),
+        (
+            b"cores = 1\n[[vcpu]]\nname = \"a\"\nshare_ppm = 1\nlatency_ns = 0.5",
+            "host key vcpu 0 latency_ns",
+        ),
+        (
+            b"cores = 1\n[[vcpu]]\nname = \"a\"\nshare_ppm = \"1\"\nlatency_ns = 0",
+            "host key vcpu 0 share_ppm",
+        ),
+        (
+            b"cores = 1\n[[vcpu]]\nname = \"a\"\nshare_ppm = 1\nlatency_ns = 0\nshare = 1",
+            "host key vcpu 0 unknown key",
+        ),
+    ];
+    for (document, expected) in cases {
+        let line = told(rt.alloc(), document)?;
+        assert_eq!(rt; line.as_str(), expected, "of {document:?}");
+    }
+    Ok(())
+}
+
+#[test]
+fn second_vcpus(rt: HostRuntime) -> Result<(), Fail> {
+    let cases: [(&str, &str); 19] = [
+        ("name = \"b\"\nadmitted = false", "2 1000 30 1000"),
+        ("name = \"A\"\nadmitted = false", "2 1000 30 1000"),
+        (
+            "name = \"a\"\nadmitted = false",
+            "name of vcpu 1 stands twice",
+        ),
+        ("name = \"a\"\nadmitted = 1", "name of vcpu 1 stands twice"),
+        ("name = 1\nadmitted = 1", "host key vcpu 1 name"),
+        ("name = \"\"", "host value vcpu 1 name"),
+        ("name = \"-\"", "host value vcpu 1 name"),
+        ("name = \"a b\"", "host value vcpu 1 name"),
+        (
+            "name = \"123456789012345678901234567890123\"",
+            "host value vcpu 1 name",
+        ),
+        (
+            "name = \"12345678901234567890123456789012\"\nadmitted = false",
+            "2 1000 30 1000",
+        ),
+        ("name = \"b\"\nadmitted = 0", "host key vcpu 1 admitted"),
+        (
+            "name = \"b\"\nadmitted = false\nrunnable = \"no\"",
+            "host key vcpu 1 runnable",
+        ),
+        (
+            "name = \"b\"\nrunnable = 1\nshare_ppm = 0",
+            "host key vcpu 1 runnable",
+        ),
+        (
+            "name = \"b\"\nadmitted = false\nshare_ppm = \"much\"\nlatency_ns = -1",
+            "2 1000 30 1000",
+        ),
+        (
+            "name = \"b\"\nadmitted = false\nlatency = 1",
+            "host key vcpu 1 unknown key",
+        ),
+        (
+            "name = \"b\"\nadmitted = false\ncores = 1",
+            "host key vcpu 1 unknown key",
+        ),
+        (
+            "name = \"b\"\nlag = 1\nshare_ppm = 0",
+            "host value vcpu 1 share_ppm",
+        ),
+        (
+            "name = \"b\"\nadmitted = false\n[[vcpu]]\nname = \"b\"",
+            "name of vcpu 2 stands twice",
+        ),
+        (
+            "name = \"b\"\nadmitted = false\n[[vcpu]]\nname = \"a\"",
+            "name of vcpu 2 stands twice",
+        ),
+    ];
+    for (lines, expected) in cases {
+        let line = second(rt.alloc(), lines)?;
+        assert_eq!(rt; line.as_str(), expected, "of {lines}");
+    }
+    Ok(())
+}
+
+fn describe(alloc: Global, vcpu: &Vcpu) -> Result<String, AllocError> {
+    match vcpu.reservation {
+        Some(reservation) => format!(in alloc;
+            "{} {} {}",
+            reservation.share_ppm, reservation.latency_ns, vcpu.runnable
+        ),
+        None => format!(in alloc; "none {}", vcpu.runnable),
+    }
+}
+
+#[test]
+fn the_vcpus_of_a_host(rt: HostRuntime) -> Result<(), Fail> {
+    let document =
+        b"cores = 1\n[[vcpu]]\nname = \"web\"\nshare_ppm = 250000\nlatency_ns = 20000000\n[[vcpu]]\nname = \"db\"\nadmitted = false\nrunnable = false\nshare_ppm = 1";
+    let expected: [(&[u8], &str); 2] = [(b"web", "250000 20000000 true"), (b"db", "none false")];
+    match read_host(rt.alloc(), document) {
+        Ok(host) => {
+            assert_eq!(rt; host.vcpus.items().len(), 2);
+            for (vcpu, (name, rest)) in host.vcpus.items().iter().zip(&expected) {
+                let line = describe(rt.alloc(), vcpu)?;
+                assert_eq!(rt; vcpu.name.bytes(), *name);
+                assert_eq!(rt; line.as_str(), *rest);
+            }
+        }
+        Err(fault) => assert!(rt; false, "{fault}"),
+    }
+    Ok(())
+}
+
+// What a document of so many vCPUs, with names by number, is read as.
+fn crowd(alloc: Global, count: u32) -> Result<String, AllocError> {
+    let mut document = String::from_str(alloc, "cores = 1\n")?;
+    for number in 0..count {
+        let part = format!(in alloc; "[[vcpu]]\nname = \"v{number}\"\nadmitted = false\n")?;
+        document.push_str(&part)?;
+    }
+    told(alloc, document.as_bytes())
+}
+
+#[test]
+fn at_most_256_vcpus(rt: HostRuntime) -> Result<(), Fail> {
+    let full = crowd(rt.alloc(), 256)?;
+    assert_eq!(rt; full.as_str(), "1 1000 30 1000");
+    let over = crowd(rt.alloc(), 257)?;
+    assert_eq!(rt; over.as_str(), "257 vcpus");
+    Ok(())
+}
