@@ -1,0 +1,136 @@
+ghost use Rattle.std.specs.Prelude.{◌≡◌, ◌<◌, ◌≤◌, length};
+ghost use Rattle.std.specs.Option.{ForSome};
+ghost use Rattle.tab_core.specs.declared.TheConstants.{MAX_CORES, ROUND};
+ghost use Rattle.tab_io.specs.Outside.{Writes};
+ghost use Rattle.table_form.specs.Rows.{Row, RisesTo, cells_from};
+ghost use Rattle.table_form.specs.Stretches.{stretch_of};
+ghost use Rattle.plan_text.specs.PlanText.{core_line, core_text, name_at, names_of, owner_word, row_text, segment_line, texts_below};
+ghost use Rattle.plan_text.specs.Owners.{AreOwnedBelow, OwnersBelow, ends_maximal, line_at};
+
+use tab_core::{Vcpu, VcpuNo};
+use tab_io::{Sink, WriteFault};
+use tab_words::{TextPiece, put_pieces};
+use table_form::{CoreTable, Segment};
+
+// Writes each core's lines.
+pub(crate) fn put_cores<K: Sink>(
+    sink: &mut K,
+    vcpus: &[Vcpu],
+    rows: &[CoreTable],
+) -> Result<(), WriteFault>
+    requires owned { OwnersBelow (length vcpus.now) rows.now }
+    requires few { length rows.now ≤ MAX_CORES }
+    ensures { Writes (K.state sink.old) (K.state sink.new)
+        (texts_below (core_text (names_of vcpus.now) rows.now) (length rows.now)) result }
+{
+    for core in 0..rows.len() {
+        if let Err(fault) = put_core(sink, vcpus, rows, core) {
+            return Err(fault);
+        }
+    }
+    Ok(())
+}
+
+fn put_core<K: Sink>(
+    sink: &mut K,
+    vcpus: &[Vcpu],
+    rows: &[CoreTable],
+    core: usize,
+) -> Result<(), WriteFault>
+    requires owned { OwnersBelow (length vcpus.now) rows.now }
+    requires core { core < length rows.now }
+    requires few { length rows.now ≤ MAX_CORES }
+    ensures { Writes (K.state sink.old) (K.state sink.new)
+        (core_text (names_of vcpus.now) rows.now core) result }
+{
+    if let Err(fault) = put_core_line(sink, core as u32) {
+        return Err(fault);
+    }
+    put_row(sink, vcpus, rows[core].segments())
+}
+
+#[tactic(auto, unfolding(crate::specs::PlanText::core_line))]
+fn put_core_line<K: Sink>(sink: &mut K, core: u32) -> Result<(), WriteFault>
+    ensures { Writes (K.state sink.old) (K.state sink.new) (core_line core) result }
+{
+    put_pieces(
+        sink,
+        &[
+            TextPiece::Text(b"core "),
+            TextPiece::Number(core),
+            TextPiece::Text(b"\n"),
+        ],
+    )
+}
+
+// Writes the lines of a row's maximal segments.
+fn put_row<K: Sink>(sink: &mut K, vcpus: &[Vcpu], segments: &[Segment]) -> Result<(), WriteFault>
+    requires rises { RisesTo 0 segments.now ROUND }
+    requires owned { AreOwnedBelow (length vcpus.now) segments.now }
+    ensures { Writes (K.state sink.old) (K.state sink.new)
+        (row_text (names_of vcpus.now) (cells_from 0 segments.now)) result }
+{
+    for at in 0..segments.len() {
+        if let Err(fault) = put_segment_at(sink, vcpus, segments, at) {
+            return Err(fault);
+        }
+    }
+    Ok(())
+}
+
+// Writes the line of the segment, unless the next one goes on with its owner.
+#[tactic(auto, unfolding(crate::specs::Owners::line_at))]
+fn put_segment_at<K: Sink>(
+    sink: &mut K,
+    vcpus: &[Vcpu],
+    segments: &[Segment],
+    at: usize,
+) -> Result<(), WriteFault>
+    requires at { at < length segments.now }
+    requires owned { AreOwnedBelow (length vcpus.now) segments.now }
+    ensures { Writes (K.state sink.old) (K.state sink.new)
+        (line_at (names_of vcpus.now) segments.now at) result }
+{
+    if ends_stretch(segments, at) {
+        put_segment(sink, vcpus, &segments[at])
+    } else {
+        Ok(())
+    }
+}
+
+fn ends_stretch(segments: &[Segment], at: usize) -> bool
+    requires { at < length segments.now }
+    ensures { result ≡ ends_maximal segments.now at }
+{
+    if at + 1 == segments.len() {
+        return true;
+    }
+    segments[at].owner != segments[at + 1].owner
+}
+
+#[tactic(auto, unfolding(crate::specs::PlanText::segment_line))]
+fn put_segment<K: Sink>(sink: &mut K, vcpus: &[Vcpu], segment: &Segment) -> Result<(), WriteFault>
+    requires { ForSome segment.now.owner (λ v. v < length vcpus.now) }
+    ensures { Writes (K.state sink.old) (K.state sink.new)
+        (segment_line (names_of vcpus.now) (stretch_of segment.now)) result }
+{
+    put_pieces(
+        sink,
+        &[
+            TextPiece::Number(segment.end),
+            TextPiece::Text(b" "),
+            TextPiece::Text(owner_text(vcpus, &segment.owner)),
+            TextPiece::Text(b"\n"),
+        ],
+    )
+}
+
+fn owner_text<'a>(vcpus: &'a [Vcpu], owner: &Option<VcpuNo>) -> &'a [u8]
+    requires { ForSome owner.now (λ v. v < length vcpus.now) }
+    ensures { result.now ≡ owner_word (names_of vcpus.now) owner.now }
+{
+    match owner {
+        None => b"-",
+        Some(v) => vcpus[v.index()].name.bytes(),
+    }
+}

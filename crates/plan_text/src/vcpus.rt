@@ -1,0 +1,83 @@
+ghost use Rattle.std.specs.Prelude.{◌≡◌, ◌<◌, ◌≤◌, count_by, length};
+ghost use Rattle.tab_core.specs.declared.TheConstants.{MAX_VCPUS};
+ghost use Rattle.tab_io.specs.Outside.{Writes};
+ghost use Rattle.plan_text.specs.PlanText.{is_admitted, names_of, task_text, texts_below, vcpu_text};
+
+use tab_core::{CoreNo, Periodic, Vcpu};
+use tab_io::{Sink, WriteFault};
+use tab_words::{TextPiece, put_pieces};
+
+// How many of the vCPUs have a task.
+pub(crate) fn count_admitted(tasks: &[Option<Periodic>]) -> u32
+    requires { length tasks.now ≤ MAX_VCPUS }
+    ensures { result ≡ count_by is_admitted tasks.now }
+{
+    tasks.iter().filter(|task| task.is_some()).count() as u32
+}
+
+// Writes the lines of the vCPUs that have a task.
+pub(crate) fn put_vcpus<K: Sink>(
+    sink: &mut K,
+    vcpus: &[Vcpu],
+    tasks: &[Option<Periodic>],
+    homes: &[Option<CoreNo>],
+) -> Result<(), WriteFault>
+    requires named { length vcpus.now ≡ length tasks.now }
+    requires housed { length homes.now ≡ length tasks.now }
+    ensures { Writes (K.state sink.old) (K.state sink.new)
+        (texts_below (vcpu_text (names_of vcpus.now) tasks.now homes.now) (length tasks.now)) result }
+{
+    for v in 0..tasks.len() {
+        if let Err(fault) = put_vcpu_at(sink, vcpus, tasks, homes, v) {
+            return Err(fault);
+        }
+    }
+    Ok(())
+}
+
+fn put_vcpu_at<K: Sink>(
+    sink: &mut K,
+    vcpus: &[Vcpu],
+    tasks: &[Option<Periodic>],
+    homes: &[Option<CoreNo>],
+    v: usize,
+) -> Result<(), WriteFault>
+    requires named { v < length vcpus.now }
+    requires tasked { v < length tasks.now }
+    requires housed { v < length homes.now }
+    ensures { Writes (K.state sink.old) (K.state sink.new)
+        (vcpu_text (names_of vcpus.now) tasks.now homes.now v) result }
+{
+    put_vcpu(sink, &vcpus[v], &tasks[v], &homes[v])
+}
+
+#[tactic(auto, unfolding(crate::specs::PlanText::task_line))]
+fn put_vcpu<K: Sink>(
+    sink: &mut K,
+    vcpu: &Vcpu,
+    task: &Option<Periodic>,
+    home: &Option<CoreNo>,
+) -> Result<(), WriteFault>
+    ensures { Writes (K.state sink.old) (K.state sink.new) (task_text vcpu.now.name task.now home.now) result }
+{
+    let Some(task) = task else {
+        return Ok(());
+    };
+    let Some(home) = home else {
+        return Ok(());
+    };
+    put_pieces(
+        sink,
+        &[
+            TextPiece::Text(b"vcpu "),
+            TextPiece::Text(vcpu.name.bytes()),
+            TextPiece::Text(b" period "),
+            TextPiece::Number(task.period),
+            TextPiece::Text(b" cost "),
+            TextPiece::Number(task.cost),
+            TextPiece::Text(b" home "),
+            TextPiece::Number(home.0),
+            TextPiece::Text(b"\n"),
+        ],
+    )
+}

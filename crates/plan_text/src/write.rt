@@ -1,0 +1,73 @@
+ghost use Rattle.std.specs.Prelude.{◌≡◌, ◌≤◌, length};
+ghost use Rattle.tab_core.specs.declared.TheConstants.{MAX_CORES, MAX_VCPUS};
+ghost use Rattle.tab_io.specs.Outside.{Writes};
+ghost use Rattle.table_form.specs.Plans.{IsPlanFor};
+ghost use Rattle.table_form.specs.Views.{plan_view};
+ghost use Rattle.plan_text.specs.Owners.{OwnersBelow};
+ghost use Rattle.plan_text.specs.PlanText.{head_line, names_of, plan_text};
+
+use crate::cores::put_cores;
+use crate::vcpus::{count_admitted, put_vcpus};
+use tab_core::{CoreNo, Host, Periodic, Vcpu};
+use tab_io::{Sink, WriteFault, write_all};
+use tab_words::{TextPiece, put_pieces};
+use table_form::{CoreTable, Plan};
+
+/// Writes the text of a plan for this host.
+///
+/// The plan has a task exactly for each admitted vCPU of the host, and a row for each of its cores.
+pub fn write_plan<K: Sink>(sink: &mut K, host: &Host, plan: &Plan) -> Result<(), WriteFault>
+    requires { IsPlanFor host.now (plan_view plan.now) }
+    ensures { Writes (K.state sink.old) (K.state sink.new)
+        (plan_text (names_of host.now.vcpus) (plan_view plan.now)) result }
+{
+    let vcpus = host.vcpus.items();
+    let tasks = plan.tasks.items();
+    let homes = plan.tables.homes.items();
+    let rows = plan.tables.rows.items();
+    put_plan(sink, vcpus, tasks, homes, rows)
+}
+
+// Writes the text of a plan that is given by its parts.
+fn put_plan<K: Sink>(
+    sink: &mut K,
+    vcpus: &[Vcpu],
+    tasks: &[Option<Periodic>],
+    homes: &[Option<CoreNo>],
+    rows: &[CoreTable],
+) -> Result<(), WriteFault>
+    requires named { length vcpus.now ≡ length tasks.now }
+    requires few { length tasks.now ≤ MAX_VCPUS }
+    requires housed { length homes.now ≡ length tasks.now }
+    requires few_rows { length rows.now ≤ MAX_CORES }
+    requires owned { OwnersBelow (length vcpus.now) rows.now }
+    ensures { Writes (K.state sink.old) (K.state sink.new)
+        (plan_text (names_of vcpus.now) (record { tasks = tasks.now; homes = homes.now; rows = rows.now })) result }
+{
+    if let Err(fault) = put_head(sink, rows.len() as u32, count_admitted(tasks)) {
+        return Err(fault);
+    }
+    if let Err(fault) = put_vcpus(sink, vcpus, tasks, homes) {
+        return Err(fault);
+    }
+    if let Err(fault) = put_cores(sink, vcpus, rows) {
+        return Err(fault);
+    }
+    write_all(sink, b"end\n")
+}
+
+#[tactic(auto, unfolding(crate::specs::PlanText::head_line))]
+fn put_head<K: Sink>(sink: &mut K, cores: u32, admitted: u32) -> Result<(), WriteFault>
+    ensures { Writes (K.state sink.old) (K.state sink.new) (head_line cores admitted) result }
+{
+    put_pieces(
+        sink,
+        &[
+            TextPiece::Text(b"plan cores "),
+            TextPiece::Number(cores),
+            TextPiece::Text(b" vcpus "),
+            TextPiece::Number(admitted),
+            TextPiece::Text(b"\n"),
+        ],
+    )
+}
