@@ -1,0 +1,53 @@
+ghost use Rattle.std.specs.Prelude.{◌≡◌};
+
+use std::marker::Model;
+use tab_core::{Edit, VcpuNo};
+
+/// The edits of one change, in the order in which they apply. Contracts see the list.
+#[derive(Debug, Drop)]
+pub struct Edits {
+    items: Vec<Edit>,
+}
+
+impl Model for Edits {
+    ghost use Rattle.std.specs.Prelude.{List};
+    ghost use Rattle.tab_core.specs.declared.edit.Edit.{Edit};
+
+    ghost Value = { List Edit };
+
+    ghost view = { λ edits. edits.items.items };
+}
+
+impl Edits {
+    /// The list of these edits.
+    pub fn of(items: Vec<Edit>) -> Edits
+        ensures { result ≡ items.items }
+    {
+        Edits { items }
+    }
+
+    pub fn items(&self) -> &[Edit]
+        ensures { result.now ≡ self.now }
+    {
+        &self.items
+    }
+}
+
+/// What happens in an event.
+#[derive(Debug, Drop)]
+pub enum Act {
+    /// The vCPU wants to run from now on.
+    Wake(VcpuNo),
+    /// The vCPU doesn't want to run from now on.
+    Block(VcpuNo),
+    /// The reservations change by these edits, of which a later one prevails.
+    Change(Edits),
+}
+
+/// One event of a script.
+#[derive(Debug, Drop)]
+pub struct Event {
+    /// When it happens, in ticks from the start of the run.
+    pub tick: u32,
+    pub act: Act,
+}

@@ -1,0 +1,161 @@
+ghost use Rattle.std.specs.Prelude.{◌≡◌};
+
+use crate::{Act, Event, Script, ScriptFault, read_script};
+use std::alloc::{AllocError, Global};
+use std::test::Fail;
+use tab_core::{Edit, Host, Name, Reservation, Vcpu, VcpuNo, Vcpus};
+
+fn vcpu_of(name: Name) -> Vcpu
+    ensures { result.name ≡ name }
+{
+    Vcpu {
+        name,
+        reservation: None,
+        runnable: true,
+    }
+}
+
+// A host with the vCPUs b and a.
+fn host_of(alloc: Global) -> Result<Host, Fail> {
+    let b = Name::of(alloc, b"b")?;
+    let a = Name::of(alloc, b"a")?;
+    let mut vcpus = Vec::new(alloc);
+    vcpus.push(vcpu_of(b))?;
+    vcpus.push(vcpu_of(a))?;
+    Ok(Host {
+        cores: 1,
+        lag: 1000,
+        sliver: 30,
+        quantum: 1000,
+        vcpus: Vcpus::of(vcpus),
+    })
+}
+
+fn edits_in(event: &Event) -> &[Edit] {
+    match &event.act {
+        Act::Change(edits) => edits.items(),
+        _ => &[],
+    }
+}
+
+#[test]
+fn reads_events_of_known_vcpus(rt: HostRuntime) -> Result<(), Fail> {
+    let host = host_of(rt.alloc())?;
+    let text =
+        b"# all forms\n0 wake a\n\n0  block b \n  102599   change leave b set a 1 1000000000000 set b 1000000 0";
+    let script = read_script(rt.alloc(), text, &host, 1)?;
+    let events = script.events();
+    let [first, second, third] = events else {
+        return Err(Fail::from("three events"));
+    };
+    assert!(rt; matches!(first.act, Act::Wake(VcpuNo(1))));
+    assert!(rt; matches!(second.act, Act::Block(VcpuNo(0))));
+    assert_eq!(rt; (first.tick, second.tick, third.tick), (0, 0, 102_599));
+    let edits = [
+        Edit::Leave { vcpu: VcpuNo(0) },
+        Edit::Set {
+            vcpu: VcpuNo(1),
+            reservation: Reservation {
+                share_ppm: 1,
+                latency_ns: 1_000_000_000_000,
+            },
+        },
+        Edit::Set {
+            vcpu: VcpuNo(0),
+            reservation: Reservation {
+                share_ppm: 1_000_000,
+                latency_ns: 0,
+            },
+        },
+    ];
+    assert_eq!(rt; edits_in(third), edits.as_slice());
+    Ok(())
+}
+
+#[test]
+fn names_the_first_fault_of_the_first_line_with_one(rt: HostRuntime) -> Result<(), Fail> {
+    let host = host_of(rt.alloc())?;
+    let bad = |line| ScriptFault::BadLine { line };
+    let unknown = |line| ScriptFault::UnknownName { line };
+    let order = |line| ScriptFault::OutOfOrder { line };
+    let late = |line| ScriptFault::LateEvent { line };
+    // a text, and its fault in a run of one round
+    let cases: [(&[u8], ScriptFault); 34] = [
+        (b"102600 wake a", late(1)),
+        (b"5 wake x", unknown(1)),
+        (b"5 wake a\n4 block a", order(2)),
+        (b"5 wake", bad(1)),
+        (b"5", bad(1)),
+        (b"wake a", bad(1)),
+        (b"5 wake a b", bad(1)),
+        (b"5 Wake a", bad(1)),
+        (b"05 wake a", bad(1)),
+        (b"4294967296 wake a", bad(1)),
+        (b"4294967295 wake a", late(1)),
+        (b"5 wake a\r", bad(1)),
+        (b"5\twake a", bad(1)),
+        (b" # x", bad(1)),
+        (b"5 wake -", bad(1)),
+        (b"5 wake a\x00", bad(1)),
+        (b"5 wake abcdefghijklmnopqrstuvwxyz0123456", bad(1)),
+        (b"5 wake abcdefghijklmnopqrstuvwxyz012345", unknown(1)),
+        (b"5 change", bad(1)),
+        (b"5 change leave", bad(1)),
+        (b"5 change leave a b", bad(1)),
+        (b"5 change set a 1", bad(1)),
+        (b"5 change set a 0 1", bad(1)),
+        (b"5 change set a 1000001 1", bad(1)),
+        (b"5 change set a 1 1000000000001", bad(1)),
+        (b"5 change set a 1 01", bad(1)),
+        (b"5 change set x 1 1 leave", bad(1)),
+        (b"5 change set x 1 1 leave a", unknown(1)),
+        (b"5 change leave a set x 1 1", unknown(1)),
+        (b"\n#\n7 wake a\n6 wake x\n6", unknown(4)),
+        (b"102600 wake a\n5", late(1)),
+        (b"7 wake a\n200000 wake a\n", late(2)),
+        (b"7 wake a\n6 wake a\n200000 wake a", order(2)),
+        (b"7 wake a\n7 wake b\nwake\n", bad(3)),
+    ];
+    for (text, expected) in cases {
+        assert!(rt; text.len() < 100);
+        let fault = read_script(rt.alloc(), text, &host, 1).err();
+        assert_eq!(rt; fault, Some(expected), "of {text:?}");
+    }
+    Ok(())
+}
+
+// So many lines of this text.
+fn lines_of(alloc: Global, line: &[u8], count: u32) -> Result<Vec<u8>, AllocError> {
+    let mut text = Vec::new(alloc);
+    for _ in 0..count {
+        text.extend_from_slice(line)?;
+    }
+    Ok(text)
+}
+
+#[test]
+fn refuses_the_first_event_or_change_too_many(rt: HostRuntime) -> Result<(), Fail> {
+    let host = host_of(rt.alloc())?;
+    // a line, how many of it are taken, and the fault of one more
+    let cases: [(&[u8], u32, ScriptFault); 2] = [
+        (
+            b"0 wake a\n",
+            65_535,
+            ScriptFault::TooManyEvents { line: 65_536 },
+        ),
+        (
+            b"0 change leave b\n",
+            15,
+            ScriptFault::TooManyChanges { line: 16 },
+        ),
+    ];
+    for (line, count, expected) in cases {
+        for (more, fault) in [(0, None), (1, Some(expected))] {
+            let text = lines_of(rt.alloc(), line, count + more)?;
+            assert!(rt; text.len() < 4_194_304);
+            let result = read_script(rt.alloc(), &text, &host, 1);
+            assert_eq!(rt; result.err(), fault, "of {count} lines and {more} more");
+        }
+    }
+    Ok(())
+}

@@ -1,0 +1,71 @@
+ghost use Rattle.std.specs.Prelude.{◌≡◌, length};
+
+use crate::step::Step;
+use std::marker::Model;
+
+/// Steps in the order in which they are taken. Contracts see the list.
+#[derive(Debug, Drop)]
+pub struct Steps {
+    items: Vec<Step>,
+}
+
+impl Model for Steps {
+    ghost use Rattle.std.specs.Prelude.{List};
+    ghost use Rattle.script_doc.specs.declared.step.Step.{Step};
+
+    ghost Value = { List Step };
+
+    ghost view = { λ steps. steps.items.items };
+}
+
+impl Steps {
+    /// The list of these steps.
+    pub fn of(items: Vec<Step>) -> Steps
+        ensures { result ≡ items.items }
+    {
+        Steps { items }
+    }
+
+    pub fn items(&self) -> &[Step]
+        ensures { result.now ≡ self.now }
+    {
+        &self.items
+    }
+}
+
+/// Numbers of lines, from 1. Contracts see the list.
+#[derive(Debug, Drop)]
+pub struct LineNumbers {
+    items: Vec<u32>,
+}
+
+impl Model for LineNumbers {
+    ghost use Rattle.std.specs.Prelude.{ℕ, List};
+
+    ghost Value = { List ℕ };
+
+    ghost view = { λ lines. lines.items.items };
+}
+
+impl LineNumbers {
+    /// The list of these numbers.
+    pub fn of(items: Vec<u32>) -> LineNumbers
+        ensures { result ≡ items.items }
+    {
+        LineNumbers { items }
+    }
+
+    pub fn items(&self) -> &[u32]
+        ensures { result.now ≡ self.now }
+    {
+        &self.items
+    }
+}
+
+/// Steps, and for each the number of the line that it stands on.
+#[derive(Debug, Drop)]
+pub struct StepList {
+    pub steps: Steps,
+    pub lines: LineNumbers,
+    pub ghost one_line_each: { length lines ≡ length steps },
+}

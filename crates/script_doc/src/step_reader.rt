@@ -1,0 +1,181 @@
+ghost use Rattle.std.specs.Prelude.{◌≡◌, ℕ, ◌<◌, ◌≤◌, ◌^◌, [], ◌∷◌, length, decimal, IfOk, IsErrOf, MatchOption};
+ghost use Rattle.tab_core.specs.declared.TheConstants.{MAX_CORES};
+ghost use Rattle.tab_words.specs.Words.{words_of};
+ghost use Rattle.script_doc.specs.Rows.{rows_of};
+ghost use Rattle.script_doc.specs.Steps.{AreSteps, IsFirstBadLine, IsNoStep, IsStep};
+ghost use Rattle.script_doc.specs.declared.step_reader.StepsFault.TheVariants.{NoMemory};
+
+use crate::line::is_skipped;
+use crate::step::Step;
+use crate::step_list::{LineNumbers, StepList, Steps};
+use std::alloc::{AllocError, Global};
+use std::error::Error;
+use std::fmt;
+use tab_core::CoreNo;
+use tab_words::{Lines, Words, read_number};
+
+/// Why a text isn't read as a list of steps.
+#[derive(Clone, Copy, Debug, PartialEq, Eq, Hash)]
+pub enum StepsFault {
+    /// The line is no step, and it is the first such. Its number is from 1.
+    BadLine { line: u32 },
+    NoMemory,
+}
+
+impl fmt::Display for StepsFault {
+    fn fmt<W: fmt::Write>(&self, f: &mut fmt::Formatter<W>) -> fmt::Result {
+        match self {
+            StepsFault::BadLine { line } => write!(f, "steps line {line}"),
+            StepsFault::NoMemory => write!(f, "want of memory"),
+        }
+    }
+}
+
+impl Error for StepsFault {}
+
+impl From<AllocError> for StepsFault {
+    ghost from_gives = { λ _ fault. fault ≡ NoMemory };
+
+    fn from(_: AllocError) -> StepsFault {
+        StepsFault::NoMemory
+    }
+}
+
+/// The steps of a text of less than 2^32 bytes, for a host with so many cores, of which there are 1
+/// to 32.
+///
+/// A line is `post`, or `see C`, `decide C` or `run C` with a core's number below the count of
+/// cores. A line without words and one whose first byte is `#` are skipped, and count as lines.
+/// `BadLine` comes exactly where another line stands there, and names the first.
+pub fn read_steps(alloc: Global, bytes: &[u8], cores: u32) -> Result<StepList, StepsFault>
+    requires some_core { 1 ≤ cores }
+    requires few_cores { cores ≤ MAX_CORES }
+    requires short { length bytes.now < 2 ^ 32 }
+    ensures ok { IfOk result (λ list. AreSteps cores (rows_of bytes.now) list.steps list.lines) }
+    ensures bad_line { (line : ℕ) → IsErrOf result (StepsFault.BadLine line)
+        → IsFirstBadLine cores (rows_of bytes.now) line }
+{
+    let mut steps = Vec::new(alloc);
+    let mut numbers = Vec::new(alloc);
+    let mut number = 0;
+    for line in Lines::over(bytes) {
+        number += 1;
+        if !is_skipped(line) {
+            let Some(step) = step_of(line, cores) else {
+                return Err(StepsFault::BadLine { line: number });
+            };
+            if steps.push(step).is_err() || numbers.push(number).is_err() {
+                return Err(StepsFault::NoMemory);
+            }
+        }
+    }
+    Ok(StepList {
+        steps: Steps::of(steps),
+        lines: LineNumbers::of(numbers),
+    })
+}
+
+// The step that the line is.
+fn step_of(line: &[u8], cores: u32) -> Option<Step>
+    requires { cores ≤ MAX_CORES }
+    ensures { MatchOption result (IsNoStep cores (words_of line.now)) (IsStep cores (words_of line.now)) }
+{
+    let mut words = Words::of(line);
+    match (words.next(), words.next(), words.next()) {
+        (Some(name), None, _) => step_of_all(name),
+        (Some(name), Some(word), None) => step_of_core(name, word, cores),
+        _ => None,
+    }
+}
+
+// The step of one word.
+fn step_of_all(name: &[u8]) -> Option<Step>
+    ensures { (cores : ℕ) → MatchOption result (IsNoStep cores (name.now ∷ [])) (IsStep cores (name.now ∷ [])) }
+{
+    if name == b"post".as_slice() {
+        Some(Step::Post)
+    } else {
+        None
+    }
+}
+
+// The step of these two words.
+fn step_of_core(name: &[u8], word: &[u8], cores: u32) -> Option<Step>
+    requires { cores ≤ MAX_CORES }
+    ensures { MatchOption result (IsNoStep cores (name.now ∷ word.now ∷ [])) (IsStep cores (name.now ∷ word.now ∷ [])) }
+{
+    let core = core_of(word, cores)?;
+    if name == b"see".as_slice() {
+        Some(Step::See(core))
+    } else if name == b"decide".as_slice() {
+        Some(Step::Decide(core))
+    } else if name == b"run".as_slice() {
+        Some(Step::Run(core))
+    } else {
+        None
+    }
+}
+
+// The core's number that the word spells, where it is below the count.
+fn core_of(word: &[u8], cores: u32) -> Option<CoreNo>
+    requires { cores ≤ MAX_CORES }
+    ensures { MatchOption result ((core : ℕ) → core < cores → word.now ≡ decimal core → ⊥)
+        (λ core. (core < cores) × (word.now ≡ decimal core)) }
+{
+    let number = read_number(word)?;
+    if number < u64::from(cores) {
+        Some(CoreNo(number as u32))
+    } else {
+        None
+    }
+}
+
+#[cfg(test)]
+mod tests {
+    use super::*;
+    use std::test::Fail;
+
+    #[test]
+    fn reads_steps_with_the_numbers_of_their_lines(rt: HostRuntime) -> Result<(), Fail> {
+        let text = b"see 0\n\n# see 9\ndecide   31\n   \n  run 7 \n#\npost";
+        let list = read_steps(rt.alloc(), text, 32)?;
+        let steps = [
+            Step::See(CoreNo(0)),
+            Step::Decide(CoreNo(31)),
+            Step::Run(CoreNo(7)),
+            Step::Post,
+        ];
+        assert_eq!(rt; list.steps.items(), steps.as_slice());
+        assert_eq!(rt; list.lines.items(), [1, 4, 6, 8].as_slice());
+        Ok(())
+    }
+
+    #[test]
+    fn names_the_first_line_that_is_no_step(rt: HostRuntime) {
+        // a text for two cores, and the number of its first bad line
+        let cases: [(&[u8], u32); 18] = [
+            (b"pos\npost\npost", 1),
+            (b"post\n\n#\nposts\nx", 4),
+            (b"see 0\nrun 1\nrun", 3),
+            (b"post 0", 1),
+            (b"post post", 1),
+            (b"see 2", 1),
+            (b"see 4294967296", 1),
+            (b"see 00", 1),
+            (b"see 01", 1),
+            (b"see -1", 1),
+            (b"decide 0 1", 1),
+            (b"run 0 #", 1),
+            (b"post\r\npost", 1),
+            (b"see\t0", 1),
+            (b"\t", 1),
+            (b"post\n # x", 2),
+            (b"post\n\x00", 2),
+            (b"POST", 1),
+        ];
+        for (text, line) in cases {
+            let fault = read_steps(rt.alloc(), text, 2).err();
+            assert_eq!(rt; fault, Some(StepsFault::BadLine { line }), "of {text:?}");
+        }
+    }
+}
