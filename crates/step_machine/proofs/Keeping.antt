@@ -1,0 +1,326 @@
+-- Each step keeps what is kept.
+use Rattle.std.proofs.Common.{◌≡◌, ℕ, suc, ◌+◌, ◌*◌, ◌/◌, ◌<◌, ◌≤◌, ◌⊎◌, inl, inr, true, false, List, [], ◌∷◌, ◌++◌, length, Option, Some, refl, ap, sym, subst, ◌∙◌, arith, length-append, length-set}
+use Rattle.std.specs.Prelude.{slice_get, slice_set}
+use Rattle.std.proofs.lemmas.Bool.{cases_lt}
+use Rattle.tab_core.specs.declared.TheConstants.{ROUND}
+use Rattle.tab_core.specs.declared.stint.Stint.{Stint}
+use Rattle.tab_core.specs.declared.entry.Entry.{Entry}
+use Rattle.table_form.specs.Courses.{CourseView, IsCourse, tick_at}
+use Rattle.table_form.specs.State.{State, CoreState, IsCore}
+use Rattle.script_doc.specs.declared.step.Step.{Step}
+use Rattle.step_machine.specs.Answers.{Moves}
+use Rattle.table_form.specs.Steps.{phase_of, Posts, Sees, Wins, Joins, Runs, IsNextStint, enters, runs, round_of, HasUpTo}
+use Rattle.table_form.specs.Kept.{StintKept, SightKept, CoreKept, Kept}
+use Rattle.script_doc.specs.declared.step.Step.TheVariants as steps
+use Rattle.table_form.specs.Steps.{to_decide}
+use Rattle.step_machine.proofs.Lists.{set_split, set_here, push_split, push_old, push_new, take_push_old, take_push_new, within, same}
+use Rattle.step_machine.proofs.Phases.{deciding, running, entered_below}
+use Rattle.step_machine.proofs.Pieces.{chain_push, cores_after, won_after, stint_bounds}
+
+-- Post
+
+stint_posted : (course : CourseView) (posted : ℕ) (decided : List ℕ) (s : Stint) → StintKept course posted decided s → StintKept course (posted + 1) decided s
+stint_posted course posted decided s k = record { used = k.used; fresh = k.fresh; seen_posted = omega (arith, k.seen_posted); some_ticks = k.some_ticks; in_round = k.in_round }
+
+sight_posted : (course : CourseView) (posted : ℕ) (decided : List ℕ) (core : CoreState) (n : ℕ) → SightKept course posted decided core n → SightKept course (posted + 1) decided core n
+sight_posted course posted decided core n k = record { fresh = k.fresh; seen_posted = omega (arith, k.seen_posted); stints = k.stints; counts = k.counts }
+
+core_posted : (course : CourseView) (rounds posted : ℕ) (decided : List ℕ) (c : ℕ) (core : CoreState) → CoreKept course rounds posted decided c core → tick_at course posted ≤ core.clock + course.lag →
+    CoreKept course rounds (posted + 1) decided c core
+core_posted course rounds posted decided c core k near = record {
+  chain = k.chain;
+  numbered = k.numbered;
+  reach = k.reach;
+  ahead = k.ahead;
+  counted = k.counted;
+  agreed = k.agreed;
+  entries_posted = λ i e h. omega (arith, k.entries_posted i e h);
+  stints = λ i s h. stint_posted course posted decided s (k.stints i s h);
+  chosen = k.chosen;
+  risen = k.risen;
+  sight = λ n h. sight_posted course posted decided core n (k.sight n h);
+  events = λ i lt. elim (cases_lt i posted) [ inl old ↦ k.events i old | inr new ↦ (let e : i ≡ posted = omega arith in rw e near) ];
+  in_run = k.in_run;
+}
+
+pub posts_keep : (course : CourseView) (rounds : ℕ) (old new : State) → Posts course old new → Kept course rounds old → Kept course rounds new
+posts_keep course rounds old new p k = subst (λ (s : State). Kept course rounds s) (sym p.becomes) (record {
+  size = k.size;
+  cores = λ c core h. core_posted course rounds old.posted old.decided c core (k.cores c core h) (p.near c core h (λ e. absurd cc));
+  one_won = k.one_won;
+  rises = k.rises;
+  fresh = k.fresh;
+  decided_posted = λ r d h. omega (arith, k.decided_posted r d h);
+  posted_most = omega (arith, p.due);
+  near = k.near;
+})
+
+-- See
+
+seen_now : (course : CourseView) (rounds posted : ℕ) (decided : List ℕ) (c : ℕ) (core : CoreState) → CoreKept course rounds posted decided c core → HasUpTo course posted core.clock →
+    ((r d : ℕ) → slice_get decided r ≡ Some d → d ≤ posted) → CoreKept course rounds posted decided c (record core { seen = Some posted })
+seen_now course rounds posted decided c core k has most = record {
+  chain = k.chain;
+  numbered = k.numbered;
+  reach = k.reach;
+  ahead = k.ahead;
+  counted = k.counted;
+  agreed = k.agreed;
+  entries_posted = k.entries_posted;
+  stints = k.stints;
+  chosen = k.chosen;
+  risen = k.risen;
+  sight = λ n h. (let e : posted ≡ n = same (Some posted) posted n refl h in rw (← e) (record {
+    fresh = record { has = has; none_later = k.events };
+    seen_posted = omega arith;
+    stints = λ i s g. (k.stints i s g).seen_posted;
+    counts = λ r d g le. most r d g;
+  }));
+  events = k.events;
+  in_run = k.in_run;
+}
+
+-- clocks stay near where no clock changes
+near_after : (course : CourseView) (s : State) (c : ℕ) (core changed : CoreState) → IsCore s c core → changed.clock ≡ core.clock →
+    ((d e : ℕ) (x y : CoreState) → IsCore s d x → IsCore s e y → x.clock ≤ y.clock + course.lag) →
+    (d e : ℕ) (x y : CoreState) → slice_get (slice_set s.cores c changed) d ≡ Some x → slice_get (slice_set s.cores c changed) e ≡ Some y → x.clock ≤ y.clock + course.lag
+near_after course s c core changed at clock near = λ d e x y h g.
+    cores_after (λ (i : ℕ) (u : CoreState). u.clock ≤ y.clock + course.lag) s.cores c changed
+    (λ i u was. cores_after (λ (j : ℕ) (w : CoreState). u.clock ≤ w.clock + course.lag) s.cores c changed (λ j w is. near i j u w was is) (omega (arith, near i c u core was at, clock)) e y g)
+    (cores_after (λ (j : ℕ) (w : CoreState). changed.clock ≤ w.clock + course.lag) s.cores c changed (λ j w is. omega (arith, near c j core w at is, clock)) (omega (arith)) e y g) d x h
+
+pub sees_keep : (course : CourseView) (rounds c : ℕ) (old new : State) → Sees course rounds c old new → Kept course rounds old → Kept course rounds new
+sees_keep course rounds c old new p k =
+    let changed : CoreState = record p.core { seen = Some old.posted } in
+    subst (λ (s : State). Kept course rounds s) (sym p.becomes) (record {
+      size = length-set old.cores c changed ∙ k.size;
+      cores = cores_after (λ (d : ℕ) (x : CoreState). CoreKept course rounds old.posted old.decided d x) old.cores c changed k.cores
+          (seen_now course rounds old.posted old.decided c p.core (k.cores c p.core p.at) p.has k.decided_posted);
+      one_won = λ r d h. won_after old.cores c r d p.core changed p.at (λ e g. g) (λ e g w. g) (k.one_won r d h);
+      rises = k.rises;
+      fresh = k.fresh;
+      decided_posted = k.decided_posted;
+      posted_most = k.posted_most;
+      near = near_after course old c p.core changed p.at refl k.near;
+    })
+
+-- Decide
+
+-- a core is as it was when further rounds are decided that it has not reached
+core_grown : (course : CourseView) (rounds posted : ℕ) (decided more : List ℕ) (c : ℕ) (core : CoreState) → CoreKept course rounds posted decided c core →
+    ((r d : ℕ) → slice_get decided r ≡ Some d → slice_get more r ≡ Some d) → length decided ≤ length more →
+    ((r d : ℕ) → slice_get more r ≡ Some d → (slice_get decided r ≡ Some d) ⊎ (length decided ≤ r)) → CoreKept course rounds posted more c core
+core_grown course rounds posted decided more c core k stays len back = record {
+  chain = k.chain;
+  numbered = k.numbered;
+  reach = k.reach;
+  ahead = k.ahead;
+  counted = omega (arith, k.counted);
+  agreed = λ i e h. stays i e.used (k.agreed i e h);
+  entries_posted = k.entries_posted;
+  stints = λ i s h. (let was = k.stints i s h in record { used = stays (s.from / ROUND) s.used was.used; fresh = was.fresh; seen_posted = was.seen_posted; some_ticks = was.some_ticks; in_round = was.in_round });
+  chosen = k.chosen;
+  risen = k.risen;
+  sight = λ n h. (let was = k.sight n h in record {
+    fresh = was.fresh;
+    seen_posted = was.seen_posted;
+    stints = was.stints;
+    counts = λ r d g le. elim (back r d g) [ inl old ↦ was.counts r d old le | inr new ↦ absurd (omega (arith, k.reach, k.counted)) ];
+  });
+  events = k.events;
+  in_run = k.in_run;
+}
+
+-- a core enters the next round
+core_entered : (course : CourseView) (rounds posted : ℕ) (decided : List ℕ) (c : ℕ) (core : CoreState) (e : Entry) → CoreKept course rounds posted decided c core →
+    e.round ≡ length core.entries → core.clock ≡ length core.entries * ROUND → slice_get decided (length core.entries) ≡ Some e.used → e.seen ≤ posted →
+    CoreKept course rounds posted decided c (enters core e)
+core_entered course rounds posted decided c core e k round clock used posted_most =
+    let grown : length (core.entries ++ e ∷ []) ≡ length core.entries + 1 = length-append core.entries (e ∷ []) in
+    record {
+      chain = k.chain;
+      numbered = λ i x h. elim (push_split core.entries i e x h) [
+        | inl old ↦ k.numbered i x old
+        | inr new ↦ (let same_round = ap (λ (y : Entry). y.round) new.1 in omega (arith, new.0))
+      ];
+      reach = omega arith;
+      ahead = omega arith;
+      counted = (let lt = within decided (length core.entries) e.used used in omega arith);
+      agreed = λ i x h. elim (push_split core.entries i e x h) [
+        | inl old ↦ k.agreed i x old
+        | inr new ↦ rw (new.0) (rw (← new.1) used)
+      ];
+      entries_posted = λ i x h. elim (push_split core.entries i e x h) [
+        | inl old ↦ k.entries_posted i x old
+        | inr new ↦ (let same_seen = ap (λ (y : Entry). y.seen) new.1 in omega arith)
+      ];
+      stints = k.stints;
+      chosen = k.chosen;
+      risen = k.risen;
+      sight = λ n h. (let was = k.sight n h in record { fresh = was.fresh; seen_posted = was.seen_posted; stints = was.stints; counts = was.counts });
+      events = k.events;
+      in_run = k.in_run;
+    }
+
+-- a core that has not entered its clock's round has entered those before
+entries_so_far : (course : CourseView) (rounds posted : ℕ) (decided : List ℕ) (c : ℕ) (core : CoreState) → CoreKept course rounds posted decided c core → phase_of rounds core ≡ to_decide →
+    core.clock ≡ round_of core * ROUND → length core.entries ≡ round_of core
+entries_so_far course rounds posted decided c core k due start = elim (cases_lt (round_of core) (length core.entries)) [
+  | inl more ↦ absurd (let was = entered_below core.entries (round_of core) k.numbered more in let isnt = (deciding rounds core due).not_entered in cc)
+  | inr le ↦ omega (arith, k.reach)
+]
+
+pub joins_keep : (course : CourseView) (rounds c : ℕ) (old new : State) → Joins rounds c old new → Kept course rounds old → Kept course rounds new
+joins_keep course rounds c old new p k =
+    let core : CoreState = p.core in
+    let kept = k.cores c core p.at in
+    let len = entries_so_far course rounds old.posted old.decided c core kept p.due p.start in
+    let e : Entry = record { round = round_of core; used = p.used; seen = p.seen; won = false } in
+    let changed : CoreState = enters core e in
+    subst (λ (s : State). Kept course rounds s) (sym p.becomes) (record {
+      size = length-set old.cores c changed ∙ k.size;
+      cores = cores_after (λ (d : ℕ) (x : CoreState). CoreKept course rounds old.posted old.decided d x) old.cores c changed k.cores
+          (core_entered course rounds old.posted old.decided c core e kept (sym len) (rw len p.start) (rw len p.count) (kept.sight p.seen p.has_seen).seen_posted);
+      one_won = λ r d h. won_after old.cores c r d core changed p.at (λ x g. push_old core.entries r e x g)
+          (λ x g w. elim (push_split core.entries r e x g) [ inl was ↦ was | inr is ↦ absurd (let lost = ap (λ (y : Entry). y.won) is.1 in cc) ]) (k.one_won r d h);
+      rises = k.rises;
+      fresh = k.fresh;
+      decided_posted = k.decided_posted;
+      posted_most = k.posted_most;
+      near = near_after course old c core changed p.at refl k.near;
+    })
+
+pub wins_keep : (course : CourseView) (rounds c : ℕ) (old new : State) → Wins rounds c old new → Kept course rounds old → Kept course rounds new
+wins_keep course rounds c old new p k =
+    let core : CoreState = p.core in
+    let kept = k.cores c core p.at in
+    let sight = kept.sight p.seen p.has_seen in
+    let len = entries_so_far course rounds old.posted old.decided c core kept p.due p.start in
+    let e : Entry = record { round = round_of core; used = p.seen; seen = p.seen; won = true } in
+    let changed : CoreState = enters core e in
+    let more : List ℕ = old.decided ++ p.seen ∷ [] in
+    let grown = λ (d : ℕ) (x : CoreState) (was : CoreKept course rounds old.posted old.decided d x). core_grown course rounds old.posted old.decided more d x was (λ r u h. push_old old.decided r p.seen u h)
+    (omega (arith, length-append old.decided (p.seen ∷ [])))
+    (λ r u h. elim (push_split old.decided r p.seen u h) [ inl before ↦ inl before | inr new ↦ inr (omega (arith, new.0)) ]) in
+    let here : slice_get more (length core.entries) ≡ Some p.seen = rw (len, ← p.first) (push_new old.decided p.seen) in
+    subst (λ (s : State). Kept course rounds s) (sym p.becomes) (record {
+      size = length-set old.cores c changed ∙ k.size;
+      cores = cores_after (λ (d : ℕ) (x : CoreState). CoreKept course rounds old.posted more d x) old.cores c changed (λ d x h. grown d x (k.cores d x h))
+          (core_entered course rounds old.posted more c core e (grown c core kept) (sym len) (rw len p.start) here sight.seen_posted);
+      one_won = λ r d h. elim (push_split old.decided r p.seen d h) [
+        | inl before ↦ won_after old.cores c r d core changed p.at (λ x g. push_old core.entries r e x g)
+            (λ x g w. elim (push_split core.entries r e x g) [ inl was ↦ was | inr is ↦ absurd (let lt = within old.decided r d before in let at = is.0 in let first = p.first in omega arith) ]) (k.one_won r d before)
+        | inr new ↦ (let at : r ≡ length core.entries = new.0 ∙ p.first ∙ sym len in record {
+          winner = c;
+          won_by = record { core = changed; at = set_here old.cores c changed core p.at; entry = e; entered = rw at (push_new core.entries e); won = refl; seen = new.1 };
+          only = λ i x f g q w. elim (set_split old.cores c i changed x g) [
+            | inl is ↦ is.0
+            | inr other ↦ absurd (let lt = within x.entries r f q in let most = (k.cores i x other.1).counted in let r-is = new.0 in omega arith)
+          ];
+        })
+      ];
+      rises = λ r a b h g. elim (push_split old.decided (suc r) p.seen b g) [
+        | inl g-old ↦ elim (push_split old.decided r p.seen a h) [
+          | inl h-old ↦ k.rises r a b h-old g-old
+          | inr h-new ↦ absurd (let lt = within old.decided (suc r) b g-old in let at = h-new.0 in omega arith)
+        ]
+        | inr g-new ↦ elim (push_split old.decided r p.seen a h) [
+          | inl h-old ↦ (let le = sight.counts r a h-old (let first = p.first in let start = p.start in let at = g-new.0 in omega arith) in let is = g-new.1 in omega arith)
+          | inr h-new ↦ absurd (let at = g-new.0 in let at' = h-new.0 in omega arith)
+        ]
+      ];
+      fresh = λ r d h. elim (push_split old.decided r p.seen d h) [
+        | inl before ↦ k.fresh r d before
+        | inr new ↦ (let at : core.clock ≡ r * ROUND = (let first = p.first in let start = p.start in let here-is = new.0 in omega arith) in rw (← new.1, ← at) sight.fresh)
+      ];
+      decided_posted = λ r d h. elim (push_split old.decided r p.seen d h) [ inl before ↦ k.decided_posted r d before | inr new ↦ (let is = new.1 in let le = sight.seen_posted in omega arith) ];
+      posted_most = k.posted_most;
+      near = near_after course old c core changed p.at refl k.near;
+    })
+
+-- Run
+
+core_ran : (course : CourseView) (rounds posted : ℕ) (decided : List ℕ) (c : ℕ) (core : CoreState) (s : Stint) → IsCourse course → CoreKept course rounds posted decided c core → IsNextStint course rounds c core s →
+    CoreKept course rounds posted decided c (runs core s)
+core_ran course rounds posted decided c core s ok k next =
+    let bounds = stint_bounds course c core.stints s ok next.follows in
+    let sight = k.sight s.seen next.has_seen in
+    let from : s.from ≡ core.clock = next.from in
+    let entered = within core.entries (round_of core) next.entry next.entered in
+    let unfinished = running rounds core next.due in
+    let low : core.clock < rounds * ROUND = omega (arith, k.in_run) in
+    record {
+      chain = chain_push 0 core.clock core.stints s k.chain next.from;
+      numbered = k.numbered;
+      reach = omega (arith, bounds.1);
+      ahead = omega (arith, bounds.0, k.ahead);
+      counted = k.counted;
+      agreed = k.agreed;
+      entries_posted = k.entries_posted;
+      stints = λ i t h. elim (push_split core.stints i s t h) [
+        | inl old ↦ k.stints i t old
+        | inr new ↦ rw (← new.1) (record {
+          used = rw (next.uses, next.from) (k.agreed (round_of core) next.entry next.entered);
+          fresh = rw next.from sight.fresh;
+          seen_posted = sight.seen_posted;
+          some_ticks = bounds.0;
+          in_round = bounds.1;
+        })
+      ];
+      chosen = λ i t h. elim (push_split core.stints i s t h) [
+        | inl old ↦ rw (take_push_old core.stints i s t old) (k.chosen i t old)
+        | inr new ↦ rw (new.0, take_push_new core.stints s, ← new.1) next.follows
+      ];
+      risen = λ i j t u le h g. elim (push_split core.stints j s u g) [
+        | inl g-old ↦ elim (push_split core.stints i s t h) [
+          | inl h-old ↦ k.risen i j t u le h-old g-old
+          | inr h-new ↦ absurd (let lt = within core.stints j u g-old in let at = h-new.0 in omega arith)
+        ]
+        | inr g-new ↦ (let is = ap (λ (y : Stint). y.seen) g-new.1 in elim (push_split core.stints i s t h) [
+          | inl h-old ↦ omega (arith, sight.stints i t h-old)
+          | inr h-new ↦ (let is' = ap (λ (y : Stint). y.seen) h-new.1 in omega arith)
+        ])
+      ];
+      sight = λ n h. absurd cc;
+      events = λ i lt. omega (arith, k.events i lt, bounds.0);
+      in_run = omega (arith, bounds.1);
+    }
+
+pub runs_keep : (course : CourseView) (rounds c : ℕ) (old new : State) → IsCourse course → Runs course rounds c old new → Kept course rounds old → Kept course rounds new
+runs_keep course rounds c old new ok p k =
+    let core : CoreState = p.core in
+    let s : Stint = p.stint in
+    let kept = k.cores c core p.at in
+    let changed : CoreState = runs core s in
+    let bounds = stint_bounds course c core.stints s ok p.next.follows in
+    let from : s.from ≡ core.clock = p.next.from in
+    subst (λ (x : State). Kept course rounds x) (sym p.becomes) (record {
+      size = length-set old.cores c changed ∙ k.size;
+      cores = cores_after (λ (d : ℕ) (x : CoreState). CoreKept course rounds old.posted old.decided d x) old.cores c changed k.cores
+          (core_ran course rounds old.posted old.decided c core s ok kept p.next);
+      one_won = λ r d h. won_after old.cores c r d core changed p.at (λ x g. g) (λ x g w. g) (k.one_won r d h);
+      rises = k.rises;
+      fresh = k.fresh;
+      decided_posted = k.decided_posted;
+      posted_most = k.posted_most;
+      near = λ d e x y h g. elim (set_split old.cores c d changed x h) [
+        | inl x-is ↦ (let clock-x = ap (λ (z : CoreState). z.clock) x-is.1 in elim (set_split old.cores c e changed y g) [
+          | inl y-is ↦ (let clock-y = ap (λ (z : CoreState). z.clock) y-is.1 in omega arith)
+          | inr y-old ↦ (let near = p.near e y y-old.1 (λ same_core. y-old.0 (sym (some_same c e same_core))) in omega arith)
+        ])
+        | inr x-old ↦ elim (set_split old.cores c e changed y g) [
+          | inl y-is ↦ (let clock-y = ap (λ (z : CoreState). z.clock) y-is.1 in let near = k.near d c x core x-old.1 p.at in omega (arith, bounds.0))
+          | inr y-old ↦ k.near d e x y x-old.1 y-old.1
+        ]
+      ];
+    })
+  where
+    some_same : (a b : ℕ) → ◌≡◌ {A = Option ℕ} (Some a) (Some b) → a ≡ b
+    some_same a b h = cc
+
+-- Any step
+pub moves_keep : (course : CourseView) (rounds : ℕ) (old : State) (step : Step) (new : State) → IsCourse course → Moves course rounds old step new → Kept course rounds old → Kept course rounds new
+moves_keep course rounds old steps.Post new ok m k = posts_keep course rounds old new m k
+moves_keep course rounds old (steps.See c) new ok m k = sees_keep course rounds c old new m k
+moves_keep course rounds old (steps.Decide c) new ok m k = elim m [ inl w ↦ wins_keep course rounds c old new w k | inr j ↦ joins_keep course rounds c old new j k ]
+moves_keep course rounds old (steps.Run c) new ok m k = runs_keep course rounds c old new ok m k

@@ -1,0 +1,33 @@
+use Rattle.std.proofs.Common.{◌≡◌, ◌+◌, ◌-◌, ◌≤◌, ap, arith}
+use Rattle.step_machine.specs.Worlds.{WorldView}
+use Rattle.step_machine.specs.Progresses.{state_of}
+use Rattle.step_machine.proofs.Acting.{spare_some}
+use Rattle.step_machine.proofs.Running.{answers_keep}
+use Rattle.step_machine.proofs.world.World.apply.Goals as goal
+
+pub take_step-answer-requires-clause-spare : goal.take_step-answer-requires-clause-spare
+take_step-answer-requires-clause-spare c =
+    let was = c.self.inside in
+    let spare = ap (λ (w : WorldView). w.spare) c.self.view_is in
+    let some : 1 ≤ was.spare = (let more = c.requires.spare in omega arith) in
+    spare_some was.rounds was.spare was.progress some c.self.invariant.room
+
+pub invariant_of-self : goal.invariant_of-self
+invariant_of-self c =
+    let was = c.self.inside in
+    let kept = c.self.invariant in
+    let spare = ap (λ (w : WorldView). w.spare) c.self.view_is in
+    let back : was.spare ≡ (was.spare - 1) + 1 = (let some = c.requires.spare in omega arith) in
+    record {
+      course_kept = kept.course_kept;
+      fits = kept.fits;
+      kept = answers_keep was.course.now was.rounds (state_of was.progress) c.args.step c.take_step-answer.result (state_of c.take_step-answer.new.progress) kept.course_kept c.take_step-answer.ensures.answer kept.kept;
+      room = c.take_step-answer.ensures.spare (was.spare - 1) (rw (← back) kept.room);
+      last = c.take_step-answer.ensures.last kept.last;
+    }
+
+pub returns-clause-kept : goal.returns-clause-kept
+returns-clause-kept c =
+    let was = c.self.inside in
+    let kept = c.self.invariant in
+    answers_keep was.course.now was.rounds (state_of was.progress) c.args.step c.take_step-answer.result (state_of c.take_step-answer.new.progress) kept.course_kept c.take_step-answer.ensures.answer kept.kept

@@ -1,0 +1,30 @@
+//! The scheduler's core as a pure machine: its state, its four kinds of step, and their replay.
+//!
+//! `World::apply` is exactly the relation `Answers` of `specs/Answers.antt`, and every world keeps
+//! what `Kept` of `table_form/specs/Kept.antt` lists. The laws say what follows for every list of
+//! steps: no vCPU runs on two cores at one tick, no core idles while somebody may run there.
+#![tactic(auto)]
+
+mod answer;
+mod fault;
+mod laws;
+mod log;
+mod looks;
+mod moves;
+mod next;
+mod progress;
+mod replaying;
+mod steps;
+mod stints;
+#[cfg(test)]
+mod tests;
+mod world;
+
+pub use answer::{Answer, Phase};
+pub use fault::ReplayFault;
+pub use laws::{
+    a_step_has_one_answer, every_gap_is_short, every_period_is_served, every_run_is_kept,
+    every_tick_is_busy, next_stint_is_determined, nobody_runs_twice,
+};
+pub use replaying::replay;
+pub use world::World;

@@ -1,0 +1,37 @@
+ghost use Rattle.std.specs.Prelude.{◌≡◌, ◌+◌, ◌<◌, ◌≤◌, ℕ, Some, length, slice_get, vec_capacity};
+ghost use Rattle.table_form.specs.Steps.{enters, runs};
+ghost use Rattle.step_machine.specs.declared.log.CoreLog.{CoreLog as LogValue};
+ghost use Rattle.step_machine.specs.Logs.{core_of, Edits};
+
+use crate::log::CoreLog;
+use tab_core::{Entry, Stint, VcpuNo};
+
+// The core has seen a count.
+pub(crate) fn take_count(logs: &mut Vec<CoreLog>, c: usize, count: u32)
+    requires { c < length logs.old.items }
+    ensures { (before : LogValue) → slice_get logs.old.items c ≡ Some before → Edits logs.old.items logs.new.items c before (record (core_of before) { seen = Some count }) before.last }
+{
+    logs[c].seen = Some(count);
+}
+
+// The core gets one more entry.
+pub(crate) fn push_entry(logs: &mut Vec<CoreLog>, c: usize, entry: Entry)
+    requires core { c < length logs.old.items }
+    requires room { (before : LogValue) → slice_get logs.old.items c ≡ Some before → length before.entries.items < vec_capacity before.entries }
+    ensures { (before : LogValue) → slice_get logs.old.items c ≡ Some before → Edits logs.old.items logs.new.items c before (enters (core_of before) entry) before.last }
+{
+    logs[c].entries.push_reserved(entry);
+}
+
+// The core gets one more stint.
+pub(crate) fn push_stint(logs: &mut Vec<CoreLog>, c: usize, stint: Stint, last: Option<VcpuNo>)
+    requires core { c < length logs.old.items }
+    requires room { (before : LogValue) → slice_get logs.old.items c ≡ Some before → length before.stints.items < vec_capacity before.stints }
+    ensures { (before : LogValue) → slice_get logs.old.items c ≡ Some before → Edits logs.old.items logs.new.items c before (runs (core_of before) stint) last }
+{
+    let log = &mut logs[c];
+    log.clock = stint.end;
+    log.seen = None;
+    log.last = last;
+    log.stints.push_reserved(stint);
+}

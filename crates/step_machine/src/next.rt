@@ -1,0 +1,79 @@
+ghost use Rattle.std.specs.Prelude.{◌+◌, ◌<◌, ◌≤◌, IfSome, IfNone, length};
+ghost use Rattle.table_form.specs.Courses.{FitsRounds};
+ghost use Rattle.table_form.specs.Kept.{Kept, IsWhole};
+ghost use Rattle.step_machine.specs.Logs.{KnowLast, IsLowestOf};
+ghost use Rattle.step_machine.specs.Next.{IsNextStep};
+ghost use Rattle.step_machine.specs.Progresses.{state_of};
+
+use crate::answer::Phase;
+use crate::log::CoreLog;
+use crate::looks::{has_up_to, phase_at};
+use crate::progress::Progress;
+use crate::stints::next_stint;
+use script_doc::Step;
+use tab_core::CoreNo;
+use table_form::Course;
+
+// A step that is allowed now, where the run isn't whole.
+pub(crate) fn next_step(course: &Course, rounds: u32, progress: &Progress) -> Option<Step>
+    requires fits { FitsRounds course.now rounds }
+    requires kept { Kept course.now rounds (state_of progress.now) }
+    requires known { KnowLast course.now progress.now.logs.items }
+    ensures some { IfSome result (λ step. IsNextStep course.now rounds (state_of progress.now) step) }
+    ensures none { IfNone result (IsWhole course.now rounds (state_of progress.now)) }
+{
+    let _lag = course.lag();
+    let c = lowest(&progress.logs);
+    let log = &progress.logs[c];
+    match phase_at(log, rounds) {
+        Phase::Finished => {
+            if progress.posted == course.count() {
+                None
+            } else {
+                Some(Step::Post)
+            }
+        }
+        Phase::See => {
+            if has_up_to(course, progress.posted, log.clock) {
+                Some(Step::See(CoreNo(c as u32)))
+            } else {
+                Some(Step::Post)
+            }
+        }
+        Phase::Decide => Some(Step::Decide(CoreNo(c as u32))),
+        Phase::Run => {
+            let _next = next_stint(course, rounds, progress, c);
+            Some(Step::Run(CoreNo(c as u32)))
+        }
+        Phase::AllPosted => unreachable!(),
+    }
+}
+
+// The lowest core of least clock.
+fn lowest(logs: &[CoreLog]) -> usize
+    requires { 0 < length logs.now }
+    ensures within { result < length logs.now }
+    ensures least { IsLowestOf logs.now (length logs.now) result }
+{
+    let mut best = 0;
+    for d in 0..logs.len() {
+        best = lower_of(logs, best, d);
+    }
+    best
+}
+
+fn lower_of(logs: &[CoreLog], best: usize, d: usize) -> usize
+    requires best { best < length logs.now }
+    requires d { d < length logs.now }
+    requires above { best ≤ d }
+    requires least { IsLowestOf logs.now d best }
+    ensures within { result < length logs.now }
+    ensures least { IsLowestOf logs.now (d + 1) result }
+    ensures above { result ≤ d + 1 }
+{
+    if logs[d].clock < logs[best].clock {
+        d
+    } else {
+        best
+    }
+}

@@ -1,0 +1,45 @@
+ghost use Rattle.std.specs.Prelude.{◌≡◌, ◌^◌, ◌<◌, ℕ, Some, IfOk, IfErr, length, slice_get};
+ghost use Rattle.script_doc.specs.declared.step.Step.{Step};
+ghost use Rattle.table_form.specs.Courses.{FitsRounds};
+ghost use Rattle.table_form.specs.Kept.{Kept};
+ghost use Rattle.table_form.specs.State.{opening};
+ghost use Rattle.step_machine.specs.Answers.{NamesCore};
+ghost use Rattle.step_machine.specs.Refusals.{IsFaultOf};
+ghost use Rattle.step_machine.specs.Runs.{Leads};
+
+use crate::answer::Answer;
+use crate::fault::ReplayFault;
+use crate::world::World;
+use script_doc::Step;
+use std::alloc::Global;
+use table_form::Course;
+
+/// The world after the steps, if each of them is done. Otherwise it is refused at the first that
+/// isn't, with the answer to that step.
+pub fn replay<'a>(
+    alloc: Global,
+    course: &'a Course,
+    rounds: u32,
+    steps: &[Step],
+) -> Result<World<'a>, ReplayFault>
+    requires fits { FitsRounds course.now rounds }
+    requires short { length steps.now < 2 ^ 32 }
+    requires names { (k : ℕ) (step : Step) → slice_get steps.now k ≡ Some step → NamesCore course.now step }
+    ensures course { IfOk result (λ w. (w.course ≡ course.now) × (w.rounds ≡ rounds)) }
+    ensures ok { IfOk result (λ w. Leads course.now rounds (opening course.now.cores) steps.now w.state) }
+    ensures kept { IfOk result (λ w. Kept course.now rounds w.state) }
+    ensures refused { IfErr result (λ fault. IsFaultOf course.now rounds steps.now fault) }
+{
+    let mut world = World::make(alloc, course, rounds, steps.len() as u32)?;
+    for (place, step) in steps.iter().enumerate() {
+        let answer = world.apply(*step);
+        let Answer::Done = answer else {
+            return Err(ReplayFault::Refused {
+                place: place as u32,
+                answer,
+            });
+        };
+    }
+    let _posted = world.posted();
+    Ok(world)
+}

@@ -1,0 +1,192 @@
+ghost use Rattle.std.specs.Prelude.{◌≡◌, ◌+◌, ◌<◌, ◌≤◌, ℕ, min, Some, IfOk, IfSome, IfNone, slice_get};
+ghost use Rattle.tab_core.specs.declared.TheConstants.{MAX_ROUNDS};
+ghost use Rattle.script_doc.specs.declared.step.Step.{Step};
+ghost use Rattle.table_form.specs.Courses.{FitsRounds};
+ghost use Rattle.table_form.specs.Kept.{Kept, IsWhole};
+ghost use Rattle.table_form.specs.State.{CoreState, opening};
+ghost use Rattle.step_machine.specs.Answers.{Answers, NamesCore};
+ghost use Rattle.step_machine.specs.Logs.{KnowLast, IsNew, AreNew};
+ghost use Rattle.step_machine.specs.Next.{IsNextStep};
+ghost use Rattle.step_machine.specs.Progresses.{state_of, HasSpare};
+
+use crate::answer::Answer;
+use crate::log::CoreLog;
+use crate::next::next_step;
+use crate::progress::Progress;
+use crate::steps::{decide, post, run, see};
+use script_doc::Step;
+use std::alloc::Global;
+use std::cmp::min;
+use std::marker::Model;
+use tab_core::{CoreNo, Entry, NoMemory, Stint};
+use table_form::Course;
+
+/// A run of the machine so far, with room for some more steps. Contracts see the course, the count
+/// of rounds, how many steps there is room for, and the state.
+#[derive(Debug, Drop)]
+pub struct World<'a> {
+    course: &'a Course,
+    rounds: u32,
+    spare: u32,
+    progress: Progress,
+}
+
+impl<'a> Model for World<'a> {
+    ghost use Rattle.step_machine.specs.Worlds.{WorldView, IsWorld};
+    ghost use Rattle.step_machine.specs.Progresses.{state_of};
+
+    ghost Value = { WorldView };
+
+    ghost view = { λ w. record { course = w.course.now; rounds = w.rounds; spare = w.spare; state = state_of w.progress } };
+
+    ghost invariant = { λ w. IsWorld w.course.now w.rounds w.spare w.progress };
+}
+
+impl World<'_> {
+    /// The opening state of a run of so many rounds, with room for so many steps.
+    ///
+    /// Each event's tick lies in the run.
+    pub fn make(
+        alloc: Global,
+        course: &Course,
+        rounds: u32,
+        turns: u32,
+    ) -> Result<World<'_>, NoMemory>
+        requires { FitsRounds course.now rounds }
+        ensures opens { IfOk result (λ w. w ≡ record { course = course.now; rounds = rounds; spare = turns; state = opening course.now.cores }) }
+        ensures kept { IfOk result (λ w. Kept w.course w.rounds w.state) }
+    {
+        let decided = Vec::with_capacity(alloc, lesser(turns, rounds) as usize)?;
+        let logs = new_logs(alloc, course.cores(), rounds, turns)?;
+        let progress = Progress {
+            posted: 0,
+            decided,
+            logs,
+        };
+        Ok(World {
+            course,
+            rounds,
+            spare: turns,
+            progress,
+        })
+    }
+
+    /// Takes the step if it is due and nothing lacks, and answers `Done`. Otherwise it answers why
+    /// not, and leaves the state as it was.
+    ///
+    /// Each call lowers by one for how many more steps there is room. The answer is `NotNow`
+    /// exactly where the step isn't due, and `Behind` exactly where it is due and has to wait: the
+    /// law `a_step_has_one_answer` says that no other answer is right.
+    pub fn apply(&mut self, step: Step) -> Answer
+        requires spare { 1 ≤ self.old.spare }
+        requires core { NamesCore self.old.course step }
+        ensures answer { Answers self.old.course self.old.rounds self.old.state step result self.new.state }
+        ensures spare { self.new.spare + 1 ≡ self.old.spare }
+        ensures same { (self.new.course ≡ self.old.course) × (self.new.rounds ≡ self.old.rounds) }
+        ensures kept { Kept self.new.course self.new.rounds self.new.state }
+    {
+        let answer = take_step(self.course, self.rounds, &mut self.progress, step);
+        self.spare -= 1;
+        answer
+    }
+
+    /// A step that is allowed now and changes the state, of the lowest core of least clock or of
+    /// the controller. None exactly where the run is whole.
+    pub fn next(&self) -> Option<Step>
+        ensures some { IfSome result (λ step. IsNextStep self.now.course self.now.rounds self.now.state step) }
+        ensures none { IfNone result (IsWhole self.now.course self.now.rounds self.now.state) }
+    {
+        next_step(self.course, self.rounds, &self.progress)
+    }
+
+    /// How many events are posted.
+    pub fn posted(&self) -> u32
+        ensures posted { result ≡ self.now.state.posted }
+        ensures kept { Kept self.now.course self.now.rounds self.now.state }
+    {
+        self.progress.posted
+    }
+
+    /// The core's clock, in ticks.
+    pub fn clock(&self, c: CoreNo) -> u32
+        requires { c < self.now.course.cores }
+        ensures { (core : CoreState) → slice_get self.now.state.cores c ≡ Some core → result ≡ core.clock }
+    {
+        let at = c.index();
+        self.progress.logs[at].clock
+    }
+
+    /// The count of events that the round's plan includes, if a core has entered the round.
+    pub fn decided(&self, round: u32) -> Option<u32>
+        ensures { result ≡ slice_get self.now.state.decided round }
+    {
+        self.progress.decided.get(round as usize).copied()
+    }
+
+    /// The core's stints, in order.
+    pub fn stints(&self, c: CoreNo) -> &[Stint]
+        requires { c < self.now.course.cores }
+        ensures { (core : CoreState) → slice_get self.now.state.cores c ≡ Some core → result.now ≡ core.stints }
+    {
+        let at = c.index();
+        &self.progress.logs[at].stints
+    }
+
+    /// The core's entries, by round.
+    pub fn entries(&self, c: CoreNo) -> &[Entry]
+        requires { c < self.now.course.cores }
+        ensures { (core : CoreState) → slice_get self.now.state.cores c ≡ Some core → result.now ≡ core.entries }
+    {
+        let at = c.index();
+        &self.progress.logs[at].entries
+    }
+}
+
+fn take_step(course: &Course, rounds: u32, progress: &mut Progress, step: Step) -> Answer
+    requires few { rounds ≤ MAX_ROUNDS }
+    requires core { NamesCore course.now step }
+    requires kept { Kept course.now rounds (state_of progress.old) }
+    requires spare { HasSpare rounds 1 progress.old }
+    requires known { KnowLast course.now progress.old.logs.items }
+    ensures answer { Answers course.now rounds (state_of progress.old) step result (state_of progress.new) }
+    ensures spare { (n : ℕ) → HasSpare rounds (n + 1) progress.old → HasSpare rounds n progress.new }
+    ensures last { KnowLast course.now progress.old.logs.items → KnowLast course.now progress.new.logs.items }
+{
+    match step {
+        Step::Post => post(course, rounds, progress),
+        Step::See(c) => see(course, rounds, progress, c.index()),
+        Step::Decide(c) => decide(course, rounds, progress, c.index()),
+        Step::Run(c) => run(course, rounds, progress, c.index()),
+    }
+}
+
+fn lesser(a: u32, b: u32) -> u32
+    ensures { result ≡ min a b }
+{
+    min(a, b)
+}
+
+fn new_logs(alloc: Global, cores: u32, rounds: u32, turns: u32) -> Result<Vec<CoreLog>, NoMemory>
+    ensures { IfOk result (λ logs. AreNew cores rounds turns logs.items) }
+{
+    let mut logs = Vec::with_capacity(alloc, cores as usize)?;
+    'filling: while (logs.len() as u32) < cores {
+        let log = new_log(alloc, rounds, turns)?;
+        logs.push_reserved(log);
+    }
+    Ok(logs)
+}
+
+fn new_log(alloc: Global, rounds: u32, turns: u32) -> Result<CoreLog, NoMemory>
+    ensures { IfOk result (λ log. IsNew rounds turns log) }
+{
+    let entries = Vec::with_capacity(alloc, lesser(turns, rounds) as usize)?;
+    let stints = Vec::with_capacity(alloc, turns as usize)?;
+    Ok(CoreLog {
+        clock: 0,
+        seen: None,
+        entries,
+        stints,
+        last: None,
+    })
+}
