@@ -1,0 +1,22 @@
+-- Each command's reply to its input: the status, and the text that is due.
+use Rattle.std.specs.Prelude.{◌≡◌, ◌≢◌, ℕ, List, [], length}
+use Rattle.tab_words.specs.Sections.{sections_of}
+use Rattle.tab_words.specs.declared.command.Command.{Command}
+use Rattle.tab_words.specs.declared.command.Command.TheVariants as command
+use Rattle.tableau_sim.specs.declared.help.TheConstants.{HELP, VERSION}
+use Rattle.tableau_sim.specs.declared.status.Status.{Status}
+use Rattle.tableau_sim.specs.declared.status.Status.TheVariants as status
+use Rattle.tableau_sim.specs.Lines.{line_of}
+use Rattle.tableau_sim.specs.PlanReplies.{PlanReplies}
+
+-- a reply to so many sections, or the refusal of another number of them
+abbrev pub ToSections : ℕ → (List (List ℕ) → Status → List ℕ → Type 0) → List ℕ → Status → List ℕ → Type 0
+ToSections wanted replies input (status.BadSections found want) text =
+    (found ≡ length (sections_of input)) × (want ≡ wanted) × (found ≢ wanted) × (text ≡ line_of [] (status.BadSections found want))
+ToSections wanted replies input due text = (length (sections_of input) ≡ wanted) × replies (sections_of input) due text
+
+-- one line for each command
+abbrev pub Replies : Command → List ℕ → Status → List ℕ → Type 0
+Replies command.Help input due text = (due ≡ status.Ok) × (text ≡ HELP.now)
+Replies command.Version input due text = (due ≡ status.Ok) × (text ≡ VERSION.now)
+Replies command.Plan input due text = ToSections 1 PlanReplies input due text

@@ -1,0 +1,21 @@
+//! The top call, from the words and the bytes read to the bytes written and the status.
+//!
+//! `tableau` says what each answer means and when it comes: `Answers` in `specs/Answers.antt` is the
+//! whole in one relation, and each clause tells one part of it by itself.
+#![tactic(auto)]
+
+mod call;
+mod find;
+mod help;
+mod line;
+mod plan_command;
+mod reply;
+mod status;
+mod tell;
+#[cfg(test)]
+mod tests;
+
+pub use call::tableau;
+pub use find::INPUT_LIMIT;
+pub use help::{HELP, VERSION};
+pub use status::Status;
