@@ -1,6 +1,6 @@
 -- Edits that are read one after the other.
-use Rattle.std.proofs.Common.{◌≡◌, ℕ, suc, ◌+◌, ◌<◌, Bool, true, false, List, [], ◌∷◌, ◌++◌, length, map, flat_map, codes, decimal, ◌≤◌, Some, None, Result, Ok, Err, inl, inr, refl, sym, ap, ◌∙◌, append_assoc, bytes_eq, arith}
-use Rattle.std.proofs.lemmas.Grind.{common_steps, flat_map-append}
+use Rattle.std.proofs.Common.{◌≡◌, ℕ, suc, ◌<◌, Bool, true, false, List, [], ◌∷◌, ◌++◌, length, map, flat_map, codes, decimal, ◌≤◌, Some, None, Result, Ok, Err, inl, inr, refl, sym, ap, ◌∙◌, append_assoc, bytes_eq, arith}
+use Rattle.std.proofs.lemmas.Grind.{flat_map-append}
 use Rattle.std.proofs.lemmas.List.{append-nil, length-map, map-append}
 use Rattle.std.proofs.lemmas.List.Elements.{All-append}
 use Rattle.std.proofs.lemmas.Slice.Eq.{bytes_eq-Decides}
@@ -10,7 +10,7 @@ use Rattle.std.specs.Result.{IsErrAnd, IsErrOf}
 use Rattle.tab_core.specs.Name.{IsName}
 use Rattle.tab_core.specs.declared.TheConstants.{MAX_LATENCY_NS, WHOLE_PPM}
 use Rattle.script_doc.specs.declared.event_reader.LineFault.{LineFault}
-use Rattle.script_doc.specs.Events.{HasUnknownEdit, IsGoodEdit, NamedAct, NamedEdit, sets, leaves, wakes, blocks, changes, edit_name, edit_vcpu, edit_words, named_edit}
+use Rattle.script_doc.specs.Events.{HasUnknownEdit, IsGoodEdit, NamedEdit, sets, leaves, wakes, blocks, changes, edit_name, edit_vcpu, edit_words, named_edit}
 use Rattle.script_doc.specs.Names.{IsUnknown}
 use Rattle.script_doc.specs.Reading.{AreEdits, AreNoEdits, AreUnknownEdits, IsEdit, IsNoEdit, IsUnknownAct, IsUnknownName}
 

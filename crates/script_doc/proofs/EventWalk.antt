@@ -1,22 +1,21 @@
 -- Events that are read line by line.
-use Rattle.std.proofs.Common.{◌≡◌, ◌⊎◌, inl, inr, ℕ, ◌+◌, ◌*◌, ◌<◌, ◌≤◌, Bool, true, false, cond, IsTrue, List, [], ◌∷◌, ◌++◌, length, length-append, get_or, count_by, refl, sym, ap, ◌∙◌, subst, append_assoc, arith, rules}
-use Rattle.std.proofs.lemmas.Grind.{common_steps}
+use Rattle.std.proofs.Common.{◌≡◌, ◌⊎◌, inl, inr, ℕ, ◌+◌, ◌*◌, ◌<◌, ◌≤◌, Bool, true, false, cond, IsTrue, List, [], ◌∷◌, ◌++◌, length, length-append, refl, sym, ap, ◌∙◌, subst, append_assoc, arith, rules}
 use Rattle.std.proofs.lemmas.List.{append-nil}
 use Rattle.std.proofs.lemmas.List.Elements.{All-append}
 use Rattle.std.proofs.lemmas.List.Quantifiers.{all_pairs_push}
 use Rattle.std.proofs.lemmas.List.Sums.{sum_by-append}
 use Rattle.std.specs.List.{All}
-use Rattle.tab_core.specs.declared.TheConstants.{MAX_CHANGES, MAX_EVENTS, ROUND}
+use Rattle.tab_core.specs.declared.TheConstants.{MAX_CHANGES, ROUND}
 use Rattle.tab_words.specs.Lines.{lines_of}
 use Rattle.tab_words.specs.Words.{words_of}
 use Rattle.script_doc.specs.Events.{IsEvent, IsNoLine, IsUnknownLine, is_change}
 use Rattle.script_doc.specs.Rows.{Row, is_skipped, rows_from, rows_of}
-use Rattle.script_doc.specs.Script.{AreEvents, BreaksLimit, BreaksLimitAfter, HasFault, IsFirstFault, IsInLimits, IsScript, NeverFall, changes_in, fault_at, last_tick}
+use Rattle.script_doc.specs.Script.{AreEvents, BreaksLimit, HasFault, IsFirstFault, IsInLimits, IsScript, changes_in, fault_at, last_tick}
 use Rattle.script_doc.specs.declared.event.Event.{Event}
 use Rattle.script_doc.specs.declared.event_reader.LineFault.{LineFault}
 use Rattle.script_doc.specs.declared.event_reader.LineFault.TheVariants.{BadLine as BadForm, UnknownName as NoSuchName, NoMemory as OutOfMemory}
 use Rattle.script_doc.specs.declared.script_fault.ScriptFault.{ScriptFault}
-use Rattle.script_doc.specs.declared.script_fault.ScriptFault.TheVariants.{BadLine, UnknownName, OutOfOrder, LateEvent, TooManyEvents, TooManyChanges, NoMemory}
+use Rattle.script_doc.specs.declared.script_fault.ScriptFault.TheVariants.{BadLine, UnknownName, NoMemory}
 use Rattle.script_doc.proofs.EditWalk.{All-one}
 use Rattle.script_doc.proofs.Rows.{rows_from-nil, rows_from-row, rows_from-skipped}
 

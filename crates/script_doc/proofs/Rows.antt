@@ -1,7 +1,7 @@
 -- Rows, line by line.
-use Rattle.std.proofs.Common.{◌≡◌, ℕ, ◌+◌, Bool, true, false, if◌then◌else◌, List, [], ◌∷◌, refl}
+use Rattle.std.proofs.Common.{◌≡◌, ℕ, ◌+◌, true, false, List, [], ◌∷◌, refl}
 use Rattle.tab_words.specs.Words.{words_of}
-use Rattle.script_doc.specs.Rows.{Row, is_skipped, rows_from}
+use Rattle.script_doc.specs.Rows.{is_skipped, rows_from}
 
 pub rows_from-nil : (number : ℕ) → rows_from number [] ≡ []
 unfolding rows_from

@@ -1,5 +1,5 @@
 -- Scripts: the events of lines, and the first line with a fault.
-use Rattle.std.specs.Prelude.{◌≡◌, ℕ, ◌+◌, ◌*◌, ◌<◌, ◌≤◌, Bool, List, [], ◌∷◌, ◌++◌, length, count_by, IsTrue}
+use Rattle.std.specs.Prelude.{◌≡◌, ℕ, ◌*◌, ◌<◌, ◌≤◌, List, [], ◌∷◌, ◌++◌, length, count_by, IsTrue}
 use Rattle.std.specs.List.{All, AllPairs}
 use Rattle.tab_core.specs.declared.TheConstants.{MAX_CHANGES, MAX_EVENTS, ROUND}
 use Rattle.script_doc.specs.Events.{IsEvent, IsNoLine, IsUnknownLine, is_change}

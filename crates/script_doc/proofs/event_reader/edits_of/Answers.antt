@@ -1,6 +1,5 @@
 use Rattle.std.proofs.Common.{◌≡◌, ℕ, List, [], ◌∷◌, ◌++◌, length, Some, None, subst, rules, arith}
 use Rattle.std.proofs.lemmas.Grind.{common_steps}
-use Rattle.tab_core.specs.declared.edit.Edit.{Edit}
 use Rattle.script_doc.specs.Reading.{IsEdit}
 use Rattle.script_doc.proofs.EditWalk.{EditsSoFar, edit_more, edit_unknown, handed_on, no_edit, no_edit_at_all}
 use Rattle.script_doc.proofs.event_reader.edits_of.Goals as goal

@@ -4,7 +4,7 @@ use Rattle.tab_words.specs.Words.{words_of}
 use Rattle.script_doc.specs.Events.{IsEvent, IsNoLine, IsUnknownLine, is_change}
 use Rattle.script_doc.specs.Names.{names_of}
 use Rattle.script_doc.specs.Rows.{is_skipped}
-use Rattle.script_doc.specs.Script.{BreaksLimit, IsInLimits, fault_at}
+use Rattle.script_doc.specs.Script.{BreaksLimit, IsInLimits}
 use Rattle.script_doc.specs.declared.event_reader.LineFault.TheVariants.{BadLine as BadForm, UnknownName as NoSuchName}
 use Rattle.script_doc.proofs.EventWalk.{EventsSoFar, event_read, form_fault, limit_fault, line_skipped, whole_script}
 use Rattle.std.proofs.Common.{inr, Err}

@@ -1,8 +1,8 @@
-use Rattle.std.proofs.Common.{rules, subst, ◌≡◌, ℕ, ◌+◌, ◌∷◌, [], ◌++◌, List, Bool, true, false, arith}
+use Rattle.std.proofs.Common.{rules, subst, ◌≡◌, ◌+◌, ◌∷◌, [], ◌++◌, true, false, arith}
 use Rattle.std.proofs.lemmas.Grind.{common_steps}
 use Rattle.tab_words.specs.Words.{words_of}
 use Rattle.script_doc.specs.Rows.{is_skipped, rows_of}
-use Rattle.script_doc.specs.Steps.{AreSteps, IsFirstBadLine, IsNoStep, IsStep}
+use Rattle.script_doc.specs.Steps.{IsFirstBadLine, IsNoStep}
 use Rattle.script_doc.proofs.Walk.{AreRead, all_read, bad_line, more_read, skipped_read}
 use Rattle.script_doc.proofs.step_reader.read_steps.Goals as goal
 
