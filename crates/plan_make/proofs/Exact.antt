@@ -1,5 +1,5 @@
 -- A host has at most one plan, and none where one of its vCPUs has no room.
-use Rattle.std.proofs.Common.{◌≡◌, ℕ, ◌+◌, ◌-◌, ◌<◌, ◌≤◌, List, [], ◌∷◌, ◌++◌, length, get_or, set, slice_get, map, Option, Some, None, refl, ap, subst, sym, ◌∙◌, inl, inr, arith}
+use Rattle.std.proofs.Common.{◌≡◌, ℕ, ◌-◌, ◌<◌, ◌≤◌, List, [], ◌∷◌, ◌++◌, set, slice_get, map, Option, Some, refl, ap, subst, sym, ◌∙◌}
 use Rattle.std.proofs.Props.{props}
 use Rattle.std.specs.List.{All, AllZip}
 use Rattle.std.proofs.lemmas.List.{ext_get_or}
@@ -27,7 +27,7 @@ use Rattle.cd_split.proofs.Unique.{never_both, splits_unique}
 use Rattle.plan_make.specs.Faults.{fault_of_split}
 use Rattle.plan_make.specs.Layout.{IsSplit, SplitsEach, StandWhole, home_of, with_pieces}
 use Rattle.plan_make.specs.Planned.{IsFirstWithoutRoom, IsPlanned, IsStart}
-use Rattle.plan_make.specs.Steps.{IsLayoutFault}
+use Rattle.plan_make.specs.Steps.{IsLayout, IsLayoutFault}
 use Rattle.plan_make.specs.declared.fault.PlanFault.TheVariants as plan
 
 -- a piece is its numbers, since each fact on them has one proof
@@ -178,6 +178,18 @@ planned_unique host a b of_a of_b =
     let ends = each_unique b.tasks of_b.start of_b.placed.core_of of_b.placed.left of_a.cores of_b.cores a.homes b.homes moved of_b.split in
     let rows_same : a.rows ≡ b.rows = of_a.rows ∙ ap (map (λ pieces. edf_row (jobs_of pieces))) ends.end_same ∙ sym of_b.rows in
     same_view a b same.tasks_same ends.homes_same rows_same
+
+-- that of its layout, with each core's row
+pub layout_is_planned : (host : Host) (tasks : List (Option Periodic)) (cores : List (List Piece)) (homes homes' : List (Option ℕ)) (rows : List Row) →
+    IsLayout host tasks cores homes → homes' ≡ homes → rows ≡ map (λ pieces. edf_row (jobs_of pieces)) cores → IsPlanned host (view_of tasks homes' rows)
+layout_is_planned host tasks cores homes homes' rows layout same rows_are = record {
+  placed = layout.placed;
+  start = layout.start;
+  is_start = layout.is_start;
+  cores = cores;
+  split = subst (SplitsEach tasks layout.start layout.placed.core_of layout.placed.left cores) (sym same) layout.split;
+  rows = rows_are;
+}
 
 -- and none where a left-over vCPU can't be split
 pub planned_or_refused : (host : Host) (a : PlanView) (vcpu rest : ℕ) (over : List Over) → IsPlanned host a → IsFirstWithoutRoom host vcpu rest over → ⊥

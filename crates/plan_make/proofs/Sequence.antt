@@ -3,6 +3,9 @@ use Rattle.std.proofs.Common.{◌≡◌, ℕ, ◌+◌, ◌<◌, List, [], ◌∷
 use Rattle.std.proofs.lemmas.List.{drop_more, take_more, take-append-drop}
 use Rattle.tab_core.specs.declared.periodic.Periodic.{Periodic}
 use Rattle.tab_core.specs.declared.piece.Piece.{Piece}
+use Rattle.std.specs.List.{All}
+use Rattle.worst_fit.specs.Placement.{IsAdmitted}
+use Rattle.cd_split.specs.Cores.{LackVcpu}
 use Rattle.cd_split.specs.Splitting.{Refuses, core_numbers}
 use Rattle.cd_split.specs.declared.fault.SplitFault.{SplitFault}
 use Rattle.cd_split.specs.declared.fault.SplitFault.TheVariants.{NoMemory, NoRoom}
@@ -13,7 +16,7 @@ use Rattle.plan_make.specs.Layout.{IsSplit, SplitsEach, home_of, with_pieces}
 use Rattle.plan_make.specs.Steps.{AreAllottedTo, AreLaidOut, IsLayoutFault, IsRefusedNext, IsStuckFault, SplitsNext}
 use Rattle.plan_make.proofs.Added.{length-with_pieces}
 use Rattle.plan_make.proofs.Allotting.{allotted_next}
-use Rattle.plan_make.proofs.Places.{ArePlaced, next_is_homeless, placed_next}
+use Rattle.plan_make.proofs.Places.{ArePlaced, next_is_admitted, next_is_homeless, next_is_known, placed_next}
 use Rattle.plan_make.proofs.Shares.{below_from_fit, home_below, some_piece}
 
 -- one more is split
@@ -59,27 +62,51 @@ pub record AreSplit (tasks : List (Option Periodic)) (start : List (List Piece))
   pub laid_out : AreLaidOut tasks cores homes (drop n left)
   pub count : length cores ≡ length start
 
-pub none_split : (tasks : List (Option Periodic)) (start : List (List Piece)) (core_of : List (Option ℕ)) (left : List ℕ) → AreLaidOut tasks start core_of left → AreSplit tasks start core_of left 0 start core_of
-none_split tasks start core_of left laid = record { split = (refl, refl); laid_out = laid; count = refl }
+pub none_split : {tasks : List (Option Periodic)} {start : List (List Piece)} {core_of : List (Option ℕ)} {left : List ℕ} →
+    AreLaidOut tasks start core_of left → AreSplit tasks start core_of left 0 start core_of
+none_split laid = record { split = (refl, refl); laid_out = laid; count = refl }
 
-pub next_laid_out : (tasks : List (Option Periodic)) (start : List (List Piece)) (core_of : List (Option ℕ)) (left : List ℕ) (n : ℕ) (cores : List (List Piece)) (homes : List (Option ℕ)) (vcpu : ℕ) →
-    n < length left → vcpu ≡ get_or left n vcpu → AreSplit tasks start core_of left n cores homes → AreLaidOut tasks cores homes (vcpu ∷ drop (n + 1) left)
-next_laid_out tasks start core_of left n cores homes vcpu lt is state =
-    subst (λ l. AreLaidOut tasks cores homes l) (drop_more left n vcpu lt ∙ ap (λ v. v ∷ drop (n + 1) left) (sym is)) state.laid_out
+-- what splitting the next one needs
+pub record IsReady (tasks : List (Option Periodic)) (cores : List (List Piece)) (homes : List (Option ℕ)) (vcpu : ℕ) (left : List ℕ) : Type 0 where
+  pub laid_out : AreLaidOut tasks cores homes (vcpu ∷ left)
+  pub admitted : IsAdmitted tasks vcpu
+  pub known : vcpu < length homes
+  pub new : All (LackVcpu vcpu) cores
 
-pub one_more_split : (tasks : List (Option Periodic)) (start : List (List Piece)) (core_of : List (Option ℕ)) (left : List ℕ) (n : ℕ) (cores : List (List Piece)) (homes : List (Option ℕ)) (vcpu : ℕ) (end : List (List Piece)) (homes' : List (Option ℕ)) →
-    n < length left → vcpu ≡ get_or left n vcpu → vcpu < length homes → AreSplit tasks start core_of left n cores homes → SplitsNext tasks cores homes vcpu end homes' → AreSplit tasks start core_of left (n + 1) end homes'
-one_more_split tasks start core_of left n cores homes vcpu end homes' lt is known state next = record {
-  split = subst (λ l. SplitsEach tasks start core_of l end homes') (ap (λ v. take n left ++ v ∷ []) is ∙ sym (take_more left n vcpu lt)) (splits_each_next tasks start core_of (take n left) cores homes vcpu end homes' state.split next);
-  laid_out = laid_out_next tasks cores homes vcpu (drop (n + 1) left) end homes' (next_laid_out tasks start core_of left n cores homes vcpu lt is state) known next;
-  count = count_next tasks cores homes vcpu end homes' next ∙ state.count;
-}
+pub next_is_ready : {tasks : List (Option Periodic)} {start : List (List Piece)} {core_of : List (Option ℕ)} {left : List ℕ} {n : ℕ}
+    {cores : List (List Piece)} {homes : List (Option ℕ)} {vcpu : ℕ} → AreSplit tasks start core_of left n cores homes →
+    n < length left → vcpu ≡ get_or left n vcpu → IsReady tasks cores homes vcpu (drop (n + 1) left)
+next_is_ready {tasks = tasks} {left = left} {n = n} {cores = cores} {homes = homes} {vcpu = vcpu} state lt is =
+    let rest = drop (n + 1) left in
+    let left_is : drop n left ≡ vcpu ∷ rest = drop_more left n vcpu lt ∙ ap (λ v. v ∷ rest) (sym is) in
+    let laid = subst (AreLaidOut tasks cores homes) left_is state.laid_out in
+    record {
+      laid_out = laid;
+      admitted = next_is_admitted tasks (length cores) homes vcpu rest laid.places;
+      known = next_is_known tasks (length cores) homes vcpu rest laid.places;
+      new = laid.allotted.lack vcpu (next_is_homeless tasks (length cores) homes vcpu rest laid.places);
+    }
+
+pub one_more_split : {tasks : List (Option Periodic)} {start : List (List Piece)} {core_of : List (Option ℕ)} {left : List ℕ} {n : ℕ}
+    {cores : List (List Piece)} {homes : List (Option ℕ)} {vcpu : ℕ} {end : List (List Piece)} {homes' : List (Option ℕ)} →
+    AreSplit tasks start core_of left n cores homes → n < length left → vcpu ≡ get_or left n vcpu →
+    SplitsNext tasks cores homes vcpu end homes' → AreSplit tasks start core_of left (n + 1) end homes'
+one_more_split {tasks = tasks} {start = start} {core_of = core_of} {left = left} {n = n} {cores = cores} {homes = homes} {vcpu = vcpu} {end = end} {homes' = homes'} state lt is next =
+    let ready = next_is_ready state lt is in
+    let more : take n left ++ vcpu ∷ [] ≡ take (n + 1) left = ap (λ v. take n left ++ v ∷ []) is ∙ sym (take_more left n vcpu lt) in
+    record {
+      split = subst (λ l. SplitsEach tasks start core_of l end homes') more (splits_each_next tasks start core_of (take n left) cores homes vcpu end homes' state.split next);
+      laid_out = laid_out_next tasks cores homes vcpu (drop (n + 1) left) end homes' ready.laid_out ready.known next;
+      count = count_next tasks cores homes vcpu end homes' next ∙ state.count;
+    }
 
 -- the first that can't be split
-pub first_stuck : (tasks : List (Option Periodic)) (start : List (List Piece)) (core_of : List (Option ℕ)) (left : List ℕ) (n : ℕ) (cores : List (List Piece)) (homes : List (Option ℕ)) (vcpu : ℕ) (fault : SplitFault) →
-    n < length left → vcpu ≡ get_or left n vcpu → AreSplit tasks start core_of left n cores homes → IsRefusedNext tasks cores vcpu fault → IsStuckFault tasks start core_of left fault
-first_stuck tasks start core_of left n cores homes vcpu NoMemory lt is state refused = tt
-first_stuck tasks start core_of left n cores homes vcpu (NoRoom named rest over) lt is state refused =
+pub first_stuck : {tasks : List (Option Periodic)} {start : List (List Piece)} {core_of : List (Option ℕ)} {left : List ℕ} {n : ℕ}
+    {cores : List (List Piece)} {homes : List (Option ℕ)} {vcpu : ℕ} (fault : SplitFault) →
+    AreSplit tasks start core_of left n cores homes → n < length left → vcpu ≡ get_or left n vcpu →
+    IsRefusedNext tasks cores vcpu fault → IsStuckFault tasks start core_of left fault
+first_stuck NoMemory state lt is refused = tt
+first_stuck {tasks = tasks} {left = left} {n = n} {cores = cores} {homes = homes} {vcpu = vcpu} (NoRoom named rest over) state lt is refused =
     let task = refused.0 in
     let named_is = refused.2.0 in
     record {

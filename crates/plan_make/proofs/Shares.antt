@@ -1,18 +1,19 @@
 -- The pieces of a vCPU that is split.
-use Rattle.std.proofs.Common.{◌≡◌, ℕ, zero, suc, ◌-◌, ◌<◌, ◌≤◌, cond, eqb, List, [], ◌∷◌, ◌++◌, length, get_or, slice_get, take, sum_by, Some, refl, ap, sym, ◌∙◌, arith}
+use Rattle.std.proofs.Common.{◌≡◌, ℕ, zero, suc, ◌-◌, ◌<◌, ◌≤◌, cond, eqb, List, [], ◌∷◌, ◌++◌, length, get_or, slice_get, take, sum_by, Some, refl, ap, sym, ◌∙◌, arith, subst, ◌+◌}
 use Rattle.std.specs.List.{All}
 use Rattle.std.proofs.lemmas.Bool.{eq-eqb, ne_eqb}
-use Rattle.std.proofs.lemmas.List.{append-nil, get_or-take, length-take}
+use Rattle.std.proofs.lemmas.List.{take_more, append-nil, get_or-take, length-take}
 use Rattle.std.proofs.lemmas.List.Elements.{All-head, All-tail, All-take}
 use Rattle.std.proofs.lemmas.List.Sums.{sum_by-cons, sum_by-le}
 use Rattle.std.proofs.lemmas.Option.{same_Some, slice_get-get_or}
 use Rattle.tab_core.specs.declared.piece.Piece.{Piece}
-use Rattle.cd_split.specs.Cores.{LackVcpu, pieces_on}
+use Rattle.cd_split.specs.Cores.{HaveRoomFor, LackVcpu, pieces_on}
 use Rattle.cd_split.specs.Shares.{FitTheirCores, FollowOn, StandApart}
 use Rattle.cd_split.specs.Splitting.{Splits}
 use Rattle.plan_make.specs.Allotted.{cost_on}
 use Rattle.plan_make.specs.Layout.{home_of, with_pieces}
-use Rattle.plan_make.proofs.Added.{StandBelow, of_core, pieces_on-with_pieces}
+use Rattle.plan_make.proofs.Members.{all_at}
+use Rattle.plan_make.proofs.Added.{StandBelow, length-with_pieces, of_core, pieces_on-with_pieces, with_piece, with_pieces_push}
 
 -- each is on one of the cores
 pub below_from_fit : (cores : List (List Piece)) (ps : List Piece) → FitTheirCores cores ps → StandBelow (length cores) ps
@@ -102,3 +103,40 @@ cost_on_all vcpu (p ∷ ps) all =
     let first = sum_by-cons (λ (q : Piece). cond (eqb q.vcpu vcpu) q.cost 0) p ps in
     let first' = sum_by-cons (λ (q : Piece). q.cost) p ps in
     omega arith
+
+-- one piece after the other is added; `now` is what the cores have then
+
+next_at : (ps : List Piece) (i : ℕ) (p : Piece) → i < length ps → p ≡ get_or ps i p → slice_get ps i ≡ Some p
+next_at ps i p lt is = slice_get-get_or ps i p lt ∙ ap Some (sym is)
+
+next_as_before : (cores : List (List Piece)) (ps : List Piece) (i : ℕ) (p : Piece) (now : List (List Piece)) →
+    now ≡ with_pieces cores (take i ps) → i < length ps → p ≡ get_or ps i p → StandApart ps → FitTheirCores cores ps →
+    pieces_on now p.core ≡ pieces_on cores p.core
+next_as_before cores ps i p now added lt is apart fit =
+    ap (λ cs. pieces_on cs p.core) added ∙ core_as_before cores ps i p (next_at ps i p lt is) apart (below_from_fit cores ps fit)
+
+-- the next one has room on its core
+pub next_fits : (cores : List (List Piece)) (ps : List Piece) (i : ℕ) (p : Piece) (now : List (List Piece)) →
+    now ≡ with_pieces cores (take i ps) → i < length ps → p ≡ get_or ps i p → StandApart ps → FitTheirCores cores ps →
+    (p.core < length now) × HaveRoomFor (pieces_on now p.core) p
+next_fits cores ps i p now added lt is apart fit =
+    let At : Piece → Type 0 = λ q. (q.core < length cores) × HaveRoomFor (pieces_on cores q.core) q in
+    let fits = all_at At ps i p fit (next_at ps i p lt is) in
+    let count = ap length added ∙ length-with_pieces cores (take i ps) in
+    let before = next_as_before cores ps i p now added lt is apart fit in
+    (subst (λ n. p.core < n) (sym count) fits.0, subst (λ qs. HaveRoomFor qs p) (sym before) fits.1)
+
+-- and none of its vCPU is there
+pub next_lacks : (cores : List (List Piece)) (ps : List Piece) (i : ℕ) (p : Piece) (now : List (List Piece)) →
+    now ≡ with_pieces cores (take i ps) → i < length ps → p ≡ get_or ps i p → StandApart ps → FitTheirCores cores ps →
+    All (λ q. LackVcpu q.vcpu (pieces_on cores q.core)) ps → LackVcpu p.vcpu (pieces_on now p.core)
+next_lacks cores ps i p now added lt is apart fit lack =
+    let before = next_as_before cores ps i p now added lt is apart fit in
+    subst (LackVcpu p.vcpu) (sym before) (all_at (λ (q : Piece). LackVcpu q.vcpu (pieces_on cores q.core)) ps i p lack (next_at ps i p lt is))
+
+pub one_more_added : (cores : List (List Piece)) (ps : List Piece) (i : ℕ) (p : Piece) (now end : List (List Piece)) →
+    now ≡ with_pieces cores (take i ps) → i < length ps → p ≡ get_or ps i p → end ≡ with_piece now p →
+    end ≡ with_pieces cores (take (i + 1) ps)
+one_more_added cores ps i p now end added lt is more =
+    more ∙ ap (λ cs. with_piece cs p) added ∙ sym (with_pieces_push cores (take i ps) p)
+    ∙ ap (with_pieces cores) (ap (λ q. take i ps ++ q ∷ []) is ∙ sym (take_more ps i p lt))

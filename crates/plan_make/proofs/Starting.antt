@@ -11,9 +11,10 @@ use Rattle.table_form.specs.Jobs.{Subtask, subtask_of}
 use Rattle.worst_fit.specs.Placement.{PlacesEach}
 use Rattle.worst_fit.specs.declared.placed.Placed.{Placed}
 use Rattle.cd_split.specs.Cores.{LackVcpu, pieces_on}
+use Rattle.cd_split.specs.declared.fault.SplitFault.{SplitFault}
 use Rattle.plan_make.specs.Allotted.{cost_on}
 use Rattle.plan_make.specs.Layout.{StandWhole, whole, whole_at, wholes_from}
-use Rattle.plan_make.specs.Steps.{AreAllottedTo, AreLaidOut}
+use Rattle.plan_make.specs.Steps.{AreAllottedTo, AreLaidOut, IsStuckFault}
 use Rattle.plan_make.proofs.Members.{all_at, all_from_places}
 use Rattle.plan_make.proofs.Shares.{cost_on_none}
 use Rattle.plan_make.proofs.Wholes.{All-from_map, IsWholeOn, all_whole_on}
@@ -137,3 +138,25 @@ start_is_laid_out tasks placed count cores places stand = record {
   places = subst (λ n. PlacesEach tasks n placed) (sym stand.size) places;
   allotted = start_is_allotted tasks placed.core_of count cores stand (λ vcpu home at. (places.on_core vcpu home at).0);
 }
+
+-- the same, of what the calls gave: the tasks, homes and left-over vCPUs are read through references
+pub record IsRead (tasks tasks' : List (Option Periodic)) (placed : Placed) (homes : List (Option ℕ)) (left : List ℕ) : Type 0 where
+  pub tasks_are : tasks' ≡ tasks
+  pub homes_are : homes ≡ placed.core_of
+  pub left_is : left ≡ placed.left
+
+pub read_is_laid_out : (tasks tasks' : List (Option Periodic)) (placed : Placed) (homes : List (Option ℕ)) (left : List ℕ) (count : ℕ)
+    (cores : List (List Piece)) → IsRead tasks tasks' placed homes left → PlacesEach tasks count placed →
+    StandWhole tasks placed.core_of count cores → AreLaidOut tasks' cores homes left
+read_is_laid_out tasks tasks' placed homes left count cores read places stand =
+    subst (λ ts. AreLaidOut ts cores homes left) (sym read.tasks_are)
+    (subst (λ hs. AreLaidOut tasks cores hs left) (sym read.homes_are)
+    (subst (AreLaidOut tasks cores placed.core_of) (sym read.left_is) (start_is_laid_out tasks placed count cores places stand)))
+
+pub read_is_stuck : (tasks tasks' : List (Option Periodic)) (placed : Placed) (homes : List (Option ℕ)) (left : List ℕ)
+    (cores : List (List Piece)) (fault : SplitFault) → IsRead tasks tasks' placed homes left →
+    IsStuckFault tasks' cores homes left fault → IsStuckFault tasks cores placed.core_of placed.left fault
+read_is_stuck tasks tasks' placed homes left cores fault read stuck =
+    subst (λ ts. IsStuckFault ts cores placed.core_of placed.left fault) read.tasks_are
+    (subst (λ hs. IsStuckFault tasks' cores hs placed.left fault) read.homes_are
+    (subst (λ l. IsStuckFault tasks' cores homes l fault) read.left_is stuck))

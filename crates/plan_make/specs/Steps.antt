@@ -16,7 +16,8 @@ use Rattle.plan_make.specs.Allotted.{HasTask, WindowsApart, cost_on}
 use Rattle.plan_make.specs.Layout.{SplitsEach, home_of, with_pieces}
 use Rattle.plan_make.specs.Planned.{IsFirstWithoutRoom, IsStart}
 
--- each vCPU with a home has its pieces on the cores, and no other has any
+-- each vCPU with a home has its cost on the cores, in pieces of its period whose windows don't meet on different cores; no
+-- other vCPU has a piece there
 pub record AreAllottedTo (tasks : List (Option Periodic)) (homes : List (Option ℕ)) (cores : List (List Piece)) : Type 0 where
   pub of_tasks : (core at : ℕ) (p : Piece) → slice_get (pieces_on cores core) at ≡ Some p → HasTask tasks p
   pub costs : (vcpu home : ℕ) (task : Periodic) → slice_get homes vcpu ≡ Some (Some home) → slice_get tasks vcpu ≡ Some (Some task) → sum_by (cost_on vcpu) cores ≡ task.cost
@@ -65,6 +66,7 @@ pub record IsFirstStuck (tasks : List (Option Periodic)) (start : List (List Pie
   pub at : slice_get tasks vcpu ≡ Some (Some task)
   pub refuses : Refuses cores vcpu task.period task.cost 0 (core_numbers cores) rest over
 
+-- splitting in turn ends at that vCPU; want of memory says nothing of the cores
 abbrev pub IsStuckFault : List (Option Periodic) → List (List Piece) → List (Option ℕ) → List ℕ → SplitFault → Type 0
 IsStuckFault tasks start core_of left (NoRoom vcpu rest over) = IsFirstStuck tasks start core_of left vcpu rest over
 IsStuckFault tasks start core_of left NoMemory = Unit {0}
@@ -76,6 +78,7 @@ pub record IsLayout (host : Host) (tasks : List (Option Periodic)) (cores : List
   pub is_start : IsStart host tasks placed start
   pub split : SplitsEach tasks start placed.core_of placed.left cores homes
 
+-- the host has a vCPU without room; want of memory says nothing of the host
 abbrev pub IsLayoutFault : Host → SplitFault → Type 0
 IsLayoutFault host (NoRoom vcpu rest over) = IsFirstWithoutRoom host vcpu rest over
 IsLayoutFault host NoMemory = Unit {0}

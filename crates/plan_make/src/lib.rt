@@ -2,7 +2,8 @@
 //! row is made by earliest deadline first.
 //!
 //! Layers above may rely on `IsPlanned` and `IsFirstWithoutRoom` of `specs/Planned.antt`, which
-//! say what the plan and the refusals are.
+//! say what the plan of a host is and when it has none for want of room. That the plan serves each
+//! vCPU and keeps it on one core at a time is part of its type, in table_form.
 #![tactic(auto)]
 
 mod fault;

@@ -1,4 +1,4 @@
-ghost use Rattle.std.specs.Prelude.{◌≡◌, ℕ, IfErr, IfOk, IsErrOf, List, Option};
+ghost use Rattle.std.specs.Prelude.{◌≡◌, ℕ, IfErr, IfOk, IsErr, IsErrOf, List, Option};
 ghost use Rattle.tab_core.specs.declared.over.Over.{Over};
 ghost use Rattle.tab_core.specs.declared.periodic.Periodic.{Periodic};
 ghost use Rattle.table_form.specs.Plans.{IsPlanFor, PlanView};
@@ -17,11 +17,13 @@ use tab_core::Host;
 use table_form::{Homes, Plan, Tables};
 
 /// The plan of a host: its vCPUs are placed whole by worst fit, the left-over ones are split, and
-/// each core's row is made by earliest deadline first.
+/// each core's row is made by earliest deadline first. A host has at most one such plan.
 ///
-/// `NoPeriod` comes exactly where an admitted vCPU has no admissible period. `NoRoom` comes
-/// exactly where a left-over vCPU can't be split, which never happens within the bound of worst
-/// fit.
+/// `NoPeriod` comes exactly where an admitted vCPU has no admissible period, and `NoRoom` exactly
+/// where each has one but a left-over vCPU can't be split. So no host that has a plan is refused
+/// but for want of memory, and none within the bound of worst fit is without room.
+///
+/// The rows are made side by side, each in a thread of its own where one can be started.
 pub fn plan<R: Threads + Sync>(rt: &R, alloc: Global, host: &Host) -> Result<Plan, PlanFault>
     ensures ok { IfOk result (λ plan. IsPlanned host.now (plan_view plan)) }
     ensures only { IfOk result (λ plan. (other : PlanView) → IsPlanned host.now other → other ≡ plan_view plan) }
@@ -29,6 +31,7 @@ pub fn plan<R: Threads + Sync>(rt: &R, alloc: Global, host: &Host) -> Result<Pla
     ensures no_period { (vcpu : ℕ) → IsErrOf result (PlanFault.NoPeriod vcpu) → IsFirstWithoutPeriod host.now.vcpus vcpu }
     ensures no_room { (vcpu rest : ℕ) (over : List Over) → IsErrOf result (PlanFault.NoRoom vcpu rest over)
         → IsFirstWithoutRoom host.now vcpu rest over }
+    ensures without_room { (vcpu rest : ℕ) (over : List Over) → IsFirstWithoutRoom host.now vcpu rest over → IsErr result }
     ensures bound { (tasks : List (Option Periodic)) → AreTasksOf host.now.vcpus tasks → IsWithinBound tasks host.now.cores
         → IfErr result (λ fault. fault ≡ PlanFault.NoMemory) }
     ensures planned { (plan : PlanView) → IsPlanned host.now plan → IfErr result (λ fault. fault ≡ PlanFault.NoMemory) }

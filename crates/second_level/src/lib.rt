@@ -6,5 +6,7 @@
 #![tactic(auto)]
 
 mod round_robin;
+#[cfg(test)]
+mod tests;
 
 pub use round_robin::pick;

@@ -3,34 +3,38 @@ use Rattle.std.proofs.lemmas.List.{take_at}
 use Rattle.std.proofs.lemmas.Result.{err_from_is_err_and}
 use Rattle.plan_make.specs.Layout.{StandWhole}
 use Rattle.plan_make.specs.Planned.{IsStart}
-use Rattle.plan_make.specs.Steps.{AreLaidOut, IsStuckFault}
+use Rattle.plan_make.specs.Steps.{AreLaidOut}
 use Rattle.plan_make.proofs.Sequence.{layout_fault}
-use Rattle.plan_make.proofs.Starting.{start_is_laid_out}
+use Rattle.plan_make.proofs.Starting.{IsRead, read_is_laid_out, read_is_stuck}
 use Rattle.plan_make.proofs.layout.lay_out.Goals as goal
 
 pub split_each-requires : goal.split_each-requires
 split_each-requires c =
     let placed = c.in_ok-placed.placed in
+    let read : IsRead c.args.tasks.now c.items-2.result.now placed c.deref_mut.result.now c.items-3.result.now = record {
+      tasks_are = c.items-2.ensures.same;
+      homes_are = c.deref_mut.ensures.value ∙ c.in_ok-homes.ensures.items ∙ c.items-core_of.ensures.same;
+      left_is = c.items-3.ensures;
+    } in
     let stand = subst (λ hs. StandWhole c.args.tasks.now hs c.args.host.now.cores c.in_ok-cores.cores) c.items-core_of.ensures.same
     (subst (λ ts. StandWhole ts c.items-core_of.result.now c.args.host.now.cores c.in_ok-cores.cores) c.items.ensures.same c.in_ok-cores.ensures) in
-    let homes_are = c.deref_mut.ensures.value ∙ c.in_ok-homes.ensures.items ∙ c.items-core_of.ensures.same in
-    subst (λ ts. AreLaidOut ts c.in_ok-cores.cores c.deref_mut.result.now c.items-3.result.now) (sym c.items-2.ensures.same)
-    (subst (λ hs. AreLaidOut c.args.tasks.now c.in_ok-cores.cores hs c.items-3.result.now) (sym homes_are)
-    (subst (λ left. AreLaidOut c.args.tasks.now c.in_ok-cores.cores placed.core_of left) (sym c.items-3.ensures)
-    (start_is_laid_out c.args.tasks.now placed c.args.host.now.cores c.in_ok-cores.cores c.in_ok-placed.ensures.each stand)))
+    read_is_laid_out c.args.tasks.now _ placed _ _ c.args.host.now.cores c.in_ok-cores.cores read c.in_ok-placed.ensures.each stand
 
 pub returns-in_err-split_each-clause-fault : goal.returns-in_err-split_each-clause-fault
 returns-in_err-split_each-clause-fault c =
     let p = err_from_is_err_and c.from_residual-in_err-split_each.result c.from_residual-in_err-split_each.ensures.1 in
     let placed = c.in_ok-placed.placed in
+    let read : IsRead c.args.tasks.now c.items-2.result.now placed c.deref_mut.result.now c.items-3.result.now = record {
+      tasks_are = c.items-2.ensures.same;
+      homes_are = c.deref_mut.ensures.value ∙ c.in_ok-homes.ensures.items ∙ c.items-core_of.ensures.same;
+      left_is = c.items-3.ensures;
+    } in
     let stand = subst (λ hs. StandWhole c.args.tasks.now hs c.args.host.now.cores c.in_ok-cores.cores) c.items-core_of.ensures.same
     (subst (λ ts. StandWhole ts c.items-core_of.result.now c.args.host.now.cores c.in_ok-cores.cores) c.items.ensures.same c.in_ok-cores.ensures) in
-    let homes_are = c.deref_mut.ensures.value ∙ c.in_ok-homes.ensures.items ∙ c.items-core_of.ensures.same in
-    let start : IsStart c.args.host.now c.args.tasks.now placed c.in_ok-cores.cores = record { tasks_are = c.requires; placement = c.in_ok-placed.ensures.placement; stand = stand } in
+    let start : IsStart c.args.host.now c.args.tasks.now placed c.in_ok-cores.cores =
+    record { tasks_are = c.requires; placement = c.in_ok-placed.ensures.placement; stand = stand } in
     rw (p.1, p.2) (layout_fault c.args.host.now c.args.tasks.now placed c.in_ok-cores.cores _ start
-    (subst (λ ts. IsStuckFault ts c.in_ok-cores.cores placed.core_of placed.left c.in_err-split_each.field-0.0) c.items-2.ensures.same
-    (subst (λ hs. IsStuckFault c.items-2.result.now c.in_ok-cores.cores hs placed.left c.in_err-split_each.field-0.0) homes_are
-    (subst (λ left. IsStuckFault c.items-2.result.now c.in_ok-cores.cores c.deref_mut.result.now left c.in_err-split_each.field-0.0) c.items-3.ensures c.in_err-split_each.ensures.fault))))
+    (read_is_stuck c.args.tasks.now _ placed _ _ c.in_ok-cores.cores c.in_err-split_each.field-0.0 read c.in_err-split_each.ensures.fault))
 
 pub returns-clause-laid_out : goal.returns-clause-laid_out
 returns-clause-laid_out c =

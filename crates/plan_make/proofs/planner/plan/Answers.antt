@@ -1,8 +1,7 @@
-use Rattle.std.proofs.Common.{◌≡◌, Err, ap, subst, sym, ◌∙◌}
+use Rattle.std.proofs.Common.{Err, ap, subst, sym, ◌∙◌}
 use Rattle.std.proofs.lemmas.Result.{err_from_is_err_and}
 use Rattle.table_form.specs.Homes.{HaveHomes}
-use Rattle.plan_make.specs.Planned.{IsPlanned}
-use Rattle.plan_make.proofs.Exact.{no_memory_for_layout, planned_unique}
+use Rattle.plan_make.proofs.Exact.{layout_is_planned, no_memory_for_layout, planned_or_refused, planned_unique}
 use Rattle.plan_make.proofs.Plans.{all_allotted, all_have_homes, no_memory_for_tasks, tasks_admit}
 use Rattle.plan_make.proofs.Serving.{rows_apart, rows_owned, rows_serve}
 use Rattle.plan_make.proofs.planner.plan.Goals as goal
@@ -45,13 +44,9 @@ returns-clause-fits_host g c = record {
 
 pub returns-clause-only : goal.returns-clause-only
 returns-clause-only g c other planned =
-    let layout = c.in_ok-layout.ensures.layout in
-    let laid = subst (λ homes. IsPlanned c.args.host.now (record { tasks = c.in_ok-tasks.tasks; homes = homes; rows = c.in_ok-rows.rows })) (sym c.of-homes.ensures) (record {
-      placed = layout.placed;
-      start = layout.start;
-      is_start = layout.is_start;
-      cores = c.in_ok-layout.layout.cores;
-      split = layout.split;
-      rows = c.in_ok-rows.ensures.rows;
-    }) in
-    planned_unique c.args.host.now other _ planned laid
+    planned_unique c.args.host.now other _ planned (layout_is_planned c.args.host.now _ _ _ _ _ c.in_ok-layout.ensures.layout c.of-homes.ensures c.in_ok-rows.ensures.rows)
+
+pub returns-clause-without_room : goal.returns-clause-without_room
+returns-clause-without_room g c vcpu rest over first =
+    let laid = layout_is_planned c.args.host.now _ _ _ _ _ c.in_ok-layout.ensures.layout c.of-homes.ensures c.in_ok-rows.ensures.rows in
+    absurd (planned_or_refused c.args.host.now _ vcpu rest over laid first)
