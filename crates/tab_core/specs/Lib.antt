@@ -1,3 +1,4 @@
+pub mod Edits
 pub mod Name
 pub mod Period
 pub mod VcpuSets

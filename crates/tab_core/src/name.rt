@@ -3,7 +3,7 @@ ghost use Rattle.std.specs.List.{list_all};
 ghost use Rattle.tab_core.specs.Name.{IsName, is_name, is_dash_lem, is_name_byte_lem};
 ghost use Rattle.tab_core.specs.declared.name.NameFault.TheVariants.{NoMemory};
 
-use crate::MAX_NAME;
+use crate::{MAX_NAME, NoMemory};
 use std::alloc::{AllocError, Global};
 use std::error::Error;
 use std::fmt;
@@ -59,12 +59,22 @@ impl Name {
     pub fn of(alloc: Global, bytes: &[u8]) -> Result<Name, NameFault>
         ensures ok { IfOk result (λ name. (name ≡ bytes.now) × IsName bytes.now) }
         ensures bad_name { IsErrOf result NameFault.BadName → ¬ (IsName bytes.now) }
+        ensures bad_name_due { ¬ (IsName bytes.now) → IsErrOf result NameFault.BadName }
     {
         if !is_good(bytes) {
             return Err(NameFault::BadName);
         }
         Ok(Name {
             bytes: bytes.to_vec(alloc)?,
+        })
+    }
+
+    // The name once more.
+    pub(crate) fn copy(&self, alloc: Global) -> Result<Name, NoMemory>
+        ensures { IfOk result (λ name. name ≡ self.now) }
+    {
+        Ok(Name {
+            bytes: self.bytes.to_vec(alloc)?,
         })
     }
 

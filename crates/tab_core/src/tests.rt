@@ -1,4 +1,11 @@
-use crate::{CoreNo, Name, NameFault, PERIODS, Piece, Stint, VcpuNo, VcpuSet};
+ghost use Rattle.std.specs.Prelude.{◌≡◌, IfOk, length};
+ghost use Rattle.tab_core.specs.Edits.{vcpu_of};
+
+use crate::{
+    CoreNo, Edit, Host, Name, NameFault, PERIODS, Piece, Reservation, Stint, Vcpu, VcpuNo, VcpuSet,
+    Vcpus,
+};
+use std::alloc::Global;
 use std::test::Fail;
 
 #[test]
@@ -80,4 +87,60 @@ fn stint_of(ran: Option<VcpuNo>) -> Stint {
 fn literals(rt: HostRuntime) {
     assert_eq!(rt; whole_piece(VcpuNo(3), CoreNo(1)).to, 100);
     assert_eq!(rt; stint_of(None).end, 1);
+}
+
+fn one_vcpu_host(alloc: Global) -> Result<Host, NameFault>
+    ensures { IfOk result (λ host. length host.vcpus ≡ 1) }
+{
+    let mut vcpus = Vec::with_capacity(alloc, 1)?;
+    vcpus.push_reserved(Vcpu {
+        name: Name::of(alloc, b"a")?,
+        reservation: None,
+        runnable: true,
+    });
+    Ok(Host {
+        cores: 2,
+        lag: 3,
+        sliver: 4,
+        quantum: 5,
+        vcpus: Vcpus::of(vcpus),
+    })
+}
+
+fn half() -> Reservation {
+    Reservation {
+        share_ppm: 500_000,
+        latency_ns: 7,
+    }
+}
+
+fn admission() -> Edit
+    ensures { vcpu_of result ≡ 0 }
+{
+    Edit::Set {
+        vcpu: VcpuNo(0),
+        reservation: half(),
+    }
+}
+
+fn departure() -> Edit
+    ensures { vcpu_of result ≡ 0 }
+{
+    Edit::Leave { vcpu: VcpuNo(0) }
+}
+
+#[test]
+fn the_last_edit_prevails(rt: HostRuntime) -> Result<(), Fail> {
+    let host = one_vcpu_host(rt.alloc())?;
+    let gone = host.edited(rt.alloc(), &[admission(), departure()])?;
+    let back = host.edited(rt.alloc(), &[admission(), departure(), admission()])?;
+    assert_eq!(rt; gone.vcpus.items()[0].reservation, None);
+    assert_eq!(rt; back.vcpus.items()[0].reservation, Some(half()));
+    assert_eq!(rt; back.vcpus.items()[0].name.bytes(), b"a".as_slice());
+    assert!(rt; back.vcpus.items()[0].runnable);
+    assert_eq!(rt;
+        (back.cores, back.lag, back.sliver, back.quantum),
+        (2, 3, 4, 5)
+    );
+    Ok(())
 }
