@@ -51,7 +51,7 @@ extend-extend : (a b : List ℕ) (sections : List (List ℕ))
 extend-extend a b [] = refl
 extend-extend a b (section ∷ sections) = ap (λ first. first ∷ sections) (sym (append_assoc a b section))
 
-map_concat-onto_first : (row : List ℕ) (parts : List (List (List ℕ)))
+pub map_concat-onto_first : (row : List ℕ) (parts : List (List (List ℕ)))
     → map concat (onto_first row parts) ≡ extend row (map concat parts)
 map_concat-onto_first row [] = ap (λ first. first ∷ []) (append-nil row)
 map_concat-onto_first row (part ∷ parts) = refl

@@ -1,13 +1,17 @@
 -- Commands and faults exclude each other, and each list of words has one of them.
-use Rattle.std.proofs.Common.{arith, ◌+◌, ◌≡◌, ◌≢◌, ℕ, ◌<◌, ◌≤◌, inl, inr, List, [], ◌∷◌, ◌++◌, length, take, drop, codes, ap, subst, sym, ◌∙◌, refl, false, append_assoc, String, string_bytes, Result, Ok, Err, MatchResult}
+use Rattle.std.proofs.Common.{arith, ◌+◌, ◌≡◌, ◌≢◌, ℕ, ◌<◌, ◌≤◌, lit≤, inl, inr, List, [], ◌∷◌, ◌++◌, length, take, drop, codes, decimal, ap, subst, sym, ◌∙◌, refl, false, append_assoc, String, string_bytes, Result, Ok, Err, MatchResult}
 use Rattle.std.specs.Str.{bytes_eq}
 use Rattle.std.proofs.lemmas.Slice.Eq.{bytes_eq-Decides}
 use Rattle.std.proofs.lemmas.List.{take-append-drop, take-take}
+use Rattle.std.proofs.lemmas.Fmt.{decimal_injective}
 use Rattle.std.specs.declared.alloc.Global.{Global}
-use Rattle.tab_words.specs.Commands.{IsBegun, IsCommand, IsFaultAt, IsNoCommand, IsReading, texts}
+use Rattle.tab_words.specs.Commands.{IsBegun, IsCommand, IsFaultAt, IsNoCommand, IsReading, IsRounds, texts}
+use Rattle.tab_words.specs.Numbers.{Spells}
 use Rattle.tab_words.specs.declared.command.Command.{Command}
-use Rattle.tab_words.specs.declared.command.Command.TheVariants.{Plan, Help, Version}
+use Rattle.tab_words.specs.declared.command.Command.TheVariants.{Plan, Check, Replay, Help, Version}
+use Rattle.tab_words.specs.declared.command.TheConstants.{MOST_ROUNDS}
 use Rattle.tab_words.specs.declared.command.Usage.{Usage}
+use Rattle.tab_words.proofs.Numbers.{spelled_once}
 
 -- ---- any grammar
 
@@ -61,17 +65,23 @@ one_place words a b fault other =
 
 abbrev name_of : Command → List ℕ
 name_of Plan = codes "plan"
+name_of Check = codes "check"
+name_of (Replay rounds) = codes "replay"
 name_of Help = codes "--help"
 name_of Version = codes "--version"
 
 abbrev arguments_of : Command → List (List ℕ)
 arguments_of Plan = []
+arguments_of Check = []
+arguments_of (Replay rounds) = decimal rounds ∷ []
 arguments_of Help = []
 arguments_of Version = []
 
 named : (words : List (List ℕ)) (command : Command) → IsCommand words command
     → words ≡ name_of command ∷ arguments_of command
 named words Plan is = is
+named words Check is = is
+named words (Replay rounds) is = is.0
 named words Help is = is
 named words Version is = is
 
@@ -80,8 +90,16 @@ other_name {a} {b} more others other same =
     let name : a ≡ b = cc in
     absurd (cc (other, (bytes_eq-Decides a b).1 name))
 
+-- a count of rounds has one spelling
+same_rounds : (m n : ℕ) → m ≤ MOST_ROUNDS → n ≤ MOST_ROUNDS → decimal m ≡ decimal n → m ≡ n
+same_rounds m n few other same = decimal_injective m n (omega arith) (omega arith) same
+
 same_command : (words : List (List ℕ)) (a b : Command) → IsCommand words a → IsCommand words b → a ≡ b
 same_command words Plan Plan p q = refl
+same_command words Check Check p q = refl
+same_command words (Replay m) (Replay n) p q =
+    let spelling : decimal m ≡ decimal n = cc (p.0, q.0) in
+    ap Replay (same_rounds m n p.2 q.2 spelling)
 same_command words Help Help p q = refl
 same_command words Version Version p q = refl
 same_command words a b p q =
@@ -111,19 +129,26 @@ fault_of_none = record {
 }
 
 -- a name that no command has
-unknown : (name : List ℕ) (rest : List (List ℕ)) → name ≢ codes "plan"
-    → name ≢ codes "--help" → name ≢ codes "--version" → IsNoCommand (name ∷ rest)
-unknown name rest no_plan no_help no_version Plan is = absurd (no_plan cc)
-unknown name rest no_plan no_help no_version Help is = absurd (no_help cc)
-unknown name rest no_plan no_help no_version Version is = absurd (no_version cc)
+pub record IsUnknown (name : List ℕ) : Type 0 where
+  pub no_plan : name ≢ codes "plan"
+  pub no_check : name ≢ codes "check"
+  pub no_replay : name ≢ codes "replay"
+  pub no_help : name ≢ codes "--help"
+  pub no_version : name ≢ codes "--version"
 
-pub fault_of_name : (name : List ℕ) (rest : List (List ℕ)) → name ≢ codes "plan"
-    → name ≢ codes "--help" → name ≢ codes "--version" → IsFaultAt (name ∷ rest) 0
-fault_of_name name rest no_plan no_help no_version = record {
+unknown : (name : List ℕ) (rest : List (List ℕ)) → IsUnknown name → IsNoCommand (name ∷ rest)
+unknown name rest other Plan is = absurd (other.no_plan cc)
+unknown name rest other Check is = absurd (other.no_check cc)
+unknown name rest other (Replay rounds) is = absurd (other.no_replay cc)
+unknown name rest other Help is = absurd (other.no_help cc)
+unknown name rest other Version is = absurd (other.no_version cc)
+
+pub fault_of_name : (name : List ℕ) (rest : List (List ℕ)) → IsUnknown name → IsFaultAt (name ∷ rest) 0
+fault_of_name name rest other = record {
   before = record { command = Plan; rest = codes "plan" ∷ []; whole = refl };
   fault = inl (
     omega arith,
-    λ begun. unknown name begun.rest no_plan no_help no_version begun.command begun.whole,
+    λ begun. unknown name begun.rest other begun.command begun.whole,
   );
 }
 
@@ -132,6 +157,10 @@ fault_of_name name rest no_plan no_help no_version = record {
 after_plan : (word : List ℕ) (rest : List (List ℕ)) → IsNoCommand (codes "plan" ∷ word ∷ rest)
 after_plan word rest Plan is = omega (arith, ap length is)
 after_plan word rest command is = other_name (word ∷ rest) (arguments_of command) refl (named _ command is)
+
+after_check : (word : List ℕ) (rest : List (List ℕ)) → IsNoCommand (codes "check" ∷ word ∷ rest)
+after_check word rest Check is = omega (arith, ap length is)
+after_check word rest command is = other_name (word ∷ rest) (arguments_of command) refl (named _ command is)
 
 after_help : (word : List ℕ) (rest : List (List ℕ)) → IsNoCommand (codes "--help" ∷ word ∷ rest)
 after_help word rest Help is = omega (arith, ap length is)
@@ -163,6 +192,10 @@ pub reading_plan : (rest : List (String Global)) (r : Result Command Usage) → 
     → IsReading (codes "plan" ∷ texts rest) r
 reading_plan rest r reads = reading_alone (codes "plan") Plan rest r refl after_plan reads
 
+pub reading_check : (rest : List (String Global)) (r : Result Command Usage) → ReadsAlone Check rest r
+    → IsReading (codes "check" ∷ texts rest) r
+reading_check rest r reads = reading_alone (codes "check") Check rest r refl after_check reads
+
 pub reading_help : (rest : List (String Global)) (r : Result Command Usage) → ReadsAlone Help rest r
     → IsReading (codes "--help" ∷ texts rest) r
 reading_help rest r reads = reading_alone (codes "--help") Help rest r refl after_help reads
@@ -170,3 +203,73 @@ reading_help rest r reads = reading_alone (codes "--help") Help rest r refl afte
 pub reading_version : (rest : List (String Global)) (r : Result Command Usage) → ReadsAlone Version rest r
     → IsReading (codes "--version" ∷ texts rest) r
 reading_version rest r reads = reading_alone (codes "--version") Version rest r refl after_version reads
+
+-- ---- `replay` and its count of rounds
+
+-- a word that spells no number
+pub no_spelling : (word : List ℕ) → ((n : ℕ) → Spells word n → ⊥) → (rounds : ℕ) → IsRounds word rounds → ⊥
+no_spelling word none rounds is = none rounds (record { fits = omega (arith, is.few); digits = is.digits })
+
+-- a word that spells a number that is no such count
+pub no_other_rounds : (word : List ℕ) (number : ℕ) → Spells word number
+    → (1 ≤ number → number ≤ MOST_ROUNDS → ⊥) → (rounds : ℕ) → IsRounds word rounds → ⊥
+no_other_rounds word number spelled none rounds is =
+    let same : number ≡ rounds = spelled_once word number rounds spelled (omega (arith, is.few)) is.digits in
+    none (omega (arith, is.some)) (omega (arith, is.few))
+
+-- what follows the name is a count of rounds and no more
+only_rounds : (rest : List (List ℕ)) (command : Command) → IsCommand (codes "replay" ∷ rest) command
+    → (rounds : ℕ) × ((rest ≡ decimal rounds ∷ []) × (1 ≤ rounds) × (rounds ≤ MOST_ROUNDS))
+only_rounds rest (Replay rounds) is = (rounds, (cc is.0, is.1, is.2))
+only_rounds rest command is = absurd (other_name rest (arguments_of command) refl (named _ command is))
+
+begun_replay : IsBegun (codes "replay" ∷ [])
+begun_replay = record {
+  command = Replay 1;
+  rest = decimal 1 ∷ [];
+  whole = (refl, lit≤ tt, lit≤ tt);
+}
+
+no_rounds : IsNoCommand (codes "replay" ∷ [])
+no_rounds command is =
+    let (rounds, means) = only_rounds [] command is in
+    omega (arith, ap length means.0)
+
+pub fault_without_rounds : IsFaultAt (codes "replay" ∷ []) 1
+fault_without_rounds = record { before = begun_replay; fault = inr (refl, no_rounds) }
+
+-- a word that spells no such count
+pub fault_of_rounds : (word : List ℕ) (rest : List (List ℕ)) → ((rounds : ℕ) → IsRounds word rounds → ⊥)
+    → IsFaultAt (codes "replay" ∷ word ∷ rest) 1
+fault_of_rounds word rest none = record {
+  before = begun_replay;
+  fault = inl (
+    omega arith,
+    λ begun.
+        let (rounds, means) = only_rounds (word ∷ begun.rest) begun.command begun.whole in
+        none rounds (record { digits = cc means.0; some = means.1; few = means.2 }),
+  );
+}
+
+-- a word behind the count
+pub fault_behind_rounds : (word more : List ℕ) (rest : List (List ℕ)) (rounds : ℕ) → IsRounds word rounds
+    → IsFaultAt (codes "replay" ∷ word ∷ more ∷ rest) 2
+fault_behind_rounds word more rest rounds is = record {
+  before = record {
+    command = Replay rounds;
+    rest = [];
+    whole = (rw is.digits refl, is.some, is.few);
+  };
+  fault = inl (
+    omega arith,
+    λ begun.
+        let (other, means) = only_rounds (word ∷ more ∷ begun.rest) begun.command begun.whole in
+        omega (arith, ap length means.0),
+  );
+}
+
+pub fault_of_more : (word : List ℕ) (more : List (String Global)) (rounds : ℕ) → IsRounds word rounds
+    → 0 < length more → IsFaultAt (codes "replay" ∷ word ∷ texts more) 2
+fault_of_more word [] rounds is some = absurd (omega arith)
+fault_of_more word (next ∷ more) rounds is some =
+    fault_behind_rounds word (string_bytes next) (texts more) rounds is

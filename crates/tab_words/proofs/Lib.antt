@@ -5,3 +5,4 @@ pub mod FirstWord
 pub mod Grammar
 pub mod Numbers
 pub mod Pieces
+pub mod SectionSizes

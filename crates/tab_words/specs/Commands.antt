@@ -1,17 +1,26 @@
 -- The grammar of the command line's words.
-use Rattle.std.specs.Prelude.{◌≡◌, ℕ, ◌+◌, ◌<◌, ◌⊎◌, List, [], ◌∷◌, ◌++◌, length, take, map, codes, String, string_bytes, Result, MatchResult}
+use Rattle.std.specs.Prelude.{◌≡◌, ℕ, ◌+◌, ◌<◌, ◌≤◌, ◌⊎◌, List, [], ◌∷◌, ◌++◌, length, take, map, codes, decimal, String, string_bytes, Result, MatchResult}
 use Rattle.std.specs.declared.alloc.Global.{Global}
 use Rattle.tab_words.specs.declared.command.Command.{Command}
-use Rattle.tab_words.specs.declared.command.Command.TheVariants.{Plan, Help, Version}
+use Rattle.tab_words.specs.declared.command.Command.TheVariants.{Plan, Check, Replay, Help, Version}
+use Rattle.tab_words.specs.declared.command.TheConstants.{MOST_ROUNDS}
 use Rattle.tab_words.specs.declared.command.Usage.{Usage}
 
 -- the words as bytes
 abbrev pub texts : List (String Global) → List (List ℕ)
 texts words = map string_bytes words
 
+-- the word spells a count of rounds that a command takes
+pub record IsRounds (word : List ℕ) (rounds : ℕ) : Type 0 where
+  pub digits : word ≡ decimal rounds
+  pub some : 1 ≤ rounds
+  pub few : rounds ≤ MOST_ROUNDS
+
 -- the words are this command
 abbrev pub IsCommand : List (List ℕ) → Command → Type 0
 IsCommand words Plan = words ≡ codes "plan" ∷ []
+IsCommand words Check = words ≡ codes "check" ∷ []
+IsCommand words (Replay rounds) = (words ≡ codes "replay" ∷ decimal rounds ∷ []) × (1 ≤ rounds) × (rounds ≤ MOST_ROUNDS)
 IsCommand words Help = words ≡ codes "--help" ∷ []
 IsCommand words Version = words ≡ codes "--version" ∷ []
 

@@ -1,15 +1,22 @@
-ghost use Rattle.std.specs.Prelude.{◌≡◌, ℕ, ◌<◌, [], ◌++◌, length, codes, decimal, Some, Ok, Err, IfOk, IsErrOf, MatchResult};
-ghost use Rattle.tab_words.specs.Commands.{IsCommand, IsFaultAt, IsReading, texts};
+ghost use Rattle.std.specs.Prelude.{◌≡◌, ℕ, ◌<◌, [], ◌∷◌, ◌++◌, length, codes, decimal, Some, Ok, Err, IfNone, IfOk, IfSome, IsErrOf, MatchResult};
+ghost use Rattle.tab_words.specs.Commands.{IsCommand, IsFaultAt, IsReading, IsRounds, texts};
 
 use crate::number::read_number;
 use std::error::Error;
 use std::fmt;
+
+/// The most rounds that a command takes.
+pub const MOST_ROUNDS: u32 = 64;
 
 /// What the words of the command line ask for.
 #[derive(Clone, Copy, Debug, PartialEq, Eq)]
 pub enum Command {
     /// `plan`
     Plan,
+    /// `check`
+    Check,
+    /// `replay ROUNDS`, from 1 to `MOST_ROUNDS` rounds
+    Replay { rounds: u32 },
     /// `--help`
     Help,
     /// `--version`
@@ -57,6 +64,8 @@ fn reading_of(words: &[String]) -> Result<Command, Usage>
     };
     match name.as_str() {
         "plan" => read_alone(Command::Plan, rest),
+        "check" => read_alone(Command::Check, rest),
+        "replay" => read_replay(rest),
         "--help" => read_alone(Command::Help, rest),
         "--version" => read_alone(Command::Version, rest),
         _ => Err(Usage { place: 0 }),
@@ -75,6 +84,38 @@ fn read_alone(command: Command, rest: &[String]) -> Result<Command, Usage>
     }
 }
 
+// The count of rounds behind `replay`, after which nothing stands.
+fn read_replay(rest: &[String]) -> Result<Command, Usage>
+    ensures { IsReading (codes "replay" ∷ texts rest.now) result }
+{
+    let Some((word, more)) = rest.split_first() else {
+        return Err(Usage { place: 1 });
+    };
+    let Some(rounds) = rounds_of(word.as_bytes()) else {
+        return Err(Usage { place: 1 });
+    };
+    if more.is_empty() {
+        Ok(Command::Replay { rounds })
+    } else {
+        Err(Usage { place: 2 })
+    }
+}
+
+// The count of rounds that the word spells, where a command takes so many.
+fn rounds_of(word: &[u8]) -> Option<u32>
+    ensures some { IfSome result (λ rounds. IsRounds word.now rounds) }
+    ensures none { IfNone result ((rounds : ℕ) → IsRounds word.now rounds → ⊥) }
+{
+    let Some(number) = read_number(word) else {
+        return None;
+    };
+    if 0 < number && number <= u64::from(MOST_ROUNDS) {
+        Some(number as u32)
+    } else {
+        None
+    }
+}
+
 #[cfg(test)]
 mod tests {
     use super::*;
@@ -86,17 +127,40 @@ mod tests {
         // words with a space between, and the answer
         let cases = [
             ("plan", Ok(Command::Plan)),
+            ("check", Ok(Command::Check)),
+            ("replay 1", Ok(Command::Replay { rounds: 1 })),
+            ("replay 20", Ok(Command::Replay { rounds: 20 })),
+            ("replay 64", Ok(Command::Replay { rounds: 64 })),
             ("--help", Ok(Command::Help)),
             ("--version", Ok(Command::Version)),
             ("plan plan", fault(1)),
+            ("check check", fault(1)),
+            ("check 1", fault(1)),
+            ("replay", fault(1)),
+            ("replay 0", fault(1)),
+            ("replay 0 x", fault(1)),
+            ("replay 65", fault(1)),
+            ("replay 01", fault(1)),
+            ("replay +1", fault(1)),
+            ("replay ", fault(1)),
+            ("replay x 1", fault(1)),
+            ("replay 4294967297", fault(1)),
+            ("replay 18446744073709551617", fault(1)),
+            ("replay 1 x", fault(2)),
+            ("replay 64 1", fault(2)),
+            ("replay 1 2 3", fault(2)),
             ("plan --help", fault(1)),
             ("--help plan", fault(1)),
             ("--version --version x", fault(1)),
             ("Plan", fault(0)),
             ("pla", fault(0)),
+            ("Check", fault(0)),
+            ("replay1", fault(0)),
+            ("1 replay", fault(0)),
             ("plans x", fault(0)),
             ("", fault(0)),
             ("run 1", fault(0)),
+            ("gen 1 1 1", fault(0)),
             ("plan --version x", fault(1)),
         ];
         for (line, expected) in cases {

@@ -12,7 +12,7 @@ mod section;
 mod text;
 mod word;
 
-pub use command::{Command, Usage, read_words};
+pub use command::{Command, MOST_ROUNDS, Usage, read_words};
 pub use line::Lines;
 pub use number::read_number;
 pub use section::{Sections, cut_sections};

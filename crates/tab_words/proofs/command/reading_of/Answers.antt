@@ -1,7 +1,7 @@
 use Rattle.std.proofs.Common.{ap, rules, ◌≡◌, [], ◌∷◌, codes}
 use Rattle.std.proofs.lemmas.List.{nil_from_length}
 use Rattle.tab_words.specs.Commands.{texts}
-use Rattle.tab_words.proofs.Grammar.{reading_plan, reading_help, reading_version, fault_of_name, fault_of_none}
+use Rattle.tab_words.proofs.Grammar.{reading_plan, reading_check, reading_help, reading_version, fault_of_name, fault_of_none}
 use Rattle.tab_words.proofs.command.reading_of.Goals as goal
 
 pub returns-in_default : goal.returns-in_default
@@ -14,6 +14,16 @@ pub returns-in-plan : goal.returns-in-plan
 returns-in-plan c =
     let words : texts c.args.words.now ≡ codes "plan" ∷ texts c.in-Some.rest.now = search rules in
     rw words (reading_plan c.in-Some.rest.now c.read_alone.result c.read_alone.ensures)
+
+pub returns-in-check : goal.returns-in-check
+returns-in-check c =
+    let words : texts c.args.words.now ≡ codes "check" ∷ texts c.in-Some.rest.now = search rules in
+    rw words (reading_check c.in-Some.rest.now c.read_alone-in-check.result c.read_alone-in-check.ensures)
+
+pub returns-in-replay : goal.returns-in-replay
+returns-in-replay c =
+    let words : texts c.args.words.now ≡ codes "replay" ∷ texts c.in-Some.rest.now = search rules in
+    rw words c.read_replay.ensures
 
 pub returns-in-text : goal.returns-in-text
 returns-in-text c =
@@ -28,5 +38,10 @@ returns-in-text-2 c =
 pub returns-in_default-as_str : goal.returns-in_default-as_str
 returns-in_default-as_str c =
     let words : texts c.args.words.now ≡ c.as_str.result.now ∷ texts c.in-Some.rest.now = search rules in
-    rw words (fault_of_name c.as_str.result.now (texts c.in-Some.rest.now) c.in_default-as_str.not-plan
-    c.in_default-as_str.not-text c.in_default-as_str.not-text-2)
+    rw words (fault_of_name c.as_str.result.now (texts c.in-Some.rest.now) (record {
+      no_plan = c.in_default-as_str.not-plan;
+      no_check = c.in_default-as_str.not-check;
+      no_replay = c.in_default-as_str.not-replay;
+      no_help = c.in_default-as_str.not-text;
+      no_version = c.in_default-as_str.not-text-2;
+    }))
