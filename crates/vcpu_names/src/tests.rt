@@ -1,0 +1,36 @@
+ghost use Rattle.std.specs.Prelude.{◌≡◌};
+
+use crate::Names;
+use std::test::Fail;
+use tab_core::{Name, Vcpu, VcpuNo};
+
+fn vcpu_of(name: Name) -> Vcpu
+    ensures { result.name ≡ name }
+{
+    Vcpu {
+        name,
+        reservation: None,
+        runnable: true,
+    }
+}
+
+#[test]
+fn finds_each_vcpu_by_its_name_alone(rt: HostRuntime) -> Result<(), Fail> {
+    let alloc = rt.alloc();
+    let b = Name::of(alloc, b"b")?;
+    let a = Name::of(alloc, b"a.1")?;
+    let vcpus = [vcpu_of(b), vcpu_of(a)];
+    let names = Names::of(alloc, &vcpus)?;
+    let cases: [(&[u8], Option<VcpuNo>); 6] = [
+        (b"b", Some(VcpuNo(0))),
+        (b"a.1", Some(VcpuNo(1))),
+        (b"a", None),
+        (b"B", None),
+        (b"", None),
+        (b"-", None),
+    ];
+    for (name, number) in cases {
+        assert_eq!(rt; names.number_of(name), number, "of {name:?}");
+    }
+    Ok(())
+}
