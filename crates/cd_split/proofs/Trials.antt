@@ -6,7 +6,7 @@ use Rattle.std.proofs.lemmas.List.{append-nil, append_assoc}
 use Rattle.tab_core.specs.declared.piece.Piece.{Piece}
 use Rattle.table_form.specs.Jobs.{jobs_of, jobs_of_subtask, subtask_of}
 use Rattle.table_form.specs.Demand.{Fits}
-use Rattle.edf_table.specs.Windows.{DistinctVcpus}
+use Rattle.table_form.specs.Windows.{DistinctVcpus}
 use Rattle.edf_table.proofs.Pieces.{jobs_of-nil}
 use Rattle.edf_table.proofs.Whole.{demand_in-none}
 use Rattle.edf_table.specs.Overloads.{IsOverloadOf}

@@ -4,7 +4,7 @@ use Rattle.tab_core.specs.declared.TheConstants.{MAX_CORES}
 use Rattle.tab_core.specs.declared.piece.Piece.{Piece}
 use Rattle.table_form.specs.Jobs.{jobs_of}
 use Rattle.table_form.specs.Demand.{Fits}
-use Rattle.edf_table.specs.Windows.{DistinctVcpus}
+use Rattle.table_form.specs.Windows.{DistinctVcpus}
 
 -- the pieces on a core
 abbrev pub pieces_on : List (List Piece) → ℕ → List Piece

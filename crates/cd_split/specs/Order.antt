@@ -2,7 +2,7 @@
 use Rattle.std.specs.Prelude.{◌≡◌, ◌≢◌, ℕ, ◌<◌, ◌≤◌, List, All, length, slice_index_or}
 use Rattle.tab_core.specs.declared.TheConstants.{ROUND}
 use Rattle.tab_core.specs.declared.piece.Piece.{Piece}
-use Rattle.edf_table.specs.Windows.{load}
+use Rattle.edf_table.specs.Load.{load}
 use Rattle.cd_split.specs.Cores.{pieces_on}
 use Rattle.cd_split.specs.Splitting.{ComesFirst}
 use Rattle.cd_split.specs.declared.order.Rank.{Rank}

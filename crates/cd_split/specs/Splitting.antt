@@ -11,7 +11,7 @@ use Rattle.tab_core.specs.declared.piece.Piece.{Piece}
 use Rattle.table_form.specs.Jobs.{Subtask, jobs_of, jobs_of_subtask, subtask_of}
 use Rattle.edf_table.specs.Beside.{FitsBeside, remainder, tight}
 use Rattle.edf_table.specs.Overloads.{IsReported}
-use Rattle.edf_table.specs.Windows.{load}
+use Rattle.edf_table.specs.Load.{load}
 use Rattle.cd_split.specs.Cores.{pieces_on}
 use Rattle.cd_split.specs.declared.cut.TheConstants.{LEAST_CUT}
 

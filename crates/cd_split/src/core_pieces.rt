@@ -2,7 +2,7 @@ ghost use Rattle.std.specs.Prelude.{◌≡◌, ◌<◌, ◌≤◌, ◌++◌, [],
 ghost use Rattle.tab_core.specs.declared.TheConstants.{MAX_CORES};
 ghost use Rattle.table_form.specs.Demand.{Fits};
 ghost use Rattle.table_form.specs.Jobs.{jobs_of};
-ghost use Rattle.edf_table.specs.Windows.{DistinctVcpus};
+ghost use Rattle.table_form.specs.Windows.{DistinctVcpus};
 ghost use Rattle.cd_split.specs.Cores.{HaveRoomFor, LackVcpu, pieces_on};
 
 use crate::one_core::OneCore;

@@ -3,7 +3,7 @@ ghost use Rattle.tab_core.specs.declared.TheConstants.{ROUND};
 ghost use Rattle.tab_core.specs.Period.{IsPeriod};
 ghost use Rattle.table_form.specs.Demand.{Fits};
 ghost use Rattle.table_form.specs.Jobs.{jobs_of};
-ghost use Rattle.edf_table.specs.Windows.{load};
+ghost use Rattle.edf_table.specs.Load.{load};
 
 use tab_core::{Piece, ROUND};
 

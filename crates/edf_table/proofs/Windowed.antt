@@ -13,7 +13,7 @@ use Rattle.table_form.specs.Jobs.{Job, Subtask, job_of, subtask_of, first_jobs, 
 use Rattle.table_form.specs.EdfRow.{is_run_of, is_same_job, edf_cells, edf_row, owner_of}
 use Rattle.table_form.specs.Serves.{is_cell_of, cells_within}
 use Rattle.edf_table.specs.Progress.{Among, MetBefore, cell, had}
-use Rattle.edf_table.specs.Windows.{DistinctVcpus}
+use Rattle.table_form.specs.Windows.{DistinctVcpus}
 use Rattle.edf_table.proofs.Sums.{sum_lt, sum_zero}
 use Rattle.edf_table.proofs.Cells.{edf_cells-suc, edf_cells-zero, length-edf_cells}
 use Rattle.edf_table.proofs.First.{IsFirst, first_pending_is}

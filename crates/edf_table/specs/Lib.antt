@@ -1,4 +1,4 @@
 pub mod Beside
+pub mod Load
 pub mod Overloads
 pub mod Progress
-pub mod Windows

@@ -3,7 +3,7 @@ ghost use Rattle.table_form.specs.Demand.{Fits};
 ghost use Rattle.table_form.specs.Jobs.{jobs_of};
 ghost use Rattle.edf_table.specs.Overloads.{IsOverloadOf};
 ghost use Rattle.edf_table.specs.Progress.{IsFirstEnd};
-ghost use Rattle.edf_table.specs.Windows.{DistinctVcpus};
+ghost use Rattle.table_form.specs.Windows.{DistinctVcpus};
 
 use crate::light::are_whole_and_light;
 use crate::overload::{Overload, last_overload};

@@ -6,7 +6,7 @@ ghost use Rattle.tab_core.specs.Period.{IsPeriod};
 ghost use Rattle.table_form.specs.Demand.{Fits};
 ghost use Rattle.table_form.specs.Jobs.{Job, jobs_of};
 ghost use Rattle.edf_table.specs.Beside.{FitsBeside, tight};
-ghost use Rattle.edf_table.specs.Windows.{AllWhole, load};
+ghost use Rattle.edf_table.specs.Load.{AllWhole, load};
 
 /// Where a tight piece fits, one that is a tick shorter fits. So bisection finds the longest.
 pub fn shorter_piece_fits()

@@ -2,7 +2,7 @@
 //!
 //! Pieces fit exactly where no interval of the round is asked for more ticks than it has: the
 //! processor-demand criterion, which `Fits` in table_form states. Their row is `edf_row` there,
-//! and it gives each job its cost inside its window. `specs/Windows.antt` says what a row keeps.
+//! and it gives each job its cost inside its window, as `specs/Windows.antt` there says.
 #![tactic(auto)]
 
 mod due;

@@ -3,7 +3,7 @@ ghost use Rattle.tab_core.specs.declared.TheConstants.{ROUND};
 ghost use Rattle.table_form.specs.Jobs.{first_jobs, jobs_of, subtask_of};
 ghost use Rattle.edf_table.specs.Overloads.{IsOverloadOf};
 ghost use Rattle.edf_table.specs.Progress.{IsFirstEnd, NoBegin, demand_from};
-ghost use Rattle.edf_table.specs.Windows.{DistinctVcpus};
+ghost use Rattle.table_form.specs.Windows.{DistinctVcpus};
 
 use tab_core::{Piece, ROUND};
 

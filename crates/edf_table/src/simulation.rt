@@ -5,7 +5,7 @@ ghost use Rattle.table_form.specs.Demand.{Fits};
 ghost use Rattle.table_form.specs.EdfRow.{edf_row};
 ghost use Rattle.table_form.specs.Jobs.{jobs_of};
 ghost use Rattle.edf_table.specs.Overloads.{IsFaultOf};
-ghost use Rattle.edf_table.specs.Windows.{DistinctVcpus, KeepsToWindows, ServesWindows};
+ghost use Rattle.table_form.specs.Windows.{DistinctVcpus, KeepsToWindows, ServesWindows};
 
 use crate::fault::EdfFault;
 use crate::fit::find_overload;

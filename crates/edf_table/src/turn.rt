@@ -2,7 +2,7 @@ ghost use Rattle.std.specs.Prelude.{◌≡◌, ◌+◌, ◌<◌, ◌≤◌, true
 ghost use Rattle.tab_core.specs.declared.TheConstants.{ROUND};
 ghost use Rattle.table_form.specs.Jobs.{jobs_of};
 ghost use Rattle.edf_table.specs.Progress.{AreCalm, GoesTo, IsCounted, IsUrgentBelow, MetBefore, ServedBelow, SomeMissed};
-ghost use Rattle.edf_table.specs.Windows.{DistinctVcpus};
+ghost use Rattle.table_form.specs.Windows.{DistinctVcpus};
 
 use crate::due::{event_after, has_missed, is_due_before, is_ready_at, lacking};
 use tab_core::{MAX_VCPUS, Piece, ROUND, VcpuNo};

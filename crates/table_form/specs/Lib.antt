@@ -3,6 +3,8 @@ pub mod Choice
 pub mod CourseViews
 pub mod Courses
 pub mod Demand
+pub mod DraftViews
+pub mod Drafts
 pub mod EdfRow
 pub mod Homes
 pub mod Jobs
@@ -19,3 +21,4 @@ pub mod Steps
 pub mod Stretches
 pub mod Together
 pub mod Views
+pub mod Windows

@@ -6,8 +6,10 @@
 #![tactic(auto)]
 
 mod course;
+mod draft;
 mod homes;
 mod plan;
+mod raw_tables;
 mod row;
 mod row_builder;
 mod rows;
@@ -19,8 +21,10 @@ mod tables;
 mod tests;
 
 pub use course::Course;
+pub use draft::Draft;
 pub use homes::Homes;
 pub use plan::Plan;
+pub use raw_tables::{RawRows, RawTables, Segments};
 pub use row::{BadPlace, CoreTable};
 pub use row_builder::RowBuilder;
 pub use rows::Rows;

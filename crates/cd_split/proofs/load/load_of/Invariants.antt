@@ -1,5 +1,5 @@
 use Rattle.std.proofs.Common.{◌≡◌, take}
-use Rattle.edf_table.specs.Windows.{load}
+use Rattle.edf_table.specs.Load.{load}
 use Rattle.cd_split.proofs.load.load_of.Given as goal
 
 abbrev pub invariant-loop-piece : goal.invariant-loop-piece

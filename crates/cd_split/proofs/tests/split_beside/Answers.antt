@@ -5,7 +5,7 @@ use Rattle.tab_core.specs.declared.piece.Piece.{Piece}
 use Rattle.tab_core.proofs.Periods.{period_facts}
 use Rattle.table_form.specs.Demand.{Fits}
 use Rattle.table_form.specs.Jobs.{jobs_of}
-use Rattle.edf_table.specs.Windows.{IsWhole}
+use Rattle.edf_table.specs.Load.{IsWhole}
 use Rattle.edf_table.proofs.Whole.{whole_fits}
 use Rattle.cd_split.specs.Cores.{pieces_on}
 use Rattle.cd_split.proofs.tests.split_beside.Goals as goal

@@ -2,7 +2,7 @@ use Rattle.std.proofs.Common.{◌≤◌, ◌*◌, ◌/◌, ℕ, subst, ap, arith
 use Rattle.std.proofs.lemmas.List.{get_or_read, take_all}
 use Rattle.tab_core.specs.declared.TheConstants.{ROUND}
 use Rattle.tab_core.specs.declared.piece.Piece.{Piece}
-use Rattle.edf_table.specs.Windows.{AllWhole, IsWhole, load}
+use Rattle.edf_table.specs.Load.{AllWhole, IsWhole, load}
 use Rattle.edf_table.proofs.Whole.{all_whole_more, load_more, whole_fits}
 use Rattle.edf_table.proofs.light.are_whole_and_light.Goals as goal
 

@@ -1,5 +1,5 @@
 -- Pieces on one core, and how a row keeps to their windows.
-use Rattle.std.specs.Prelude.{◌≡◌, ℕ, ◌+◌, ◌*◌, ◌/◌, ◌<◌, ◌≤◌, List, [], ◌∷◌, Some, slice_get}
+use Rattle.std.specs.Prelude.{◌≡◌, ℕ, ◌+◌, ◌*◌, ◌/◌, ◌<◌, ◌≤◌, List, Some, slice_get}
 use Rattle.tab_core.specs.declared.TheConstants.{ROUND}
 use Rattle.tab_core.specs.declared.piece.Piece.{Piece}
 use Rattle.table_form.specs.Rows.{Row}
@@ -7,7 +7,8 @@ use Rattle.table_form.specs.Serves.{cells_within}
 
 -- no two pieces are of one vCPU
 abbrev pub DistinctVcpus : List Piece → Type 0
-DistinctVcpus pieces = (i j : ℕ) (a b : Piece) → slice_get pieces i ≡ Some a → slice_get pieces j ≡ Some b → a.vcpu ≡ b.vcpu → i ≡ j
+DistinctVcpus pieces = (i j : ℕ) (a b : Piece) → slice_get pieces i ≡ Some a → slice_get pieces j ≡ Some b
+    → a.vcpu ≡ b.vcpu → i ≡ j
 
 -- each window of each piece has exactly the piece's cost of cells
 abbrev pub ServesWindows : List Piece → Row → Type 0
@@ -28,17 +29,3 @@ pub record IsInWindow (pieces : List Piece) (vcpu tick : ℕ) : Type 0 where
 -- each cell that isn't idle is inside a window of its vCPU's piece
 abbrev pub KeepsToWindows : List Piece → Row → Type 0
 KeepsToWindows pieces row = (vcpu tick : ℕ) → slice_get row tick ≡ Some (Some vcpu) → IsInWindow pieces vcpu tick
-
--- the piece's windows are whole periods
-pub record IsWhole (p : Piece) : Type 0 where
-  pub begins : p.from ≡ 0
-  pub ends : p.to ≡ p.period
-
-abbrev pub AllWhole : List Piece → Type 0
-AllWhole [] = Unit {0}
-AllWhole (p ∷ ps) = IsWhole p × AllWhole ps
-
--- what the pieces take of a round, in ticks
-abbrev pub load : List Piece → ℕ
-load [] = 0
-load (p ∷ ps) = p.cost * (ROUND / p.period) + load ps
