@@ -1,0 +1,178 @@
+-- The second rule gives idle cells away, and only to vCPUs that may have more and have a cell in the row.
+use Rattle.std.proofs.Common.{◌≡◌, ℕ, zero, suc, ◌+◌, ◌-◌, ◌<◌, ◌≤◌, Bool, true, false, cond, ltb, List, [], ◌∷◌, ◌++◌, replicate, take, drop, slice_get, Option, Some, None, ◌⊎◌, refl, ap, subst, sym, ◌∙◌, inl, inr, arith}
+use Rattle.std.specs.List.{count_by}
+use Rattle.std.proofs.lemmas.Bool.{and_parts, cases_lt, false≢true}
+use Rattle.std.proofs.lemmas.List.{length-replicate}
+use Rattle.std.proofs.lemmas.List.Sums.{sum_by-cons}
+use Rattle.table_form.specs.Rows.{Row}
+use Rattle.table_form.specs.Serves.{cells_within, is_cell_of}
+use Rattle.table_form.specs.Stretches.{Stretch}
+use Rattle.coalesce.specs.Joining.{filled_after, given, is_given}
+use Rattle.coalesce.specs.Passing.{AreMaximal}
+use Rattle.coalesce.proofs.Filled.{filled_after_maximal, given_end}
+use Rattle.coalesce.proofs.Maximal.{cells_of, cells_of-cons, cells_of-nil, cells_of_front}
+use Rattle.coalesce.proofs.Moved.{get_behind, get_front, get_replicate}
+
+-- only idle cells differ
+pub Grows : Row → Row → Type 0
+Grows [] [] = Unit {0}
+Grows [] (d ∷ ds) = ⊥
+Grows (c ∷ cs) [] = ⊥
+Grows (c ∷ cs) (d ∷ ds) = ((c ≡ None) ⊎ (d ≡ c)) × Grows cs ds
+
+grows_nil : Grows [] []
+unfolding Grows
+grows_nil = tt
+
+grows_run : (n : ℕ) (o p : Option ℕ) (cs ds : Row) → (o ≡ None) ⊎ (p ≡ o) → Grows cs ds → Grows (replicate n o ++ cs)
+    (replicate n p ++ ds)
+unfolding Grows
+grows_run zero o p cs ds same rest = rest
+grows_run (suc n) o p cs ds same rest = (same, grows_run n o p cs ds same rest)
+
+grows_drop : (n : ℕ) (cs ds : Row) → Grows cs ds → Grows (drop n cs) (drop n ds)
+unfolding Grows
+grows_drop zero cs ds g = g
+grows_drop (suc n) [] [] g = tt
+grows_drop (suc n) [] (d ∷ ds) g = absurd g
+grows_drop (suc n) (c ∷ cs) [] g = absurd g
+grows_drop (suc n) (c ∷ cs) (d ∷ ds) g = grows_drop n cs ds g.1
+
+count_grows : (v n : ℕ) (cs ds : Row) → Grows cs ds → count_by (λ cell. is_cell_of v cell) (take n cs) ≤ count_by
+    (λ cell. is_cell_of v cell) (take n ds)
+unfolding Grows
+count_grows v zero cs ds g = omega arith
+count_grows v (suc n) [] [] g = omega arith
+count_grows v (suc n) [] (d ∷ ds) g = absurd g
+count_grows v (suc n) (c ∷ cs) [] g = absurd g
+count_grows v (suc n) (c ∷ cs) (d ∷ ds) g =
+    let rest = count_grows v n cs ds g.1 in
+    let one : Option ℕ → ℕ = λ cell. cond (is_cell_of v cell) 1 0 in
+    omega (arith, sum_by-cons one c (take n cs), sum_by-cons one d (take n ds), rest, no_less c d g.0)
+  where
+    no_less : (c d : Option ℕ) → (c ≡ None) ⊎ (d ≡ c) → cond (is_cell_of v c) 1 0 ≤ cond (is_cell_of v d) 1 0
+    no_less c d (inl idle) = let none : ◌≡◌ {A = ℕ} (cond (is_cell_of v c) 1 0) 0 = rw idle refl in omega arith
+    no_less c d (inr same) = let e : ◌≡◌ {A = ℕ} (cond (is_cell_of v d) 1 0) (cond (is_cell_of v c) 1 0) = ap {B = ℕ}
+        (λ o. cond (is_cell_of v o) 1 0) same in omega arith
+
+-- so no vCPU has fewer cells in any interval
+pub within_grows : (v from to : ℕ) (row joined : Row) → Grows row joined
+    → cells_within v row from to ≤ cells_within v joined from to
+unfolding cells_within
+within_grows v from to row joined g = count_grows v (to - from) (drop from row) (drop from joined)
+    (grows_drop from row joined g)
+
+-- what a stretch becomes
+pub data IsGift (may_grow : ℕ → Bool) (x y : Stretch) (owner : Option ℕ) : Type 0 where
+  Kept : owner ≡ y.owner → IsGift may_grow x y owner
+  Gift : (v : ℕ) → x.owner ≡ Some v → y.owner ≡ None → may_grow v ≡ true → owner ≡ x.owner → IsGift may_grow x y owner
+
+gift_of : (may_grow : ℕ → Bool) (sliver : ℕ) (x y : Stretch) → IsGift may_grow x y (given may_grow sliver x y).owner
+gift_of may_grow sliver x y = by_test (is_given may_grow sliver x.owner y.owner (y.end - x.end)) refl
+  where
+    owners : (o u : Option ℕ) → x.owner ≡ o → y.owner ≡ u → is_given may_grow sliver o u (y.end - x.end) ≡ true
+        → IsGift may_grow x y x.owner
+    owners None u of_x of_y holds = absurd (false≢true holds)
+    owners (Some v) (Some w) of_x of_y holds = absurd (false≢true holds)
+    owners (Some v) None of_x of_y holds = Gift v of_x of_y
+        (and_parts (ltb (y.end - x.end) sliver) (may_grow v) holds).1 refl
+
+    by_test : (b : Bool) → is_given may_grow sliver x.owner y.owner (y.end - x.end) ≡ b → IsGift may_grow x y
+        (given may_grow sliver x y).owner
+    by_test true holds = rw holds (owners x.owner y.owner refl refl holds)
+    by_test false no_ = rw no_ (Kept refl)
+
+gift_grows : (may_grow : ℕ → Bool) (x y : Stretch) (owner : Option ℕ) → IsGift may_grow x y owner → (y.owner ≡ None) ⊎
+    (owner ≡ y.owner)
+gift_grows may_grow x y owner (Kept same) = inr same
+gift_grows may_grow x y owner (Gift v of_x of_y may is) = inl of_y
+
+-- the cells of the stretches behind the first
+filled_cells : (may_grow : ℕ → Bool) (sliver start : ℕ) (x y : Stretch) (ts : List Stretch) (end : ℕ)
+    → AreMaximal start (y ∷ ts) end
+    → cells_of start (filled_after may_grow sliver x (y ∷ ts)) ≡ replicate (y.end - start)
+    (given may_grow sliver x y).owner ++ cells_of y.end (filled_after may_grow sliver y ts)
+filled_cells may_grow sliver start x y ts end m =
+    let g = given may_grow sliver x y in
+    let e = given_end may_grow sliver x y in
+    let rest = subst (λ n. AreMaximal n (filled_after may_grow sliver y ts) end) (sym e)
+    (filled_after_maximal may_grow sliver y.end y ts end m.2) in
+    cells_of_front start g (filled_after may_grow sliver y ts) end (omega (arith, e, m.0)) rest ∙ ap
+    (λ n. replicate (n - start) g.owner ++ cells_of n (filled_after may_grow sliver y ts)) e
+
+pub filled_grows : (may_grow : ℕ → Bool) (sliver start : ℕ) (x : Stretch) (ts : List Stretch) (end : ℕ)
+    → AreMaximal start ts end
+    → Grows (cells_of start ts) (cells_of start (filled_after may_grow sliver x ts))
+filled_grows may_grow sliver start x [] end m = subst (λ row. Grows row row) (sym (cells_of-nil start)) grows_nil
+filled_grows may_grow sliver start x (y ∷ ts) end m =
+    subst (Grows (cells_of start (y ∷ ts))) (sym (filled_cells may_grow sliver start x y ts end m))
+    (subst (λ row. Grows row (replicate (y.end - start) (given may_grow sliver x y).owner ++ cells_of y.end
+    (filled_after may_grow sliver y ts))) (sym (cells_of-cons start y ts))
+    (grows_run (y.end - start) y.owner (given may_grow sliver x y).owner (cells_of y.end ts)
+    (cells_of y.end (filled_after may_grow sliver y ts))
+    (gift_grows may_grow x y (given may_grow sliver x y).owner (gift_of may_grow sliver x y))
+    (filled_grows may_grow sliver y.end y ts end m.2)))
+
+-- a cell behind the stretch x is as before, or of a vCPU that may grow and has x or a cell
+pub data IsGrownCell (may_grow : ℕ → Bool) (owner : Option ℕ) (row : Row) (place v : ℕ) : Type 0 where
+  Was : slice_get row place ≡ Some (Some v) → IsGrownCell may_grow owner row place v
+  HasBefore : may_grow v ≡ true → owner ≡ Some v → IsGrownCell may_grow owner row place v
+  HasCell : may_grow v ≡ true → (other : ℕ) → slice_get row other ≡ Some (Some v)
+      → IsGrownCell may_grow owner row place v
+
+inside : (o : Option ℕ) (v : ℕ) → ◌≡◌ {A = Option (Option ℕ)} (Some o) (Some (Some v)) → o ≡ Some v
+inside o v e = cc
+
+pub grown_cell : (may_grow : ℕ → Bool) (sliver start : ℕ) (x : Stretch) (ts : List Stretch) (end place v : ℕ)
+    → AreMaximal start ts end
+    → slice_get (cells_of start (filled_after may_grow sliver x ts)) place ≡ Some (Some v)
+    → IsGrownCell may_grow x.owner (cells_of start ts) place v
+grown_cell may_grow sliver start x [] end place v m at = Was at
+grown_cell may_grow sliver start x (y ∷ ts) end place v m at =
+    let n = y.end - start in
+    let g = given may_grow sliver x y in
+    let rest = cells_of y.end (filled_after may_grow sliver y ts) in
+    let run : Option ℕ → Row = λ o. replicate n o in
+    let is = sym (ap (λ row. slice_get row place) (filled_cells may_grow sliver start x y ts end m)) ∙ at in
+    let row_is = cells_of-cons start y ts in
+    elim (cases_lt place n) [
+      | inl here ↦
+          let owner = inside g.owner v (sym (get_front (run g.owner) rest place
+          (omega (arith, length-replicate n g.owner, here)) ∙ get_replicate n g.owner place here) ∙ is) in
+          first_run here owner (gift_of may_grow sliver x y)
+      | inr behind ↦
+          let later = sym (get_behind (run g.owner) rest place (place - n)
+          (omega (arith, length-replicate n g.owner, behind))) ∙ is in
+          further behind (grown_cell may_grow sliver y.end y ts end (place - n) v m.2 later)
+    ]
+  where
+    at_run : (i : ℕ) → i < y.end - start → slice_get (cells_of start (y ∷ ts)) i ≡ Some y.owner
+    at_run i lt = ap (λ row. slice_get row i) (cells_of-cons start y ts) ∙ get_front
+        (replicate (y.end - start) y.owner) (cells_of y.end ts) i
+        (omega (arith, length-replicate (y.end - start) y.owner, lt)) ∙ get_replicate (y.end - start) y.owner i lt
+
+    past_run : (i j : ℕ) → i ≡ (y.end - start) + j → slice_get (cells_of start (y ∷ ts)) i ≡ slice_get
+        (cells_of y.end ts) j
+    past_run i j e = ap (λ row. slice_get row i) (cells_of-cons start y ts) ∙ get_behind
+        (replicate (y.end - start) y.owner) (cells_of y.end ts) i j
+        (omega (arith, length-replicate (y.end - start) y.owner, e))
+
+    first_run : place < y.end - start → (given may_grow sliver x y).owner ≡ Some v → IsGift may_grow x y
+        (given may_grow sliver x y).owner → IsGrownCell may_grow x.owner (cells_of start (y ∷ ts)) place v
+    first_run here owner (Kept same) = Was (at_run place here ∙ ap Some (sym same ∙ owner))
+    first_run here owner (Gift w of_x of_y may is) =
+        let of_v : x.owner ≡ Some v = sym is ∙ owner in
+        HasBefore (subst (λ u. may_grow u ≡ true) (same_number (sym of_x ∙ of_v)) may) of_v
+      where
+        same_number : {a b : ℕ} → ◌≡◌ {A = Option ℕ} (Some a) (Some b) → a ≡ b
+        same_number e = cc
+
+    further : y.end - start ≤ place → IsGrownCell may_grow y.owner (cells_of y.end ts) (place - (y.end - start)) v
+        → IsGrownCell may_grow x.owner (cells_of start (y ∷ ts)) place v
+    further behind (Was was) = Was (past_run place (place - (y.end - start)) (omega (arith, behind)) ∙ was)
+    further behind (HasBefore may owner) = HasCell may 0 (at_run 0 some ∙ ap Some owner)
+      where
+        some : 0 < y.end - start
+        some = omega (arith, m.0)
+    further behind (HasCell may other found) = HasCell may ((y.end - start) + other)
+        (past_run ((y.end - start) + other) other refl ∙ found)

@@ -1,0 +1,116 @@
+-- The row that the two passes make is the joined row.
+use Rattle.std.proofs.Common.{◌≡◌, ℕ, zero, suc, ◌+◌, ◌-◌, ◌≤◌, ◌⊎◌, Bool, ◌&&◌, ltb, cond, List, [], ◌∷◌, ◌++◌, length, map, slice_get, Option, Some, None, refl, ap, subst, sym, ◌∙◌, inl, inr, arith, length-append}
+use Rattle.std.proofs.lemmas.Option.{same_Some}
+use Rattle.tab_core.specs.declared.TheConstants.{ROUND}
+use Rattle.tab_core.specs.declared.piece.Piece.{Piece}
+use Rattle.table_form.specs.Drafts.{pieces_at}
+use Rattle.table_form.specs.Rows.{Row, cells_from}
+use Rattle.table_form.specs.Stretches.{Stretch, put_front, stretch_of, stretches_from}
+use Rattle.table_form.specs.declared.segment.Segment.{Segment}
+use Rattle.coalesce.specs.Joining.{AreJoined, IsJoined, SwapsTo, filled, filled_after, given, has_single_piece, is_given}
+use Rattle.coalesce.specs.Passing.{AreMaximal}
+use Rattle.coalesce.proofs.Filled.{filled_after_length, filled_maximal}
+use Rattle.coalesce.proofs.Maximal.{segments_are, stretches_of_cells}
+use Rattle.coalesce.proofs.Swapping.{swaps_shorten}
+
+-- the filled segments are maximal
+pub still_maximal : (may_grow : ℕ → Bool) (sliver : ℕ) (swapped joined : List Segment) → AreMaximal 0
+    (map stretch_of swapped) ROUND → map stretch_of joined ≡ filled may_grow sliver (map stretch_of swapped)
+    → AreMaximal 0 (map stretch_of joined) ROUND
+still_maximal may_grow sliver swapped joined m is = subst (λ ts. AreMaximal 0 ts ROUND) (sym is)
+    (filled_maximal may_grow sliver (map stretch_of swapped) ROUND m)
+
+pub row_joined : (pieces : List Piece) (may_grow : ℕ → Bool) (sliver : ℕ) (row joined : Row)
+    (swapped segments : List Segment) → SwapsTo pieces sliver (map stretch_of swapped) (stretches_from 0 row)
+    → AreMaximal 0 (map stretch_of swapped) ROUND → map stretch_of segments ≡ filled may_grow sliver
+    (map stretch_of swapped) → joined ≡ cells_from 0 segments
+    → IsJoined pieces may_grow sliver row joined
+row_joined pieces may_grow sliver row joined swapped segments swaps m is row_is = record {
+  end = map stretch_of swapped;
+  swaps = swaps;
+  fills = ap (stretches_from 0) (row_is ∙ segments_are 0 segments) ∙ stretches_of_cells 0
+      (map stretch_of segments) ROUND (still_maximal may_grow sliver swapped segments m is) ∙ is;
+}
+
+-- only whether each vCPU may grow counts
+same_given : (f g : ℕ → Bool) (sliver : ℕ) (x y : Stretch) → ((v : ℕ) → f v ≡ g v)
+    → given f sliver x y ≡ given g sliver x y
+same_given f g sliver x y same = ap (λ b. cond b (record { owner = x.owner; end = y.end }) y)
+    (same_test x.owner y.owner (y.end - x.end))
+  where
+    same_test : (o u : Option ℕ) (ticks : ℕ) → is_given f sliver o u ticks ≡ is_given g sliver o u ticks
+    same_test None u ticks = refl
+    same_test (Some v) (Some w) ticks = refl
+    same_test (Some v) None ticks = ap (λ b. ltb ticks sliver && b) (same v)
+
+same_filled : (f g : ℕ → Bool) (sliver : ℕ) (x : Stretch) (ts : List Stretch) → ((v : ℕ) → f v ≡ g v)
+    → filled_after f sliver x ts ≡ filled_after g sliver x ts
+same_filled f g sliver x [] same = refl
+same_filled f g sliver x (y ∷ ts) same =
+    ap (λ s. put_front s (filled_after f sliver y ts)) (same_given f g sliver x y same) ∙ ap
+    (put_front (given g sliver x y)) (same_filled f g sliver y ts same)
+
+pub joined_by : (pieces : List Piece) (f g : ℕ → Bool) (sliver : ℕ) (row joined : Row) → ((v : ℕ) → f v ≡ g v)
+    → IsJoined pieces f sliver row joined → IsJoined pieces g sliver row joined
+joined_by pieces f g sliver row joined same is = record {
+  end = is.end;
+  swaps = is.swaps;
+  fills = is.fills
+      ∙ same_filled f g sliver _ is.end same;
+}
+
+-- the rows of the first cores are joined
+pub record JoinedSoFar (pieces : List Piece) (sliver : ℕ) (rows : List Row) (core : ℕ)
+    (joined : List Row) : Type 0 where
+  pub size : length joined ≡ core
+  pub each : (c : ℕ) (row new : Row) → slice_get rows c ≡ Some row → slice_get joined c ≡ Some new → IsJoined
+      (pieces_at pieces c) (has_single_piece pieces) sliver row new
+
+pub one_joined : (pieces : List Piece) (sliver : ℕ) (rows : List Row) (core : ℕ) (joined : List Row) (row new : Row)
+    → slice_get rows core ≡ Some row
+    → IsJoined (pieces_at pieces core) (has_single_piece pieces) sliver row new
+    → JoinedSoFar pieces sliver rows core joined → JoinedSoFar pieces sliver rows (core + 1) (joined ++ new ∷ [])
+one_joined pieces sliver rows core joined row new at is so_far = record {
+  size = omega (arith, length-append joined (new ∷ []), so_far.size);
+  each = λ c row' new' row_at new_at. elim (last_cases joined c new' new_at) [
+    | inl old ↦ so_far.each c row' new' row_at old
+    | inr last ↦
+        let here : c ≡ core = last.0 ∙ so_far.size in
+        let same_row : row ≡ row' = same_Some row row' (sym at ∙ ap (slice_get rows) (sym here) ∙ row_at) in
+        subst (λ r. IsJoined (pieces_at pieces c) (has_single_piece pieces) sliver r new') same_row
+        (subst (λ n. IsJoined (pieces_at pieces c) (has_single_piece pieces) sliver row n) last.1
+        (subst (λ k. IsJoined (pieces_at pieces k) (has_single_piece pieces) sliver row new) (sym here) is))
+  ];
+}
+  where
+    last_cases : (xs : List Row) (c : ℕ) (y : Row) → slice_get (xs ++ new ∷ []) c ≡ Some y →
+        (slice_get xs c ≡ Some y) ⊎ ((c ≡ length xs) × (new ≡ y))
+    last_cases [] zero y at = inr (refl, same_Some new y at)
+    last_cases [] (suc c) y at = absurd cc
+    last_cases (x ∷ xs) zero y at = inl at
+    last_cases (x ∷ xs) (suc c) y at = elim (last_cases xs c y at) [
+      | inl old ↦ inl old
+      | inr last ↦ inr
+          (ap suc last.0, last.1)
+    ]
+
+-- no row has more segments than before
+pub no_more_segments : (pieces : List Piece) (may_grow : ℕ → Bool) (sliver : ℕ) (row joined : Row)
+    → IsJoined pieces may_grow sliver row joined
+    → length (stretches_from 0 joined) ≤ length (stretches_from 0 row)
+no_more_segments pieces may_grow sliver row joined is =
+    omega (
+      arith,
+      ap length is.fills,
+      filled_after_length may_grow sliver
+          (record { owner = None; end = 0 }) is.end,
+      swaps_shorten pieces sliver is.end (stretches_from 0 row) is.swaps,
+    )
+
+-- the same of what equals them
+pub joined_as : (pieces pieces' : List Piece) (sliver : ℕ) (rows rows' joined joined' : List Row) → pieces' ≡ pieces
+    → rows' ≡ rows → joined ≡ joined' → AreJoined pieces' sliver rows' joined' → AreJoined pieces sliver rows joined
+joined_as pieces pieces' sliver rows rows' joined joined' of_pieces of_rows of_joined are =
+    subst (λ ps. AreJoined ps sliver rows joined) of_pieces
+    (subst (λ rs. AreJoined pieces' sliver rs joined) of_rows
+    (subst (AreJoined pieces' sliver rows') (sym of_joined) are))

@@ -1,0 +1,17 @@
+pub mod Before
+pub mod Built
+pub mod Counts
+pub mod Ends
+pub mod Filled
+pub mod Grown
+pub mod Inside
+pub mod Joined
+pub mod Maximal
+pub mod Members
+pub mod Moved
+pub mod Planned
+pub mod Quiet
+pub mod Steps
+pub mod Swapping
+pub mod Tables
+pub mod Unique

@@ -1,0 +1,107 @@
+-- A row has one joined row: there is one leftmost swap, and so one end of the swaps.
+use Rattle.std.proofs.Common.{◌≡◌, ℕ, Bool, List, [], ◌∷◌, ◌++◌, ◌<◌, length, get_or, ap, subst, sym, ◌∙◌, arith}
+use Rattle.std.proofs.lemmas.List.{ext_get_or}
+use Rattle.std.proofs.lemmas.Option.{slice_get-get_or}
+use Rattle.tab_core.specs.declared.piece.Piece.{Piece}
+use Rattle.table_form.specs.Drafts.{pieces_at}
+use Rattle.table_form.specs.Rows.{Row}
+use Rattle.table_form.specs.Stretches.{Stretch, stretches_from}
+use Rattle.coalesce.specs.Joining.{AreJoined, CanSwap, IsJoined, NoSwap, has_single_piece, SwapsLeftmost, SwapsTo, filled, swapped}
+use Rattle.coalesce.specs.Joining.SwapsTo.{Again, Done}
+use Rattle.coalesce.proofs.Maximal.{same_row}
+
+no_swap_behind : (pieces : List Piece) (sliver : ℕ) (w : Stretch) (ws : List Stretch) → NoSwap pieces sliver (w ∷ ws)
+    → NoSwap pieces sliver ws
+no_swap_behind pieces sliver w [] quiet = tt
+no_swap_behind pieces sliver w (x ∷ []) quiet = tt
+no_swap_behind pieces sliver w (x ∷ y ∷ ws) quiet = quiet.1
+
+no_swap_at : (pieces : List Piece) (sliver : ℕ) (before : List Stretch) (x y z : Stretch) (after : List Stretch)
+    → NoSwap pieces sliver (before ++ x ∷ y ∷ z ∷ after) → CanSwap pieces sliver x y z → ⊥
+no_swap_at pieces sliver [] x y z after quiet can = quiet.0 can
+no_swap_at pieces sliver (w ∷ before) x y z after quiet can = no_swap_at pieces sliver before x y z after
+    (no_swap_behind pieces sliver w (before ++ x ∷ y ∷ z ∷ after) quiet) can
+
+can_moved : (pieces : List Piece) (sliver : ℕ) (x y z u v w : Stretch) → x ≡ u → y ≡ v → z ≡ w
+    → CanSwap pieces sliver x y z → CanSwap pieces sliver u v w
+can_moved pieces sliver x y z u v w a b c can =
+    subst (λ s. CanSwap pieces sliver s v w) a
+    (subst (λ s. CanSwap pieces sliver x s w) b (subst (CanSwap pieces sliver x y) c can))
+
+-- no swap is further left than the leftmost
+none_earlier : (pieces : List Piece) (sliver : ℕ) (x y z : Stretch) (after : List Stretch) (w : Stretch)
+    (ws : List Stretch) (x' y' z' : Stretch) (after' : List Stretch)
+    → x ∷ y ∷ z ∷ after ≡ w ∷ (ws ++ x' ∷ y' ∷ z' ∷ after') → CanSwap pieces sliver x y z → NoSwap pieces sliver
+    (w ∷ (ws ++ x' ∷ y' ∷ [])) → ⊥
+none_earlier pieces sliver x y z after w [] x' y' z' after' same can quiet = quiet.0
+    (can_moved pieces sliver x y z w x' y' (cc) (cc) (cc) can)
+none_earlier pieces sliver x y z after w (v ∷ []) x' y' z' after' same can quiet = quiet.0
+    (can_moved pieces sliver x y z w v x' (cc) (cc) (cc) can)
+none_earlier pieces sliver x y z after w (v ∷ u ∷ ws) x' y' z' after' same can quiet = quiet.0
+    (can_moved pieces sliver x y z w v u (cc) (cc) (cc) can)
+
+same_swap : (pieces : List Piece) (sliver : ℕ) (before : List Stretch) (x y z : Stretch)
+    (after before' : List Stretch) (x' y' z' : Stretch) (after' : List Stretch)
+    → before ++ x ∷ y ∷ z ∷ after ≡ before' ++ x' ∷ y' ∷ z' ∷ after' → CanSwap pieces sliver x y z
+    → CanSwap pieces sliver x' y' z'
+    → NoSwap pieces sliver (before ++ x ∷ y ∷ []) → NoSwap pieces sliver (before' ++ x' ∷ y' ∷ [])
+    → before ++ swapped x y z after ≡ before' ++ swapped x' y' z' after'
+same_swap pieces sliver [] x y z after [] x' y' z' after' same can can' quiet quiet' =
+    let a : x ≡ x' = cc in
+    let b : y ≡ y' = cc in
+    let c : z ≡ z' = cc in
+    let d : after ≡ after' = cc in
+    ap (λ s. swapped s y z after) a ∙ ap (λ s. swapped x' s z after) b ∙ ap (λ s. swapped x' y' s after) c ∙ ap
+    (swapped x' y' z') d
+same_swap pieces sliver [] x y z after (w ∷ ws) x' y' z' after' same can can' quiet quiet' =
+    absurd (none_earlier pieces sliver x y z after w ws x' y' z' after' same can quiet')
+same_swap pieces sliver (w ∷ ws) x y z after [] x' y' z' after' same can can' quiet quiet' =
+    absurd (none_earlier pieces sliver x' y' z' after' w ws x y z after (sym same) can' quiet)
+same_swap pieces sliver (w ∷ ws) x y z after (w' ∷ ws') x' y' z' after' same can can' quiet quiet' =
+    let here : w ≡ w' = cc in
+    let there : ws ++ x ∷ y ∷ z ∷ after ≡ ws' ++ x' ∷ y' ∷ z' ∷ after' = cc in
+    let rest = same_swap pieces sliver ws x y z after ws' x' y' z' after' there can can'
+    (no_swap_behind pieces sliver w (ws ++ x ∷ y ∷ []) quiet)
+    (no_swap_behind pieces sliver w' (ws' ++ x' ∷ y' ∷ []) quiet') in
+    ap (λ s. s ∷ (ws ++ swapped x y z after)) here ∙ ap (λ ss. w' ∷ ss) rest
+
+leftmost_unique : (pieces : List Piece) (sliver : ℕ) (row a b : List Stretch) → SwapsLeftmost pieces sliver row a
+    → SwapsLeftmost pieces sliver row b → a ≡ b
+leftmost_unique pieces sliver row a b s t =
+    s.next_is ∙ same_swap pieces sliver s.before s.x s.y s.z s.after t.before t.x t.y t.z t.after
+    (sym s.row_is ∙ t.row_is) s.can t.can s.leftmost t.leftmost ∙ sym t.next_is
+
+quiet_or_swap : (pieces : List Piece) (sliver : ℕ) (row next : List Stretch) → NoSwap pieces sliver row
+    → SwapsLeftmost pieces sliver row next → ⊥
+quiet_or_swap pieces sliver row next quiet swap =
+    no_swap_at pieces sliver swap.before swap.x swap.y swap.z swap.after
+    (subst (NoSwap pieces sliver) swap.row_is quiet) swap.can
+
+swaps_unique : (pieces : List Piece) (sliver : ℕ) (a b row : List Stretch) → SwapsTo pieces sliver a row
+    → SwapsTo pieces sliver b row → a ≡ b
+swaps_unique pieces sliver a b row (Done r quiet same) (Done q quiet' same') = sym same ∙ same'
+swaps_unique pieces sliver a b row (Done r quiet same) (Again q next swap swaps) = absurd
+    (quiet_or_swap pieces sliver row next quiet swap)
+swaps_unique pieces sliver a b row (Again r next swap swaps) (Done q quiet same) = absurd
+    (quiet_or_swap pieces sliver row next quiet swap)
+swaps_unique pieces sliver a b row (Again r next swap swaps) (Again q next' swap' swaps') =
+    let same = leftmost_unique pieces sliver row next' next swap' swap in
+    swaps_unique pieces sliver a b next swaps (subst (SwapsTo pieces sliver b) same swaps')
+
+pub joined_unique : (pieces : List Piece) (may_grow : ℕ → Bool) (sliver : ℕ) (row a b : Row)
+    → IsJoined pieces may_grow sliver row a → IsJoined pieces may_grow sliver row b → a ≡ b
+joined_unique pieces may_grow sliver row a b s t =
+    let same = swaps_unique pieces sliver s.end t.end (stretches_from 0 row) s.swaps t.swaps in
+    same_row a b (s.fills ∙ ap (filled may_grow sliver) same ∙ sym t.fills)
+
+-- so the rows of all cores are determined
+pub rows_unique : (pieces : List Piece) (sliver : ℕ) (rows a b : List Row) → AreJoined pieces sliver rows a
+    → AreJoined pieces sliver rows b → a ≡ b
+rows_unique pieces sliver rows a b s t = ext_get_or [] a b (s.size ∙ sym t.size) (λ core lt. (
+    let lt_row : core < length rows = omega (arith, s.size, lt) in
+    let lt_b : core < length b = omega (arith, t.size, lt_row) in
+    let row = get_or rows core [] in
+    let at = slice_get-get_or rows core [] lt_row in
+    joined_unique (pieces_at pieces core) (has_single_piece pieces) sliver row (get_or a core []) (get_or b core [])
+    (s.each core row (get_or a core []) at (slice_get-get_or a core [] lt))
+    (t.each core row (get_or b core []) at (slice_get-get_or b core [] lt_b))))

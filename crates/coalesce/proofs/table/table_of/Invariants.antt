@@ -1,0 +1,8 @@
+use Rattle.std.proofs.Common.{take}
+use Rattle.table_form.specs.Drafts.{pieces_at}
+use Rattle.coalesce.specs.Passing.{IsTableOf}
+use Rattle.coalesce.proofs.table.table_of.Given as goal
+
+-- the table is that of the pieces so far
+abbrev pub invariant-loop-piece : goal.invariant-loop-piece
+invariant-loop-piece l = IsTableOf (pieces_at (take l.piece-index l.pieces) l.core) l.table.items

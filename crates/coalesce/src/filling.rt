@@ -1,0 +1,58 @@
+ghost use Rattle.std.specs.Prelude.{◌≡◌, ℕ, ◌-◌, ◌<◌, ◌≤◌, IfOk, map};
+ghost use Rattle.tab_core.specs.VcpuSets.{has_vcpu};
+ghost use Rattle.tab_core.specs.declared.TheConstants.{ROUND};
+ghost use Rattle.table_form.specs.Stretches.{stretch_of};
+ghost use Rattle.coalesce.specs.Joining.{filled, given};
+ghost use Rattle.coalesce.specs.Passing.{AreMaximal};
+
+use crate::pass::append;
+use std::alloc::Global;
+use tab_core::{NoMemory, VcpuNo, VcpuSet};
+use table_form::Segment;
+
+// The segment, with the owner of the one before it, which ends at `start`, where it is given to
+// that.
+fn given(
+    before: Option<VcpuNo>,
+    start: u32,
+    segment: &Segment,
+    may_grow: &VcpuSet,
+    sliver: u32,
+) -> Segment
+    requires { start ≤ segment.now.end }
+    ensures { stretch_of result
+        ≡ given (has_vcpu may_grow.now) sliver (record { owner = before; end = start }) (stretch_of segment.now) }
+{
+    let Some(vcpu) = before else {
+        return *segment;
+    };
+    if segment.owner.is_some() || sliver <= segment.end - start || !may_grow.has(vcpu) {
+        return *segment;
+    }
+    Segment {
+        owner: Some(vcpu),
+        end: segment.end,
+    }
+}
+
+// Gives each short idle segment to the vCPU before it, if that may have more.
+pub(crate) fn fill_all(
+    alloc: Global,
+    segments: &[Segment],
+    may_grow: &VcpuSet,
+    sliver: u32,
+) -> Result<Vec<Segment>, NoMemory>
+    requires { AreMaximal 0 (map stretch_of segments.now) ROUND }
+    ensures { IfOk result (λ out. map stretch_of out.items
+        ≡ filled (has_vcpu may_grow.now) sliver (map stretch_of segments.now)) }
+{
+    let mut out = Vec::with_capacity(alloc, segments.len())?;
+    let mut before: Option<VcpuNo> = None;
+    let mut start = 0;
+    for segment in segments {
+        append(&mut out, given(before, start, segment, may_grow, sliver))?;
+        before = segment.owner;
+        start = segment.end;
+    }
+    Ok(out)
+}

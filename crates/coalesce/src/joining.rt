@@ -1,0 +1,98 @@
+ghost use Rattle.std.specs.Prelude.{◌≡◌, ℕ, ◌+◌, ◌*◌, ◌/◌, ◌<◌, ◌≤◌, List, Some, IfOk, length, map, slice_get};
+ghost use Rattle.tab_core.specs.VcpuSets.{has_vcpu};
+ghost use Rattle.tab_core.specs.declared.TheConstants.{MAX_CORES, MAX_VCPUS, ROUND};
+ghost use Rattle.tab_core.specs.declared.piece.Piece.{Piece};
+ghost use Rattle.table_form.specs.Drafts.{HaveOwnCores, pieces_at};
+ghost use Rattle.table_form.specs.Rows.{Row, RisesTo, cells_from};
+ghost use Rattle.table_form.specs.Serves.{cells_within};
+ghost use Rattle.table_form.specs.Stretches.{stretches_from};
+ghost use Rattle.coalesce.specs.Joining.{AreJoined, IsJoined};
+ghost use Rattle.coalesce.specs.Passing.{IsTableOf};
+
+use crate::filling::fill_all;
+use crate::pass::swap_all;
+use crate::table::{single_vcpus, table_of};
+use std::alloc::Global;
+use tab_core::{CoreNo, NoMemory, Piece, Tasks, VcpuSet};
+use table_form::{CoreTable, Draft, Homes, Plan, Rows, Segment, Tables};
+
+// Joins the slivers of one core's row.
+pub(crate) fn join_row(
+    alloc: Global,
+    segments: &[Segment],
+    table: &[Option<Piece>],
+    may_grow: &VcpuSet,
+    sliver: u32,
+) -> Result<CoreTable, NoMemory>
+    requires sized { length table.now ≡ MAX_VCPUS }
+    requires rises { RisesTo 0 segments.now ROUND }
+    ensures { (pieces : List Piece) → IsTableOf pieces table.now
+        → IfOk result (IsJoined pieces (has_vcpu may_grow.now) sliver (cells_from 0 segments.now)) }
+{
+    let swapped = swap_all(alloc, segments, table, sliver)?;
+    let filled = fill_all(alloc, &swapped, may_grow, sliver)?;
+    match CoreTable::of(filled) {
+        Ok(row) => Ok(row),
+        Err(_) => unreachable!(),
+    }
+}
+
+// Joins the slivers of each row.
+fn join_rows(
+    alloc: Global,
+    rows: &[CoreTable],
+    pieces: &[Piece],
+    sliver: u32,
+) -> Result<Vec<CoreTable>, NoMemory>
+    requires own_cores { HaveOwnCores pieces.now }
+    requires few { length rows.now ≤ MAX_CORES }
+    ensures { IfOk result (λ joined. AreJoined pieces.now sliver rows.now joined.items) }
+{
+    let may_grow = single_vcpus(pieces);
+    let mut joined = Vec::with_capacity(alloc, rows.len())?;
+    for core in 0..rows.len() {
+        let table = table_of(alloc, pieces, CoreNo(core as u32))?;
+        joined.push(join_row(alloc, rows[core].segments(), &table, &may_grow, sliver)?)?;
+    }
+    Ok(joined)
+}
+
+/// The plan of a draft, whose slivers are joined on each core: segments of fewer than `sliver`
+/// ticks.
+///
+/// First, of three neighbouring segments A, B, A of two vCPUs, of which B's is such a sliver, the
+/// third comes before B's, if from B's begin to the end of the three no window of A's piece on the
+/// core begins and none of B's ends. That is done at the leftmost place until it can be done
+/// nowhere. Then each idle sliver behind a segment of a vCPU with a single piece becomes that
+/// vCPU's.
+///
+/// So each job has at least its cost of ticks inside its window, and no row has more segments than
+/// before. Only want of memory prevents it.
+pub fn join_slivers(alloc: Global, draft: &Draft, sliver: u32) -> Result<Plan, NoMemory>
+    ensures joined { IfOk result (λ plan. AreJoined draft.now.pieces sliver draft.now.tables.rows plan.tables.rows) }
+    ensures only { IfOk result (λ plan. (rows : List Row) → AreJoined draft.now.pieces sliver draft.now.tables.rows rows
+        → rows ≡ plan.tables.rows) }
+    ensures tasks { IfOk result (λ plan. plan.tasks ≡ draft.now.tasks) }
+    ensures homes { IfOk result (λ plan. plan.tables.homes ≡ draft.now.tables.homes) }
+    ensures jobs { IfOk result (λ plan. (core i k : ℕ) (row : Row) (p : Piece)
+        → slice_get plan.tables.rows core ≡ Some row → slice_get (pieces_at draft.now.pieces core) i ≡ Some p
+        → k < ROUND / p.period → p.cost ≤ cells_within p.vcpu row (k * p.period + p.from) (k * p.period + p.to)) }
+    ensures fewer { IfOk result (λ plan. (core : ℕ) (row new : Row) → slice_get draft.now.tables.rows core ≡ Some row
+        → slice_get plan.tables.rows core ≡ Some new → length (stretches_from 0 new) ≤ length (stretches_from 0 row)) }
+{
+    let joined = join_rows(
+        alloc,
+        draft.tables.rows.items(),
+        draft.pieces.items(),
+        sliver,
+    )?;
+    let homes = Vec::from_slice(alloc, draft.tables.homes.items())?;
+    let tasks = Vec::from_slice(alloc, draft.tasks.items())?;
+    Ok(Plan {
+        tasks: Tasks::of(tasks),
+        tables: Tables {
+            homes: Homes::of(homes),
+            rows: Rows::of(joined),
+        },
+    })
+}

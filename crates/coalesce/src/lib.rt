@@ -1,0 +1,19 @@
+//! Joining of slivers: short segments of a core's row are moved together where no window forbids
+//! it, and short idle ones go to the vCPU before them.
+//!
+//! `AreJoined` in `specs/Joining.antt` says which rows the joined rows are: on each core the first
+//! rule is applied at its leftmost place until it applies nowhere, and then the second everywhere.
+//! The code makes one pass over a row for each rule.
+#![tactic(auto)]
+
+mod filling;
+mod joining;
+mod pass;
+#[cfg(test)]
+mod plain;
+mod swap;
+mod table;
+#[cfg(test)]
+mod tests;
+
+pub use joining::join_slivers;

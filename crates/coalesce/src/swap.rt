@@ -1,0 +1,78 @@
+ghost use Rattle.std.specs.Prelude.{◌≡◌, ℕ, ◌+◌, ◌*◌, ◌<◌, ◌≤◌, ◌↔◌, IsTrue, List, length};
+ghost use Rattle.tab_core.specs.declared.TheConstants.{MAX_VCPUS, ROUND};
+ghost use Rattle.tab_core.specs.declared.piece.Piece.{Piece};
+ghost use Rattle.table_form.specs.Stretches.{stretch_of};
+ghost use Rattle.coalesce.specs.Joining.{CanSwap, NoBegin, NoEnd};
+ghost use Rattle.coalesce.specs.Passing.{IsTableOf};
+
+use tab_core::{Piece, ROUND, VcpuNo};
+use table_form::Segment;
+
+// The least tick after `tick` that is `offset` ticks behind a multiple of the period.
+fn next_at(offset: u32, period: u32, tick: u32) -> u32
+    requires some { 0 < period }
+    requires small { period ≤ ROUND }
+    requires in_round { tick < ROUND }
+    ensures later { tick < result }
+    ensures one { (k : ℕ) × (result ≡ k * period + offset) }
+    ensures least { (k : ℕ) → tick < k * period + offset → result ≤ k * period + offset }
+{
+    if tick < offset {
+        offset
+    } else {
+        tick - (tick - offset) % period + period
+    }
+}
+
+// Whether no window of the vCPU's piece begins strictly between the ticks.
+fn has_no_begin(table: &[Option<Piece>], vcpu: VcpuNo, low: u32, high: u32) -> bool
+    requires sized { length table.now ≡ MAX_VCPUS }
+    requires in_round { low < ROUND }
+    ensures { (pieces : List Piece) → IsTableOf pieces table.now → (IsTrue result ↔ NoBegin pieces vcpu low high) }
+{
+    match table[vcpu.index()] {
+        None => true,
+        Some(piece) => high <= next_at(piece.from, piece.period, low),
+    }
+}
+
+// Whether no window of the vCPU's piece ends strictly between the ticks.
+fn has_no_end(table: &[Option<Piece>], vcpu: VcpuNo, low: u32, high: u32) -> bool
+    requires sized { length table.now ≡ MAX_VCPUS }
+    requires in_round { low < ROUND }
+    ensures { (pieces : List Piece) → IsTableOf pieces table.now → (IsTrue result ↔ NoEnd pieces vcpu low high) }
+{
+    match table[vcpu.index()] {
+        None => true,
+        Some(piece) => high <= next_at(piece.to, piece.period, low),
+    }
+}
+
+// Whether the third of three neighbours may come before the second.
+pub(crate) fn can_swap(
+    table: &[Option<Piece>],
+    sliver: u32,
+    x: &Segment,
+    y: &Segment,
+    z: &Segment,
+) -> bool
+    requires sized { length table.now ≡ MAX_VCPUS }
+    requires rises { x.now.end < y.now.end }
+    requires in_round { y.now.end < ROUND }
+    ensures { (pieces : List Piece) → IsTableOf pieces table.now
+        → (IsTrue result ↔ CanSwap pieces sliver (stretch_of x.now) (stretch_of y.now) (stretch_of z.now)) }
+{
+    let (Some(first), Some(second)) = (x.owner, y.owner) else {
+        return false;
+    };
+    if x.owner != z.owner {
+        return false;
+    }
+    if sliver <= y.end - x.end {
+        return false;
+    }
+    if !has_no_begin(table, first, x.end, z.end) {
+        return false;
+    }
+    has_no_end(table, second, x.end, z.end)
+}
