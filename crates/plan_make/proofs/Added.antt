@@ -4,10 +4,11 @@ use Rattle.std.specs.List.{All}
 use Rattle.std.proofs.lemmas.Bool.{cases_Bool, eqb-true, eqb-false}
 use Rattle.std.proofs.lemmas.List.{append-nil, append_assoc}
 use Rattle.std.proofs.lemmas.List.Elements.{All-head, All-tail}
-use Rattle.std.proofs.lemmas.List.Sums.{sum_by-append, sum_by-set}
+use Rattle.std.proofs.lemmas.List.Sums.{sum_by-set}
 use Rattle.tab_core.specs.declared.piece.Piece.{Piece}
 use Rattle.cd_split.specs.Cores.{pieces_on}
-use Rattle.plan_make.specs.Allotted.{cost_on}
+use Rattle.table_form.specs.Drafts.{cost_on}
+use Rattle.table_form.proofs.Supplies.{cost_on-append, cost_on-nil}
 use Rattle.plan_make.specs.Layout.{with_pieces}
 
 -- the cores with one further piece
@@ -19,7 +20,8 @@ pub pieces_on-with_piece : (cores : List (List Piece)) (p : Piece) (core : ℕ) 
     pieces_on (with_piece cores p) core ≡ pieces_on cores core ++ cond (eqb p.core core) (p ∷ []) []
 pieces_on-with_piece cores p core there = elim (cases_Bool (eqb p.core core)) [
   | inl same ↦ (let e = eqb-true p.core core same in
-      rw same (subst (λ c. pieces_on (with_piece cores p) c ≡ pieces_on cores c ++ p ∷ []) e (get_or-set_same cores p.core (pieces_on cores p.core ++ p ∷ []) [] there)))
+      rw same (subst (λ c. pieces_on (with_piece cores p) c ≡ pieces_on cores c ++ p ∷ []) e
+      (get_or-set_same cores p.core (pieces_on cores p.core ++ p ∷ []) [] there)))
   | inr other ↦ (let ne : core ≡ p.core → ⊥ = λ e. eqb-false p.core core other (sym e) in
       rw other (get_or-set_other cores p.core core (pieces_on cores p.core ++ p ∷ []) [] ne ∙ sym (append-nil (pieces_on cores core))))
 ]
@@ -32,7 +34,8 @@ length-with_pieces cores (p ∷ ps) = length-with_pieces (with_piece cores p) ps
 abbrev pub of_core : ℕ → List Piece → List Piece
 of_core core ps = filter (λ q. eqb q.core core) ps
 
-of_core-cons : (core : ℕ) (p : Piece) (ps : List Piece) → of_core core (p ∷ ps) ≡ cond (eqb p.core core) (p ∷ []) [] ++ of_core core ps
+pub of_core-cons : (core : ℕ) (p : Piece) (ps : List Piece)
+    → of_core core (p ∷ ps) ≡ cond (eqb p.core core) (p ∷ []) [] ++ of_core core ps
 of_core-cons core p ps = elim (cases_Bool (eqb p.core core)) [ inl same ↦ rw same refl | inr other ↦ rw other refl ]
 
 -- each of the pieces stands on one of so many cores
@@ -52,21 +55,15 @@ pieces_on-with_pieces cores (p ∷ ps) core below =
     ∙ ap (λ qs. pieces_on cores core ++ qs) (sym (of_core-cons core p ps))
 
 -- the last of the pieces comes last
-pub with_pieces_push : (cores : List (List Piece)) (ps : List Piece) (p : Piece) → with_pieces cores (ps ++ p ∷ []) ≡ with_piece (with_pieces cores ps) p
+pub with_pieces_push : (cores : List (List Piece)) (ps : List Piece) (p : Piece)
+    → with_pieces cores (ps ++ p ∷ []) ≡ with_piece (with_pieces cores ps) p
 with_pieces_push cores [] p = refl
 with_pieces_push cores (q ∷ ps) p = with_pieces_push (with_piece cores q) ps p
 
 -- what the vCPU gets on all cores rises by what it gets of the new pieces
-cost_on-append : (vcpu : ℕ) (ps qs : List Piece) → cost_on vcpu (ps ++ qs) ≡ cost_on vcpu ps + cost_on vcpu qs
-unfolding cost_on
-cost_on-append vcpu ps qs = sum_by-append (λ p. cond (eqb p.vcpu vcpu) p.cost 0) ps qs
-
-cost_on-cons : (vcpu : ℕ) (p : Piece) (ps : List Piece) → cost_on vcpu (p ∷ ps) ≡ cost_on vcpu (p ∷ []) + cost_on vcpu ps
-cost_on-cons vcpu p ps = cost_on-append vcpu (p ∷ []) ps
-
-cost_on-nil : (vcpu : ℕ) → cost_on vcpu [] ≡ 0
-unfolding cost_on
-cost_on-nil vcpu = refl
+cost_on-first : (vcpu : ℕ) (p : Piece) (ps : List Piece)
+    → cost_on vcpu (p ∷ ps) ≡ cost_on vcpu (p ∷ []) + cost_on vcpu ps
+cost_on-first vcpu p ps = cost_on-append vcpu (p ∷ []) ps
 
 costs-with_piece : (vcpu : ℕ) (cores : List (List Piece)) (p : Piece) → p.core < length cores →
     sum_by (cost_on vcpu) (with_piece cores p) ≡ sum_by (cost_on vcpu) cores + cost_on vcpu (p ∷ [])
@@ -84,5 +81,5 @@ costs-with_pieces vcpu cores (p ∷ ps) below =
     let rest = subst (λ n. StandBelow n ps) (sym same) (All-tail (λ (q : Piece). q.core < length cores) p ps below) in
     let after = costs-with_pieces vcpu (with_piece cores p) ps rest in
     let first = costs-with_piece vcpu cores p here in
-    let all = cost_on-cons vcpu p ps in
+    let all = cost_on-first vcpu p ps in
     omega arith

@@ -1,14 +1,15 @@
 pub mod Added
 pub mod Allotting
+pub mod Drafts
 pub mod Exact
+pub mod Flat
 pub mod Made
 pub mod Members
 pub mod Places
 pub mod Plans
+pub mod Refusals
 pub mod Sequence
-pub mod Serving
 pub mod Shares
 pub mod Standing
 pub mod Starting
-pub mod Supplies
 pub mod Wholes

@@ -1,49 +1,30 @@
 -- Elements of lists, by their places.
-use Rattle.std.proofs.Common.{◌≡◌, ℕ, zero, suc, ◌<◌, ◌⊎◌, Bool, true, List, [], ◌∷◌, ◌++◌, length, get_or, set, slice_get, filter, Some, refl, ap, subst, ◌∙◌, inl, inr, arith, length-set, get_or-set_same}
+use Rattle.std.proofs.Common.{◌≡◌, ℕ, zero, suc, ◌<◌, ◌⊎◌, List, [], ◌∷◌, ◌++◌, length, get_or, set, slice_get, Some, refl, ap, subst, ◌∙◌, inl, inr, arith, length-set, get_or-set_same}
 use Rattle.std.specs.List.{All, Contains}
-use Rattle.std.proofs.lemmas.Bool.{cases_Bool}
-use Rattle.std.proofs.lemmas.Option.{get_or_from_slice_get, same_Some, slice_get-get_or, slice_get_within}
+use Rattle.std.proofs.lemmas.Option.{get_or_from_slice_get, slice_get-get_or, slice_get_within}
 
 -- what holds of each element holds of that at a place
 pub all_at : {X : Type 0} (P : X → Type 0) (xs : List X) (i : ℕ) (x : X) → All P xs → slice_get xs i ≡ Some x → P x
 all_at P xs i x all at = subst P (get_or_from_slice_get xs i x x at) (all i x (slice_get_within xs i x at))
 
-pub all_from_places : {X : Type 0} (P : X → Type 0) (xs : List X) → ((i : ℕ) (x : X) → slice_get xs i ≡ Some x → P x) → All P xs
+pub all_from_places : {X : Type 0} (P : X → Type 0) (xs : List X) → ((i : ℕ) (x : X) → slice_get xs i ≡ Some x → P x)
+    → All P xs
 all_from_places P xs each k d lt = each k (get_or xs k d) (slice_get-get_or xs k d lt)
 
 -- an element of joined lists is one of either
-pub slice_get-append_cases : {X : Type 0} (xs ys : List X) (i : ℕ) (x : X) → slice_get (xs ++ ys) i ≡ Some x → (slice_get xs i ≡ Some x) ⊎ ((j : ℕ) × (slice_get ys j ≡ Some x))
+pub slice_get-append_cases : {X : Type 0} (xs ys : List X) (i : ℕ) (x : X) → slice_get (xs ++ ys) i ≡ Some x
+    → (slice_get xs i ≡ Some x) ⊎ ((j : ℕ) × (slice_get ys j ≡ Some x))
 slice_get-append_cases [] ys i x at = inr (i, at)
 slice_get-append_cases (z ∷ xs) ys zero x at = inl at
 slice_get-append_cases (z ∷ xs) ys (suc i) x at = slice_get-append_cases xs ys i x at
-
--- an element that a filter keeps is one of the list that passes
-pub record IsKept {X : Type 0} (test : X → Bool) (xs : List X) (x : X) : Type 0 where
-  pub passes : test x ≡ true
-  pub place : ℕ
-  pub at : slice_get xs place ≡ Some x
-
-kept_later : {X : Type 0} (test : X → Bool) (y : X) (xs : List X) (x : X) → IsKept test xs x → IsKept test (y ∷ xs) x
-kept_later test y xs x kept = record { passes = kept.passes; place = suc kept.place; at = kept.at }
-
-kept_cons : {X : Type 0} (test : X → Bool) (y : X) (xs kept : List X) → test y ≡ true → ((j : ℕ) (x : X) → slice_get kept j ≡ Some x → IsKept test xs x) →
-    (i : ℕ) (x : X) → slice_get (y ∷ kept) i ≡ Some x → IsKept test (y ∷ xs) x
-kept_cons test y xs kept pass rest zero x at = record { passes = subst (λ z. test z ≡ true) (same_Some y x at) pass; place = 0; at = at }
-kept_cons test y xs kept pass rest (suc i) x at = kept_later test y xs x (rest i x at)
-
-pub slice_get-filter : {X : Type 0} (test : X → Bool) (xs : List X) (i : ℕ) (x : X) → slice_get (filter test xs) i ≡ Some x → IsKept test xs x
-slice_get-filter test [] i x at = absurd (cc)
-slice_get-filter test (y ∷ xs) i x at = elim (cases_Bool (test y)) [
-  | inl pass ↦ kept_cons test y xs (filter test xs) pass (λ j z found. slice_get-filter test xs j z found) i x (rw pass at at)
-  | inr fail ↦ kept_later test y xs x (slice_get-filter test xs i x (rw fail at at))
-]
 
 -- a write
 pub slice_get-set_same : {X : Type 0} (xs : List X) (i : ℕ) (y : X) → i < length xs → slice_get (set xs i y) i ≡ Some y
 slice_get-set_same xs i y lt =
     slice_get-get_or (set xs i y) i y (omega (arith, length-set xs i y)) ∙ ap Some (get_or-set_same xs i y y lt)
 
-pub slice_get-set_other : {X : Type 0} (xs : List X) (i j : ℕ) (y : X) → (j ≡ i → ⊥) → slice_get (set xs i y) j ≡ slice_get xs j
+pub slice_get-set_other : {X : Type 0} (xs : List X) (i j : ℕ) (y : X) → (j ≡ i → ⊥)
+    → slice_get (set xs i y) j ≡ slice_get xs j
 slice_get-set_other [] i j y ne = refl
 slice_get-set_other (x ∷ xs) zero zero y ne = absurd (ne refl)
 slice_get-set_other (x ∷ xs) zero (suc j) y ne = refl

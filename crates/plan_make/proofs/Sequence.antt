@@ -12,7 +12,7 @@ use Rattle.cd_split.specs.declared.fault.SplitFault.TheVariants.{NoMemory, NoRoo
 use Rattle.tab_core.specs.declared.host.Host.{Host}
 use Rattle.worst_fit.specs.declared.placed.Placed.{Placed}
 use Rattle.plan_make.specs.Planned.{IsStart}
-use Rattle.plan_make.specs.Layout.{IsSplit, SplitsEach, home_of, with_pieces}
+use Rattle.plan_make.specs.Layout.{GetsSplit, SplitsEach, home_of, with_pieces}
 use Rattle.plan_make.specs.Steps.{AreAllottedTo, AreLaidOut, IsLayoutFault, IsRefusedNext, IsStuckFault, SplitsNext}
 use Rattle.plan_make.proofs.Added.{length-with_pieces}
 use Rattle.plan_make.proofs.Allotting.{allotted_next}
@@ -20,25 +20,35 @@ use Rattle.plan_make.proofs.Places.{ArePlaced, next_is_admitted, next_is_homeles
 use Rattle.plan_make.proofs.Shares.{below_from_fit, home_below, some_piece}
 
 -- one more is split
-pub splits_each_push : (tasks : List (Option Periodic)) (cores : List (List Piece)) (homes : List (Option ℕ)) (left : List ℕ) (end : List (List Piece)) (homes' : List (Option ℕ)) (vcpu : ℕ) (pieces : List Piece) →
-    SplitsEach tasks cores homes left end homes' → IsSplit tasks end vcpu pieces → SplitsEach tasks cores homes (left ++ vcpu ∷ []) (with_pieces end pieces) (set homes' vcpu (Some (home_of pieces)))
-splits_each_push tasks cores homes [] end homes' vcpu pieces each split =
-    (pieces, subst (λ cs. IsSplit tasks cs vcpu pieces) each.0 split, (ap (λ cs. with_pieces cs pieces) each.0, ap (λ hs. set hs vcpu (Some (home_of pieces))) each.1))
+pub splits_each_push : (tasks : List (Option Periodic)) (cores : List (List Piece)) (homes : List (Option ℕ))
+    (left : List ℕ) (end : List (List Piece)) (homes' : List (Option ℕ)) (vcpu : ℕ) (pieces : List Piece) →
+    SplitsEach tasks cores homes left end homes' → GetsSplit tasks end vcpu pieces
+    → SplitsEach tasks cores homes (left ++ vcpu ∷ []) (with_pieces end pieces)
+    (set homes' vcpu (Some (home_of pieces)))
+splits_each_push tasks cores homes [] end homes' vcpu pieces each split = (
+  pieces,
+  subst (λ cs. GetsSplit tasks cs vcpu pieces) each.0 split,
+  (ap (λ cs. with_pieces cs pieces) each.0, ap (λ hs. set hs vcpu (Some (home_of pieces))) each.1),
+)
 splits_each_push tasks cores homes (v ∷ left) end homes' vcpu pieces each split =
     (each.0, each.1, splits_each_push tasks (with_pieces cores each.0) (set homes v (Some (home_of each.0))) left end homes' vcpu pieces each.2 split)
 
-pub splits_each_next : (tasks : List (Option Periodic)) (start : List (List Piece)) (core_of : List (Option ℕ)) (left : List ℕ) (cores : List (List Piece)) (homes : List (Option ℕ)) (vcpu : ℕ) (end : List (List Piece)) (homes' : List (Option ℕ)) →
-    SplitsEach tasks start core_of left cores homes → SplitsNext tasks cores homes vcpu end homes' → SplitsEach tasks start core_of (left ++ vcpu ∷ []) end homes'
+pub splits_each_next : (tasks : List (Option Periodic)) (start : List (List Piece)) (core_of : List (Option ℕ))
+    (left : List ℕ) (cores : List (List Piece)) (homes : List (Option ℕ)) (vcpu : ℕ) (end : List (List Piece))
+    (homes' : List (Option ℕ)) →
+    SplitsEach tasks start core_of left cores homes → SplitsNext tasks cores homes vcpu end homes'
+    → SplitsEach tasks start core_of (left ++ vcpu ∷ []) end homes'
 splits_each_next tasks start core_of left cores homes vcpu end homes' each next =
     let pieces = next.added.pieces in
-    let split : IsSplit tasks cores vcpu pieces = record { task = next.task; at = next.at; splits = next.added.shares.splits } in
+    let split : GetsSplit tasks cores vcpu pieces = record { task = next.task; at = next.at; splits = next.added.shares.splits } in
     let all = splits_each_push tasks start core_of left cores homes vcpu pieces each split in
     let home_is = ap (λ h. set homes vcpu (Some h)) (sym next.added.home_is) ∙ sym next.homes_are in
     subst (λ hs. SplitsEach tasks start core_of (left ++ vcpu ∷ []) end hs) home_is
     (subst (λ cs. SplitsEach tasks start core_of (left ++ vcpu ∷ []) cs (set homes vcpu (Some (home_of pieces)))) (sym next.added.end_is) all)
 
 -- and the vCPUs are laid out with it
-pub laid_out_next : (tasks : List (Option Periodic)) (cores : List (List Piece)) (homes : List (Option ℕ)) (vcpu : ℕ) (left : List ℕ) (end : List (List Piece)) (homes' : List (Option ℕ)) →
+pub laid_out_next : (tasks : List (Option Periodic)) (cores : List (List Piece)) (homes : List (Option ℕ)) (vcpu : ℕ)
+    (left : List ℕ) (end : List (List Piece)) (homes' : List (Option ℕ)) →
     AreLaidOut tasks cores homes (vcpu ∷ left) → vcpu < length homes → SplitsNext tasks cores homes vcpu end homes' → AreLaidOut tasks end homes' left
 laid_out_next tasks cores homes vcpu left end homes' laid known next =
     let added = next.added in
@@ -48,21 +58,28 @@ laid_out_next tasks cores homes vcpu left end homes' laid known next =
     let there = subst (λ h. h < length cores) (sym added.home_is) (home_below (length cores) added.pieces some below) in
     let homeless = next_is_homeless tasks (length cores) homes vcpu left laid.places in
     record {
-      places = subst (λ n. ArePlaced tasks n homes' left) (sym count) (subst (λ hs. ArePlaced tasks (length cores) hs left) (sym next.homes_are) (placed_next tasks (length cores) homes vcpu left next.home laid.places there known));
-      allotted = subst (λ cs. AreAllottedTo tasks homes' cs) (sym added.end_is) (subst (λ hs. AreAllottedTo tasks hs (with_pieces cores added.pieces)) (sym next.homes_are)
-          (allotted_next tasks homes cores vcpu next.home next.task added.pieces laid.allotted added.shares next.at homeless known));
+      places = subst (λ n. ArePlaced tasks n homes' left) (sym count)
+          (subst (λ hs. ArePlaced tasks (length cores) hs left) (sym next.homes_are)
+          (placed_next tasks (length cores) homes vcpu left next.home laid.places there known));
+      allotted = subst (λ cs. AreAllottedTo tasks homes' cs) (sym added.end_is)
+          (subst (λ hs. AreAllottedTo tasks hs (with_pieces cores added.pieces)) (sym next.homes_are)
+          (allotted_next tasks homes cores vcpu next.home next.task added.pieces laid.allotted added.shares next.at homeless known added.home_is));
     }
 
-pub count_next : (tasks : List (Option Periodic)) (cores : List (List Piece)) (homes : List (Option ℕ)) (vcpu : ℕ) (end : List (List Piece)) (homes' : List (Option ℕ)) → SplitsNext tasks cores homes vcpu end homes' → length end ≡ length cores
+pub count_next : (tasks : List (Option Periodic)) (cores : List (List Piece)) (homes : List (Option ℕ)) (vcpu : ℕ)
+    (end : List (List Piece)) (homes' : List (Option ℕ))
+    → SplitsNext tasks cores homes vcpu end homes' → length end ≡ length cores
 count_next tasks cores homes vcpu end homes' next = ap length next.added.end_is ∙ length-with_pieces cores next.added.pieces
 
 -- the state of the loop over the left-over vCPUs, of which so many are split
-pub record AreSplit (tasks : List (Option Periodic)) (start : List (List Piece)) (core_of : List (Option ℕ)) (left : List ℕ) (n : ℕ) (cores : List (List Piece)) (homes : List (Option ℕ)) : Type 0 where
+pub record AreSplit (tasks : List (Option Periodic)) (start : List (List Piece)) (core_of : List (Option ℕ))
+    (left : List ℕ) (n : ℕ) (cores : List (List Piece)) (homes : List (Option ℕ)) : Type 0 where
   pub split : SplitsEach tasks start core_of (take n left) cores homes
   pub laid_out : AreLaidOut tasks cores homes (drop n left)
   pub count : length cores ≡ length start
 
-pub none_split : {tasks : List (Option Periodic)} {start : List (List Piece)} {core_of : List (Option ℕ)} {left : List ℕ} →
+pub none_split : {tasks : List (Option Periodic)} {start : List (List Piece)} {core_of : List (Option ℕ)}
+    {left : List ℕ} →
     AreLaidOut tasks start core_of left → AreSplit tasks start core_of left 0 start core_of
 none_split laid = record { split = (refl, refl); laid_out = laid; count = refl }
 
@@ -73,7 +90,8 @@ pub record IsReady (tasks : List (Option Periodic)) (cores : List (List Piece)) 
   pub known : vcpu < length homes
   pub new : All (LackVcpu vcpu) cores
 
-pub next_is_ready : {tasks : List (Option Periodic)} {start : List (List Piece)} {core_of : List (Option ℕ)} {left : List ℕ} {n : ℕ}
+pub next_is_ready : {tasks : List (Option Periodic)} {start : List (List Piece)} {core_of : List (Option ℕ)}
+    {left : List ℕ} {n : ℕ}
     {cores : List (List Piece)} {homes : List (Option ℕ)} {vcpu : ℕ} → AreSplit tasks start core_of left n cores homes →
     n < length left → vcpu ≡ get_or left n vcpu → IsReady tasks cores homes vcpu (drop (n + 1) left)
 next_is_ready {tasks = tasks} {left = left} {n = n} {cores = cores} {homes = homes} {vcpu = vcpu} state lt is =
@@ -87,7 +105,8 @@ next_is_ready {tasks = tasks} {left = left} {n = n} {cores = cores} {homes = hom
       new = laid.allotted.lack vcpu (next_is_homeless tasks (length cores) homes vcpu rest laid.places);
     }
 
-pub one_more_split : {tasks : List (Option Periodic)} {start : List (List Piece)} {core_of : List (Option ℕ)} {left : List ℕ} {n : ℕ}
+pub one_more_split : {tasks : List (Option Periodic)} {start : List (List Piece)} {core_of : List (Option ℕ)}
+    {left : List ℕ} {n : ℕ}
     {cores : List (List Piece)} {homes : List (Option ℕ)} {vcpu : ℕ} {end : List (List Piece)} {homes' : List (Option ℕ)} →
     AreSplit tasks start core_of left n cores homes → n < length left → vcpu ≡ get_or left n vcpu →
     SplitsNext tasks cores homes vcpu end homes' → AreSplit tasks start core_of left (n + 1) end homes'
@@ -95,13 +114,15 @@ one_more_split {tasks = tasks} {start = start} {core_of = core_of} {left = left}
     let ready = next_is_ready state lt is in
     let more : take n left ++ vcpu ∷ [] ≡ take (n + 1) left = ap (λ v. take n left ++ v ∷ []) is ∙ sym (take_more left n vcpu lt) in
     record {
-      split = subst (λ l. SplitsEach tasks start core_of l end homes') more (splits_each_next tasks start core_of (take n left) cores homes vcpu end homes' state.split next);
+      split = subst (λ l. SplitsEach tasks start core_of l end homes') more
+          (splits_each_next tasks start core_of (take n left) cores homes vcpu end homes' state.split next);
       laid_out = laid_out_next tasks cores homes vcpu (drop (n + 1) left) end homes' ready.laid_out ready.known next;
       count = count_next tasks cores homes vcpu end homes' next ∙ state.count;
     }
 
 -- the first that can't be split
-pub first_stuck : {tasks : List (Option Periodic)} {start : List (List Piece)} {core_of : List (Option ℕ)} {left : List ℕ} {n : ℕ}
+pub first_stuck : {tasks : List (Option Periodic)} {start : List (List Piece)} {core_of : List (Option ℕ)}
+    {left : List ℕ} {n : ℕ}
     {cores : List (List Piece)} {homes : List (Option ℕ)} {vcpu : ℕ} (fault : SplitFault) →
     AreSplit tasks start core_of left n cores homes → n < length left → vcpu ≡ get_or left n vcpu →
     IsRefusedNext tasks cores vcpu fault → IsStuckFault tasks start core_of left fault
@@ -112,7 +133,9 @@ first_stuck {tasks = tasks} {left = left} {n = n} {cores = cores} {homes = homes
     record {
       before = take n left;
       after = drop (n + 1) left;
-      left_is = sym (take-append-drop n left) ∙ ap (λ l. take n left ++ l) (drop_more left n vcpu lt ∙ ap (λ v. v ∷ drop (n + 1) left) (sym is ∙ sym named_is));
+      left_is = sym (take-append-drop n left)
+          ∙ ap (λ l. take n left ++ l) (drop_more left n vcpu lt
+          ∙ ap (λ v. v ∷ drop (n + 1) left) (sym is ∙ sym named_is));
       cores = cores;
       homes = homes;
       split = state.split;
@@ -122,7 +145,8 @@ first_stuck {tasks = tasks} {left = left} {n = n} {cores = cores} {homes = homes
     }
 
 -- so the host has no plan
-pub layout_fault : (host : Host) (tasks : List (Option Periodic)) (placed : Placed) (start : List (List Piece)) (fault : SplitFault) →
+pub layout_fault : (host : Host) (tasks : List (Option Periodic)) (placed : Placed) (start : List (List Piece))
+    (fault : SplitFault) →
     IsStart host tasks placed start → IsStuckFault tasks start placed.core_of placed.left fault → IsLayoutFault host fault
 layout_fault host tasks placed start NoMemory is_start stuck = tt
 layout_fault host tasks placed start (NoRoom vcpu rest over) is_start stuck = record {

@@ -10,13 +10,14 @@ use Rattle.tab_core.specs.declared.piece.Piece.{Piece}
 use Rattle.cd_split.specs.Cores.{HaveRoomFor, LackVcpu, pieces_on}
 use Rattle.cd_split.specs.Shares.{FitTheirCores, FollowOn, StandApart}
 use Rattle.cd_split.specs.Splitting.{Splits}
-use Rattle.plan_make.specs.Allotted.{cost_on}
+use Rattle.table_form.specs.Drafts.{cost_on}
 use Rattle.plan_make.specs.Layout.{home_of, with_pieces}
 use Rattle.plan_make.proofs.Members.{all_at}
 use Rattle.plan_make.proofs.Added.{StandBelow, length-with_pieces, of_core, pieces_on-with_pieces, with_piece, with_pieces_push}
 
 -- each is on one of the cores
-pub below_from_fit : (cores : List (List Piece)) (ps : List Piece) → FitTheirCores cores ps → StandBelow (length cores) ps
+pub below_from_fit : (cores : List (List Piece)) (ps : List Piece) → FitTheirCores cores ps
+    → StandBelow (length cores) ps
 below_from_fit cores ps fit k d lt = (fit k d lt).0
 
 -- a core has none of them if none is on it
@@ -27,7 +28,8 @@ of_core_none core (p ∷ ps) none =
     rw (ne_eqb p.core core (All-head P p ps none)) (of_core_none core ps (All-tail P p ps none))
 
 -- those before a piece leave its core as it was
-pub others_elsewhere : (ps : List Piece) (i : ℕ) (p : Piece) → slice_get ps i ≡ Some p → StandApart ps → of_core p.core (take i ps) ≡ []
+pub others_elsewhere : (ps : List Piece) (i : ℕ) (p : Piece) → slice_get ps i ≡ Some p → StandApart ps
+    → of_core p.core (take i ps) ≡ []
 others_elsewhere ps i p at apart = of_core_none p.core (take i ps) (λ k d lt same. (
     let before : k < i = omega (arith, length-take i ps) in
     let listed : k < length ps = omega (arith, length-take i ps) in
@@ -35,7 +37,8 @@ others_elsewhere ps i p at apart = of_core_none p.core (take i ps) (λ k d lt sa
     let place = apart k i (get_or ps k d) p (slice_get-get_or ps k d listed) at (ap (λ (q : Piece). q.core) (sym read) ∙ same) in
     absurd (omega arith)))
 
-pub core_as_before : (cores : List (List Piece)) (ps : List Piece) (i : ℕ) (p : Piece) → slice_get ps i ≡ Some p → StandApart ps → StandBelow (length cores) ps →
+pub core_as_before : (cores : List (List Piece)) (ps : List Piece) (i : ℕ) (p : Piece) → slice_get ps i ≡ Some p
+    → StandApart ps → StandBelow (length cores) ps →
     pieces_on (with_pieces cores (take i ps)) p.core ≡ pieces_on cores p.core
 core_as_before cores ps i p at apart below =
     pieces_on-with_pieces cores (take i ps) p.core (All-take (λ (q : Piece). q.core < length cores) i ps below)
@@ -48,9 +51,11 @@ home_of_last (p ∷ []) d lt = refl
 home_of_last (p ∷ q ∷ ps) d lt = ap (λ (r : Piece). r.core) (step (length ps)) ∙ home_of_last (q ∷ ps) d (omega arith)
   where
     step : (n : ℕ) → get_or (p ∷ q ∷ ps) (suc (suc n) - 1) d ≡ get_or (q ∷ ps) (suc n - 1) d
-    step n = ap (λ m. get_or (p ∷ q ∷ ps) m d) (let e : suc (suc n) - 1 ≡ suc n = omega arith in e) ∙ ap (λ m. get_or (q ∷ ps) m d) (let e : n ≡ suc n - 1 = omega arith in e)
+    step n = ap (λ m. get_or (p ∷ q ∷ ps) m d) (let e : suc (suc n) - 1 ≡ suc n = omega arith in e)
+        ∙ ap (λ m. get_or (q ∷ ps) m d) (let e : n ≡ suc n - 1 = omega arith in e)
 
-pub some_piece : (cores : List (List Piece)) (vcpu period rest from : ℕ) (unused : List ℕ) (ps : List Piece) → Splits cores vcpu period rest from unused ps → 0 < length ps
+pub some_piece : (cores : List (List Piece)) (vcpu period rest from : ℕ) (unused : List ℕ) (ps : List Piece)
+    → Splits cores vcpu period rest from unused ps → 0 < length ps
 some_piece cores vcpu period rest from unused [] splits = elim splits [ ]
 some_piece cores vcpu period rest from unused (p ∷ ps) splits = omega arith
 
@@ -62,7 +67,8 @@ home_below count (p ∷ q ∷ ps) lt below = home_below count (q ∷ ps) (omega 
 
 -- the windows of earlier pieces end before those of later ones begin
 
-begins_later : (ps : List Piece) (from to n : ℕ) (q : Piece) → FollowOn from to ps → slice_get ps n ≡ Some q → from ≤ q.from
+begins_later : (ps : List Piece) (from to n : ℕ) (q : Piece) → FollowOn from to ps → slice_get ps n ≡ Some q
+    → from ≤ q.from
 begins_later [] from to n q follow at = absurd (cc)
 begins_later (p ∷ ps) from to zero q follow at =
     let same = ap (λ (r : Piece). r.from) (same_Some p q at) in
@@ -71,7 +77,8 @@ begins_later (p ∷ ps) from to (suc n) q follow at =
     let later = begins_later ps p.to to n q follow.1 at in
     omega (arith, follow.0, p.begins)
 
-pub ends_before : (ps : List Piece) (from to m n : ℕ) (p q : Piece) → FollowOn from to ps → m < n → slice_get ps m ≡ Some p → slice_get ps n ≡ Some q → p.to ≤ q.from
+pub ends_before : (ps : List Piece) (from to m n : ℕ) (p q : Piece) → FollowOn from to ps → m < n
+    → slice_get ps m ≡ Some p → slice_get ps n ≡ Some q → p.to ≤ q.from
 ends_before [] from to m n p q follow lt at at' = absurd (cc)
 ends_before (r ∷ ps) from to m zero p q follow lt at at' = absurd (omega arith)
 ends_before (r ∷ ps) from to zero (suc n) p q follow lt at at' =
@@ -85,7 +92,8 @@ ends_before (r ∷ ps) from to (suc m) (suc n) p q follow lt at at' = ends_befor
 pub cost_on_none : (vcpu : ℕ) (ps : List Piece) → LackVcpu vcpu ps → cost_on vcpu ps ≡ 0
 unfolding cost_on
 cost_on_none vcpu ps lack =
-    let none = sum_by-le (λ (p : Piece). cond (eqb p.vcpu vcpu) p.cost 0) 0 ps (λ k d lt. rw (ne_eqb (get_or ps k d).vcpu vcpu (lack k d lt)) (omega arith)) in
+    let none = sum_by-le (λ (p : Piece). cond (eqb p.vcpu vcpu) p.cost 0) 0 ps
+    (λ k d lt. rw (ne_eqb (get_or ps k d).vcpu vcpu (lack k d lt)) (omega arith)) in
     omega arith
 
 pub costs_none : (vcpu : ℕ) (cores : List (List Piece)) → All (LackVcpu vcpu) cores → sum_by (cost_on vcpu) cores ≡ 0

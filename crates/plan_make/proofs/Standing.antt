@@ -21,7 +21,8 @@ abbrev pub FirstStand : ℕ → List (Option Periodic) → List (Option ℕ) →
 FirstStand n tasks homes count cores = StandWhole (take n tasks) (take n homes) count cores
 
 -- the next vCPU has no piece yet
-pub next_is_new : (n : ℕ) (tasks : List (Option Periodic)) (homes : List (Option ℕ)) (count : ℕ) (cores : List (List Piece)) (core : ℕ) →
+pub next_is_new : (n : ℕ) (tasks : List (Option Periodic)) (homes : List (Option ℕ)) (count : ℕ)
+    (cores : List (List Piece)) (core : ℕ) →
     FirstStand n tasks homes count cores → core < count → LackVcpu n (pieces_on cores core)
 next_is_new n tasks homes count cores core stand there =
     let P : Subtask → Type 0 = λ s. s.vcpu ≡ n → ⊥ in
@@ -33,7 +34,8 @@ next_is_new n tasks homes count cores core stand there =
     All-from_map subtask_of P (pieces_on cores core) (subst (All P) (sym (stand.stand core there)) below)
 
 -- a core's pieces with that of the next vCPU
-stand_on_home : (n : ℕ) (tasks : List (Option Periodic)) (homes : List (Option ℕ)) (count : ℕ) (cores : List (List Piece)) (task : Periodic) (core : ℕ) (p : Piece) →
+stand_on_home : (n : ℕ) (tasks : List (Option Periodic)) (homes : List (Option ℕ)) (count : ℕ)
+    (cores : List (List Piece)) (task : Periodic) (core : ℕ) (p : Piece) →
     FirstStand n tasks homes count cores → core < count → slice_get tasks n ≡ Some (Some task) → slice_get homes n ≡ Some (Some core) →
     subtask_of p ≡ whole n task → map subtask_of (pieces_on cores core ++ p ∷ []) ≡ wholes_from core 0 (take (n + 1) tasks) (take (n + 1) homes)
 stand_on_home n tasks homes count cores task core p stand there at at' is =
@@ -43,14 +45,16 @@ stand_on_home n tasks homes count cores task core p stand there at at' is =
     ∙ sym (wholes_from-take_more core n tasks homes (Some task) (Some core) at at')
 
 -- it has room on its core
-pub next_has_room : (n : ℕ) (tasks : List (Option Periodic)) (homes : List (Option ℕ)) (count : ℕ) (cores : List (List Piece)) (task : Periodic) (core : ℕ) (p : Piece) →
+pub next_has_room : (n : ℕ) (tasks : List (Option Periodic)) (homes : List (Option ℕ)) (count : ℕ)
+    (cores : List (List Piece)) (task : Periodic) (core : ℕ) (p : Piece) →
     FirstStand n tasks homes count cores → FitsEachCore tasks count homes → core < count → slice_get tasks n ≡ Some (Some task) → slice_get homes n ≡ Some (Some core) →
     subtask_of p ≡ whole n task → HaveRoomFor (pieces_on cores core) p
 next_has_room n tasks homes count cores task core p stand fits there at at' is =
     wholes_fit core (n + 1) tasks homes (pieces_on cores core ++ p ∷ []) (stand_on_home n tasks homes count cores task core p stand there at at' is) (fits core there)
 
 -- with its piece one vCPU more stands whole
-pub next_stands : (n : ℕ) (tasks : List (Option Periodic)) (homes : List (Option ℕ)) (count : ℕ) (cores : List (List Piece)) (task : Periodic) (core : ℕ) (p : Piece) →
+pub next_stands : (n : ℕ) (tasks : List (Option Periodic)) (homes : List (Option ℕ)) (count : ℕ)
+    (cores : List (List Piece)) (task : Periodic) (core : ℕ) (p : Piece) →
     FirstStand n tasks homes count cores → core < count → slice_get tasks n ≡ Some (Some task) → slice_get homes n ≡ Some (Some core) →
     subtask_of p ≡ whole n task → p.core ≡ core → FirstStand (n + 1) tasks homes count (with_piece cores p)
 next_stands n tasks homes count cores task core p stand there at at' is on = record {
@@ -72,14 +76,16 @@ next_stands n tasks homes count cores task core p stand there at at' is on = rec
       | inr not ↦ rw not (All-nil (λ (q : Piece). q.core ≡ other))
     ]
 
-    new_at : (other : ℕ) → map subtask_of (cond (eqb p.core other) (p ∷ []) []) ≡ whole_at other n (Some task) (Some core)
+    new_at : (other : ℕ)
+        → map subtask_of (cond (eqb p.core other) (p ∷ []) []) ≡ whole_at other n (Some task) (Some core)
     new_at other = subst (λ c. map subtask_of (cond (eqb p.core other) (p ∷ []) []) ≡ whole_at other n (Some task) (Some c)) on (elim (cases_Bool (eqb p.core other)) [
       | inl same ↦ rw same (ap (λ s. s ∷ []) is)
       | inr not ↦ rw not refl
     ])
 
 -- a vCPU that stands on no core changes nothing
-pub next_is_none : (n : ℕ) (tasks : List (Option Periodic)) (homes : List (Option ℕ)) (count : ℕ) (cores : List (List Piece)) (task : Option Periodic) (home : Option ℕ) →
+pub next_is_none : (n : ℕ) (tasks : List (Option Periodic)) (homes : List (Option ℕ)) (count : ℕ)
+    (cores : List (List Piece)) (task : Option Periodic) (home : Option ℕ) →
     FirstStand n tasks homes count cores → slice_get tasks n ≡ Some task → slice_get homes n ≡ Some home →
     ((core : ℕ) → whole_at core n task home ≡ []) → FirstStand (n + 1) tasks homes count cores
 next_is_none n tasks homes count cores task home stand at at' none = record {
@@ -91,7 +97,8 @@ next_is_none n tasks homes count cores task home stand at at' none = record {
 }
 
 -- at first nobody stands anywhere
-pub none_stand : (tasks : List (Option Periodic)) (homes : List (Option ℕ)) (count : ℕ) (cores : List (List Piece)) → cores ≡ replicate count [] → FirstStand 0 tasks homes count cores
+pub none_stand : (tasks : List (Option Periodic)) (homes : List (Option ℕ)) (count : ℕ) (cores : List (List Piece))
+    → cores ≡ replicate count [] → FirstStand 0 tasks homes count cores
 none_stand tasks homes count cores empty = record {
   size = ap length empty ∙ length-replicate count [];
   own = λ core. subst (All (λ p. p.core ≡ core)) (sym (nothing core)) (All-nil (λ (p : Piece). p.core ≡ core));
@@ -103,10 +110,12 @@ none_stand tasks homes count cores empty = record {
 
 -- what a read tells
 
-pub read_some : {X : Type 0} (xs : List (Option X)) (n : ℕ) (d : Option X) (x : X) → n < length xs → get_or xs n d ≡ Some x → slice_get xs n ≡ Some (Some x)
+pub read_some : {X : Type 0} (xs : List (Option X)) (n : ℕ) (d : Option X) (x : X) → n < length xs
+    → get_or xs n d ≡ Some x → slice_get xs n ≡ Some (Some x)
 read_some xs n d x lt is = slice_get-get_or xs n d lt ∙ ap Some is
 
-pub read_none : {X : Type 0} (xs : List (Option X)) (n : ℕ) (d : Option X) → n < length xs → ((x : X) → get_or xs n d ≡ Some x → ⊥) → slice_get xs n ≡ Some None
+pub read_none : {X : Type 0} (xs : List (Option X)) (n : ℕ) (d : Option X) → n < length xs
+    → ((x : X) → get_or xs n d ≡ Some x → ⊥) → slice_get xs n ≡ Some None
 read_none {X = X} xs n d lt not = slice_get-get_or xs n d lt ∙ ap Some (nothing (get_or xs n d) not)
   where
     nothing : (o : Option X) → ((x : X) → o ≡ Some x → ⊥) → o ≡ None

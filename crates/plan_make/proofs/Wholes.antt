@@ -10,14 +10,15 @@ use Rattle.tab_core.specs.declared.periodic.Periodic.{Periodic}
 use Rattle.tab_core.specs.declared.piece.Piece.{Piece}
 use Rattle.table_form.specs.Demand.{Fits}
 use Rattle.table_form.specs.Jobs.{Subtask, jobs_of, subtask_of}
-use Rattle.edf_table.specs.Windows.{AllWhole, load}
+use Rattle.edf_table.specs.Load.{AllWhole, load}
 use Rattle.edf_table.proofs.Whole.{whole_fits}
 use Rattle.worst_fit.specs.Load.{is_on, load_on, task_demand}
 use Rattle.plan_make.specs.Layout.{whole, whole_at, wholes_from}
 
 -- one vCPU more
 
-wholes_from-take_suc : (core first n : ℕ) (tasks : List (Option Periodic)) (homes : List (Option ℕ)) (task : Option Periodic) (home : Option ℕ) →
+wholes_from-take_suc : (core first n : ℕ) (tasks : List (Option Periodic)) (homes : List (Option ℕ))
+    (task : Option Periodic) (home : Option ℕ) →
     slice_get tasks n ≡ Some task → slice_get homes n ≡ Some home →
     wholes_from core first (take (suc n) tasks) (take (suc n) homes) ≡ wholes_from core first (take n tasks) (take n homes) ++ whole_at core (first + n) task home
 unfolding wholes_from
@@ -36,7 +37,8 @@ wholes_from-take_suc core first (suc n) (t ∷ tasks) (h ∷ homes) task home at
     ∙ sym (append_assoc (whole_at core first t h) (wholes_from core (first + 1) (take n tasks) (take n homes)) (whole_at core ((first + 1) + n) task home))
     ∙ ap (λ v. (whole_at core first t h ++ wholes_from core (first + 1) (take n tasks) (take n homes)) ++ whole_at core v task home) number
 
-pub wholes_from-take_more : (core n : ℕ) (tasks : List (Option Periodic)) (homes : List (Option ℕ)) (task : Option Periodic) (home : Option ℕ) →
+pub wholes_from-take_more : (core n : ℕ) (tasks : List (Option Periodic)) (homes : List (Option ℕ))
+    (task : Option Periodic) (home : Option ℕ) →
     slice_get tasks n ≡ Some task → slice_get homes n ≡ Some home →
     wholes_from core 0 (take (n + 1) tasks) (take (n + 1) homes) ≡ wholes_from core 0 (take n tasks) (take n homes) ++ whole_at core n task home
 wholes_from-take_more core n tasks homes task home at at' =
@@ -59,7 +61,8 @@ pub record IsWholeOn (core first : ℕ) (tasks : List (Option Periodic)) (homes 
   pub home : slice_get homes number ≡ Some (Some core)
   pub is : s ≡ whole (first + number) task
 
-first_is_whole : (core first : ℕ) (t : Option Periodic) (tasks : List (Option Periodic)) (h : Option ℕ) (homes : List (Option ℕ)) →
+first_is_whole : (core first : ℕ) (t : Option Periodic) (tasks : List (Option Periodic)) (h : Option ℕ)
+    (homes : List (Option ℕ)) →
     All (IsWholeOn core first (t ∷ tasks) (h ∷ homes)) (whole_at core first t h)
 first_is_whole core first None tasks h homes = All-nil (IsWholeOn core first (None ∷ tasks) (h ∷ homes))
 first_is_whole core first (Some task) tasks None homes = All-nil (IsWholeOn core first (Some task ∷ tasks) (None ∷ homes))
@@ -70,7 +73,8 @@ first_is_whole core first (Some task) tasks (Some home) homes = elim (cases_Bool
   | inr other ↦ rw other (All-nil (IsWholeOn core first (Some task ∷ tasks) (Some home ∷ homes)))
 ]
 
-pub all_whole_on : (core first : ℕ) (tasks : List (Option Periodic)) (homes : List (Option ℕ)) → All (IsWholeOn core first tasks homes) (wholes_from core first tasks homes)
+pub all_whole_on : (core first : ℕ) (tasks : List (Option Periodic)) (homes : List (Option ℕ))
+    → All (IsWholeOn core first tasks homes) (wholes_from core first tasks homes)
 unfolding wholes_from
 all_whole_on core first [] homes = All-nil (IsWholeOn core first [] homes)
 all_whole_on core first (t ∷ tasks) [] = All-nil (IsWholeOn core first (t ∷ tasks) [])
@@ -101,7 +105,8 @@ load_of_subtasks (p ∷ ps) =
 abbrev load_at : ℕ → Option Periodic → Option ℕ → ℕ
 load_at core task home = cond (is_on core home) (task_demand task) 0
 
-load_of_whole : (core vcpu : ℕ) (task : Option Periodic) (home : Option ℕ) → sum_by ticks_of (whole_at core vcpu task home) ≡ load_at core task home
+load_of_whole : (core vcpu : ℕ) (task : Option Periodic) (home : Option ℕ)
+    → sum_by ticks_of (whole_at core vcpu task home) ≡ load_at core task home
 load_of_whole core vcpu None None = refl
 load_of_whole core vcpu None (Some home) = elim (cases_Bool (eqb home core)) [ inl same ↦ rw same refl | inr other ↦ rw other refl ]
 load_of_whole core vcpu (Some task) None = refl
@@ -110,7 +115,8 @@ load_of_whole core vcpu (Some task) (Some home) = elim (cases_Bool (eqb home cor
   | inr other ↦ rw other refl
 ]
 
-load_on-cons : (core : ℕ) (t : Option Periodic) (tasks : List (Option Periodic)) (h : Option ℕ) (homes : List (Option ℕ)) →
+load_on-cons : (core : ℕ) (t : Option Periodic) (tasks : List (Option Periodic)) (h : Option ℕ)
+    (homes : List (Option ℕ)) →
     load_on core (t ∷ tasks) (h ∷ homes) ≡ load_at core t h + load_on core tasks homes
 unfolding load_on
 load_on-cons core t tasks h homes = sum_by-cons (λ vcpu. cond (is_on core vcpu.1) (task_demand vcpu.0) 0) (t, h) (zip tasks homes)
@@ -124,7 +130,8 @@ unfolding load_on
 load_on-unplaced core [] = refl
 load_on-unplaced core (t ∷ tasks) = refl
 
-load_of_wholes : (core first : ℕ) (tasks : List (Option Periodic)) (homes : List (Option ℕ)) → sum_by ticks_of (wholes_from core first tasks homes) ≡ load_on core tasks homes
+load_of_wholes : (core first : ℕ) (tasks : List (Option Periodic)) (homes : List (Option ℕ))
+    → sum_by ticks_of (wholes_from core first tasks homes) ≡ load_on core tasks homes
 unfolding wholes_from
 load_of_wholes core first [] homes = sym (load_on-none core homes)
 load_of_wholes core first (t ∷ tasks) [] = sym (load_on-unplaced core (t ∷ tasks))
@@ -136,7 +143,8 @@ load_of_wholes core first (t ∷ tasks) (h ∷ homes) =
     omega arith
 
 -- the first vCPUs take no more than all
-load_on-take-le : (core n : ℕ) (tasks : List (Option Periodic)) (homes : List (Option ℕ)) → load_on core (take n tasks) (take n homes) ≤ load_on core tasks homes
+load_on-take-le : (core n : ℕ) (tasks : List (Option Periodic)) (homes : List (Option ℕ))
+    → load_on core (take n tasks) (take n homes) ≤ load_on core tasks homes
 load_on-take-le core zero tasks homes = omega (arith, load_on-none core [])
 load_on-take-le core (suc n) [] homes = omega (arith, load_on-none core (take (suc n) homes))
 load_on-take-le core (suc n) (t ∷ tasks) [] = omega (arith, load_on-unplaced core (take (suc n) (t ∷ tasks)))
@@ -148,7 +156,8 @@ load_on-take-le core (suc n) (t ∷ tasks) (h ∷ homes) =
 
 -- so they fit
 
-all_whole : (ps : List Piece) → All (λ (s : Subtask). (s.from ≡ 0) × (s.to ≡ s.period)) (map subtask_of ps) → AllWhole ps
+all_whole : (ps : List Piece) → All (λ (s : Subtask). (s.from ≡ 0) × (s.to ≡ s.period)) (map subtask_of ps)
+    → AllWhole ps
 all_whole [] all = tt
 all_whole (p ∷ ps) all =
     let P : Subtask → Type 0 = λ s. (s.from ≡ 0) × (s.to ≡ s.period) in

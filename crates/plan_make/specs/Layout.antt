@@ -34,14 +34,19 @@ abbrev pub with_pieces : List (List Piece) → List Piece → List (List Piece)
 with_pieces cores [] = cores
 with_pieces cores (p ∷ ps) = with_pieces (slice_set cores p.core (pieces_on cores p.core ++ p ∷ [])) ps
 
+-- the pieces of all cores in one list, core by core
+abbrev pub all_pieces : List (List Piece) → List Piece
+all_pieces [] = []
+all_pieces (ps ∷ cores) = ps ++ all_pieces cores
+
 -- the home of a vCPU that was split: the core of its last piece
 abbrev pub home_of : List Piece → ℕ
 home_of [] = 0
 home_of (p ∷ []) = p.core
 home_of (p ∷ q ∷ ps) = home_of (q ∷ ps)
 
--- one vCPU gets these pieces beside those that are there
-pub record IsSplit (tasks : List (Option Periodic)) (cores : List (List Piece)) (vcpu : ℕ) (pieces : List Piece) : Type 0 where
+-- splitting gives one vCPU these pieces beside those that are there
+pub record GetsSplit (tasks : List (Option Periodic)) (cores : List (List Piece)) (vcpu : ℕ) (pieces : List Piece) : Type 0 where
   pub task : Periodic
   pub at : slice_get tasks vcpu ≡ Some (Some task)
   pub splits : Splits cores vcpu task.period task.cost 0 (core_numbers cores) pieces
@@ -50,4 +55,5 @@ pub record IsSplit (tasks : List (Option Periodic)) (cores : List (List Piece)) 
 abbrev pub SplitsEach : List (Option Periodic) → List (List Piece) → List (Option ℕ) → List ℕ → List (List Piece) → List (Option ℕ) → Type 0
 SplitsEach tasks cores homes [] end homes' = (end ≡ cores) × (homes' ≡ homes)
 SplitsEach tasks cores homes (vcpu ∷ left) end homes' =
-    (pieces : List Piece) × IsSplit tasks cores vcpu pieces × SplitsEach tasks (with_pieces cores pieces) (slice_set homes vcpu (Some (home_of pieces))) left end homes'
+    (pieces : List Piece) × GetsSplit tasks cores vcpu pieces × SplitsEach tasks (with_pieces cores pieces)
+    (slice_set homes vcpu (Some (home_of pieces))) left end homes'

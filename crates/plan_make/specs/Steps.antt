@@ -1,5 +1,6 @@
 -- What a host's layout keeps while its left-over vCPUs are split: private to this crate.
-use Rattle.std.specs.Prelude.{◌≡◌, ◌⊎◌, ℕ, List, ◌∷◌, ◌++◌, All, Option, Some, length, slice_get, slice_set, sum_by}
+use Rattle.std.specs.Prelude.{◌≡◌, ◌⊎◌, ℕ, ◌==◌, Bool, true, List, ◌∷◌, ◌++◌, All, Option, Some, length, slice_get, slice_set, sum_by}
+use Rattle.std.specs.List.{list_any}
 use Rattle.tab_core.specs.declared.host.Host.{Host}
 use Rattle.tab_core.specs.declared.over.Over.{Over}
 use Rattle.tab_core.specs.declared.periodic.Periodic.{Periodic}
@@ -12,17 +13,25 @@ use Rattle.cd_split.specs.Shares.{AreOf, FitTheirCores, FollowOn, StandApart}
 use Rattle.cd_split.specs.Splitting.{Refuses, Splits, core_numbers}
 use Rattle.cd_split.specs.declared.fault.SplitFault.{SplitFault}
 use Rattle.cd_split.specs.declared.fault.SplitFault.TheVariants.{NoMemory, NoRoom}
-use Rattle.plan_make.specs.Allotted.{HasTask, WindowsApart, cost_on}
+use Rattle.table_form.specs.Drafts.{cost_on}
+use Rattle.plan_make.specs.Allotted.{HasTask, WindowsApart}
 use Rattle.plan_make.specs.Layout.{SplitsEach, home_of, with_pieces}
 use Rattle.plan_make.specs.Planned.{IsFirstWithoutRoom, IsStart}
 
--- each vCPU with a home has its cost on the cores, in pieces of its period whose windows don't meet on different cores; no
--- other vCPU has a piece there
+-- one of the pieces is the vCPU's
+abbrev pub has_piece : ℕ → List Piece → Bool
+has_piece vcpu pieces = list_any (λ p. p.vcpu == vcpu) pieces
+
+-- each vCPU with a home has a piece there and its cost on the cores, in pieces of its period whose windows don't meet on
+-- different cores; no other vCPU has a piece
 pub record AreAllottedTo (tasks : List (Option Periodic)) (homes : List (Option ℕ)) (cores : List (List Piece)) : Type 0 where
   pub of_tasks : (core at : ℕ) (p : Piece) → slice_get (pieces_on cores core) at ≡ Some p → HasTask tasks p
-  pub costs : (vcpu home : ℕ) (task : Periodic) → slice_get homes vcpu ≡ Some (Some home) → slice_get tasks vcpu ≡ Some (Some task) → sum_by (cost_on vcpu) cores ≡ task.cost
+  pub costs : (vcpu home : ℕ) (task : Periodic) → slice_get homes vcpu ≡ Some (Some home)
+      → slice_get tasks vcpu ≡ Some (Some task) → sum_by (cost_on vcpu) cores ≡ task.cost
   pub lack : (vcpu : ℕ) → (IsPlaced homes vcpu → ⊥) → All (LackVcpu vcpu) cores
-  pub apart : (core other i j : ℕ) (p q : Piece) → slice_get (pieces_on cores core) i ≡ Some p → slice_get (pieces_on cores other) j ≡ Some q
+  pub at_home : (vcpu home : ℕ) → slice_get homes vcpu ≡ Some (Some home) → has_piece vcpu (pieces_on cores home) ≡ true
+  pub apart : (core other i j : ℕ) (p q : Piece) → slice_get (pieces_on cores core) i ≡ Some p
+      → slice_get (pieces_on cores other) j ≡ Some q
       → p.vcpu ≡ q.vcpu → (core ≡ other) ⊎ WindowsApart p q
 
 -- the vCPUs stand on these cores with these homes, but for those that are still left over
@@ -47,7 +56,8 @@ pub record IsAdded (cores : List (List Piece)) (vcpu : ℕ) (task : Periodic) (e
   pub home_is : home ≡ home_of pieces
 
 -- the next left-over vCPU is split
-pub record SplitsNext (tasks : List (Option Periodic)) (cores : List (List Piece)) (homes : List (Option ℕ)) (vcpu : ℕ) (end : List (List Piece)) (homes' : List (Option ℕ)) : Type 0 where
+pub record SplitsNext (tasks : List (Option Periodic)) (cores : List (List Piece)) (homes : List (Option ℕ))
+    (vcpu : ℕ) (end : List (List Piece)) (homes' : List (Option ℕ)) : Type 0 where
   pub task : Periodic
   pub at : slice_get tasks vcpu ≡ Some (Some task)
   pub home : ℕ
@@ -55,7 +65,8 @@ pub record SplitsNext (tasks : List (Option Periodic)) (cores : List (List Piece
   pub homes_are : homes' ≡ slice_set homes vcpu (Some home)
 
 -- of the left-over vCPUs the first that can't be split beside those before it
-pub record IsFirstStuck (tasks : List (Option Periodic)) (start : List (List Piece)) (core_of : List (Option ℕ)) (left : List ℕ) (vcpu rest : ℕ) (over : List Over) : Type 0 where
+pub record IsFirstStuck (tasks : List (Option Periodic)) (start : List (List Piece)) (core_of : List (Option ℕ))
+    (left : List ℕ) (vcpu rest : ℕ) (over : List Over) : Type 0 where
   pub before : List ℕ
   pub after : List ℕ
   pub left_is : left ≡ before ++ vcpu ∷ after

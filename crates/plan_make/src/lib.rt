@@ -6,6 +6,7 @@
 //! vCPU and keeps it on one core at a time is part of its type, in table_form.
 #![tactic(auto)]
 
+mod draft;
 mod fault;
 mod layout;
 mod planner;

@@ -7,21 +7,24 @@ ghost use Rattle.period_choice.specs.Tasks.{AreTasksOf, IsFirstWithoutPeriod};
 ghost use Rattle.worst_fit.specs.Bound.{IsWithinBound};
 ghost use Rattle.plan_make.specs.Planned.{IsFirstWithoutRoom, IsPlanned};
 
+use crate::draft::draft_of;
 use crate::fault::PlanFault;
 use crate::layout::lay_out;
-use crate::rows::rows_of;
+use coalesce::join_slivers;
 use period_choice::tasks_of;
 use std::alloc::Global;
 use std::thread::Threads;
 use tab_core::Host;
-use table_form::{Homes, Plan, Tables};
+use table_form::Plan;
 
-/// The plan of a host: its vCPUs are placed whole by worst fit, the left-over ones are split, and
-/// each core's row is made by earliest deadline first. A host has at most one such plan.
+/// The plan of a host: its vCPUs are placed whole by worst fit, the left-over ones are split, each
+/// core's row is made by earliest deadline first, and the row's slivers are joined. A host has at
+/// most one such plan.
 ///
-/// `NoPeriod` comes exactly where an admitted vCPU has no admissible period, and `NoRoom` exactly
-/// where each has one but a left-over vCPU can't be split. So no host that has a plan is refused
-/// but for want of memory, and none within the bound of worst fit is without room.
+/// `NoPeriod` comes where an admitted vCPU has no admissible period, and `NoRoom` where each has
+/// one but a left-over vCPU can't be split: then and only then, but that want of memory may come
+/// in place of any answer. So a host that has a plan is refused for want of memory alone, and none
+/// within the bound of worst fit is without room.
 ///
 /// The rows are made side by side, each in a thread of its own where one can be started.
 pub fn plan<R: Threads + Sync>(rt: &R, alloc: Global, host: &Host) -> Result<Plan, PlanFault>
@@ -29,6 +32,7 @@ pub fn plan<R: Threads + Sync>(rt: &R, alloc: Global, host: &Host) -> Result<Pla
     ensures only { IfOk result (λ plan. (other : PlanView) → IsPlanned host.now other → other ≡ plan_view plan) }
     ensures fits_host { IfOk result (λ plan. IsPlanFor host.now (plan_view plan)) }
     ensures no_period { (vcpu : ℕ) → IsErrOf result (PlanFault.NoPeriod vcpu) → IsFirstWithoutPeriod host.now.vcpus vcpu }
+    ensures without_period { (vcpu : ℕ) → IsFirstWithoutPeriod host.now.vcpus vcpu → IsErr result }
     ensures no_room { (vcpu rest : ℕ) (over : List Over) → IsErrOf result (PlanFault.NoRoom vcpu rest over)
         → IsFirstWithoutRoom host.now vcpu rest over }
     ensures without_room { (vcpu rest : ℕ) (over : List Over) → IsFirstWithoutRoom host.now vcpu rest over → IsErr result }
@@ -38,10 +42,6 @@ pub fn plan<R: Threads + Sync>(rt: &R, alloc: Global, host: &Host) -> Result<Pla
 {
     let tasks = tasks_of(alloc, host)?;
     let layout = lay_out(alloc, host, &tasks)?;
-    let rows = rows_of(rt, alloc, &layout.cores)?;
-    let homes = Homes::of(layout.homes);
-    Ok(Plan {
-        tasks,
-        tables: Tables { homes, rows },
-    })
+    let draft = draft_of(rt, alloc, tasks, layout)?;
+    Ok(join_slivers(alloc, &draft, host.sliver)?)
 }

@@ -4,7 +4,6 @@ ghost use Rattle.tab_core.specs.declared.TheConstants.{MAX_CORES};
 ghost use Rattle.table_form.specs.EdfRow.{edf_row};
 ghost use Rattle.table_form.specs.Jobs.{jobs_of};
 ghost use Rattle.table_form.specs.Rows.{Row};
-ghost use Rattle.edf_table.specs.Windows.{DistinctVcpus};
 ghost use Rattle.cd_split.specs.Cores.{pieces_on};
 ghost use Rattle.plan_make.specs.Allotted.{AreRowsOf, IsRowOf};
 
@@ -19,7 +18,7 @@ use table_form::{CoreTable, Rows};
 fn row_of(alloc: Global, cores: &CorePieces, core: usize) -> Result<CoreTable, NoMemory>
     requires there { core < length cores.now }
     requires few { length cores.now ≤ MAX_CORES }
-    ensures { IfOk result (IsRowOf (pieces_on cores.now core)) }
+    ensures { IfOk result (IsRowOf core (pieces_on cores.now core)) }
 {
     match simulate(alloc, cores.of_core(CoreNo(core as u32))) {
         Ok(row) => Ok(row),
@@ -37,7 +36,7 @@ fn make_each<R: Threads + Sync>(
     ensures count { IfOk result (λ made. length made.items ≡ length cores.now) }
     ensures few { IfOk result (λ made. length made.items ≤ MAX_CORES) }
     ensures each { IfOk result (λ made. (core : ℕ) (d : Result Row AllocError) → core < length cores.now
-        → IfOk (slice_index_or made.items core d) (IsRowOf (pieces_on cores.now core))) }
+        → IfOk (slice_index_or made.items core d) (IsRowOf core (pieces_on cores.now core))) }
 {
     let count = cores.cores() as usize;
     map_indices(rt, alloc, count, &|core| row_of(alloc, cores, core))
@@ -65,7 +64,6 @@ pub(crate) fn rows_of<R: Threads + Sync>(
 ) -> Result<Rows, NoMemory>
     ensures rows { IfOk result (λ rows. rows ≡ map (λ pieces. edf_row (jobs_of pieces)) cores.now) }
     ensures of { IfOk result (AreRowsOf cores.now) }
-    ensures distinct { IfOk result (λ _. (core : ℕ) → DistinctVcpus (pieces_on cores.now core)) }
 {
     let made = make_each(rt, alloc, cores)?;
     Ok(Rows::of(all_made(alloc, made)?))

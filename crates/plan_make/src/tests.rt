@@ -1,9 +1,10 @@
 ghost use Rattle.std.specs.Prelude.{◌≡◌, ◌≤◌};
-ghost use Rattle.tab_core.specs.declared.TheConstants.{MAX_CORES, WHOLE_PPM};
+ghost use Rattle.tab_core.specs.declared.TheConstants.{MAX_CORES, MAX_SLIVER, WHOLE_PPM};
 
 use crate::{PlanFault, plan};
 use std::alloc::Global;
 use std::test::Fail;
+use std::thread::Threads;
 use tab_core::{Host, Name, Reservation, Vcpu, VcpuNo, Vcpus};
 use table_form::{CoreTable, Plan};
 
@@ -30,14 +31,20 @@ fn three_vcpus(alloc: Global, reservations: [Option<Reservation>; 3]) -> Result<
     Ok(Vcpus::of(vcpus))
 }
 
-fn host_of(alloc: Global, cores: u32, reservations: [Option<Reservation>; 3]) -> Result<Host, Fail>
+fn host_of(
+    alloc: Global,
+    cores: u32,
+    sliver: u32,
+    reservations: [Option<Reservation>; 3],
+) -> Result<Host, Fail>
     requires some_core { 1 ≤ cores }
     requires few_cores { cores ≤ MAX_CORES }
+    requires small_sliver { sliver ≤ MAX_SLIVER }
 {
     Ok(Host {
         cores,
         lag: 1000,
-        sliver: 30,
+        sliver,
         quantum: 1000,
         vcpus: three_vcpus(alloc, reservations)?,
     })
@@ -80,13 +87,13 @@ fn has_homes(plan: &Plan, expected: &[u32]) -> bool {
     true
 }
 
-// Whether the row's segments have these owners and ends.
-fn has_segments(row: &CoreTable, expected: &[(Option<u32>, u32)]) -> bool {
+// Whether the row begins with segments of these owners and ends.
+fn begins_with(row: &CoreTable, expected: &[(Option<u32>, u32)]) -> bool {
     let segments = row.segments();
-    if segments.len() != expected.len() {
+    if segments.len() < expected.len() {
         return false;
     }
-    for i in 0..segments.len() {
+    for i in 0..expected.len() {
         let segment = &segments[i];
         if (number_of(segment.owner), segment.end) != expected[i] {
             return false;
@@ -99,8 +106,22 @@ fn has_segments(row: &CoreTable, expected: &[(Option<u32>, u32)]) -> bool {
 fn core_has(plan: &Plan, core: usize, expected: &[(Option<u32>, u32)]) -> bool {
     match plan.tables.rows.items().get(core) {
         None => false,
-        Some(row) => has_segments(row, expected),
+        Some(row) => row.segments().len() == expected.len() && begins_with(row, expected),
     }
+}
+
+// The longest time that the vCPU doesn't have the core, in ticks of one round.
+fn longest_gap(row: &CoreTable, vcpu: u32) -> u32 {
+    let mut longest = 0;
+    let mut from = 0;
+    for segment in row.segments() {
+        if number_of(segment.owner) == Some(vcpu) {
+            from = segment.end;
+        } else {
+            longest = segment.end.saturating_sub(from).max(longest);
+        }
+    }
+    longest
 }
 
 fn is_without_period(fault: &PlanFault, number: u32) -> bool {
@@ -131,7 +152,7 @@ fn is_without_room(
 
 #[test]
 fn the_third_vcpu_is_split(rt: HostRuntime) -> Result<(), Fail> {
-    let host = host_of(rt.alloc(), 2, [patient(600_000); 3])?;
+    let host = host_of(rt.alloc(), 2, 30, [patient(600_000); 3])?;
     let made = plan(&rt, rt.alloc(), &host)
         .ok()
         .ok_or("the host has a plan")?;
@@ -145,7 +166,7 @@ fn the_third_vcpu_is_split(rt: HostRuntime) -> Result<(), Fail> {
 #[test]
 fn nobody_is_split_at_the_bound(rt: HostRuntime) -> Result<(), Fail> {
     let (large, small) = (patient(600_000), patient(200_000));
-    let host = host_of(rt.alloc(), 2, [large, large, small])?;
+    let host = host_of(rt.alloc(), 2, 30, [large, large, small])?;
     let made = plan(&rt, rt.alloc(), &host)
         .ok()
         .ok_or("the host has a plan")?;
@@ -164,7 +185,7 @@ fn nobody_is_split_at_the_bound(rt: HostRuntime) -> Result<(), Fail> {
 #[test]
 fn no_room_on_one_core(rt: HostRuntime) -> Result<(), Fail> {
     let large = patient(600_000);
-    let host = host_of(rt.alloc(), 1, [large, large, None])?;
+    let host = host_of(rt.alloc(), 1, 30, [large, large, None])?;
     let fault = plan(&rt, rt.alloc(), &host)
         .err()
         .ok_or("the host has no plan")?;
@@ -178,10 +199,78 @@ fn no_period_within_the_latency(rt: HostRuntime) -> Result<(), Fail> {
         share_ppm: 100_000,
         latency_ns: 180_179,
     };
-    let host = host_of(rt.alloc(), 1, [patient(600_000), None, Some(impatient)])?;
+    let host = host_of(rt.alloc(), 1, 30, [patient(600_000), None, Some(impatient)])?;
     let fault = plan(&rt, rt.alloc(), &host)
         .err()
         .ok_or("the host has no plan")?;
     assert!(rt; is_without_period(&fault, 2));
+    Ok(())
+}
+
+#[test]
+fn a_short_idle_end_goes_to_the_vcpu_before_it(rt: HostRuntime) -> Result<(), Fail> {
+    let nearly_whole = Reservation {
+        share_ppm: 995_000,
+        latency_ns: 102_702_600,
+    };
+    let host = host_of(rt.alloc(), 1, 1000, [Some(nearly_whole), None, None])?;
+    let made = plan(&rt, rt.alloc(), &host)
+        .ok()
+        .ok_or("the host has a plan")?;
+    assert!(rt; core_has(&made, 0, &[(Some(0), 102_600)]));
+    let host = host_of(rt.alloc(), 1, 513, [Some(nearly_whole), None, None])?;
+    let made = plan(&rt, rt.alloc(), &host)
+        .ok()
+        .ok_or("the host has a plan")?;
+    assert!(rt; core_has(&made, 0, &[(Some(0), 102_087), (None, 102_600)]));
+    Ok(())
+}
+
+// The plan of a core on which one vCPU has half of each round, and another 10 ticks of every 100.
+fn half_and_often<R: Threads + Sync>(rt: &R, alloc: Global, sliver: u32) -> Result<Plan, Fail>
+    requires { sliver ≤ MAX_SLIVER }
+{
+    let half = Reservation {
+        share_ppm: 500_000,
+        latency_ns: 102_702_600,
+    };
+    let often = Reservation {
+        share_ppm: 100_000,
+        latency_ns: 180_180,
+    };
+    let host = host_of(alloc, 1, sliver, [Some(half), Some(often), None])?;
+    let made = plan(rt, alloc, &host).ok().ok_or("the host has a plan")?;
+    Ok(made)
+}
+
+// Whether the only row has so many segments, begins with these, and keeps vCPU 1 waiting so long.
+fn row_is(plan: &Plan, count: usize, first: &[(Option<u32>, u32)], gap: u32) -> bool {
+    match plan.tables.rows.items().get(0) {
+        None => false,
+        Some(row) => {
+            row.segments().len() == count && begins_with(row, first) && longest_gap(row, 1) == gap
+        }
+    }
+}
+
+// 180 ticks are 180,180 ns, the latency of vCPU 1.
+#[test]
+fn slivers_are_joined_up_to_the_latency(rt: HostRuntime) -> Result<(), Fail> {
+    let apart = [
+        (Some(1), 10),
+        (Some(0), 100),
+        (Some(1), 110),
+        (Some(0), 200),
+    ];
+    let made = half_and_often(&rt, rt.alloc(), 10)?;
+    assert!(rt; row_is(&made, 2052, &apart, 90));
+    let joined = [
+        (Some(1), 10),
+        (Some(0), 190),
+        (Some(1), 210),
+        (Some(0), 390),
+    ];
+    let made = half_and_often(&rt, rt.alloc(), 11)?;
+    assert!(rt; row_is(&made, 1482, &joined, 180));
     Ok(())
 }

@@ -3,7 +3,7 @@ use Rattle.std.proofs.lemmas.List.{length-map}
 use Rattle.std.specs.declared.alloc.AllocError.{AllocError}
 use Rattle.table_form.specs.Rows.{Row}
 use Rattle.plan_make.specs.Allotted.{AreRowsOf}
-use Rattle.plan_make.proofs.Made.{AreMade, are_made, made_distinct, made_of, made_rows}
+use Rattle.plan_make.proofs.Made.{AreMade, are_made, made_of, made_rows}
 use Rattle.plan_make.proofs.rows.rows_of.Given.{Over}
 use Rattle.plan_make.proofs.rows.rows_of.Goals as goal
 
@@ -21,6 +21,3 @@ returns-clause-rows g c = c.of.ensures ∙ made_rows c.args.cores.now c.in_ok-al
 
 pub returns-clause-of : goal.returns-clause-of
 returns-clause-of g c = subst (AreRowsOf c.args.cores.now) (sym c.of.ensures) (made_of c.args.cores.now c.in_ok-all_made.field-0.items (made g c))
-
-pub returns-clause-distinct : goal.returns-clause-distinct
-returns-clause-distinct g c = made_distinct c.args.cores.now c.in_ok-all_made.field-0.items (made g c)
