@@ -1,0 +1,10 @@
+pub mod Counting
+pub mod Meets
+pub mod OneFault
+pub mod Owned
+pub mod Pairs
+pub mod Periods
+pub mod RawShapes
+pub mod Supplied
+pub mod Supplying
+pub mod Sweep

@@ -1,0 +1,59 @@
+-- The owners of the cells are owners of segments, so that each has a task.
+use Rattle.std.proofs.Common.{◌≡◌, ℕ, zero, suc, ◌-◌, ◌≤◌, true, List, [], ◌∷◌, ◌++◌, replicate, slice_get, Option, Some, None, All, refl, ap, subst, sym, ◌∙◌, inl, inr, arith}
+use Rattle.std.specs.Option.{ForSome, option_map}
+use Rattle.std.proofs.lemmas.Bool.{cases_lt}
+use Rattle.std.proofs.lemmas.List.Elements.{All-head, All-tail}
+use Rattle.std.proofs.lemmas.Option.{none-some, same_Some, slice_get-map}
+use Rattle.tab_core.specs.declared.periodic.Periodic.{Periodic}
+use Rattle.table_form.specs.declared.segment.Segment.{Segment}
+use Rattle.table_form.specs.Rows.{Row, cells_from}
+use Rattle.table_form.specs.Serves.{OwnersHaveTasks, cell_of, has_task}
+use Rattle.table_form.proofs.RowLemmas.{cells-cons, cells-nil}
+use Rattle.table_check.specs.Shapes.{AreOfTasks, AreOwnedByTasks, rows_of}
+use Rattle.table_check.proofs.Pairs.{flat_some}
+use Rattle.table_check.proofs.Sweep.{get_front}
+
+get_back : (n t : ℕ) (o : Option ℕ) (cells : Row) → n ≤ t
+    → slice_get (replicate n o ++ cells) t ≡ slice_get cells (t - n)
+get_back zero t o cells le = ap (slice_get cells) (omega arith)
+get_back (suc n) zero o cells le = absurd (omega arith)
+get_back (suc n) (suc t) o cells le = get_back n t o cells (omega arith) ∙ ap (slice_get cells) (omega arith)
+
+OwnedByTask : List (Option Periodic) → Segment → Type 0
+OwnedByTask tasks s = ForSome s.owner (λ v. has_task tasks v ≡ true)
+
+-- an owner of a cell that segments stand for owns one of them
+cell_has_task : (tasks : List (Option Periodic)) (start x v : ℕ) (ss : List Segment) → All (OwnedByTask tasks) ss
+    → slice_get (cells_from start ss) x ≡ Some (Some v) → has_task tasks v ≡ true
+unfolding OwnedByTask
+cell_has_task tasks start x v [] owned at =
+    absurd (none-some (Some v) (sym (ap (λ (cells : Row). slice_get cells x) (cells-nil start)) ∙ at))
+cell_has_task tasks start x v (s ∷ ss) owned at =
+    let cell = sym (ap (λ (cells : Row). slice_get cells x) (cells-cons start s ss)) ∙ at in
+    elim (cases_lt x (s.end - start)) [
+      | inl here ↦ All-head (OwnedByTask tasks) s ss owned v
+          (same_Some {A = Option ℕ} s.owner (Some v)
+          (sym (get_front (s.end - start) x s.owner (cells_from s.end ss) here) ∙ cell))
+      | inr later ↦ cell_has_task tasks s.end (x - (s.end - start)) v ss (All-tail (OwnedByTask tasks) s ss owned)
+          (sym (get_back (s.end - start) x s.owner (cells_from s.end ss) later) ∙ cell)
+    ]
+
+row_has_tasks : (tasks : List (Option Periodic)) (place v : ℕ) (row : Option (List Segment))
+    → ((ss : List Segment) → row ≡ Some ss → AreOfTasks tasks ss)
+    → cell_of (option_map (cells_from 0) row) place ≡ Some v → has_task tasks v ≡ true
+unfolding OwnedByTask
+row_has_tasks tasks place v None owned at = absurd (none-some v at)
+row_has_tasks tasks place v (Some ss) owned at = cell_has_task tasks 0 place v ss (owned ss refl)
+    (flat_some (slice_get (cells_from 0 ss) place) v at)
+
+all_at : (P : List Segment → Type 0) (raw : List (List Segment)) (c : ℕ) (ss : List Segment) → All P raw
+    → slice_get raw c ≡ Some ss → P ss
+all_at P [] c ss all at = absurd (none-some ss at)
+all_at P (x ∷ xs) zero ss all at = subst P (same_Some {A = List Segment} x ss at) (All-head P x xs all)
+all_at P (x ∷ xs) (suc c) ss all at = all_at P xs c ss (All-tail P x xs all) at
+
+pub owners_have_tasks : (tasks : List (Option Periodic)) (raw : List (List Segment)) → AreOwnedByTasks tasks raw
+    → OwnersHaveTasks tasks (rows_of raw)
+owners_have_tasks tasks raw owned v place c at =
+    row_has_tasks tasks place v (slice_get raw c) (λ ss here. all_at (AreOfTasks tasks) raw c ss owned here)
+    (sym (ap (λ row. cell_of row place) (slice_get-map (cells_from 0) raw c)) ∙ at)

@@ -1,0 +1,56 @@
+use Rattle.std.proofs.Common.{◌≡◌, inr, subst, sym, ap, ◌∙◌, IsTrue, length, ℕ, List, Option}
+use Rattle.std.proofs.lemmas.List.{length-map}
+use Rattle.tab_core.specs.declared.periodic.Periodic.{Periodic}
+use Rattle.table_form.specs.Homes.{HaveHomes, are_housed}
+use Rattle.table_form.specs.Rows.{Row, cells_from}
+use Rattle.table_form.specs.Serves.{Apart, OwnersHaveTasks, Serves}
+use Rattle.table_check.specs.Shapes.{HaveGoodShapes, rows_of}
+use Rattle.table_check.specs.Shortages.{IsShortageOf}
+use Rattle.table_check.proofs.OneFault.{is_short_fault, one_fault}
+use Rattle.table_check.proofs.Owned.{owners_have_tasks}
+use Rattle.table_check.proofs.checker.check.Goals as goal
+
+pub returns-in_err-rows-clause-one_fault : goal.returns-in_err-rows-clause-one_fault
+returns-in_err-rows-clause-one_fault c = one_fault c.args.tasks.now c.args.raw.now.rows
+
+pub returns-in-Some-clause-one_fault : goal.returns-in-Some-clause-one_fault
+returns-in-Some-clause-one_fault c = one_fault c.args.tasks.now c.args.raw.now.rows
+
+pub returns-in_err-shortage-clause-one_fault : goal.returns-in_err-shortage-clause-one_fault
+returns-in_err-shortage-clause-one_fault c = one_fault c.args.tasks.now c.args.raw.now.rows
+
+pub returns-in-Some-2-clause-one_fault : goal.returns-in-Some-2-clause-one_fault
+returns-in-Some-2-clause-one_fault c = one_fault c.args.tasks.now c.args.raw.now.rows
+
+pub returns-in-Some-2-clause-fault : goal.returns-in-Some-2-clause-fault
+returns-in-Some-2-clause-fault c =
+    let raw = c.args.raw.now.rows in
+    inr (is_short_fault c.args.tasks.now c.items-3.result.now raw c.in_ok-rows.rows c.items-4.result.now
+    c.in_ok-shortage.field-0 c.in-Some-2.shortage c.fault-in-Some-2.result
+    c.items-3.ensures.same (c.in_ok-rows.ensures.rows ∙ ap rows_of c.items.ensures) c.items-4.ensures.same
+    (subst HaveGoodShapes c.items.ensures c.in_ok-rows.ensures.good)
+    (subst Apart c.items-2.ensures.same c.in_default.ensures.none)
+    c.in_ok-shortage.ensures c.in-Some-2.is c.fault-in-Some-2.ensures)
+
+pub invariant_of-result : goal.invariant_of-result
+invariant_of-result c =
+    let raw = c.args.raw.now.rows in
+    let tasks : c.of.result ≡ c.args.tasks.now = c.of.ensures ∙ c.in_ok-from_slice-2.ensures.items
+    ∙ c.items-6.ensures.same in
+    let homes : c.of-homes.result ≡ c.args.raw.now.homes = c.of-homes.ensures ∙ c.in_ok-from_slice.ensures.items
+    ∙ c.items-5.ensures.same in
+    let rows : c.in_ok-rows.rows ≡ rows_of raw = c.in_ok-rows.ensures.rows ∙ ap rows_of c.items.ensures in
+    record {
+      serves = subst (λ (ts : List (Option Periodic)). Serves ts c.in_ok-rows.rows) (c.items-3.ensures.same ∙ sym tasks)
+          (subst (Serves c.items-3.result.now) c.items-4.ensures.same
+          (subst (IsShortageOf c.items-3.result.now c.items-4.result.now) c.in_default-2.is
+          c.in_ok-shortage.ensures));
+      apart = subst Apart c.items-2.ensures.same c.in_default.ensures.none;
+      housed = subst (λ (ts : List (Option Periodic)). HaveHomes ts c.of-homes.result c.in_ok-rows.rows) (sym tasks)
+          (subst (λ (hs : List (Option ℕ)). HaveHomes c.args.tasks.now hs c.in_ok-rows.rows) (sym homes)
+          (subst (λ (n : ℕ). IsTrue (are_housed n c.args.tasks.now c.args.raw.now.homes))
+          (sym (ap length rows ∙ length-map {B = Row} raw (cells_from 0))) c.requires.housed));
+      owned = subst (λ (ts : List (Option Periodic)). OwnersHaveTasks ts c.in_ok-rows.rows) (sym tasks)
+          (subst (OwnersHaveTasks c.args.tasks.now) (sym rows)
+          (owners_have_tasks c.args.tasks.now raw c.requires.owned));
+    }

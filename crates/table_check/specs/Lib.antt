@@ -1,0 +1,6 @@
+pub mod Clashes
+pub mod Counters
+pub mod Faults
+pub mod Meetings
+pub mod Shapes
+pub mod Shortages

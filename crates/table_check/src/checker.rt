@@ -1,0 +1,50 @@
+ghost use Rattle.std.specs.Prelude.{◌≡◌, ◌⊎◌, ◌≤◌, IfErr, IfOk, IsErr, IsTrue, length};
+ghost use Rattle.tab_core.specs.declared.TheConstants.{MAX_CORES};
+ghost use Rattle.table_form.specs.Homes.{are_housed};
+ghost use Rattle.table_form.specs.Views.{plan_view};
+ghost use Rattle.table_check.specs.Faults.{AreGood, HasCheckFault};
+ghost use Rattle.table_check.specs.Shapes.{AreOwnedByTasks, rows_of};
+
+use crate::clash::find_clash;
+use crate::fault::CheckFault;
+use crate::shape::build_rows;
+use crate::shortage::find_shortage;
+use std::alloc::Global;
+use tab_core::Tasks;
+use table_form::{Homes, Plan, RawTables, Tables};
+
+/// The plan of these tasks with these tables, or the first fault of the tables.
+///
+/// There are at most 32 rows, each task has one home below their count and no other vCPU has one,
+/// and each owner of a segment has a task. Neighbouring segments may have one owner.
+///
+/// `BadShape` comes exactly where the segments of a core make no row, `Twice` exactly where they
+/// all do and a vCPU stands on two cores at one tick, and `Short` exactly where none does and a
+/// vCPU gets less than its cost in one of its periods. So tables that are a plan are refused for
+/// nothing but want of memory.
+pub fn check(alloc: Global, tasks: &Tasks, raw: &RawTables) -> Result<Plan, CheckFault>
+    requires few { length raw.now.rows ≤ MAX_CORES }
+    requires housed { IsTrue (are_housed (length raw.now.rows) tasks.now raw.now.homes) }
+    requires owned { AreOwnedByTasks tasks.now raw.now.rows }
+    ensures plan { IfOk result (λ plan. plan_view plan
+        ≡ record { tasks = tasks.now; homes = raw.now.homes; rows = rows_of raw.now.rows }) }
+    ensures good { IfOk result (λ _. AreGood tasks.now raw.now.rows) }
+    ensures fault { IfErr result (λ fault. (fault ≡ CheckFault.NoMemory) ⊎ HasCheckFault tasks.now raw.now.rows fault) }
+    ensures accepted { AreGood tasks.now raw.now.rows → IfErr result (λ fault. fault ≡ CheckFault.NoMemory) }
+    ensures refused { (fault : CheckFault) → HasCheckFault tasks.now raw.now.rows fault → IsErr result }
+    ensures one_fault { (fault other : CheckFault) → HasCheckFault tasks.now raw.now.rows fault
+        → HasCheckFault tasks.now raw.now.rows other → fault ≡ other }
+{
+    let rows = build_rows(alloc, raw.rows.items())?;
+    if let Some(clash) = find_clash(rows.items()) {
+        return Err(clash.fault());
+    }
+    if let Some(shortage) = find_shortage(alloc, tasks.items(), rows.items())? {
+        return Err(shortage.fault());
+    }
+    let homes = Homes::of(Vec::from_slice(alloc, raw.homes.items())?);
+    Ok(Plan {
+        tasks: Tasks::of(Vec::from_slice(alloc, tasks.items())?),
+        tables: Tables { homes, rows },
+    })
+}

@@ -1,0 +1,93 @@
+ghost use Rattle.std.specs.Prelude.{◌≡◌, ◌+◌, ◌<◌, ◌≤◌, true, false, Some, IfNone, IfSome, IsSomeAnd, length};
+ghost use Rattle.tab_core.specs.declared.TheConstants.{MAX_CORES};
+ghost use Rattle.table_form.specs.Serves.{Apart};
+ghost use Rattle.table_check.specs.Clashes.{IsFirstBefore, IsFirstClash};
+ghost use Rattle.table_check.specs.declared.clash.Clash.{Clash};
+
+use crate::fault::CheckFault;
+use crate::meeting::find_meeting;
+use tab_core::{CoreNo, VcpuNo};
+use table_form::CoreTable;
+
+// A vCPU that stands in the rows of two cores at one tick, of which `core` is the lower one.
+#[derive(Clone, Copy, Debug)]
+pub(crate) struct Clash {
+    pub(crate) vcpu: VcpuNo,
+    pub(crate) tick: u32,
+    pub(crate) core: CoreNo,
+    pub(crate) other: CoreNo,
+}
+
+impl Clash {
+    pub(crate) fn fault(&self) -> CheckFault
+        ensures { result ≡ CheckFault.Twice self.now.vcpu self.now.tick self.now.core self.now.other }
+    {
+        CheckFault::Twice {
+            vcpu: self.vcpu,
+            tick: self.tick,
+            core: self.core,
+            other: self.other,
+        }
+    }
+}
+
+// Whether there is no clash yet, or only one of a later tick.
+fn is_sooner(tick: u32, best: &Option<Clash>) -> bool
+    ensures yes { result ≡ true → (clash : Clash) → best.now ≡ Some clash → tick < clash.tick }
+    ensures no { result ≡ false → IsSomeAnd best.now (λ clash. clash.tick ≤ tick) }
+{
+    match best {
+        None => true,
+        Some(clash) => tick < clash.tick,
+    }
+}
+
+// The first clash of the pairs of cores up to this one, of which `best` is that of the earlier ones.
+fn take_pair(rows: &[CoreTable], core: usize, other: usize, best: Option<Clash>) -> Option<Clash>
+    requires lower { core < other }
+    requires there { other < length rows.now }
+    requires few { length rows.now ≤ MAX_CORES }
+    requires before { IsFirstBefore rows.now core other best }
+    ensures { IsFirstBefore rows.now core (other + 1) result }
+{
+    let Some(meeting) = find_meeting(rows[core].segments(), rows[other].segments()) else {
+        return best;
+    };
+    if is_sooner(meeting.tick, &best) {
+        Some(Clash {
+            vcpu: meeting.vcpu,
+            tick: meeting.tick,
+            core: CoreNo(core as u32),
+            other: CoreNo(other as u32),
+        })
+    } else {
+        best
+    }
+}
+
+// The first clash of the pairs whose first core is at most this one.
+fn take_core(rows: &[CoreTable], core: usize, best: Option<Clash>) -> Option<Clash>
+    requires there { core < length rows.now }
+    requires few { length rows.now ≤ MAX_CORES }
+    requires before { IsFirstBefore rows.now core 0 best }
+    ensures { IsFirstBefore rows.now (core + 1) 0 result }
+{
+    let mut best = best;
+    for other in core + 1..rows.len() {
+        best = take_pair(rows, core, other, best);
+    }
+    best
+}
+
+// The first clash of the rows, each pair of which is swept from end to end of a segment.
+pub(crate) fn find_clash(rows: &[CoreTable]) -> Option<Clash>
+    requires few { length rows.now ≤ MAX_CORES }
+    ensures none { IfNone result (Apart rows.now) }
+    ensures some { IfSome result (λ clash. IsFirstClash rows.now clash.vcpu clash.tick clash.core clash.other) }
+{
+    let mut best = None;
+    for core in 0..rows.len() {
+        best = take_core(rows, core, best);
+    }
+    best
+}

@@ -1,0 +1,19 @@
+//! The check of tables that were read: whether they are a plan, or their first fault.
+//!
+//! Layers above may rely on `AreGood` and `HasCheckFault` of `specs/Faults.antt`: the tables are
+//! accepted where their rows have good shapes, keep each vCPU on one core at a time and give each
+//! task its cost in each of its periods, and else the first fault is named.
+#![tactic(auto)]
+
+mod checker;
+mod clash;
+mod counters;
+mod fault;
+mod meeting;
+mod shape;
+mod shortage;
+#[cfg(test)]
+mod tests;
+
+pub use checker::check;
+pub use fault::CheckFault;

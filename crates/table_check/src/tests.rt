@@ -1,0 +1,223 @@
+ghost use Rattle.std.specs.Prelude.{◌≡◌, ◌≤◌, true, IfOk, IsTrue, length};
+ghost use Rattle.std.specs.Option.{ForSome};
+ghost use Rattle.tab_core.specs.declared.TheConstants.{MAX_VCPUS};
+ghost use Rattle.table_form.specs.Homes.{is_housed};
+ghost use Rattle.table_form.specs.Serves.{has_task};
+ghost use Rattle.table_check.specs.Shapes.{AreOfTasks, AreOwnedByTasks};
+
+use crate::check;
+use std::alloc::{AllocError, Global};
+use std::test::Fail;
+use tab_core::{CoreNo, Periodic, Tasks, VcpuNo};
+use table_form::{Homes, RawRows, RawTables, Segment, Segments};
+
+// A segment: its end, and the number of its owner.
+type Part = (u32, Option<u32>);
+
+const A: Option<u32> = Some(0);
+
+const B: Option<u32> = Some(1);
+
+const IDLE: Option<u32> = None;
+
+// The owner, if it has a task.
+fn owner_of(tasks: &[Option<Periodic>], owner: Option<u32>) -> Option<VcpuNo>
+    requires { length tasks.now ≤ MAX_VCPUS }
+    ensures { ForSome result (λ v. has_task tasks.now v ≡ true) }
+{
+    let Some(vcpu) = owner else {
+        return None;
+    };
+    let at = vcpu as usize;
+    if at < tasks.len() && tasks[at].is_some() {
+        Some(VcpuNo(vcpu))
+    } else {
+        None
+    }
+}
+
+fn segments_of(
+    alloc: Global,
+    tasks: &[Option<Periodic>],
+    parts: &[Part],
+) -> Result<Segments, AllocError>
+    requires { length tasks.now ≤ MAX_VCPUS }
+    ensures { IfOk result (AreOfTasks tasks.now) }
+{
+    let mut segments = Vec::new(alloc);
+    for (end, owner) in parts {
+        segments.push(Segment {
+            owner: owner_of(tasks, *owner),
+            end: *end,
+        })?;
+    }
+    Ok(Segments::of(segments))
+}
+
+fn rows_of(alloc: Global, tasks: &[Option<Periodic>], rows: &[&[Part]]) -> Result<RawRows, Fail>
+    requires { length tasks.now ≤ MAX_VCPUS }
+    ensures count { IfOk result (λ raw. length raw ≡ length rows.now) }
+    ensures owned { IfOk result (AreOwnedByTasks tasks.now) }
+{
+    let mut raw = Vec::new(alloc);
+    for row in rows {
+        raw.push(segments_of(alloc, tasks, row)?)?;
+    }
+    Ok(RawRows::of(raw))
+}
+
+fn home_of(task: &Option<Periodic>, cores: usize) -> Option<CoreNo>
+    requires { 1 ≤ cores }
+    ensures { IsTrue (is_housed cores task.now result) }
+{
+    if task.is_some() {
+        Some(CoreNo(0))
+    } else {
+        None
+    }
+}
+
+// What the check says of the rows for the tasks of a and b, whose homes are core 0.
+fn answer(alloc: Global, tasks: [Option<Periodic>; 2], rows: &[&[Part]]) -> Result<String, Fail> {
+    if rows.is_empty() || rows.len() > 32 {
+        return Err("a host has 1 to 32 cores".into());
+    }
+    let homes = vec![in alloc;
+        home_of(&tasks[0], rows.len()),
+        home_of(&tasks[1], rows.len()),
+    ]?;
+    let raw = RawTables {
+        rows: rows_of(alloc, &tasks, rows)?,
+        homes: Homes::of(homes),
+    };
+    let tasks = Tasks::of(Vec::from_array(alloc, tasks)?);
+    match check(alloc, &tasks, &raw) {
+        Ok(_) => Ok(format!(in alloc; "ok")?),
+        Err(fault) => Ok(format!(in alloc; "{fault}")?),
+    }
+}
+
+// Half of each round.
+#[tactic(auto, unfolding(tab_core::specs::Period::is_period))]
+fn half() -> Option<Periodic> {
+    Some(Periodic {
+        cost: 51_300,
+        period: 102_600,
+    })
+}
+
+// 40 ticks of each half of a round.
+#[tactic(auto, unfolding(tab_core::specs::Period::is_period))]
+fn forty() -> Option<Periodic> {
+    Some(Periodic {
+        cost: 40,
+        period: 51_300,
+    })
+}
+
+#[test]
+fn one_task(rt: HostRuntime) -> Result<(), Fail> {
+    let good: &[Part] = &[(51_300, A), (102_600, IDLE)];
+    let late: &[Part] = &[(51_299, IDLE), (51_300, A), (102_600, IDLE)];
+    let last: &[Part] = &[(102_599, IDLE), (102_600, A)];
+    let cases: [(&[&[Part]], &str); 16] = [
+        (
+            &[&[(51_299, A), (102_600, IDLE)]],
+            "vCPU 0 has 51299 of 51300 ticks in period 0",
+        ),
+        (&[good], "ok"),
+        (
+            &[&[(20_000, A), (51_300, A), (60_000, IDLE), (102_600, IDLE)]],
+            "ok",
+        ),
+        (
+            &[
+                &[(30_000, A), (102_600, IDLE)],
+                &[(30_000, IDLE), (51_300, A), (102_600, IDLE)],
+            ],
+            "ok",
+        ),
+        (
+            &[&[(51_300, A), (102_599, IDLE)]],
+            "core 0 has a bad end at segment 2",
+        ),
+        (&[&[]], "core 0 has a bad end at segment 0"),
+        (
+            &[&[(0, A), (102_600, A)]],
+            "core 0 has a bad end at segment 0",
+        ),
+        (
+            &[&[(51_300, A), (51_300, IDLE), (102_600, IDLE)]],
+            "core 0 has a bad end at segment 1",
+        ),
+        (
+            &[&[(51_300, A), (51_200, IDLE), (102_600, IDLE)]],
+            "core 0 has a bad end at segment 1",
+        ),
+        (
+            &[&[(51_300, A), (102_601, IDLE)]],
+            "core 0 has a bad end at segment 1",
+        ),
+        (
+            &[good, &[(9, A), (9, IDLE)], &[]],
+            "core 1 has a bad end at segment 1",
+        ),
+        (
+            &[&[(51_299, A), (102_600, IDLE)], good, &[(9, A)]],
+            "core 2 has a bad end at segment 1",
+        ),
+        (
+            &[good, late],
+            "vCPU 0 stands on cores 0 and 1 at tick 51299",
+        ),
+        (
+            &[last, &[(7, A), (102_600, IDLE)], last],
+            "vCPU 0 stands on cores 0 and 2 at tick 102599",
+        ),
+        (
+            &[last, last, &[(7, A), (102_600, IDLE)], good],
+            "vCPU 0 stands on cores 2 and 3 at tick 0",
+        ),
+        (
+            &[last, last],
+            "vCPU 0 stands on cores 0 and 1 at tick 102599",
+        ),
+    ];
+    for (rows, expected) in cases {
+        let said = answer(rt.alloc(), [half(), None], rows)?;
+        assert_eq!(rt; said.as_str(), expected, "at {rows:?}");
+    }
+    Ok(())
+}
+
+#[test]
+fn two_tasks(rt: HostRuntime) -> Result<(), Fail> {
+    let a: &[Part] = &[(51_300, A), (102_600, IDLE)];
+    let first_a: &[Part] = &[(1, A), (102_600, IDLE)];
+    let first_b: &[Part] = &[(1, B), (102_600, IDLE)];
+    let cases: [(&[&[Part]], &str); 6] = [
+        (
+            &[first_a, first_b, first_b, first_a],
+            "vCPU 0 stands on cores 0 and 3 at tick 0",
+        ),
+        (&[a, &[(51_340, B), (102_600, IDLE)]], "ok"),
+        (
+            &[a, &[(51_339, B), (102_600, IDLE)]],
+            "vCPU 1 has 39 of 40 ticks in period 1",
+        ),
+        (&[a, &[(51_260, IDLE), (51_340, B), (102_600, IDLE)]], "ok"),
+        (
+            &[a, &[(51_261, IDLE), (51_339, B), (102_600, IDLE)]],
+            "vCPU 1 has 39 of 40 ticks in period 0",
+        ),
+        (
+            &[first_a, first_b],
+            "vCPU 0 has 1 of 51300 ticks in period 0",
+        ),
+    ];
+    for (rows, expected) in cases {
+        let said = answer(rt.alloc(), [half(), forty()], rows)?;
+        assert_eq!(rt; said.as_str(), expected, "at {rows:?}");
+    }
+    Ok(())
+}
