@@ -1,3 +1,12 @@
+pub mod FirstBad
+pub mod Languages
+pub mod Matching
 pub mod Numbered
+pub mod OneMeaning
 pub mod Parts
+pub mod ReadBack
 pub mod RowText
+pub mod SegmentLines
+pub mod VcpuLines
+pub mod WholeText
+pub mod WordedLines

@@ -20,11 +20,11 @@ use Rattle.table_form.proofs.StretchLemmas.{owner_stands}
 use Rattle.plan_text.specs.PlanText.{core_line, core_text, head_line, is_admitted, name_at, names_of, plan_text, row_text, task_text, texts_below, vcpu_text}
 use Rattle.plan_text.specs.Owners.{AreOwnedBelow, OwnersBelow}
 
-same_default : {X : Type 0} (xs : List X) (i : ℕ) (x d : X) → i < length xs → x ≡ get_or xs i x → get_or xs i d ≡ x
+pub same_default : {X : Type 0} (xs : List X) (i : ℕ) (x d : X) → i < length xs → x ≡ get_or xs i x → get_or xs i d ≡ x
 same_default xs i x d low is = get_or_default xs i d x low ∙ sym is
 
 -- the vCPU at a place has its name there
-name_here : (vcpus : List Vcpu) (v : ℕ) (vcpu : Vcpu) → v < length vcpus → vcpu ≡ get_or vcpus v vcpu → name_at (names_of vcpus) v ≡ vcpu.name
+pub name_here : (vcpus : List Vcpu) (v : ℕ) (vcpu : Vcpu) → v < length vcpus → vcpu ≡ get_or vcpus v vcpu → name_at (names_of vcpus) v ≡ vcpu.name
 name_here vcpus v vcpu low is = get_or-map (λ (x : Vcpu). x.name) vcpus v vcpu [] low ∙ ap (λ (x : Vcpu). x.name) (sym is)
 
 pub vcpu_here : (vcpus : List Vcpu) (tasks : List (Option Periodic)) (homes : List (Option ℕ)) (v : ℕ) (vcpu : Vcpu) (task : Option Periodic) (home : Option ℕ)
@@ -71,7 +71,7 @@ as_many_homes tasks homes rows h = same_count (length rows) tasks homes h
 no_task : (tasks : List (Option Periodic)) (v : ℕ) → length tasks ≤ v → has_task tasks v ≡ false
 no_task tasks v past = rw (slice_get_past tasks v past) refl
 
-task_within : (tasks : List (Option Periodic)) (v : ℕ) → has_task tasks v ≡ true → v < length tasks
+pub task_within : (tasks : List (Option Periodic)) (v : ℕ) → has_task tasks v ≡ true → v < length tasks
 task_within tasks v h = elim (cases_lt v (length tasks)) [
   | inl low ↦ low
   | inr past ↦ absurd (false≢true (sym (no_task tasks v past) ∙ h))

@@ -1,2 +1,7 @@
+pub mod FirstBad
+pub mod Names
 pub mod Owners
+pub mod PlanLines
 pub mod PlanText
+pub mod Reading
+pub mod Written

@@ -1,22 +1,15 @@
 -- The text of a plan: its vCPUs, and each core's maximal segments. The form is this project's own.
-use Rattle.std.specs.Prelude.{ℕ, zero, suc, ◌++◌, Bool, true, false, List, [], codes, count_by, decimal, flat_map, length, map, Option, Some, None, slice_index_or}
+use Rattle.std.specs.Prelude.{ℕ, zero, suc, ◌++◌, Bool, true, false, List, [], codes, count_by, decimal, flat_map, length, Option, Some, None, slice_index_or}
 use Rattle.tab_core.specs.declared.periodic.Periodic.{Periodic}
-use Rattle.tab_core.specs.declared.vcpu.Vcpu.{Vcpu}
 use Rattle.table_form.specs.Plans.{PlanView}
 use Rattle.table_form.specs.Rows.{Row}
 use Rattle.table_form.specs.Stretches.{Stretch, stretches_from}
+pub use Rattle.vcpu_names.specs.Names.{name_at, names_of}
 
 -- the texts of the numbers below n, one after the other
 unfoldable pub texts_below : (ℕ → List ℕ) → ℕ → List ℕ
 texts_below text zero = []
 texts_below text (suc n) = texts_below text n ++ text n
-
--- the names of vCPUs, by number
-abbrev pub names_of : List Vcpu → List (List ℕ)
-names_of vcpus = map (λ (vcpu : Vcpu). vcpu.name) vcpus
-
-abbrev pub name_at : List (List ℕ) → ℕ → List ℕ
-name_at names v = slice_index_or names v []
 
 abbrev pub is_admitted : Option Periodic → Bool
 is_admitted None = false

@@ -1,11 +1,24 @@
 //! The text of a plan.
 //!
 //! `write_plan` writes exactly the `plan_text` of `specs/PlanText.antt`: the vCPUs with their tasks
-//! and homes, and each core's maximal segments.
+//! and homes, and each core's maximal segments. `read_plan` reads lines of words by
+//! `specs/PlanLines.antt`, and names the first bad one by `specs/FirstBad.antt`.
 #![tactic(auto)]
 
 mod cores;
+mod laws;
+mod line_words;
+mod lines_left;
+mod read;
+mod read_cores;
+mod read_fault;
+mod read_vcpus;
+#[cfg(test)]
+mod tests;
 mod vcpus;
 mod write;
 
+pub use laws::{a_text_has_one_meaning, a_written_plan_is_read_back};
+pub use read::read_plan;
+pub use read_fault::ReadPlan;
 pub use write::write_plan;

@@ -1,0 +1,74 @@
+-- What the parts of the reader find, and what may follow the lines that are read.
+use Rattle.std.specs.Prelude.{◌≡◌, ℕ, ◌<◌, IsTrue, List, [], ◌∷◌, ◌++◌, drop, length, map, Option, Some, None}
+use Rattle.std.specs.List.{All}
+use Rattle.tab_words.specs.Words.{words_of}
+use Rattle.tab_core.specs.declared.periodic.Periodic.{Periodic}
+use Rattle.table_form.specs.declared.segment.Segment.{Segment}
+use Rattle.table_form.specs.Homes.{are_housed}
+use denote.Ref.{Bor}
+use Rattle.plan_text.specs.PlanLines.{AreFineRows, IsFineSegment, Line, core_lines, end_words, segment_words, vcpu_lines, vcpu_words}
+
+-- the lines of a text that are left, and the number of the first of them
+pub record Left : Type 0 where
+  pub lines : List Line
+  pub number : ℕ
+
+-- the cores from this number on, of which there are so many, and the end
+pub record AreRows (names : List (List ℕ)) (tasks : List (Option Periodic)) (core count : ℕ)
+    (lines : List Line) : Type 0 where
+  pub rows : List (List Segment)
+  pub many : length rows ≡ count
+  pub fine : AreFineRows tasks rows
+  pub written : lines ≡ core_lines names core rows ++ end_words ∷ []
+
+-- further segments of a core, and such cores
+pub record AreSegments (names : List (List ℕ)) (tasks : List (Option Periodic)) (core count : ℕ)
+    (lines : List Line) : Type 0 where
+  pub row : List Segment
+  pub fine : All (IsFineSegment tasks) row
+  pub rest : List Line
+  pub rows : AreRows names tasks core count rest
+  pub written : lines ≡ map (segment_words names) row ++ rest
+
+-- the vCPUs from this number on, and all cores
+pub record AreVcpus (names : List (List ℕ)) (tasks : List (Option Periodic)) (cores vcpu : ℕ)
+    (lines : List Line) : Type 0 where
+  pub homes : List (Option ℕ)
+  pub housed : IsTrue (are_housed cores (drop vcpu tasks) homes)
+  pub rest : List Line
+  pub rows : AreRows names tasks 0 cores rest
+  pub written : lines ≡ vcpu_lines (drop vcpu names) (drop vcpu tasks) homes ++ rest
+
+-- the first of the lines isn't this one
+abbrev pub IsOtherLine : Line → List Line → Type 0
+IsOtherLine words lines = (rest : List Line) → lines ≡ words ∷ rest → ⊥
+
+-- the first of the lines is no segment's
+abbrev pub IsNoSegment : List (List ℕ) → List (Option Periodic) → List Line → Type 0
+IsNoSegment names tasks lines = (s : Segment) → IsFineSegment tasks s → IsOtherLine (segment_words names s) lines
+
+-- the line is no segment's
+abbrev pub IsNoSegmentLine : List (List ℕ) → List (Option Periodic) → Line → Type 0
+IsNoSegmentLine names tasks words = (s : Segment) → IsFineSegment tasks s → words ≡ segment_words names s → ⊥
+
+-- the line's segment was appended
+pub record IsPushed (names : List (List ℕ)) (tasks : List (Option Periodic)) (words : Line)
+    (old new : List Segment) : Type 0 where
+  pub segment : Segment
+  pub fine : IsFineSegment tasks segment
+  pub written : words ≡ segment_words names segment
+  pub appended : new ≡ old ++ segment ∷ []
+
+-- the first of the lines isn't that of a vCPU with this name and task, if it has one
+abbrev pub IsNoVcpu : List ℕ → Option Periodic → ℕ → List Line → Type 0
+IsNoVcpu name None cores lines = ⊥
+IsNoVcpu name (Some task) cores lines = (home : ℕ) → home < cores → IsOtherLine (vcpu_words name task home) lines
+
+-- the lines from the first one on, if there is one
+abbrev pub lines_left : Option (Bor (List ℕ)) → List (List ℕ) → List Line
+lines_left None behind = []
+lines_left (Some line) behind = words_of line.now ∷ map words_of behind
+
+-- the first of the lines is this one
+abbrev pub StartsWith : Line → List Line → Type 0
+StartsWith words lines = (rest : List Line) × (lines ≡ words ∷ rest)

@@ -1,0 +1,110 @@
+ghost use Rattle.std.specs.Prelude.{◌≡◌, ◌↔◌, ◌⊎◌, ◌<◌, ◌≤◌, ◌^◌, IfOk, IsErrOf, IsTrue, Ok, Err, count_by, length, ℕ};
+ghost use Rattle.tab_core.specs.declared.TheConstants.{MAX_CORES, MAX_VCPUS};
+ghost use Rattle.table_form.specs.Homes.{are_housed};
+ghost use Rattle.table_form.specs.declared.raw_tables.RawTables.{RawTables};
+ghost use Rattle.plan_text.specs.FirstBad.{IsFirstBad};
+ghost use Rattle.plan_text.specs.Names.{AreHostNames};
+ghost use Rattle.plan_text.specs.PlanLines.{AreFineRows, IsPlanText, IsSomePlan, head_words, worded};
+ghost use Rattle.plan_text.specs.PlanText.{is_admitted, names_of};
+ghost use Rattle.plan_text.specs.declared.read_fault.ReadPlan.{ReadPlan};
+ghost use Rattle.tab_words.specs.Words.{words_of};
+
+use crate::line_words::has_words;
+use crate::lines_left::LinesLeft;
+use crate::read_cores::read_cores;
+use crate::read_fault::ReadPlan;
+use crate::read_vcpus::read_vcpus;
+use crate::vcpus::count_admitted;
+use std::alloc::Global;
+use tab_core::{Host, Periodic, Tasks};
+use tab_words::{Lines, TextPiece};
+use table_form::{Homes, RawRows, RawTables};
+use vcpu_names::Names;
+
+/// The tables that a plan text of less than 2^32 bytes stands for, for this host and these tasks, of
+/// which it has one exactly for each admitted vCPU.
+///
+/// Each line is words with one space or more between them, and no line is skipped. Segments are as
+/// they are written: neighbours may have one owner, and the ends may stand in any order below 2^32.
+///
+/// The text of a host and tasks stands for one pair of tables at most, and is read as that.
+/// `BadLine` comes exactly where the bytes are the text of none.
+pub fn read_plan(
+    alloc: Global,
+    bytes: &[u8],
+    host: &Host,
+    tasks: &Tasks,
+) -> Result<RawTables, ReadPlan>
+    requires named { length tasks.now ≡ length host.now.vcpus }
+    requires short { length bytes.now < 2 ^ 32 }
+    ensures ok { IfOk result (IsPlanText (names_of host.now.vcpus) host.now.cores tasks.now bytes.now) }
+    ensures bad_line { (bad : ℕ) → IsErrOf result (ReadPlan.BadLine bad)
+        → IsFirstBad (IsSomePlan (names_of host.now.vcpus) host.now.cores tasks.now) 1 (worded bytes.now) bad }
+    // What checked tables need: rows, homes and owners.
+    ensures few { IfOk result (λ raw. length raw.rows ≤ MAX_CORES) }
+    ensures housed { IfOk result (λ raw. IsTrue (are_housed (length raw.rows) tasks.now raw.homes)) }
+    ensures fine { IfOk result (λ raw. AreFineRows tasks.now raw.rows) }
+    // The same the other way round: a text is read, and another is refused with its line.
+    ensures read { (raw : RawTables) → IsPlanText (names_of host.now.vcpus) host.now.cores tasks.now bytes.now raw
+        → (result ≡ Ok raw) ⊎ (result ≡ Err ReadPlan.NoMemory) }
+    ensures refused { (bad : ℕ)
+        → IsFirstBad (IsSomePlan (names_of host.now.vcpus) host.now.cores tasks.now) 1 (worded bytes.now) bad
+        → (result ≡ Err (ReadPlan.BadLine bad)) ⊎ (result ≡ Err ReadPlan.NoMemory) }
+{
+    let names = Names::of(alloc, host.vcpus.items())?;
+    read_text(alloc, bytes, host, tasks, &names)
+}
+
+// Reads the text of a host whose vCPUs have these names.
+fn read_text(
+    alloc: Global,
+    bytes: &[u8],
+    host: &Host,
+    tasks: &Tasks,
+    names: &Names<'_>,
+) -> Result<RawTables, ReadPlan>
+    requires good { AreHostNames names.now }
+    requires own { names.now ≡ names_of host.now.vcpus }
+    requires named { length tasks.now ≡ length host.now.vcpus }
+    requires short { length bytes.now < 2 ^ 32 }
+    ensures ok { IfOk result (IsPlanText names.now host.now.cores tasks.now bytes.now) }
+    ensures bad_line { (bad : ℕ) → IsErrOf result (ReadPlan.BadLine bad)
+        → IsFirstBad (IsSomePlan names.now host.now.cores tasks.now) 1 (worded bytes.now) bad }
+{
+    let mut lines = Lines::over(bytes);
+    let Some(head) = lines.next() else {
+        return Err(ReadPlan::BadLine { line: 1 });
+    };
+    if !is_head(head, host.cores, tasks.items()) {
+        return Err(ReadPlan::BadLine { line: 1 });
+    }
+    let mut left = LinesLeft::from(lines, 2);
+    let homes = read_vcpus(
+        alloc,
+        &mut left,
+        host.vcpus.items(),
+        tasks.items(),
+        host.cores,
+    )?;
+    let rows = read_cores(alloc, &mut left, names, tasks.items(), host.cores)?;
+    Ok(RawTables {
+        homes: Homes::of(homes),
+        rows: RawRows::of(rows),
+    })
+}
+
+fn is_head(line: &[u8], cores: u32, tasks: &[Option<Periodic>]) -> bool
+    requires { length tasks.now ≤ MAX_VCPUS }
+    ensures { IsTrue result ↔ (words_of line.now ≡ head_words cores (count_by is_admitted tasks.now)) }
+{
+    has_words(
+        line,
+        &[
+            TextPiece::Text(b"plan"),
+            TextPiece::Text(b"cores"),
+            TextPiece::Number(cores),
+            TextPiece::Text(b"vcpus"),
+            TextPiece::Number(count_admitted(tasks)),
+        ],
+    )
+}

@@ -1,0 +1,149 @@
+ghost use Rattle.std.specs.Prelude.{◌≡◌, ◌++◌, ◌+◌, ◌<◌, ◌≤◌, [], ◌∷◌, IfOk, IsErrOf, IsTrue, MatchOption, OnOk, ◌↔◌, ◌^◌, decimal, false, length, map, true, ℕ};
+ghost use Rattle.std.specs.List.{All};
+ghost use Rattle.tab_core.specs.declared.TheConstants.{MAX_CORES, MAX_VCPUS};
+ghost use Rattle.table_form.specs.Serves.{has_task};
+ghost use Rattle.table_form.specs.declared.segment.Segment.{Segment};
+ghost use Rattle.tab_words.specs.Words.{words_of};
+ghost use Rattle.plan_text.specs.FirstBad.{IsFirstBad};
+ghost use Rattle.plan_text.specs.Names.{AreHostNames};
+ghost use Rattle.plan_text.specs.PlanLines.{AreFineRows, IsFineSegment, core_lines, end_words, segment_words};
+ghost use Rattle.plan_text.specs.Reading.{AreRows, IsNoSegment, IsNoSegmentLine, IsPushed};
+ghost use Rattle.plan_text.specs.declared.read_fault.ReadPlan.{ReadPlan};
+
+use crate::lines_left::LinesLeft;
+use crate::read_fault::ReadPlan;
+use std::alloc::{AllocError, Global};
+use tab_core::{Periodic, VcpuNo};
+use tab_words::{TextPiece, Words, read_number};
+use table_form::{Segment, Segments};
+use vcpu_names::Names;
+
+// Reads the lines of the cores and the end.
+pub(crate) fn read_cores(
+    alloc: Global,
+    left: &mut LinesLeft<'_>,
+    names: &Names<'_>,
+    tasks: &[Option<Periodic>],
+    cores: u32,
+) -> Result<Vec<Segments>, ReadPlan>
+    requires good { AreHostNames names.now }
+    requires named { length names.now ≡ length tasks.now }
+    requires few_cores { cores ≤ MAX_CORES }
+    ensures lines { IfOk result (λ rows. left.old.lines ≡ core_lines names.now 0 rows.items ++ end_words ∷ []) }
+    ensures rows { IfOk result (λ rows. length rows.items ≡ cores) }
+    ensures fine { IfOk result (λ rows. AreFineRows tasks.now rows.items) }
+    ensures bad_line { (bad : ℕ) → IsErrOf result (ReadPlan.BadLine bad)
+        → IsFirstBad (AreRows names.now tasks.now 0 cores) left.old.number left.old.lines bad }
+{
+    let mut rows = Vec::new(alloc);
+    for core in 0..cores {
+        left.take(&[TextPiece::Text(b"core"), TextPiece::Number(core)])?;
+        let row = read_row(alloc, left, names, tasks)?;
+        if rows.push(Segments::of(row)).is_err() {
+            return Err(ReadPlan::NoMemory);
+        }
+    }
+    left.take(&[TextPiece::Text(b"end")])?;
+    match left.first() {
+        None => Ok(rows),
+        Some(_) => Err(left.bad_line()),
+    }
+}
+
+// Reads the lines of segments, up to the first that is none.
+fn read_row(
+    alloc: Global,
+    left: &mut LinesLeft<'_>,
+    names: &Names<'_>,
+    tasks: &[Option<Periodic>],
+) -> Result<Vec<Segment>, AllocError>
+    requires good { AreHostNames names.now }
+    requires named { length names.now ≡ length tasks.now }
+    ensures lines { IfOk result (λ row. left.old.lines ≡ map (segment_words names.now) row.items ++ left.new.lines) }
+    ensures number { IfOk result (λ row. left.new.number ≡ left.old.number + length row.items) }
+    ensures fine { IfOk result (λ row. All (IsFineSegment tasks.now) row.items) }
+    ensures behind { OnOk result (IsNoSegment names.now tasks.now left.new.lines) }
+{
+    let mut row = Vec::new(alloc);
+    while let Some(line) = left.first() {
+        if !push_segment(&mut row, line, names, tasks)? {
+            return Ok(row);
+        }
+        left.step();
+    }
+    Ok(row)
+}
+
+// Appends the segment that the line is, if it is one.
+fn push_segment(
+    row: &mut Vec<Segment>,
+    line: &[u8],
+    names: &Names<'_>,
+    tasks: &[Option<Periodic>],
+) -> Result<bool, AllocError>
+    requires good { AreHostNames names.now }
+    requires named { length names.now ≡ length tasks.now }
+    ensures pushed { IfOk result (λ pushed. IsTrue pushed
+        → IsPushed names.now tasks.now (words_of line.now) row.old.items row.new.items) }
+    ensures none { IfOk result (λ pushed. pushed ≡ false
+        → (row.new.items ≡ row.old.items) × IsNoSegmentLine names.now tasks.now (words_of line.now)) }
+{
+    let Some(segment) = segment_of(line, names, tasks) else {
+        return Ok(false);
+    };
+    let Segment { owner, end, .. } = segment;
+    row.push(Segment { owner, end })?;
+    Ok(true)
+}
+
+// The segment that the line is.
+fn segment_of(line: &[u8], names: &Names<'_>, tasks: &[Option<Periodic>]) -> Option<Segment>
+    requires good { AreHostNames names.now }
+    requires named { length names.now ≡ length tasks.now }
+    ensures { MatchOption result
+        (IsNoSegmentLine names.now tasks.now (words_of line.now))
+        (λ s. IsFineSegment tasks.now s × (words_of line.now ≡ segment_words names.now s)) }
+{
+    let mut words = Words::of(line);
+    let (Some(end), Some(owner), None) = (words.next(), words.next(), words.next()) else {
+        return None;
+    };
+    let Some(end) = end_of(end) else {
+        return None;
+    };
+    if owner == b"-".as_slice() {
+        return Some(Segment { owner: None, end });
+    }
+    let Some(vcpu) = names.number_of(owner) else {
+        return None;
+    };
+    if !has_task(tasks, &vcpu) {
+        return None;
+    }
+    Some(Segment {
+        owner: Some(vcpu),
+        end,
+    })
+}
+
+// The number below 2^32 that the word spells.
+fn end_of(word: &[u8]) -> Option<u32>
+    ensures { MatchOption result ((end : ℕ) → end < 2 ^ 32 → word.now ≡ decimal end → ⊥)
+        (λ end. word.now ≡ decimal end) }
+{
+    let number = read_number(word)?;
+    if number <= u64::from(u32::MAX) {
+        Some(number as u32)
+    } else {
+        None
+    }
+}
+
+fn has_task(tasks: &[Option<Periodic>], vcpu: &VcpuNo) -> bool
+    ensures { result ≡ has_task tasks.now vcpu.now }
+{
+    match tasks.get(vcpu.index()) {
+        Some(task) => task.is_some(),
+        None => false,
+    }
+}
