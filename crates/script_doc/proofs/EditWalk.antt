@@ -10,8 +10,9 @@ use Rattle.std.specs.Result.{IsErrAnd, IsErrOf}
 use Rattle.tab_core.specs.Name.{IsName}
 use Rattle.tab_core.specs.declared.TheConstants.{MAX_LATENCY_NS, WHOLE_PPM}
 use Rattle.script_doc.specs.declared.event_reader.LineFault.{LineFault}
-use Rattle.script_doc.specs.Events.{HasUnknownEdit, IsGoodEdit, NamedEdit, sets, leaves, wakes, blocks, changes, edit_name, edit_vcpu, edit_words, named_edit}
-use Rattle.script_doc.specs.Names.{IsUnknown}
+use Rattle.tab_core.specs.Edits.{AreEditsOf, vcpu_of}
+use Rattle.script_doc.specs.Events.{HasUnknownEdit, IsGoodEdit, NamedEdit, sets, leaves, wakes, blocks, changes, edit_name, edit_words, named_edit}
+use Rattle.vcpu_names.specs.Names.{IsUnknown}
 use Rattle.script_doc.specs.Reading.{AreEdits, AreNoEdits, AreUnknownEdits, IsEdit, IsNoEdit, IsUnknownAct, IsUnknownName}
 
 pub All-one : {X : Type 0} (P : X → Type 0) (x : X) → P x → All P (x ∷ [])
@@ -45,7 +46,7 @@ pub record EditsSoFar (names : List (List ℕ)) (words rest : List (List ℕ)) (
   pub named : List NamedEdit
   pub written : words ≡ flat_map edit_words named ++ rest
   pub good : All IsGoodEdit named
-  pub within : All (λ edit. edit_vcpu edit < length names) edits
+  pub within : AreEditsOf (length names) edits
   pub known : all_known ≡ true → named ≡ map (named_edit names) edits
   pub unknown : all_known ≡ false → HasUnknownEdit names named
   pub back : NoEdits rest → NoEdits words
@@ -90,8 +91,8 @@ edit_more names words rest after edits edit all_known so_far is = record {
   written = written_more words rest after so_far.named is.named so_far.written is.written;
   good = All-append IsGoodEdit so_far.named (is.named ∷ []) so_far.good (All-one IsGoodEdit is.named is.good);
   within =
-      All-append (λ (edit : Edit). edit_vcpu edit < length names) edits (edit ∷ []) so_far.within
-      (All-one (λ (edit : Edit). edit_vcpu edit < length names) edit is.meaning.1);
+      All-append (λ (edit : Edit). vcpu_of edit < length names) edits (edit ∷ []) so_far.within
+      (All-one (λ (edit : Edit). vcpu_of edit < length names) edit is.meaning.1);
   known = λ known.
       ap (λ ns. ns ++ is.named ∷ []) (so_far.known known)
       ∙ (ap (λ (n : NamedEdit). map (named_edit names) edits ++ n ∷ []) is.meaning.0

@@ -1,5 +1,6 @@
+pub mod Due
 pub mod EditWalk
 pub mod EventWalk
-pub mod NameMap
 pub mod Rows
 pub mod Walk
+pub mod Within

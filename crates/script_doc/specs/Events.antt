@@ -3,9 +3,10 @@ use Rattle.std.specs.Prelude.{◌≡◌, ℕ, ◌<◌, ◌≤◌, ◌^◌, ◌�
 use Rattle.std.specs.List.{All}
 use Rattle.tab_core.specs.Name.{IsName}
 use Rattle.tab_core.specs.declared.TheConstants.{MAX_LATENCY_NS, WHOLE_PPM}
+use Rattle.tab_core.specs.Edits.{AreEditsOf}
 use Rattle.tab_core.specs.declared.edit.Edit.{Edit}
 use Rattle.tab_core.specs.declared.edit.Edit.TheVariants.{Set, Leave}
-use Rattle.script_doc.specs.Names.{IsUnknown, name_at}
+use Rattle.vcpu_names.specs.Names.{IsUnknown, name_at}
 use Rattle.script_doc.specs.declared.event.Act.{Act}
 use Rattle.script_doc.specs.declared.event.Act.TheVariants.{Wake, Block, Change}
 use Rattle.script_doc.specs.declared.event.Event.{Event}
@@ -86,16 +87,11 @@ named_act names (Wake vcpu) = wakes (name_at names vcpu)
 named_act names (Block vcpu) = blocks (name_at names vcpu)
 named_act names (Change edits) = changes (map (named_edit names) edits)
 
--- the vCPU of an edit
-abbrev pub edit_vcpu : Edit → ℕ
-edit_vcpu (Set vcpu reservation) = vcpu
-edit_vcpu (Leave vcpu) = vcpu
-
 -- what happens is of vCPUs below this count
 abbrev pub IsWithin : ℕ → Act → Type 0
 IsWithin count (Wake vcpu) = vcpu < count
 IsWithin count (Block vcpu) = vcpu < count
-IsWithin count (Change edits) = All (λ edit. edit_vcpu edit < count) edits
+IsWithin count (Change edits) = AreEditsOf count edits
 
 -- the words are those of this event of a host whose vCPUs have these names
 pub record IsEvent (names : List (List ℕ)) (words : List (List ℕ)) (event : Event) : Type 0 where

@@ -1,5 +1,4 @@
 pub mod Events
-pub mod Names
 pub mod Reading
 pub mod Rows
 pub mod Script

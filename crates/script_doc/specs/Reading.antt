@@ -1,10 +1,11 @@
 -- What the readers of a part of an event's line find in its words.
 use Rattle.std.specs.Prelude.{◌≡◌, ℕ, ◌<◌, List, [], ◌∷◌, ◌++◌, map, length, flat_map, Option, MatchOption}
 use Rattle.std.specs.List.{All}
+use Rattle.tab_core.specs.Edits.{AreEditsOf, vcpu_of}
 use Rattle.tab_core.specs.Name.{IsName}
 use Rattle.tab_core.specs.declared.edit.Edit.{Edit}
-use Rattle.script_doc.specs.Events.{HasUnknown, HasUnknownEdit, IsGoodAct, IsGoodEdit, IsWithin, NamedAct, NamedEdit, act_words, edit_name, edit_vcpu, edit_words, named_act, named_edit}
-use Rattle.script_doc.specs.Names.{IsUnknown, name_at}
+use Rattle.script_doc.specs.Events.{HasUnknown, HasUnknownEdit, IsGoodAct, IsGoodEdit, IsWithin, NamedAct, NamedEdit, act_words, edit_name, edit_words, named_act, named_edit}
+use Rattle.vcpu_names.specs.Names.{IsUnknown, name_at}
 use Rattle.script_doc.specs.declared.event.Act.{Act}
 
 -- the words are the name of this vCPU and nothing else
@@ -30,7 +31,7 @@ pub record IsEdit (names : List (List ℕ)) (words rest : List (List ℕ)) (foun
   pub written : words ≡ edit_words named ++ rest
   pub good : IsGoodEdit named
   pub meaning : MatchOption found (IsUnknown names (edit_name named))
-      (λ edit. (named ≡ named_edit names edit) × (edit_vcpu edit < length names))
+      (λ edit. (named ≡ named_edit names edit) × (vcpu_of edit < length names))
 
 -- the words do not begin with an edit
 abbrev pub IsNoEdit : List (List ℕ) → Type 0
@@ -41,7 +42,7 @@ pub record AreEdits (names : List (List ℕ)) (words : List (List ℕ)) (edits :
   pub written : words ≡ flat_map edit_words (map (named_edit names) edits)
   pub some : 0 < length (map (named_edit names) edits)
   pub good : All IsGoodEdit (map (named_edit names) edits)
-  pub within : All (λ edit. edit_vcpu edit < length names) edits
+  pub within : AreEditsOf (length names) edits
 
 -- the words are no edits, of which there is one at least
 abbrev pub AreNoEdits : List (List ℕ) → Type 0

@@ -2,7 +2,7 @@
 use Rattle.std.specs.Prelude.{◌≡◌, ℕ, ◌*◌, ◌<◌, ◌≤◌, List, [], ◌∷◌, ◌++◌, length, count_by, IsTrue}
 use Rattle.std.specs.List.{All, AllPairs}
 use Rattle.tab_core.specs.declared.TheConstants.{MAX_CHANGES, MAX_EVENTS, ROUND}
-use Rattle.script_doc.specs.Events.{IsEvent, IsNoLine, IsUnknownLine, is_change}
+use Rattle.script_doc.specs.Events.{IsEvent, IsNoLine, IsUnknownLine, IsWithin, is_change}
 use Rattle.script_doc.specs.Rows.{Row}
 use Rattle.script_doc.specs.declared.event.Event.{Event}
 use Rattle.script_doc.specs.declared.event_reader.LineFault.{LineFault}
@@ -17,6 +17,14 @@ NeverFall events = AllPairs (λ earlier later. earlier.tick ≤ later.tick) even
 -- how many of the events are changes of reservations
 abbrev pub changes_in : List Event → ℕ
 changes_in events = count_by (λ event. is_change event.act) events
+
+-- each vCPU that the events name is below this count
+abbrev pub AreWithin : ℕ → List Event → Type 0
+AreWithin count events = All (λ event. IsWithin count event.act) events
+
+-- each event is before the end of a run of so many rounds
+abbrev pub AreInRun : ℕ → List Event → Type 0
+AreInRun rounds events = All (λ event. event.tick < rounds * ROUND) events
 
 -- the tick of the last event, or 0 where there is none
 abbrev pub last_tick : List Event → ℕ
@@ -35,7 +43,7 @@ AreEvents names (row ∷ rows) [] = ⊥
 pub record IsScript (names : List (List ℕ)) (rounds : ℕ) (rows : List Row) (events : List Event) : Type 0 where
   pub each : AreEvents names rows events
   pub order : NeverFall events
-  pub in_time : All (λ event. event.tick < rounds * ROUND) events
+  pub in_time : AreInRun rounds events
   pub few : length events ≤ MAX_EVENTS
   pub few_changes : changes_in events ≤ MAX_CHANGES
 

@@ -3,14 +3,14 @@ ghost use Rattle.tab_core.specs.Name.{IsName};
 ghost use Rattle.tab_core.specs.declared.TheConstants.{MAX_LATENCY_NS, WHOLE_PPM};
 ghost use Rattle.tab_words.specs.Words.{words_of};
 ghost use Rattle.script_doc.specs.Events.{IsEvent, IsNoLine, IsUnknownLine};
-ghost use Rattle.script_doc.specs.Names.{IsUnknown, name_at};
+ghost use Rattle.vcpu_names.specs.Names.{IsUnknown, name_at};
 ghost use Rattle.script_doc.specs.Reading.{AreEdits, AreNoEdits, AreUnknownEdits, IsAct, IsEdit, IsNoAct, IsNoEdit, IsNoName, IsOnly, IsUnknownAct, IsUnknownName};
 
 use crate::event::{Act, Edits, Event};
-use crate::names::Names;
 use std::alloc::Global;
 use tab_core::{Edit, MAX_LATENCY_NS, Name, NameFault, Reservation, VcpuNo, WHOLE_PPM};
 use tab_words::{Words, read_number};
+use vcpu_names::Names;
 
 // Why a line isn't read as an event.
 #[derive(Clone, Copy, Debug, PartialEq, Eq)]

@@ -8,7 +8,6 @@
 mod event;
 mod event_reader;
 mod line;
-mod names;
 mod script;
 mod script_fault;
 mod script_reader;

@@ -1,8 +1,8 @@
-ghost use Rattle.std.specs.Prelude.{◌≡◌, ℕ, ◌<◌, ◌^◌, ◌⊎◌, length, IfErr, IfOk, IsErrOf, MatchOption};
+ghost use Rattle.std.specs.Prelude.{◌≡◌, ℕ, ◌<◌, ◌^◌, ◌⊎◌, length, IfErr, IfOk, IsErr, IsErrOf, MatchOption};
 ghost use Rattle.script_doc.specs.Events.{is_change};
-ghost use Rattle.script_doc.specs.Names.{names_of};
+ghost use Rattle.vcpu_names.specs.Names.{names_of};
 ghost use Rattle.script_doc.specs.Rows.{rows_of};
-ghost use Rattle.script_doc.specs.Script.{BreaksLimit, IsFirstFault, IsInLimits, IsScript, fault_at};
+ghost use Rattle.script_doc.specs.Script.{AreInRun, AreWithin, BreaksLimit, IsFirstFault, IsInLimits, IsScript, fault_at};
 
 #[cfg(test)]
 mod tests;
@@ -10,19 +10,21 @@ mod tests;
 use crate::event::{Act, Event};
 use crate::event_reader::{LineFault, event_of};
 use crate::line::is_skipped;
-use crate::names::Names;
 use crate::script::Script;
 use crate::script_fault::ScriptFault;
 use std::alloc::Global;
 use tab_core::{Host, MAX_CHANGES, MAX_EVENTS, ROUND};
 use tab_words::Lines;
+use vcpu_names::Names;
 
 /// The script of a text of less than 2^32 bytes, for a host and a run of so many rounds.
 ///
 /// An event's line is `TICK wake NAME`, `TICK block NAME` or `TICK change` and one edit at least,
 /// each `set NAME SHARE LATENCY` or `leave NAME`. Its tick is below 2^32, the share is 1 to 1000000
 /// parts per million and the latency 0 to 1000000000000 ns. A line without words and one whose first
-/// byte is `#` are skipped, and count as lines. The fault is the first of the first line with one.
+/// byte is `#` are skipped, and count as lines. The fault is the first of the first line with one, and
+/// a text with a fault is never read as a script.
+/// A script that is read names only vCPUs of the host, and its events are before the run's end.
 pub fn read_script(
     alloc: Global,
     bytes: &[u8],
@@ -31,8 +33,12 @@ pub fn read_script(
 ) -> Result<Script, ScriptFault>
     requires { length bytes.now < 2 ^ 32 }
     ensures ok { IfOk result (IsScript (names_of host.now.vcpus) rounds (rows_of bytes.now)) }
+    ensures known { IfOk result (AreWithin (length host.now.vcpus)) }
+    ensures in_run { IfOk result (AreInRun rounds) }
     ensures fault { IfErr result (λ fault. (fault ≡ ScriptFault.NoMemory)
         ⊎ IsFirstFault (names_of host.now.vcpus) rounds (rows_of bytes.now) fault) }
+    ensures due { (fault : ScriptFault) → IsFirstFault (names_of host.now.vcpus) rounds (rows_of bytes.now) fault
+        → IsErr result }
 {
     let names = Names::of(alloc, host.vcpus.items())?;
     let mut events = Vec::new(alloc);

@@ -2,11 +2,13 @@ use Rattle.std.proofs.Common.{◌≡◌, ℕ, ◌+◌, List, [], ◌∷◌, ◌+
 use Rattle.std.proofs.lemmas.Grind.{common_steps}
 use Rattle.tab_words.specs.Words.{words_of}
 use Rattle.script_doc.specs.Events.{IsEvent, IsNoLine, IsUnknownLine, is_change}
-use Rattle.script_doc.specs.Names.{names_of}
+use Rattle.vcpu_names.specs.Names.{names_of}
 use Rattle.script_doc.specs.Rows.{is_skipped}
 use Rattle.script_doc.specs.Script.{BreaksLimit, IsInLimits}
 use Rattle.script_doc.specs.declared.event_reader.LineFault.TheVariants.{BadLine as BadForm, UnknownName as NoSuchName}
 use Rattle.script_doc.proofs.EventWalk.{EventsSoFar, event_read, form_fault, limit_fault, line_skipped, whole_script}
+use Rattle.script_doc.proofs.Due.{fault_or_script}
+use Rattle.script_doc.proofs.Within.{script_within}
 use Rattle.std.proofs.Common.{inr, Err}
 use Rattle.script_doc.proofs.script_reader.read_script.Goals as goal
 use Rattle.script_doc.proofs.script_reader.read_script.Goals.{then-is_change, else-is_change}
@@ -15,7 +17,7 @@ pub returns-in-Err-clause-fault : goal.returns-in-Err-clause-fault
 returns-in-Err-clause-fault c =
     let at : EventsSoFar (names_of c.args.host.now.vcpus) c.args.rounds c.args.bytes.now c.loop-line.number c.loop-line.tick c.loop-line.changes c.loop-line.events.items (c.in-Some.line.now ∷ c.next.new.self) =
     subst (EventsSoFar (names_of c.args.host.now.vcpus) c.args.rounds c.args.bytes.now c.loop-line.number c.loop-line.tick c.loop-line.changes c.loop-line.events.items) c.in-Some.ensures.steps c.loop-line.invariant in
-    let named : c.in_ok-names.names ≡ names_of c.args.host.now.vcpus = c.in_ok-names.ensures ∙ ap names_of c.items.ensures.same in
+    let named : c.in_ok-names.names ≡ names_of c.args.host.now.vcpus = c.in_ok-names.ensures.names ∙ ap names_of c.items.ensures.same in
     let kept : is_skipped c.in-Some.line.now ≡ false = search rules in
     let bad : (c.in-Err.fault ≡ BadForm → IsNoLine (words_of c.in-Some.line.now)) = λ is. c.in-Err.ensures.bad_line (ap Err is) in
     let unknown : (c.in-Err.fault ≡ NoSuchName → IsUnknownLine (names_of c.args.host.now.vcpus) (words_of c.in-Some.line.now)) =
@@ -26,7 +28,7 @@ pub returns-in-Some-broken_limit-clause-fault : goal.returns-in-Some-broken_limi
 returns-in-Some-broken_limit-clause-fault c =
     let at : EventsSoFar (names_of c.args.host.now.vcpus) c.args.rounds c.args.bytes.now c.loop-line.number c.loop-line.tick c.loop-line.changes c.loop-line.events.items (c.in-Some.line.now ∷ c.next.new.self) =
     subst (EventsSoFar (names_of c.args.host.now.vcpus) c.args.rounds c.args.bytes.now c.loop-line.number c.loop-line.tick c.loop-line.changes c.loop-line.events.items) c.in-Some.ensures.steps c.loop-line.invariant in
-    let named : c.in_ok-names.names ≡ names_of c.args.host.now.vcpus = c.in_ok-names.ensures ∙ ap names_of c.items.ensures.same in
+    let named : c.in_ok-names.names ≡ names_of c.args.host.now.vcpus = c.in_ok-names.ensures.names ∙ ap names_of c.items.ensures.same in
     let kept : is_skipped c.in-Some.line.now ≡ false = search rules in
     let is : IsEvent (names_of c.args.host.now.vcpus) (words_of c.in-Some.line.now) c.in-Ok.event =
     subst (λ (names : List (List ℕ)). IsEvent names (words_of c.in-Some.line.now) c.in-Ok.event) named c.in-Ok.ensures.ok in
@@ -39,7 +41,7 @@ pub loop-line-preserved-else-is_err : goal.loop-line-preserved-else-is_err
 loop-line-preserved-else-is_err c =
     let at : EventsSoFar (names_of c.args.host.now.vcpus) c.args.rounds c.args.bytes.now c.loop-line.number c.loop-line.tick c.loop-line.changes c.loop-line.events.items (c.in-Some.line.now ∷ c.next.new.self) =
     subst (EventsSoFar (names_of c.args.host.now.vcpus) c.args.rounds c.args.bytes.now c.loop-line.number c.loop-line.tick c.loop-line.changes c.loop-line.events.items) c.in-Some.ensures.steps c.loop-line.invariant in
-    let named : c.in_ok-names.names ≡ names_of c.args.host.now.vcpus = c.in_ok-names.ensures ∙ ap names_of c.items.ensures.same in
+    let named : c.in_ok-names.names ≡ names_of c.args.host.now.vcpus = c.in_ok-names.ensures.names ∙ ap names_of c.items.ensures.same in
     let kept : is_skipped c.in-Some.line.now ≡ false = search rules in
     let is : IsEvent (names_of c.args.host.now.vcpus) (words_of c.in-Some.line.now) c.in-Ok.event =
     subst (λ (names : List (List ℕ)). IsEvent names (words_of c.in-Some.line.now) c.in-Ok.event) named c.in-Ok.ensures.ok in
@@ -66,3 +68,18 @@ returns-clause-ok c =
     let at : EventsSoFar (names_of c.args.host.now.vcpus) c.args.rounds c.args.bytes.now c.loop-line.number c.loop-line.tick c.loop-line.changes c.loop-line.events.items [] =
     subst (EventsSoFar (names_of c.args.host.now.vcpus) c.args.rounds c.args.bytes.now c.loop-line.number c.loop-line.tick c.loop-line.changes c.loop-line.events.items) c.in-None.ensures.steps.0 c.loop-line.invariant in
     rw c.of-2.ensures (whole_script _ _ _ _ _ _ _ at)
+
+pub returns-clause-known : goal.returns-clause-known
+returns-clause-known c =
+    let at : EventsSoFar (names_of c.args.host.now.vcpus) c.args.rounds c.args.bytes.now c.loop-line.number c.loop-line.tick c.loop-line.changes c.loop-line.events.items [] =
+    subst (EventsSoFar (names_of c.args.host.now.vcpus) c.args.rounds c.args.bytes.now c.loop-line.number c.loop-line.tick c.loop-line.changes c.loop-line.events.items) c.in-None.ensures.steps.0 c.loop-line.invariant in
+    rw c.of-2.ensures (script_within _ _ _ _ (whole_script _ _ _ _ _ _ _ at))
+
+pub returns-clause-in_run : goal.returns-clause-in_run
+returns-clause-in_run c = rw c.of-2.ensures c.loop-line.invariant.script.in_time
+
+pub returns-clause-due : goal.returns-clause-due
+returns-clause-due c fault first =
+    let at : EventsSoFar (names_of c.args.host.now.vcpus) c.args.rounds c.args.bytes.now c.loop-line.number c.loop-line.tick c.loop-line.changes c.loop-line.events.items [] =
+    subst (EventsSoFar (names_of c.args.host.now.vcpus) c.args.rounds c.args.bytes.now c.loop-line.number c.loop-line.tick c.loop-line.changes c.loop-line.events.items) c.in-None.ensures.steps.0 c.loop-line.invariant in
+    absurd (fault_or_script _ _ _ fault _ first (whole_script _ _ _ _ _ _ _ at))

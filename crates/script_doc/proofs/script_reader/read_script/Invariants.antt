@@ -1,4 +1,4 @@
-use Rattle.script_doc.specs.Names.{names_of}
+use Rattle.vcpu_names.specs.Names.{names_of}
 use Rattle.script_doc.proofs.EventWalk.{EventsSoFar}
 use Rattle.script_doc.proofs.script_reader.read_script.Given as goal
 
