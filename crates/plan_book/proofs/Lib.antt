@@ -1,0 +1,9 @@
+pub mod Courses
+pub mod Edits
+pub mod Flags
+pub mod Lists
+pub mod Making
+pub mod Next
+pub mod Refusals
+pub mod Shape
+pub mod Unique

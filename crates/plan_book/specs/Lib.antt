@@ -1,0 +1,4 @@
+pub mod After
+pub mod Books
+pub mod Faults
+pub mod Steps

@@ -1,0 +1,92 @@
+ghost use Rattle.std.specs.Prelude.{◌≡◌, ◌≤◌, ℕ, IfErr, IfOk, IsErr, IsErrOf, List, Option, length};
+ghost use Rattle.tab_core.specs.declared.TheConstants.{MAX_ROUNDS};
+ghost use Rattle.tab_core.specs.declared.over.Over.{Over};
+ghost use Rattle.tab_core.specs.declared.periodic.Periodic.{Periodic};
+ghost use Rattle.table_form.specs.Courses.{FitsRounds, plan_after};
+ghost use Rattle.table_form.specs.Plans.{IsPlanFor, PlanView};
+ghost use Rattle.period_choice.specs.Tasks.{AreTasksOf, IsFirstWithoutPeriod};
+ghost use Rattle.worst_fit.specs.Bound.{IsWithinBound};
+ghost use Rattle.plan_make.specs.Planned.{IsFirstWithoutRoom, IsPlanned};
+ghost use Rattle.script_doc.specs.Script.{AreInRun, AreWithin, changes_in};
+ghost use Rattle.plan_book.specs.After.{IsKnownAfter, Known};
+ghost use Rattle.plan_book.specs.Books.{IsBookOf, ticks_of};
+
+use crate::book::PlanBook;
+use crate::counts::Counts;
+use crate::fault::BookFault;
+use crate::latest::Latest;
+use script_doc::{Event, Script};
+use std::alloc::Global;
+use std::thread::Threads;
+use tab_core::{Host, NoMemory};
+use table_form::Course;
+
+/// The plan book of a host and a script, whose vCPUs are the host's.
+///
+/// A wake or a block sets the runnable flag of its vCPU. A change is planned for the host after
+/// all planned changes before it: where the changed host has a plan, the host and its plan become
+/// these, and otherwise nothing changes and the outcome tells why.
+///
+/// But for want of memory, `NoPeriod` comes exactly where a vCPU of the host itself has no period,
+/// and `NoRoom` exactly where each has one but one has no room. Want of memory in planning a change
+/// ends the whole call by `NoMemory`, and never refuses that change.
+pub fn make_book<R: Threads + Sync>(
+    rt: &R,
+    alloc: Global,
+    host: &Host,
+    script: &Script,
+) -> Result<PlanBook, BookFault>
+    requires { AreWithin (length host.now.vcpus) script.now }
+    ensures ok { IfOk result (IsBookOf host.now script.now) }
+    ensures known { IfOk result (λ _. (n : ℕ) → n ≤ length script.now
+        → (known : Known) × IsKnownAfter host.now script.now n known) }
+    ensures only { IfOk result (λ _. (n : ℕ) (known other : Known) → IsKnownAfter host.now script.now n known
+        → IsKnownAfter host.now script.now n other → other ≡ known) }
+    ensures changes { IfOk result (λ book. length book.outcomes ≡ changes_in script.now) }
+    ensures fits_host { IfOk result (λ _. (n : ℕ) (known : Known) → IsKnownAfter host.now script.now n known
+        → IsPlanFor known.host known.plan) }
+    ensures vcpus { IfOk result (λ book. (n : ℕ) → n ≤ length script.now
+        → length (plan_after book.course n).tasks ≡ length host.now.vcpus) }
+    ensures rounds { IfOk result (λ book. (rounds : ℕ) → 1 ≤ rounds → rounds ≤ MAX_ROUNDS
+        → AreInRun rounds script.now → FitsRounds book.course rounds) }
+    ensures no_period { (vcpu : ℕ) → IsErrOf result (BookFault.NoPeriod vcpu)
+        → IsFirstWithoutPeriod host.now.vcpus vcpu }
+    ensures no_room { (vcpu rest : ℕ) (over : List Over) → IsErrOf result (BookFault.NoRoom vcpu rest over)
+        → IsFirstWithoutRoom host.now vcpu rest over }
+    ensures without_period { (vcpu : ℕ) → IsFirstWithoutPeriod host.now.vcpus vcpu → IsErr result }
+    ensures without_room { (vcpu rest : ℕ) (over : List Over) → IsFirstWithoutRoom host.now vcpu rest over
+        → IsErr result }
+    ensures bound { (tasks : List (Option Periodic)) → AreTasksOf host.now.vcpus tasks
+        → IsWithinBound tasks host.now.cores → IfErr result (λ fault. fault ≡ BookFault.NoMemory) }
+    ensures planned { (plan : PlanView) → IsPlanned host.now plan → IfErr result (λ fault. fault ≡ BookFault.NoMemory) }
+{
+    let events = script.events();
+    let mut latest = Latest::start(rt, alloc, host)?;
+    let mut counts = Counts::with_room(alloc, events.len() + 1)?;
+    counts.add(&latest)?;
+    for event in events {
+        latest.follow(rt, alloc, &event.act)?;
+        counts.add(&latest)?;
+    }
+    let course = Course::of(
+        host.cores,
+        host.lag,
+        host.quantum,
+        ticks_in(alloc, events)?,
+        latest.plans,
+        counts.numbers,
+        counts.runnable,
+    );
+    Ok(PlanBook::of(course, latest.outcomes))
+}
+
+// The ticks of the events.
+fn ticks_in(alloc: Global, events: &[Event]) -> Result<Vec<u32>, NoMemory>
+    ensures { IfOk result (λ ticks. ticks.items ≡ ticks_of events.now) }
+{
+    let mut ticks = Vec::with_capacity(alloc, events.len())?;
+    for event in events {
+        ticks.push(event.tick)?;
+    }
+    Ok(ticks)
+}
