@@ -1,4 +1,5 @@
 pub mod Answers
+pub mod Cores
 pub mod Logs
 pub mod Next
 pub mod Picks

@@ -10,6 +10,7 @@ mod fault;
 mod laws;
 mod log;
 mod looks;
+mod machine_state;
 mod moves;
 mod next;
 mod progress;
@@ -26,5 +27,6 @@ pub use laws::{
     a_step_has_one_answer, every_gap_is_short, every_period_is_served, every_run_is_kept,
     every_tick_is_busy, next_stint_is_determined, nobody_runs_twice,
 };
+pub use machine_state::MachineState;
 pub use replaying::replay;
 pub use world::World;

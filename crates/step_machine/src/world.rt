@@ -11,6 +11,7 @@ ghost use Rattle.step_machine.specs.Progresses.{state_of, HasSpare};
 
 use crate::answer::Answer;
 use crate::log::CoreLog;
+use crate::machine_state::MachineState;
 use crate::next::next_step;
 use crate::progress::Progress;
 use crate::steps::{decide, post, run, see};
@@ -139,6 +140,14 @@ impl World<'_> {
     {
         let at = c.index();
         &self.progress.logs[at].entries
+    }
+
+    /// The state alone, which no longer needs the course.
+    pub fn into_state(self) -> MachineState
+        ensures { result ≡ self.entry.state }
+    {
+        let World { progress, .. } = self;
+        MachineState { progress }
     }
 }
 
