@@ -1,0 +1,4 @@
+pub mod Counting
+pub mod ReplayText
+pub mod RunsOf
+pub mod StintLine
