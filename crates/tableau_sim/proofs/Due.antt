@@ -22,16 +22,22 @@ use Rattle.tableau_sim.specs.Replies.{Replies}
 
 no_usage : (command : Command) (input : List ℕ) (place : ℕ) (text : List ℕ) → Replies command input (status.Usage place) text → ⊥
 no_usage called.Plan input place text h = h.1
+no_usage called.Check input place text h = h.1
+no_usage (called.Replay rounds) input place text h = h.1
 no_usage called.Help input place text h = cc
 no_usage called.Version input place text h = cc
 
 no_write_fault : (command : Command) (input : List ℕ) (text : List ℕ) → Replies command input status.WriteFault text → ⊥
 no_write_fault called.Plan input text h = h.1
+no_write_fault called.Check input text h = h.1
+no_write_fault (called.Replay rounds) input text h = h.1
 no_write_fault called.Help input text h = cc
 no_write_fault called.Version input text h = cc
 
 reads_all : (command : Command) (new : SourceView) (input : List ℕ) → command ≢ called.Help → command ≢ called.Version → IsWholeInput new input → HasRead command new input
 reads_all called.Plan new input no_help no_version h = h
+reads_all called.Check new input no_help no_version h = h
+reads_all (called.Replay rounds) new input no_help no_version h = h
 reads_all called.Help new input no_help no_version h = absurd (no_help refl)
 reads_all called.Version new input no_help no_version h = absurd (no_version refl)
 
@@ -45,6 +51,11 @@ due_for words command old new input status.WriteFault text are no_help no_versio
 due_for words command old new input status.Ok text are no_help no_version h = record { command = command; words_are = are; read = reads_all command new input no_help no_version h.0; replies = h.1 }
 due_for words command old new input (status.BadSections found wanted) text are no_help no_version h = record { command = command; words_are = are; read = reads_all command new input no_help no_version h.0; replies = h.1 }
 due_for words command old new input (status.Host f) text are no_help no_version h = record { command = command; words_are = are; read = reads_all command new input no_help no_version h.0; replies = h.1 }
+due_for words command old new input (status.Script f) text are no_help no_version h = record { command = command; words_are = are; read = reads_all command new input no_help no_version h.0; replies = h.1 }
+due_for words command old new input (status.BadStep line) text are no_help no_version h = record { command = command; words_are = are; read = reads_all command new input no_help no_version h.0; replies = h.1 }
+due_for words command old new input (status.BadPlanLine line) text are no_help no_version h = record { command = command; words_are = are; read = reads_all command new input no_help no_version h.0; replies = h.1 }
+due_for words command old new input (status.CheckNo off) text are no_help no_version h = record { command = command; words_are = are; read = reads_all command new input no_help no_version h.0; replies = h.1 }
+due_for words command old new input (status.StepRefused line answer) text are no_help no_version h = record { command = command; words_are = are; read = reads_all command new input no_help no_version h.0; replies = h.1 }
 due_for words command old new input (status.NoPeriod vcpu) text are no_help no_version h = record { command = command; words_are = are; read = reads_all command new input no_help no_version h.0; replies = h.1 }
 due_for words command old new input (status.NoRoom vcpu rest over) text are no_help no_version h = record { command = command; words_are = are; read = reads_all command new input no_help no_version h.0; replies = h.1 }
 

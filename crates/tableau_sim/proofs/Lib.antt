@@ -1,5 +1,12 @@
 pub mod Bounded
+pub mod CheckClauses
+pub mod CheckLine
+pub mod CheckReply
+pub mod Clauses
 pub mod Complete
 pub mod Due
+pub mod ReplayClauses
+pub mod ReplayLine
+pub mod ReplayReply
 pub mod Sequels
 pub mod Told

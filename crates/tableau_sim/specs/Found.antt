@@ -1,5 +1,5 @@
 -- Between reading and writing: what was found.
-use Rattle.std.specs.Prelude.{◌≡◌, ℕ, ◌+◌, ◌≤◌, true, List, [], length, Option, Some, None}
+use Rattle.std.specs.Prelude.{◌≡◌, ℕ, ◌+◌, ◌≤◌, true, List, [], codes, length, Option, Some, None}
 use Rattle.tab_io.specs.Outside.{Rose}
 use Rattle.tableau_sim.specs.declared.find.TheConstants.{INPUT_LIMIT}
 use Rattle.std.specs.Io.KnownBytes.{Consumes}
@@ -11,6 +11,8 @@ use Rattle.table_form.specs.Views.{plan_view}
 use Rattle.plan_make.specs.declared.fault.PlanFault.{PlanFault}
 use Rattle.plan_make.specs.declared.fault.PlanFault.TheVariants as fault
 use Rattle.plan_text.specs.PlanText.{names_of, plan_text}
+use Rattle.replay_text.specs.ReplayText.{replay_text}
+use Rattle.replay_text.specs.RunsOf.{IsRunOf}
 use Rattle.tableau_sim.specs.declared.help.TheConstants.{HELP, VERSION}
 use Rattle.tableau_sim.specs.declared.reply.Reply.{Reply}
 use Rattle.tableau_sim.specs.declared.reply.Reply.TheVariants as reply
@@ -31,6 +33,8 @@ abbrev pub status_of : Reply → Status
 status_of reply.Help = status.Ok
 status_of reply.Version = status.Ok
 status_of (reply.Plan host plan) = status.Ok
+status_of (reply.Replay host made steps state) = status.Ok
+status_of reply.Checked = status.Ok
 status_of (reply.Refused refusal host) = refusal
 
 -- and its text
@@ -38,11 +42,14 @@ abbrev pub text_of : Reply → List ℕ
 text_of reply.Help = HELP.now
 text_of reply.Version = VERSION.now
 text_of (reply.Plan host plan) = plan_text (names_of host.vcpus) (plan_view plan)
+text_of (reply.Replay host made steps state) = replay_text (names_of host.vcpus) made.course steps state
+text_of reply.Checked = codes "ok\n"
 text_of (reply.Refused refusal host) = line_of (names_in host) refusal
 
--- a plan in a reply is one for its host, so that it can be written
+-- a plan in a reply is one for its host, and a state is that to which its steps lead, so that they can be written
 abbrev pub IsWritable : Reply → Type 0
 IsWritable (reply.Plan host plan) = IsPlanFor host (plan_view plan)
+IsWritable (reply.Replay host made steps state) = IsRunOf made.course steps state
 IsWritable found = Unit {0}
 
 -- the status and text are the command's reply to its input; want of memory may come in its place

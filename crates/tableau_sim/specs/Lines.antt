@@ -8,6 +8,8 @@ use Rattle.host_doc.specs.declared.fault.Key.{Key}
 use Rattle.host_doc.specs.declared.fault.Key.TheVariants as key
 use Rattle.host_doc.specs.declared.fault.Path.{Path}
 use Rattle.plan_text.specs.PlanText.{name_at}
+use Rattle.tableau_sim.specs.ReplayLines.{script_line, step_line, steps_line}
+use Rattle.tableau_sim.specs.CheckLines.{plan_line, table_line}
 use Rattle.tableau_sim.specs.declared.status.Status.{Status}
 use Rattle.tableau_sim.specs.declared.status.Status.TheVariants as status
 
@@ -48,8 +50,13 @@ line_of names status.ReadFault = codes "refused: read fault\n"
 line_of names status.TooLong = codes "refused: input is longer than 4194304 bytes\n"
 line_of names (status.BadSections found wanted) = codes "refused: " ++ (decimal found ++ (codes " sections, not " ++ (decimal wanted ++ codes "\n")))
 line_of names (status.Host fault) = host_line fault
+line_of names (status.Script fault) = script_line fault
+line_of names (status.BadStep line) = steps_line line
 line_of names (status.NoPeriod vcpu) = codes "refused: no period for " ++ (name_at names vcpu ++ codes "\n")
 line_of names (status.NoRoom vcpu rest over) = no_room_text (name_at names vcpu) rest ++ (flat_map over_text over ++ codes "\n")
+line_of names (status.BadPlanLine line) = plan_line line
+line_of names (status.CheckNo fault) = table_line names fault
+line_of names (status.StepRefused line answer) = step_line line answer
 line_of names status.WriteFault = []
 line_of names status.NoMemory = codes "refused: want of memory\n"
 
@@ -60,7 +67,12 @@ exit_of status.ReadFault = 4
 exit_of status.TooLong = 2
 exit_of (status.BadSections found wanted) = 2
 exit_of (status.Host fault) = 2
+exit_of (status.Script fault) = 2
+exit_of (status.BadStep line) = 2
 exit_of (status.NoPeriod vcpu) = 3
 exit_of (status.NoRoom vcpu rest over) = 3
+exit_of (status.BadPlanLine line) = 2
+exit_of (status.CheckNo fault) = 7
+exit_of (status.StepRefused line answer) = 2
 exit_of status.WriteFault = 5
 exit_of status.NoMemory = 6

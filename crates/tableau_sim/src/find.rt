@@ -1,8 +1,11 @@
 ghost use Rattle.std.specs.Prelude.{◌≡◌, ◌≢◌, ◌≤◌, ℕ, List, length};
 ghost use Rattle.tab_words.specs.Commands.{IsCommand, texts};
 ghost use Rattle.tableau_sim.specs.Found.{Found, FoundInInput, Replied};
+ghost use Rattle.tableau_sim.specs.ReplayFound.{HasGoodRounds};
 
+use crate::check_command::check_reply;
 use crate::plan_command::plan_reply;
+use crate::replay_command::replay_reply;
 use crate::reply::{Reply, refusal};
 use crate::status::Status;
 use std::alloc::Global;
@@ -34,6 +37,7 @@ fn find_for<R: Threads + Sync, S: Source>(
     command: Command,
     input: &mut S,
 ) -> Reply
+    requires { HasGoodRounds command }
     ensures { (words : List (List ℕ)) → IsCommand words command → Found words (S.state input.old) (S.state input.new) result }
 {
     match command {
@@ -52,6 +56,7 @@ fn find_in_input<R: Threads + Sync, S: Source>(
 ) -> Reply
     requires help { command ≢ Command.Help }
     requires version { command ≢ Command.Version }
+    requires rounds { HasGoodRounds command }
     ensures { FoundInInput command (S.state input.old) (S.state input.new) result }
 {
     match read_all(alloc, input, INPUT_LIMIT) {
@@ -66,11 +71,14 @@ fn find_in_input<R: Threads + Sync, S: Source>(
 fn reply_to<R: Threads + Sync>(rt: &R, alloc: Global, command: Command, input: &[u8]) -> Reply
     requires help { command ≢ Command.Help }
     requires version { command ≢ Command.Version }
+    requires rounds { HasGoodRounds command }
     requires within { length input.now ≤ INPUT_LIMIT }
     ensures { Replied command input.now result }
 {
     match command {
         Command::Plan => plan_reply(rt, alloc, input),
+        Command::Check => check_reply(alloc, input),
+        Command::Replay { rounds } => replay_reply(rt, alloc, rounds, input),
         Command::Help | Command::Version => unreachable!(),
     }
 }

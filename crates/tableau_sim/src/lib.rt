@@ -5,15 +5,25 @@
 #![tactic(auto)]
 
 mod call;
+mod check_command;
+mod check_line;
+#[cfg(test)]
+mod check_tests;
 mod find;
 mod help;
 mod line;
 mod plan_command;
+mod replay_command;
+mod replay_line;
+#[cfg(test)]
+mod replay_tests;
 mod reply;
 mod status;
 mod tell;
 #[cfg(test)]
 mod tests;
+#[cfg(test)]
+mod whole_runs;
 
 pub use call::tableau;
 pub use find::INPUT_LIMIT;

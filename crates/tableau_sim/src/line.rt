@@ -3,6 +3,8 @@ ghost use Rattle.tab_io.specs.Outside.{Writes};
 ghost use Rattle.plan_text.specs.PlanText.{name_at, names_of};
 ghost use Rattle.tableau_sim.specs.Lines.{host_line, key_behind, line_of, no_room_text, over_text, path_text};
 
+use crate::check_line::{put_plan_line, put_table_line};
+use crate::replay_line::{put_script_line, put_step_line, put_steps_line};
 use crate::status::Status;
 use host_doc::{HostFault, Key, Path};
 use tab_core::{Over, Vcpu, VcpuNo};
@@ -51,12 +53,17 @@ pub(crate) fn put_line<K: Sink>(
         Status::NoRoom { vcpu, rest, over } => {
             put_no_room(sink, name_in(vcpus, vcpu), *rest, over.items())
         }
+        Status::Script(fault) => put_script_line(sink, fault),
+        Status::BadStep { line } => put_steps_line(sink, *line),
+        Status::StepRefused { line, answer } => put_step_line(sink, *line, answer),
+        Status::BadPlanLine { line } => put_plan_line(sink, *line),
+        Status::CheckNo(fault) => put_table_line(sink, fault, vcpus),
         Status::NoMemory => write_all(sink, b"refused: want of memory\n"),
     }
 }
 
 // The name of the vCPU of this number, or nothing where there is none.
-fn name_in<'a>(vcpus: &'a [Vcpu], vcpu: &VcpuNo) -> &'a [u8]
+pub(crate) fn name_in<'a>(vcpus: &'a [Vcpu], vcpu: &VcpuNo) -> &'a [u8]
     ensures { result.now ≡ name_at (names_of vcpus.now) vcpu.now }
 {
     match vcpus.get(vcpu.index()) {

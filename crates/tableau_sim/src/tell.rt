@@ -9,6 +9,7 @@ use crate::line::put_line;
 use crate::reply::Reply;
 use crate::status::Status;
 use plan_text::write_plan;
+use replay_text::write_replay;
 use tab_core::{Host, Vcpu};
 use tab_io::{Put, Sink, WriteFault, write_all};
 
@@ -34,6 +35,13 @@ fn put_reply<K: Sink>(output: &mut K, reply: &Reply) -> Result<(), WriteFault>
         Reply::Help => write_all(output, HELP.as_bytes()),
         Reply::Version => write_all(output, VERSION.as_bytes()),
         Reply::Plan { host, plan } => write_plan(output, host, plan),
+        Reply::Replay {
+            host,
+            book,
+            steps,
+            state,
+        } => write_replay(output, host, book.course(), steps.items(), state),
+        Reply::Checked => write_all(output, b"ok\n"),
         Reply::Refused { status, host } => put_line(output, status, vcpus_in(host)),
     }
 }
@@ -51,7 +59,8 @@ fn status_in(reply: Reply) -> Status
     ensures { result ≡ status_of reply }
 {
     match reply {
-        Reply::Help | Reply::Version | Reply::Plan { .. } => Status::Ok,
+        Reply::Help | Reply::Version | Reply::Checked => Status::Ok,
+        Reply::Plan { .. } | Reply::Replay { .. } => Status::Ok,
         Reply::Refused { status, .. } => status,
     }
 }

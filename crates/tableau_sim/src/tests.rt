@@ -6,7 +6,7 @@ use std::thread::Threads;
 use tab_io::{MemSink, MemSource};
 
 // The exit status for these words and this input. The listed reads fail.
-fn exit_of<R: Threads + Sync>(
+pub(crate) fn exit_of<R: Threads + Sync>(
     rt: &R,
     alloc: Global,
     words: &[&str],
