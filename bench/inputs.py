@@ -1,0 +1,113 @@
+#!/usr/bin/env python3
+"""Writes the inputs of bench/run into a folder: NAME.COMMAND.txt, where COMMAND is the words with `_` for a space.
+
+Usage: inputs.py PROGRAM FOLDER
+"""
+import os
+import subprocess
+import sys
+
+LIMIT = 4_194_304
+ROUND = 102_600
+PROGRAM, FOLDER = sys.argv[1], sys.argv[2]
+
+
+def write(name, text):
+    with open(os.path.join(FOLDER, name + ".txt"), "w") as file:
+        file.write(text)
+
+
+def host(cores, vcpus, **keys):
+    head = [f"cores = {cores}"] + [f"{key} = {value}" for key, value in keys.items()]
+    parts = [
+        f'\n[[vcpu]]\nname = "{name}"\nshare_ppm = {share}\nlatency_ns = {latency}'
+        for name, share, latency in vcpus
+    ]
+    return "\n".join(head + parts) + "\n"
+
+
+def plan_of(text):
+    """The plan text's lines, and each core's segments as (end, owner)."""
+    lines = subprocess.run([PROGRAM, "plan"], input=text, capture_output=True, text=True, check=True).stdout.splitlines()
+    rows = []
+    for line in lines:
+        words = line.split(" ")
+        if words[0] == "core":
+            rows.append([])
+        elif rows and len(words) == 2:
+            rows[-1].append((int(words[0]), words[1]))
+    return lines, rows
+
+
+def plans():
+    write("spaces.plan", " " * LIMIT)
+    write("comments.plan", ("# a comment line of a host document\n" * (LIMIT // 36 + 1))[:LIMIT])
+    write("keys.plan", "".join(f"k{n} = 1\n" for n in range(1, 240_001)))
+    write("bound.plan", host(32, [(f"v{n}", 100_000, 20_000_000) for n in range(256)]))
+    write("split8.plan", host(8, [(f"v{n}", 700_000, 50_000_000) for n in range(8)]
+                              + [(f"v{n}", 320_000, 100_000_000) for n in range(8, 15)]))
+    write("split16.plan", host(16, [(f"v{n}", 660_000, 100_000_000) for n in range(24)]))
+    write("split32.plan", host(32, [(f"v{n}", 663_000, 100_000_000) for n in range(48)]))
+    write("noroom.plan", host(32, [(f"v{n}", 990_000, 100_000_000) for n in range(33)]))
+    slivers = [(f"long{n}", 500_000, 102_702_600) for n in range(32)] + [(f"short{n}", 100_000, 180_180) for n in range(32)]
+    write("slivers.plan", host(32, slivers, sliver=11))
+    write("slivers-left.plan", host(32, slivers, sliver=0))
+
+
+def checks():
+    """A plan whose segments are cut into pieces of a few ticks, until the text is near the input's limit."""
+    text = host(32, [(f"v{n}", 100_000, 20_000_000) for n in range(256)])
+    lines, rows = plan_of(text)
+    head = lines[: lines.index("core 0")]
+    ticks = 8
+    out = head
+    for core, row in enumerate(rows):
+        out.append(f"core {core}")
+        begin = 0
+        for end, owner in row:
+            out += [f"{min(at, end)} {owner}" for at in range(begin + ticks, end + ticks, ticks)]
+            begin = end
+    write("pieces.check", text + "%%\n" + "\n".join(out + ["end"]) + "\n")
+
+
+def steps_of(rows, lag, rounds, room):
+    """Steps that always move the lowest core of least clock, each row's segments being its spans."""
+    ends = [[end for end, _ in row] for row in rows]
+    clocks, places, entered = [0] * len(rows), [0] * len(rows), [0] * len(rows)
+    out, size = [], 0
+    while size < room and min(clocks) < rounds * ROUND:
+        core = min(range(len(rows)), key=lambda c: (clocks[c], c))
+        begin = clocks[core] - clocks[core] % ROUND
+        line = f"see {core}\n"
+        if begin == clocks[core] and entered[core] * ROUND == begin:
+            line += f"decide {core}\n"
+            entered[core] += 1
+            places[core] = 0
+        line += f"run {core}\n"
+        end = begin + ends[core][places[core]]
+        clocks[core] = min(end, clocks[core] + lag)
+        if clocks[core] == end:
+            places[core] += 1
+        out.append(line)
+        size += len(line)
+    return "".join(out)
+
+
+def replays():
+    idle = host(32, [], lag=700, quantum=102_600)
+    room = LIMIT - 4000
+    write("idle.replay_64", idle + "%%\n%%\n" + steps_of([[(ROUND, "-")]] * 32, 700, 64, room - len(idle)))
+    busy = host(32, [(f"v{n}", 100_000, 20_000_000) for n in range(256)], lag=700, quantum=102_600)
+    _, rows = plan_of(busy)
+    write("planned.replay_64", busy + "%%\n%%\n" + steps_of(rows, 700, 64, room - len(busy)))
+    names = [f"a-name-that-is-as-long-as-one-{n:02}" for n in range(16)]
+    few = host(1, [(name, 10_000, 102_702_600) for name in names])
+    events = "".join(f"{n * 100:>24} {'wake' if n % 2 else 'block'} {names[n % 16]}\n" for n in range(65_535))
+    write("events.replay_64", few + "%%\n" + events + "%%\nsee 0\n")
+    vcpus = [(f"v{n}", 100_000, 20_000_000) for n in range(256)]
+    changes = "".join(f"{n} change set v{n} 90000 20000000\n" for n in range(15))
+    write("changes.replay_64", host(32, vcpus) + "%%\n" + changes + "%%\nsee 0\n")
+
+
+for make in (plans, checks, replays):
+    make()
