@@ -14,34 +14,45 @@ use Rattle.edf_table.proofs.Whole.{demand_in-append, demand_in-none, demand_in-o
 use Rattle.edf_table.proofs.Shorter.{shorter_fits}
 
 -- where a cut fits, each shorter one does
-pub fits_down : (jobs : List Job) (v x f t d : ℕ) → IsPeriod t → 1 ≤ x → f + (x + d) ≤ t → FitsBeside jobs (tight v (x + d) f t) → FitsBeside jobs (tight v x f t)
-fits_down jobs v x f t zero is some within fits = let same : x + 0 ≡ x = omega arith in subst (λ y. FitsBeside jobs (tight v y f t)) same fits
+pub fits_down : (jobs : List Job) (v x f t d : ℕ) → IsPeriod t → 1 ≤ x → f + (x + d) ≤ t
+    → FitsBeside jobs (tight v (x + d) f t) → FitsBeside jobs (tight v x f t)
+fits_down jobs v x f t zero is some within fits =
+    let same : x + 0 ≡ x = omega arith in subst (λ y. FitsBeside jobs (tight v y f t)) same fits
 fits_down jobs v x f t (suc d) is some within fits =
     let one_less = shorter_fits jobs v (x + suc d) f t is (omega arith) within fits in
     let same : x + suc d - 1 ≡ x + d = omega arith in
-    fits_down jobs v x f t d is some (omega arith) (subst (λ y. FitsBeside jobs (tight v y f t)) same one_less)
+    fits_down jobs v x f t d is some (omega arith)
+    (subst (λ y. FitsBeside jobs (tight v y f t)) same one_less)
 
 -- so where a cut doesn't fit, no longer one does
-pub longer_misses : (jobs : List Job) (v x more f t : ℕ) → IsPeriod t → 1 ≤ x → x ≤ more → f + more ≤ t → (FitsBeside jobs (tight v x f t) → ⊥) →
+pub longer_misses : (jobs : List Job) (v x more f t : ℕ) → IsPeriod t → 1 ≤ x → x ≤ more
+    → f + more ≤ t → (FitsBeside jobs (tight v x f t) → ⊥) →
     FitsBeside jobs (tight v more f t) → ⊥
 longer_misses jobs v x more f t is some le within miss fits =
     let same : more ≡ x + (more - x) = omega arith in
-    miss (fits_down jobs v x f t (more - x) is some (omega arith) (subst (λ y. FitsBeside jobs (tight v y f t)) same fits))
+    miss (fits_down jobs v x f t (more - x) is some (omega arith)
+    (subst (λ y. FitsBeside jobs (tight v y f t)) same fits))
 
-demand_next : (s : Subtask) (n from to : ℕ) → demand_in (first_jobs s (suc n)) from to ≡ demand_in (first_jobs s n) from to + cond (is_inside from to (job_of s n)) s.cost 0
+demand_next : (s : Subtask) (n from to : ℕ)
+    → demand_in (first_jobs s (suc n)) from to
+    ≡ demand_in (first_jobs s n) from to + cond (is_inside from to (job_of s n)) s.cost 0
 demand_next s n from to =
-    ap (λ js. demand_in js from to) (first_jobs-suc s n) ∙ demand_in-append (first_jobs s n) (job_of s n ∷ []) from to
+    ap (λ js. demand_in js from to) (first_jobs-suc s n)
+    ∙ demand_in-append (first_jobs s n) (job_of s n ∷ []) from to
     ∙ ap (λ d. demand_in (first_jobs s n) from to + d) (demand_in-one (job_of s n) from to)
 
--- of the first n windows of cuts of x and of y ticks, those inside an interval: none of x, or count + 1, which stand a period apart
+-- of the first n windows of cuts of x and of y ticks, those inside an interval: none of x, or count
+-- + 1, which stand a period apart
 record Inside (v x y f t from to n : ℕ) : Type 0 where
   count : ℕ
-  demand : demand_in (first_jobs (tight v x f t) n) from to ≤ demand_in (first_jobs (tight v y f t) n) from to + (count + 1) * (x - y)
+  demand : demand_in (first_jobs (tight v x f t) n) from to
+      ≤ demand_in (first_jobs (tight v y f t) n) from to + (count + 1) * (x - y)
   length : count * t + from + x ≤ to
   last : count * t + from + t ≤ n * t + f
 
 -- a shorter cut takes no more than the difference from each window
-insides : (v x y f t from to n : ℕ) → y ≤ x → (demand_in (first_jobs (tight v x f t) n) from to ≡ 0) ⊎ Inside v x y f t from to n
+insides : (v x y f t from to n : ℕ) → y ≤ x
+    → (demand_in (first_jobs (tight v x f t) n) from to ≡ 0) ⊎ Inside v x y f t from to n
 insides v x y f t from to zero le = inl (rw (first_jobs-zero (tight v x f t)) (demand_in-none from to))
 insides v x y f t from to (suc n) le =
     let long = demand_next (tight v x f t) n from to in
@@ -50,35 +61,57 @@ insides v x y f t from to (suc n) le =
       | inl in_x ↦ (let both = and_parts (leb from (n * t + f)) (leb (n * t + (f + x)) to) in_x in
           let low : from ≤ n * t + f = leb-true _ _ both.0 in
           let high : n * t + (f + x) ≤ to = leb-true _ _ both.1 in
-          let in_y : is_inside from to (job_of (tight v y f t) n) ≡ true = rw (le-leb from (n * t + f) low) (le-leb (n * t + (f + y)) to (omega arith)) in
-          let long' : demand_in (first_jobs (tight v x f t) (suc n)) from to ≡ demand_in (first_jobs (tight v x f t) n) from to + x = long ∙ ap (λ b. demand_in (first_jobs (tight v x f t) n) from to + cond b x 0) in_x in
-          let short' : demand_in (first_jobs (tight v y f t) (suc n)) from to ≡ demand_in (first_jobs (tight v y f t) n) from to + y = short ∙ ap (λ b. demand_in (first_jobs (tight v y f t) n) from to + cond b y 0) in_y in
+          let in_y : is_inside from to (job_of (tight v y f t) n) ≡ true =
+          rw (le-leb from (n * t + f) low) (le-leb (n * t + (f + y)) to (omega arith)) in
+          let long' : demand_in (first_jobs (tight v x f t) (suc n)) from to
+          ≡ demand_in (first_jobs (tight v x f t) n) from to + x = long
+          ∙ ap (λ b. demand_in (first_jobs (tight v x f t) n) from to + cond b x 0) in_x in
+          let short' : demand_in (first_jobs (tight v y f t) (suc n)) from to
+          ≡ demand_in (first_jobs (tight v y f t) n) from to + y = short
+          ∙ ap (λ b. demand_in (first_jobs (tight v y f t) n) from to + cond b y 0) in_y in
           inr (elim (insides v x y f t from to n le) [
             | inl none ↦ record { count = 0; demand = omega arith; length = omega arith; last = omega arith }
             | inr some ↦ (let demand = some.demand in
                 let before = some.last in
-                record { count = some.count + 1; demand = omega arith; length = omega arith; last = omega arith })
+                record {
+                  count = some.count + 1;
+                  demand = omega arith;
+                  length = omega arith;
+                  last = omega arith;
+                })
           ]))
-      | inr out_x ↦ (let long' : demand_in (first_jobs (tight v x f t) (suc n)) from to ≡ demand_in (first_jobs (tight v x f t) n) from to = long ∙ ap (λ b. demand_in (first_jobs (tight v x f t) n) from to + cond b x 0) out_x ∙ omega arith in
+      | inr out_x ↦
+          (let long' : demand_in (first_jobs (tight v x f t) (suc n)) from to ≡ demand_in (first_jobs (tight v x f t) n) from to = long ∙ ap (λ b. demand_in (first_jobs (tight v x f t) n) from to + cond b x 0) out_x ∙ omega arith in
           elim (insides v x y f t from to n le) [
             | inl none ↦ inl (long' ∙ none)
             | inr some ↦ (let demand = some.demand in
                 let before = some.last in
                 let length = some.length in
-                inr (record { count = some.count; demand = omega arith; length = omega arith; last = omega arith }))
+                inr (record {
+                  count = some.count;
+                  demand = omega arith;
+                  length = omega arith;
+                  last = omega arith;
+                }))
           ])
     ]
 
 -- a cut that lacks less than the interval's excess overloads it too
-pub still_over : (jobs : List Job) (v cost less f t from to demand : ℕ) → 1 ≤ t → IsReported (jobs ++ jobs_of_subtask (tight v cost f t)) from to demand → to - from < demand →
-    cost - (demand - (to - from) - 1) / ((to - from - cost) / t + 1) ≤ less → less ≤ cost → FitsBeside jobs (tight v less f t) → ⊥
+pub still_over : (jobs : List Job) (v cost less f t from to demand : ℕ) → 1 ≤ t
+    → IsReported (jobs ++ jobs_of_subtask (tight v cost f t)) from to demand → to - from < demand →
+    cost - (demand - (to - from) - 1) / ((to - from - cost) / t + 1) ≤ less → less ≤ cost
+    → FitsBeside jobs (tight v less f t) → ⊥
 still_over jobs v cost less f t from to demand some reported over near le fits =
     let n = ROUND / t in
     let long = demand_in (first_jobs (tight v cost f t) n) from to in
     let short = demand_in (first_jobs (tight v less f t) n) from to in
-    let asked : demand ≡ demand_in jobs from to + long = reported.asked ∙ demand_in-append jobs (first_jobs (tight v cost f t) n) from to in
+    let asked : demand ≡ demand_in jobs from to + long =
+    reported.asked ∙ demand_in-append jobs (first_jobs (tight v cost f t) n) from to in
     let overloaded = reported.first.overloaded in
-    let bound : demand_in jobs from to + short ≤ to - from = subst (λ d. d ≤ to - from) (demand_in-append jobs (first_jobs (tight v less f t) n) from to) (fits from to overloaded.some_ticks overloaded.within) in
+    let bound : demand_in jobs from to + short ≤ to - from =
+    subst (λ d. d ≤ to - from) (demand_in-append jobs
+    (first_jobs (tight v less f t) n) from to)
+    (fits from to overloaded.some_ticks overloaded.within) in
     elim (insides v cost less f t from to n le) [
       | inl none ↦ omega arith
       | inr some' ↦ (let windows = (to - from - cost) / t + 1 in
@@ -87,9 +120,11 @@ still_over jobs v cost less f t from to demand some reported over near le fits =
           let length = some'.length in
           let few : count ≤ (to - from - cost) / t = le-div count (to - from - cost) t some (omega arith) in
           let lack : cost - less ≤ (excess - 1) / windows = omega arith in
-          let lack' : windows * (cost - less) ≤ windows * ((excess - 1) / windows) = mul-le-mul_left {m = cost - less} {n = (excess - 1) / windows} windows lack in
+          let lack' : windows * (cost - less) ≤ windows * ((excess - 1) / windows) =
+          mul-le-mul_left {m = cost - less} {n = (excess - 1) / windows} windows lack in
           let all : (excess - 1) / windows * windows ≤ excess - 1 = div-mul-le_self (excess - 1) windows in
-          let more : (cost - less) * (count + 1) ≤ (cost - less) * windows = mul-le-mul_left {m = count + 1} {n = windows} (cost - less) (omega arith) in
+          let more : (cost - less) * (count + 1) ≤ (cost - less) * windows =
+          mul-le-mul_left {m = count + 1} {n = windows} (cost - less) (omega arith) in
           let grown = some'.demand in
           omega arith)
     ]

@@ -16,15 +16,18 @@ use Rattle.cd_split.specs.Splitting.{ComesFirst, IsFirstCore}
 use Rattle.cd_split.specs.declared.order.Rank.{Rank}
 
 -- the next core of the order
-pub none_more : (order : List Rank) (unused : List ℕ) (P : ℕ → Type 0) (k : ℕ) (item : Rank) → NoneBefore order unused P k → k < length order → item ≡ get_or order k item →
+pub none_more : (order : List Rank) (unused : List ℕ) (P : ℕ → Type 0) (k : ℕ) (item : Rank)
+    → NoneBefore order unused P k → k < length order → item ≡ get_or order k item →
     (Contains unused item.core → P item.core → ⊥) → NoneBefore order unused P (k + 1)
 none_more order unused P k item none lt is here j d below =
     elim (cases_eq j k) [
-      | inl e ↦ subst (λ i. Contains unused (get_or order i d).core → P (get_or order i d).core → ⊥) (sym e) (at_read order (λ r. Contains unused r.core → P r.core → ⊥) k item lt is here d)
+      | inl e ↦ subst (λ i. Contains unused (get_or order i d).core → P (get_or order i d).core → ⊥)
+          (sym e) (at_read order (λ r. Contains unused r.core → P r.core → ⊥) k item lt is here d)
       | inr ne ↦ none j d (omega arith)
     ]
 
-pub none_found : (cores : List (List Piece)) (order : List Rank) (unused : List ℕ) (P : ℕ → Type 0) (k : ℕ) → IsOrderOf cores order → All (λ core. core < length cores) unused →
+pub none_found : (cores : List (List Piece)) (order : List Rank) (unused : List ℕ) (P : ℕ → Type 0)
+    (k : ℕ) → IsOrderOf cores order → All (λ core. core < length cores) unused →
     length order ≤ k → NoneBefore order unused P k → (core : ℕ) → Contains unused core → P core → ⊥
 none_found cores order unused P k ordered there all none core in_unused holds =
     let d : Rank = record { load = 0; core = core } in
@@ -32,8 +35,10 @@ none_found cores order unused P k ordered there all none core in_unused holds =
     let same : core ≡ (get_or order at.0 d).core = sym (at.2 d) in
     none at.0 d (omega (arith, at.1)) (subst (Contains unused) same in_unused) (subst P same holds)
 
-pub first_found : (cores : List (List Piece)) (order : List Rank) (unused : List ℕ) (P : ℕ → Type 0) (d : Rank) (k core : ℕ) → IsOrderOf cores order →
-    All (λ core. core < length cores) unused → k < length order → (get_or order k d).core ≡ core → NoneBefore order unused P k → Contains unused core → P core →
+pub first_found : (cores : List (List Piece)) (order : List Rank) (unused : List ℕ) (P : ℕ → Type 0)
+    (d : Rank) (k core : ℕ) → IsOrderOf cores order →
+    All (λ core. core < length cores) unused → k < length order → (get_or order k d).core ≡ core
+    → NoneBefore order unused P k → Contains unused core → P core →
     IsFirstCore cores unused P core
 first_found cores order unused P d k core ordered there lt is none in_unused holds = record {
   unused_core = in_unused;
@@ -44,9 +49,12 @@ first_found cores order unused P d k core ordered there lt is none in_unused hol
       elim (cases_order at.0 k) [
         | inl e ↦ absurd (ne (same ∙ ap (λ j. (get_or order j d).core) e ∙ is))
         | inr apart ↦ elim apart [
-          | inl before ↦ absurd (none at.0 d before (subst (Contains unused) same in_other) (subst P same holds_other))
+          | inl before ↦
+              absurd (none at.0 d before (subst (Contains unused) same in_other)
+              (subst P same holds_other))
           | inr after ↦ (let first = ordered.rising k at.0 d after at.1 (λ e. ne (same ∙ sym e ∙ is)) in
-              subst (λ c. ComesFirst cores c other) is (subst (ComesFirst cores (get_or order k d).core) (sym same) first))
+              subst (λ c. ComesFirst cores c other) is
+              (subst (ComesFirst cores (get_or order k d).core) (sym same) first))
         ]
       ]);
 }
@@ -55,11 +63,15 @@ first_found cores order unused P d k core ordered there lt is none in_unused hol
 abbrev IsBefore : Rank → Rank → Type 0
 IsBefore r s = (r.load < s.load) ⊎ ((r.load ≡ s.load) × (r.core ≤ s.core))
 
-before_from_cmp : (a b m n : ℕ) → is_lt (ordering_then (nat_cmp a b) (nat_cmp m n)) ≡ false → (b < a) ⊎ ((b ≡ a) × (n ≤ m))
+before_from_cmp : (a b m n : ℕ) → is_lt (ordering_then (nat_cmp a b) (nat_cmp m n)) ≡ false
+    → (b < a) ⊎ ((b ≡ a) × (n ≤ m))
 before_from_cmp a b m n h = elim (cases_order a b) [
-  | inl e ↦ (let equal : nat_cmp a b ≡ Equal = sym (nat_cmp_is a b Equal e) in inr (sym e, ge_from_not_lt m n (rw equal at h)))
+  | inl e ↦
+      (let equal : nat_cmp a b ≡ Equal = sym (nat_cmp_is a b Equal e) in inr
+      (sym e, ge_from_not_lt m n (rw equal at h)))
   | inr apart ↦ elim apart [
-    | inl lt ↦ (let less : nat_cmp a b ≡ Less = sym (nat_cmp_is a b Less lt) in let h' = rw less at h in absurd (cc))
+    | inl lt ↦
+        (let less : nat_cmp a b ≡ Less = sym (nat_cmp_is a b Less lt) in let h' = rw less at h in absurd (cc))
     | inr gt ↦ inl gt
   ]
 ]
@@ -71,22 +83,33 @@ before_after r s t (inr a) (inl b) = inl (omega (arith, a.0))
 before_after r s t (inr a) (inr b) = inr (a.0 ∙ b.0, omega (arith, a.1, b.1))
 
 -- from each rank to the next, so from each to all later ones
-rises_all : (ranks : List Rank) (d : Rank) → ((k : ℕ) → k + 1 < length ranks → IsBefore (get_or ranks k d) (get_or ranks (k + 1) d)) → (j n : ℕ) → j + suc n < length ranks →
+rises_all : (ranks : List Rank) (d : Rank)
+    → ((k : ℕ) → k + 1 < length ranks → IsBefore (get_or ranks k d) (get_or ranks (k + 1) d))
+    → (j n : ℕ) → j + suc n < length ranks →
     IsBefore (get_or ranks j d) (get_or ranks (j + suc n) d)
-rises_all ranks d next j zero lt = let same : j + 1 ≡ j + suc zero = omega arith in subst (λ k. IsBefore (get_or ranks j d) (get_or ranks k d)) same (next j (omega arith))
+rises_all ranks d next j zero lt =
+    let same : j + 1 ≡ j + suc zero =
+    omega arith in subst (λ k. IsBefore (get_or ranks j d) (get_or ranks k d)) same
+    (next j (omega arith))
 rises_all ranks d next j (suc n) lt =
     let same : j + suc n + 1 ≡ j + suc (suc n) = omega arith in
-    before_after (get_or ranks j d) (get_or ranks (j + suc n) d) (get_or ranks (j + suc (suc n)) d) (rises_all ranks d next j n (omega arith))
-    (subst (λ k. IsBefore (get_or ranks (j + suc n) d) (get_or ranks k d)) same (next (j + suc n) (omega arith)))
+    before_after (get_or ranks j d) (get_or ranks (j + suc n) d) (get_or ranks (j + suc (suc n)) d)
+    (rises_all ranks d next j n (omega arith))
+    (subst (λ k. IsBefore (get_or ranks (j + suc n) d) (get_or ranks k d)) same
+    (next (j + suc n) (omega arith)))
 
-comes_first : (cores : List (List Piece)) (r s : Rank) → IsRankIn cores r → IsRankIn cores s → IsBefore r s → r.core ≢ s.core → ComesFirst cores r.core s.core
+comes_first : (cores : List (List Piece)) (r s : Rank) → IsRankIn cores r → IsRankIn cores s
+    → IsBefore r s → r.core ≢ s.core → ComesFirst cores r.core s.core
 comes_first cores r s in_r in_s (inl less) ne = inl (omega (arith, in_r.value, in_s.value))
-comes_first cores r s in_r in_s (inr same) ne = inr (sym in_r.value ∙ same.0 ∙ in_s.value, omega (arith, same.1))
+comes_first cores r s in_r in_s (inr same) ne =
+    inr (sym in_r.value ∙ same.0 ∙ in_s.value, omega (arith, same.1))
 
 -- the ranks of all cores, sorted
-pub order_from_sort : (cores : List (List Piece)) (made sorted : List Rank) → length made ≡ length cores → All (IsRankIn cores) made →
+pub order_from_sort : (cores : List (List Piece)) (made sorted : List Rank)
+    → length made ≡ length cores → All (IsRankIn cores) made →
     ((k : ℕ) (d : Rank) → k < length made → (get_or made k d).core ≡ k) → IsPermutation made sorted →
-    IsSorted (λ r s. ordering_then (nat_cmp r.load s.load) (nat_cmp r.core s.core)) sorted → IsOrderOf cores sorted
+    IsSorted (λ r s. ordering_then (nat_cmp r.load s.load) (nat_cmp r.core s.core)) sorted
+    → IsOrderOf cores sorted
 order_from_sort cores made sorted count ranks numbers moved rising =
     let all = All-permutation (IsRankIn cores) made sorted moved ranks in
     record {
@@ -95,12 +118,20 @@ order_from_sort cores made sorted count ranks numbers moved rising =
           let d : Rank = record { load = 0; core = core } in
           let rank = get_or made core d in
           let lt' : core < length made = omega arith in
-          let at = Contains-permutation made sorted rank moved (Contains-get_or made core d lt') in
-          (at.0, at.1, λ e. ap (λ (r : Rank). r.core) (get_or_default sorted at.0 e rank at.1 ∙ at.2) ∙ numbers core d lt'));
+          let at = Contains-permutation made sorted rank moved (Contains-get_or made core d lt') in (
+            at.0,
+            at.1,
+            λ e. ap (λ (r : Rank). r.core)
+                (get_or_default sorted at.0 e rank at.1 ∙ at.2) ∙ numbers core d lt',
+          ));
       rising = λ j k d before lt ne. (
           let same : j + suc (k - j - 1) ≡ k = omega arith in
-          let next = λ (i : ℕ) (inside : i + 1 < length sorted). before_from_cmp (get_or sorted (i + 1) d).load (get_or sorted i d).load (get_or sorted (i + 1) d).core (get_or sorted i d).core
+          let next = λ (i : ℕ) (inside : i + 1 < length sorted). before_from_cmp
+          (get_or sorted (i + 1) d).load (get_or sorted i d).load
+          (get_or sorted (i + 1) d).core (get_or sorted i d).core
           (rising i d (omega arith) inside) in
-          let sooner = subst (λ i. IsBefore (get_or sorted j d) (get_or sorted i d)) same (rises_all sorted d next j (k - j - 1) (omega arith)) in
-          comes_first cores (get_or sorted j d) (get_or sorted k d) (all j d (omega arith)) (all k d lt) sooner ne);
+          let sooner = subst (λ i. IsBefore (get_or sorted j d) (get_or sorted i d)) same
+          (rises_all sorted d next j (k - j - 1) (omega arith)) in
+          comes_first cores (get_or sorted j d) (get_or sorted k d) (all j d (omega arith))
+          (all k d lt) sooner ne);
     }

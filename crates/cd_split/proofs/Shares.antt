@@ -15,47 +15,72 @@ use Rattle.cd_split.specs.Splitting.{FitsWith, IsPieceOf, Splits, without}
 use Rattle.cd_split.specs.Splitting.Splits.{AtHome, Cut}
 use Rattle.cd_split.proofs.Trials.{jobs_of-push}
 
-pub still_unused : (core other : ℕ) (unused : List ℕ) → Contains (without core unused) other → Contains unused other
+pub still_unused : (core other : ℕ) (unused : List ℕ) → Contains (without core unused) other
+    → Contains unused other
 still_unused core other unused there =
-    All-contains (Contains unused) (without core unused) other (All-filter (λ c. not (c == core)) (Contains unused) unused (All-contains_itself unused)) there
+    All-contains (Contains unused) (without core unused) other
+    (All-filter (λ c. not (c == core)) (Contains unused) unused (All-contains_itself unused))
+    there
 
 not_without : (core other : ℕ) (unused : List ℕ) → Contains (without core unused) other → other ≢ core
 not_without core other unused there e =
-    let passes = All-contains (λ c. not (c == core) ≡ true) (without core unused) other (filter_passes (λ c. not (c == core)) unused) there in
+    let passes = All-contains (λ c. not (c == core) ≡ true) (without core unused) other
+    (filter_passes (λ c. not (c == core)) unused) there in
     grind (arith, nat_tests)
 
-pub room_for : (cores : List (List Piece)) (core : ℕ) (s : Subtask) (p : Piece) → IsPieceOf core s p → FitsWith (pieces_on cores core) s → HaveRoomFor (pieces_on cores p.core) p
+pub room_for : (cores : List (List Piece)) (core : ℕ) (s : Subtask) (p : Piece) → IsPieceOf core s p
+    → FitsWith (pieces_on cores core) s → HaveRoomFor (pieces_on cores p.core) p
 room_for cores core s p is fits =
-    let there : FitsWith (pieces_on cores p.core) s = subst (λ c. FitsWith (pieces_on cores c) s) (sym is.0) fits in
-    subst Fits (sym (jobs_of-push (pieces_on cores p.core) p)) (subst (FitsWith (pieces_on cores p.core)) (sym is.1) there)
+    let there : FitsWith (pieces_on cores p.core) s =
+    subst (λ c. FitsWith (pieces_on cores c) s) (sym is.0) fits in
+    subst Fits (sym (jobs_of-push (pieces_on cores p.core) p))
+    (subst (FitsWith (pieces_on cores p.core)) (sym is.1) there)
 
 -- each piece is of the vCPU and has its period
-pub splits_of : (cores : List (List Piece)) (vcpu period rest from : ℕ) (unused : List ℕ) (pieces : List Piece) → Splits cores vcpu period rest from unused pieces → AreOf vcpu period pieces
+pub splits_of : (cores : List (List Piece)) (vcpu period rest from : ℕ) (unused : List ℕ)
+    (pieces : List Piece) → Splits cores vcpu period rest from unused pieces
+    → AreOf vcpu period pieces
 splits_of cores vcpu period rest from unused pieces (AtHome r f core u piece first is) =
-    All-cons (λ (p : Piece). (p.vcpu ≡ vcpu) × (p.period ≡ period)) piece [] (ap (λ (s : Subtask). s.vcpu) is.1, ap (λ (s : Subtask). s.period) is.1) (All-nil (λ (p : Piece). (p.vcpu ≡ vcpu) × (p.period ≡ period)))
+    All-cons (λ (p : Piece). (p.vcpu ≡ vcpu) × (p.period ≡ period)) piece []
+    (ap (λ (s : Subtask). s.vcpu) is.1, ap (λ (s : Subtask). s.period) is.1)
+    (All-nil (λ (p : Piece). (p.vcpu ≡ vcpu) × (p.period ≡ period)))
 splits_of cores vcpu period rest from unused pieces (Cut r f core cost u piece ps cut is next) =
-    All-cons (λ (p : Piece). (p.vcpu ≡ vcpu) × (p.period ≡ period)) piece ps (ap (λ (s : Subtask). s.vcpu) is.1, ap (λ (s : Subtask). s.period) is.1) (splits_of cores vcpu period (r - cost) (f + cost) (without core u) ps next)
+    All-cons (λ (p : Piece). (p.vcpu ≡ vcpu) × (p.period ≡ period)) piece ps
+    (ap (λ (s : Subtask). s.vcpu) is.1, ap (λ (s : Subtask). s.period) is.1)
+    (splits_of cores vcpu period (r - cost) (f + cost) (without core u) ps next)
 
 -- each piece fits beside those of its core
-pub splits_fit : (cores : List (List Piece)) (vcpu period rest from : ℕ) (unused : List ℕ) (pieces : List Piece) → All (λ core. core < length cores) unused →
+pub splits_fit : (cores : List (List Piece)) (vcpu period rest from : ℕ) (unused : List ℕ)
+    (pieces : List Piece) → All (λ core. core < length cores) unused →
     Splits cores vcpu period rest from unused pieces → FitTheirCores cores pieces
 splits_fit cores vcpu period rest from unused pieces there (AtHome r f core u piece first is) =
-    All-cons (λ (p : Piece). (p.core < length cores) × HaveRoomFor (pieces_on cores p.core) p) piece []
-    (subst (λ c. c < length cores) (sym is.0) (All-contains (λ c. c < length cores) u core there first.unused_core), room_for cores core (remainder vcpu r f period) piece is first.holds)
+    All-cons (λ (p : Piece). (p.core < length cores) × HaveRoomFor (pieces_on cores p.core) p) piece [] (
+      subst (λ c. c < length cores) (sym is.0)
+          (All-contains (λ c. c < length cores) u core there first.unused_core),
+      room_for cores core (remainder vcpu r f period) piece is first.holds,
+    )
     (All-nil (λ (p : Piece). (p.core < length cores) × HaveRoomFor (pieces_on cores p.core) p))
 splits_fit cores vcpu period rest from unused pieces there (Cut r f core cost u piece ps cut is next) =
-    All-cons (λ (p : Piece). (p.core < length cores) × HaveRoomFor (pieces_on cores p.core) p) piece ps
-    (subst (λ c. c < length cores) (sym is.0) (All-contains (λ c. c < length cores) u core there cut.first.unused_core), room_for cores core (tight vcpu cost f period) piece is cut.greatest.fits)
-    (splits_fit cores vcpu period (r - cost) (f + cost) (without core u) ps (All-filter (λ c. not (c == core)) (λ c. c < length cores) u there) next)
+    All-cons (λ (p : Piece). (p.core < length cores) × HaveRoomFor (pieces_on cores p.core) p) piece ps (
+      subst (λ c. c < length cores) (sym is.0)
+          (All-contains (λ c. c < length cores) u core there cut.first.unused_core),
+      room_for cores core (tight vcpu cost f period) piece is cut.greatest.fits,
+    )
+    (splits_fit cores vcpu period (r - cost) (f + cost) (without core u) ps
+    (All-filter (λ c. not (c == core)) (λ c. c < length cores) u there) next)
 
 -- each stands on an unused core
-splits_unused : (cores : List (List Piece)) (vcpu period rest from : ℕ) (unused : List ℕ) (pieces : List Piece) → Splits cores vcpu period rest from unused pieces →
+splits_unused : (cores : List (List Piece)) (vcpu period rest from : ℕ) (unused : List ℕ)
+    (pieces : List Piece) → Splits cores vcpu period rest from unused pieces →
     All (λ p. Contains unused p.core) pieces
 splits_unused cores vcpu period rest from unused pieces (AtHome r f core u piece first is) =
-    All-cons (λ (p : Piece). Contains u p.core) piece [] (subst (Contains u) (sym is.0) first.unused_core) (All-nil (λ (p : Piece). Contains u p.core))
+    All-cons (λ (p : Piece). Contains u p.core) piece []
+    (subst (Contains u) (sym is.0) first.unused_core)
+    (All-nil (λ (p : Piece). Contains u p.core))
 splits_unused cores vcpu period rest from unused pieces (Cut r f core cost u piece ps cut is next) =
     All-cons (λ (p : Piece). Contains u p.core) piece ps (subst (Contains u) (sym is.0) cut.first.unused_core)
-    (All-weaker (λ (p : Piece). Contains (without core u) p.core) (λ (p : Piece). Contains u p.core) (λ p there. still_unused core p.core u there) ps
+    (All-weaker (λ (p : Piece). Contains (without core u) p.core) (λ (p : Piece). Contains u p.core)
+    (λ p there. still_unused core p.core u there) ps
     (splits_unused cores vcpu period (r - cost) (f + cost) (without core u) ps next))
 
 apart_one : (piece : Piece) → StandApart (piece ∷ [])
@@ -63,32 +88,44 @@ apart_one piece zero zero a b at at' same = refl
 apart_one piece zero (suc j) a b at at' same = absurd (cc)
 apart_one piece (suc i) j a b at at' same = absurd (cc)
 
-apart_cons : (piece : Piece) (ps : List Piece) → All (λ p. p.core ≢ piece.core) ps → StandApart ps → StandApart (piece ∷ ps)
+apart_cons : (piece : Piece) (ps : List Piece) → All (λ p. p.core ≢ piece.core) ps → StandApart ps
+    → StandApart (piece ∷ ps)
 apart_cons piece ps others apart zero zero a b at at' same = refl
 apart_cons piece ps others apart zero (suc j) a b at at' same = absurd (grind (arith, gets, others j b))
 apart_cons piece ps others apart (suc i) zero a b at at' same = absurd (grind (arith, gets, others i a))
 apart_cons piece ps others apart (suc i) (suc j) a b at at' same = ap (λ n. suc n) (apart i j a b at at' same)
 
 -- no two stand on one core
-pub splits_apart : (cores : List (List Piece)) (vcpu period rest from : ℕ) (unused : List ℕ) (pieces : List Piece) → Splits cores vcpu period rest from unused pieces → StandApart pieces
+pub splits_apart : (cores : List (List Piece)) (vcpu period rest from : ℕ) (unused : List ℕ)
+    (pieces : List Piece) → Splits cores vcpu period rest from unused pieces → StandApart pieces
 splits_apart cores vcpu period rest from unused pieces (AtHome r f core u piece first is) = apart_one piece
 splits_apart cores vcpu period rest from unused pieces (Cut r f core cost u piece ps cut is next) =
     apart_cons piece ps
-    (All-weaker (λ (p : Piece). Contains (without core u) p.core) (λ (p : Piece). p.core ≢ piece.core) (λ p there e. not_without core p.core u there (e ∙ is.0)) ps
+    (All-weaker (λ (p : Piece). Contains (without core u) p.core)
+    (λ (p : Piece). p.core ≢ piece.core)
+    (λ p there e. not_without core p.core u there (e ∙ is.0)) ps
     (splits_unused cores vcpu period (r - cost) (f + cost) (without core u) ps next))
     (splits_apart cores vcpu period (r - cost) (f + cost) (without core u) ps next)
 
 -- the windows follow one another
-pub splits_follow : (cores : List (List Piece)) (vcpu period rest from : ℕ) (unused : List ℕ) (pieces : List Piece) → Splits cores vcpu period rest from unused pieces →
+pub splits_follow : (cores : List (List Piece)) (vcpu period rest from : ℕ) (unused : List ℕ)
+    (pieces : List Piece) → Splits cores vcpu period rest from unused pieces →
     FollowOn from period pieces
-splits_follow cores vcpu period rest from unused pieces (AtHome r f core u piece first is) = (ap (λ (s : Subtask). s.from) is.1, ap (λ (s : Subtask). s.to) is.1)
-splits_follow cores vcpu period rest from unused pieces (Cut r f core cost u piece ps cut is next) =
-    (ap (λ (s : Subtask). s.from) is.1, subst (λ n. FollowOn n period ps) (sym (ap (λ (s : Subtask). s.to) is.1)) (splits_follow cores vcpu period (r - cost) (f + cost) (without core u) ps next))
+splits_follow cores vcpu period rest from unused pieces (AtHome r f core u piece first is) =
+    (ap (λ (s : Subtask). s.from) is.1, ap (λ (s : Subtask). s.to) is.1)
+splits_follow cores vcpu period rest from unused pieces (Cut r f core cost u piece ps cut is next) = (
+  ap (λ (s : Subtask). s.from) is.1,
+  subst (λ n. FollowOn n period ps) (sym (ap (λ (s : Subtask). s.to) is.1))
+      (splits_follow cores vcpu period (r - cost) (f + cost) (without core u) ps next),
+)
 
 -- the costs are what is left
-pub splits_cost : (cores : List (List Piece)) (vcpu period rest from : ℕ) (unused : List ℕ) (pieces : List Piece) → Splits cores vcpu period rest from unused pieces →
+pub splits_cost : (cores : List (List Piece)) (vcpu period rest from : ℕ) (unused : List ℕ)
+    (pieces : List Piece) → Splits cores vcpu period rest from unused pieces →
     sum_by (λ p. p.cost) pieces ≡ rest
-splits_cost cores vcpu period rest from unused pieces (AtHome r f core u piece first is) = sum_by-cons (λ (p : Piece). p.cost) piece [] ∙ (let cost = ap (λ (s : Subtask). s.cost) is.1 in omega arith)
+splits_cost cores vcpu period rest from unused pieces (AtHome r f core u piece first is) =
+    sum_by-cons (λ (p : Piece). p.cost) piece []
+    ∙ (let cost = ap (λ (s : Subtask). s.cost) is.1 in omega arith)
 splits_cost cores vcpu period rest from unused pieces (Cut r f core cost u piece ps cut is next) =
     let here = ap (λ (s : Subtask). s.cost) is.1 in
     let after = splits_cost cores vcpu period (r - cost) (f + cost) (without core u) ps next in

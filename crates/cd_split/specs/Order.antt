@@ -16,6 +16,8 @@ pub record IsRankIn (cores : List (List Piece)) (r : Rank) : Type 0 where
 -- the ranks of all cores, by rising load and then number
 pub record IsOrderOf (cores : List (List Piece)) (order : List Rank) : Type 0 where
   pub ranks : All (IsRankIn cores) order
-  pub complete : (core : ℕ) → core < length cores → (k : ℕ) × (k < length order) × ((d : Rank) → (slice_index_or order k d).core ≡ core)
-  pub rising : (j k : ℕ) (d : Rank) → j < k → k < length order → (slice_index_or order j d).core ≢ (slice_index_or order k d).core →
+  pub complete : (core : ℕ) → core < length cores
+      → (k : ℕ) × (k < length order) × ((d : Rank) → (slice_index_or order k d).core ≡ core)
+  pub rising : (j k : ℕ) (d : Rank) → j < k → k < length order
+      → (slice_index_or order j d).core ≢ (slice_index_or order k d).core →
       ComesFirst cores (slice_index_or order j d).core (slice_index_or order k d).core

@@ -17,7 +17,8 @@ IsOverloadWith jobs s overload = IsOverloadOf (jobs ++ jobs_of_subtask s) overlo
 
 -- no cut of so many ticks or more fits beside the pieces
 abbrev pub IsTooMuch : List Piece → Left → ℕ → Type 0
-IsTooMuch pieces left cost = (more : ℕ) → cost ≤ more → more < left.rest → FitsWith pieces (tight left.vcpu more left.from left.period) → ⊥
+IsTooMuch pieces left cost = (more : ℕ) → cost ≤ more → more < left.rest
+    → FitsWith pieces (tight left.vcpu more left.from left.period) → ⊥
 
 -- what is left fits on the core; a cut of it does
 abbrev pub IsHomeFor : List (List Piece) → Left → ℕ → Type 0
@@ -28,23 +29,28 @@ IsCutFor cores left core = TakesCut cores left.vcpu left.period left.rest left.f
 
 -- of the first k cores of the order, no unused one has P
 abbrev pub NoneBefore : List Rank → List ℕ → (ℕ → Type 0) → ℕ → Type 0
-NoneBefore order unused P k = (j : ℕ) (d : Rank) → j < k → Contains unused (slice_index_or order j d).core → P (slice_index_or order j d).core → ⊥
+NoneBefore order unused P k = (j : ℕ) (d : Rank) → j < k
+    → Contains unused (slice_index_or order j d).core → P (slice_index_or order j d).core → ⊥
 
 -- the piece that the first step places
-pub record IsHomePiece (cores : List (List Piece)) (left : Left) (unused : List ℕ) (piece : Piece) : Type 0 where
+pub record IsHomePiece (cores : List (List Piece)) (left : Left) (unused : List ℕ)
+    (piece : Piece) : Type 0 where
   pub first : IsFirstCore cores unused (IsHomeFor cores left) piece.core
   pub shape : subtask_of piece ≡ remainder left.vcpu left.rest left.from left.period
 
 -- the piece that the second step cuts off
-pub record IsCutPiece (cores : List (List Piece)) (left : Left) (unused : List ℕ) (piece : Piece) : Type 0 where
+pub record IsCutPiece (cores : List (List Piece)) (left : Left) (unused : List ℕ)
+    (piece : Piece) : Type 0 where
   pub two_unused : 2 ≤ length unused
   pub first : IsFirstCore cores unused (IsCutFor cores left) piece.core
-  pub greatest : IsGreatestCut (pieces_on cores piece.core) left.vcpu left.period left.rest left.from piece.cost
+  pub greatest : IsGreatestCut (pieces_on cores piece.core) left.vcpu left.period left.rest
+      left.from piece.cost
   pub shape : subtask_of piece ≡ tight left.vcpu piece.cost left.from left.period
 
 -- the second step finds none
 abbrev pub IsUncut : List (List Piece) → Left → List ℕ → Type 0
-IsUncut cores left unused = (length unused < 2) ⊎ ((core : ℕ) → Contains unused core → IsCutFor cores left core → ⊥)
+IsUncut cores left unused = (length unused < 2)
+    ⊎ ((core : ℕ) → Contains unused core → IsCutFor cores left core → ⊥)
 
 -- the first step finds none
 abbrev pub IsHomeless : List (List Piece) → Left → List ℕ → Type 0

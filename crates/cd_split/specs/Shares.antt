@@ -6,11 +6,13 @@ use Rattle.cd_split.specs.Cores.{pieces_on, HaveRoomFor}
 
 -- each piece fits beside the pieces on its core
 abbrev pub FitTheirCores : List (List Piece) → List Piece → Type 0
-FitTheirCores cores pieces = All (λ p. (p.core < length cores) × HaveRoomFor (pieces_on cores p.core) p) pieces
+FitTheirCores cores pieces = All (λ p. (p.core < length cores)
+    × HaveRoomFor (pieces_on cores p.core) p) pieces
 
 -- no two pieces stand on one core
 abbrev pub StandApart : List Piece → Type 0
-StandApart pieces = (i j : ℕ) (a b : Piece) → slice_get pieces i ≡ Some a → slice_get pieces j ≡ Some b → a.core ≡ b.core → i ≡ j
+StandApart pieces = (i j : ℕ) (a b : Piece) → slice_get pieces i ≡ Some a
+    → slice_get pieces j ≡ Some b → a.core ≡ b.core → i ≡ j
 
 -- the windows follow one another from one tick of the period to another, without a gap
 abbrev pub FollowOn : ℕ → ℕ → List Piece → Type 0

@@ -67,7 +67,8 @@ impl CorePieces {
         requires there { piece.core < length self.old }
         requires new { LackVcpu piece.vcpu (pieces_on self.old piece.core) }
         requires room { HaveRoomFor (pieces_on self.old piece.core) piece }
-        ensures ok { OnOk result (self.new ≡ slice_set self.old piece.core (pieces_on self.old piece.core ++ piece ∷ [])) }
+        ensures ok { OnOk result (self.new ≡ slice_set self.old piece.core
+            (pieces_on self.old piece.core ++ piece ∷ [])) }
         ensures err { OnErr result (self.new ≡ self.old) }
     {
         self.cores[piece.core.index()].add(piece)

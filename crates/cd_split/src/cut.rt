@@ -27,7 +27,8 @@ fn still_too_much(overload: &Overload, cost: u32, period: u32) -> u32
     requires over { overload.now.from < overload.now.to }
     requires demand { overload.now.to - overload.now.from < overload.now.demand }
     ensures lower { result ≤ cost }
-    ensures still { (jobs : List Job) (vcpu from less : ℕ) → IsOverloadWith jobs (tight vcpu cost from period) overload.now
+    ensures still { (jobs : List Job) (vcpu from less : ℕ)
+        → IsOverloadWith jobs (tight vcpu cost from period) overload.now
         → result ≤ less → less ≤ cost → FitsBeside jobs (tight vcpu less from period) → ⊥ }
 {
     let length = overload.to - overload.from;

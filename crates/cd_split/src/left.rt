@@ -38,7 +38,8 @@ impl Left {
 
     // The piece of all that is left.
     pub(crate) fn rest_on(&self, core: CoreNo) -> Piece
-        ensures { IsPieceOf core (remainder self.now.vcpu self.now.rest self.now.from self.now.period) result }
+        ensures { IsPieceOf core
+            (remainder self.now.vcpu self.now.rest self.now.from self.now.period) result }
     {
         let _ = core.0; // its range is a fact of the piece
         Piece {

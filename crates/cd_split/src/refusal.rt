@@ -16,7 +16,8 @@ fn over_of(alloc: Global, left: &Left, cores: &CorePieces, core: CoreNo) -> Resu
     requires there { core < length cores.now }
     requires new { All (LackVcpu left.now.vcpu) cores.now }
     requires over { IsHomeFor cores.now left.now core → ⊥ }
-    ensures { IfOk result (IsOverOn cores.now (remainder left.now.vcpu left.now.rest left.now.from left.now.period) core) }
+    ensures { IfOk result (IsOverOn cores.now
+        (remainder left.now.vcpu left.now.rest left.now.from left.now.period) core) }
 {
     match overload_with(alloc, cores.of_core(core), left.rest_on(core))? {
         Some(overload) => Ok(Over {
@@ -40,7 +41,8 @@ pub(crate) fn overs_of(
     requires few { length unused.now ≤ MAX_CORES }
     requires new { All (LackVcpu left.now.vcpu) cores.now }
     requires homeless { IsHomeless cores.now left.now unused.now }
-    ensures { IfOk result (AreOverloads cores.now (remainder left.now.vcpu left.now.rest left.now.from left.now.period) unused.now) }
+    ensures { IfOk result (AreOverloads cores.now
+        (remainder left.now.vcpu left.now.rest left.now.from left.now.period) unused.now) }
 {
     let mut overs = Vec::with_capacity(alloc, unused.len())?;
     for core in unused {

@@ -44,7 +44,8 @@ pub(crate) fn find_home(
     requires order { IsOrderOf cores.now order.now }
     requires there { All (λ core. core < length cores.now) unused.now }
     requires new { All (LackVcpu left.now.vcpu) cores.now }
-    ensures { IfOk result (λ found. MatchOption found (IsHomeless cores.now left.now unused.now) (IsHomePiece cores.now left.now unused.now)) }
+    ensures { IfOk result (λ found. MatchOption found (IsHomeless cores.now left.now unused.now)
+        (IsHomePiece cores.now left.now unused.now)) }
 {
     for rank in order {
         if is_unused(unused, rank.core) {
@@ -67,7 +68,8 @@ pub(crate) fn find_cut(
     requires order { IsOrderOf cores.now order.now }
     requires there { All (λ core. core < length cores.now) unused.now }
     requires new { All (LackVcpu left.now.vcpu) cores.now }
-    ensures { IfOk result (λ found. MatchOption found (IsUncut cores.now left.now unused.now) (IsCutPiece cores.now left.now unused.now)) }
+    ensures { IfOk result (λ found. MatchOption found (IsUncut cores.now left.now unused.now)
+        (IsCutPiece cores.now left.now unused.now)) }
 {
     if unused.len() < 2 {
         return Ok(None);

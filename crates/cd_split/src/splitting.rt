@@ -42,8 +42,10 @@ pub fn split(
 ) -> Result<Pieces, SplitFault>
     requires { All (LackVcpu vcpu) cores.now }
     ensures pieces { IfOk result (IsSplit cores.now vcpu task) }
-    ensures only { IfOk result (λ pieces. (other : List Piece) → IsSplit cores.now vcpu task other → AllZip IsSamePiece other pieces) }
-    ensures room { IfOk result (λ _. (rest : ℕ) (over : List Over) → IsRefused cores.now vcpu task rest over → ⊥) }
+    ensures only { IfOk result (λ pieces. (other : List Piece) → IsSplit cores.now vcpu task other
+        → AllZip IsSamePiece other pieces) }
+    ensures room { IfOk result (λ _. (rest : ℕ) (over : List Over) → IsRefused cores.now vcpu task rest over
+        → ⊥) }
     ensures fault { IfErr result (IsSplitFault cores.now vcpu task) }
     ensures of { IfOk result (AreOf vcpu task.period) }
     ensures fit { IfOk result (FitTheirCores cores.now) }

@@ -27,8 +27,11 @@ pub before_one_more : (out : List Stretch) (s : Stretch) (rest : List Stretch) �
     (put_before out (s ∷ [])) rest ≡ put_before out (put_front s rest)
 before_one_more [] s rest = refl
 before_one_more (t ∷ []) s rest = elim (front_cases t.owner (s ∷ [])) [
-  | inl differ ↦ ap (λ ts. put_before ts rest) (front_stays t (s ∷ []) differ) ∙ sym (front_differs t s rest differ)
-  | inr with ↦ (let same = same_first t.owner s [] with in ap (λ ts. put_before ts rest) (front_joins t s [] same)
+  | inl differ ↦ ap (λ ts. put_before ts rest) (front_stays t (s ∷ []) differ)
+      ∙ sym (front_differs t s rest differ)
+  | inr with ↦
+      (let same = same_first t.owner s [] with in ap (λ ts. put_before ts rest)
+      (front_joins t s [] same)
       ∙ sym (front_twice t s rest same))
 ]
 before_one_more (t ∷ u ∷ ts) s rest = some_more (put_before (u ∷ ts) (s ∷ [])) (not_empty u ts)

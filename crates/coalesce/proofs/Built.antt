@@ -1,4 +1,5 @@
--- The table of a core's pieces and the set of the vCPUs with a single piece, as they are built piece by piece.
+-- The table of a core's pieces and the set of the vCPUs with a single piece, as they are built
+-- piece by piece.
 use Rattle.std.proofs.Common.{◌≡◌, ◌≢◌, ℕ, zero, suc, ◌+◌, ◌<◌, ◌≤◌, Bool, true, false, cond, eqb, ltb, List, [], ◌∷◌, ◌++◌, length, get_or, set, slice_get, take, filter, replicate, Option, Some, None, refl, ap, subst, sym, ◌∙◌, inl, inr, arith, length-set, get_or-set_same, add-one}
 use Rattle.std.specs.List.{count_by}
 use Rattle.std.specs.Prelude.{slice_set}
@@ -17,7 +18,8 @@ use Rattle.coalesce.specs.Passing.{IsTableOf}
 use Rattle.coalesce.proofs.Members.{slice_get-append_cases, slice_get-append_last, slice_get-append_left, slice_get-set_other, slice_get-set_same}
 
 -- an empty table
-empty_listed : (n v : ℕ) (p : Piece) → slice_get (replicate n (let none : Option Piece = None in none)) v ≡ Some
+empty_listed : (n v : ℕ) (p : Piece)
+    → slice_get (replicate n (let none : Option Piece = None in none)) v ≡ Some
     (Some p) → ⊥
 empty_listed zero v p at = absurd cc
 empty_listed (suc n) zero p at = absurd cc
@@ -35,7 +37,8 @@ pub table_more : (pieces : List Piece) (table : List (Option Piece)) (p : Piece)
     ((at : ℕ) (q : Piece) → slice_get pieces at ≡ Some q → q.vcpu ≢ p.vcpu)
     → IsTableOf pieces table → IsTableOf (pieces ++ p ∷ []) (set table p.vcpu (Some p))
 table_more pieces table p others is =
-    let here : slice_get (set table p.vcpu (Some p)) p.vcpu ≡ Some (Some p) = slice_get-set_same table p.vcpu (Some p)
+    let here : slice_get (set table p.vcpu (Some p)) p.vcpu ≡ Some (Some p) =
+    slice_get-set_same table p.vcpu (Some p)
     (let size = is.size in let small = p.vcpu_small in omega arith) in
     record {
       size = omega (arith, is.size, length-set table p.vcpu (Some p));
@@ -78,7 +81,8 @@ take_one_more : (pieces : List Piece) (i : ℕ) (d : Piece) → i < length piece
     (i + 1) pieces ≡ take i pieces ++ get_or pieces i d ∷ []
 take_one_more pieces i d lt = ap (λ n. take n pieces) (add-one i) ∙ take_suc pieces i d lt
 
-before_is_earlier : (pieces : List Piece) (i j : ℕ) (p : Piece) → slice_get (take i pieces) j ≡ Some p → (j < i) ×
+before_is_earlier : (pieces : List Piece) (i j : ℕ) (p : Piece)
+    → slice_get (take i pieces) j ≡ Some p → (j < i) ×
     (slice_get pieces j ≡ Some p)
 before_is_earlier [] i j p at = absurd (none_taken i j at)
   where
@@ -91,14 +95,16 @@ before_is_earlier (q ∷ qs) (suc i) (suc j) p at =
     (let rest = before_is_earlier qs i j p at in (omega (arith, rest.0), rest.1))
 
 -- the next of the pieces is on the core
-pub next_here : (pieces : List Piece) (core i : ℕ) (p : Piece) (table : List (Option Piece)) → HaveOwnCores pieces
+pub next_here : (pieces : List Piece) (core i : ℕ) (p : Piece) (table : List (Option Piece))
+    → HaveOwnCores pieces
     → i < length pieces → p ≡ get_or pieces i p → p.core ≡ core
     → IsTableOf (pieces_at (take i pieces) core) table → IsTableOf (pieces_at (take (i + 1) pieces) core)
     (set table p.vcpu (Some p))
 next_here pieces core i p table own lt is here of =
     let test : Piece → Bool = λ q. eqb q.core core in
     let more : pieces_at (take (i + 1) pieces) core ≡ pieces_at (take i pieces) core ++ p ∷ []
-    = ap (filter test) (take_one_more pieces i p lt ∙ ap (λ q. take i pieces ++ q ∷ []) (sym is)) ∙ filter-append test
+    = ap (filter test) (take_one_more pieces i p lt ∙ ap (λ q. take i pieces ++ q ∷ []) (sym is))
+    ∙ filter-append test
     (take i pieces) (p ∷ [])
     ∙ ap (λ qs. pieces_at (take i pieces) core ++ qs) (kept p (eq-eqb p.core core here)) in
     subst (λ ps. IsTableOf ps (set table p.vcpu (Some p))) (sym more)
@@ -113,13 +119,16 @@ next_here pieces core i p table own lt is here of =
     kept p pass = rw pass refl
 
 -- or elsewhere
-pub next_elsewhere : (pieces : List Piece) (core i : ℕ) (p : Piece) (table : List (Option Piece)) → i < length pieces
+pub next_elsewhere : (pieces : List Piece) (core i : ℕ) (p : Piece) (table : List (Option Piece))
+    → i < length pieces
     → p ≡ get_or pieces i p → p.core ≢ core
-    → IsTableOf (pieces_at (take i pieces) core) table → IsTableOf (pieces_at (take (i + 1) pieces) core) table
+    → IsTableOf (pieces_at (take i pieces) core) table
+    → IsTableOf (pieces_at (take (i + 1) pieces) core) table
 next_elsewhere pieces core i p table lt is elsewhere of =
     let test : Piece → Bool = λ q. eqb q.core core in
     let same : pieces_at (take (i + 1) pieces) core ≡ pieces_at (take i pieces) core
-    = ap (filter test) (take_one_more pieces i p lt ∙ ap (λ q. take i pieces ++ q ∷ []) (sym is)) ∙ filter-append test
+    = ap (filter test) (take_one_more pieces i p lt ∙ ap (λ q. take i pieces ++ q ∷ []) (sym is))
+    ∙ filter-append test
     (take i pieces) (p ∷ [])
     ∙ ap (λ qs. pieces_at (take i pieces) core ++ qs) (dropped p (ne_eqb p.core core elsewhere)) ∙ append-nil
     (pieces_at (take i pieces) core) in
@@ -132,7 +141,8 @@ next_elsewhere pieces core i p table lt is elsewhere of =
 pub count_of : ℕ → List Piece → ℕ
 count_of v pieces = count_by (λ (p : Piece). eqb p.vcpu v) pieces
 
-pub count_of-more : (v : ℕ) (pieces : List Piece) (i : ℕ) (p : Piece) → i < length pieces → p ≡ get_or pieces i p
+pub count_of-more : (v : ℕ) (pieces : List Piece) (i : ℕ) (p : Piece) → i < length pieces
+    → p ≡ get_or pieces i p
     → count_of v (take (i + 1) pieces) ≡ count_of v (take i pieces) + cond (eqb p.vcpu v) 1 0
 unfolding count_of
 count_of-more v pieces i p lt is =
@@ -164,24 +174,36 @@ none_seen = record {
 member_same : (set : List Bool) (v : ℕ) (b : Bool) → v < length set → has_vcpu (slice_set set v b) v ≡ b
 member_same set v b lt = get_or-set_same set v b false lt
 
-member_other : (set : List Bool) (v w : ℕ) (b : Bool) → w ≢ v → has_vcpu (slice_set set v b) w ≡ has_vcpu set w
+member_other : (set : List Bool) (v w : ℕ) (b : Bool) → w ≢ v
+    → has_vcpu (slice_set set v b) w ≡ has_vcpu set w
 member_other set v w b other = get_or-set_other set v w b false other
 
 -- another vCPU's counts stay
-stays : (pieces : List Piece) (i : ℕ) (p : Piece) (v : ℕ) → i < length pieces → p ≡ get_or pieces i p → v ≢ p.vcpu
+stays : (pieces : List Piece) (i : ℕ) (p : Piece) (v : ℕ) → i < length pieces
+    → p ≡ get_or pieces i p → v ≢ p.vcpu
     → count_of v (take (i + 1) pieces) ≡ count_of v (take i pieces)
 stays pieces i p v lt is other =
-    omega (arith, count_of-more v pieces i p lt is, ap {B = ℕ} (λ b. cond b 1 0) (ne_eqb p.vcpu v (λ e. other (sym e))))
+    omega (
+      arith,
+      count_of-more v pieces i p lt is,
+      ap {B = ℕ} (λ b. cond b 1 0) (ne_eqb p.vcpu v (λ e. other (sym e))),
+    )
 
-grows : (pieces : List Piece) (i : ℕ) (p : Piece) → i < length pieces → p ≡ get_or pieces i p → count_of p.vcpu
+grows : (pieces : List Piece) (i : ℕ) (p : Piece) → i < length pieces → p ≡ get_or pieces i p
+    → count_of p.vcpu
     (take (i + 1) pieces) ≡ count_of p.vcpu (take i pieces) + 1
 grows pieces i p lt is =
-    omega (arith, count_of-more p.vcpu pieces i p lt is, ap {B = ℕ} (λ b. cond b 1 0) (eq-eqb p.vcpu p.vcpu refl))
+    omega (
+      arith,
+      count_of-more p.vcpu pieces i p lt is,
+      ap {B = ℕ} (λ b. cond b 1 0) (eq-eqb p.vcpu p.vcpu refl),
+    )
 
 -- a vCPU that has a piece has one more
 pub seen_again : (pieces : List Piece) (i : ℕ) (p : Piece) (seen single : List Bool) → i < length pieces
     → p ≡ get_or pieces i p → has_vcpu seen p.vcpu ≡ true
-    → HaveSeen (take i pieces) seen single → HaveSeen (take (i + 1) pieces) seen (slice_set single p.vcpu false)
+    → HaveSeen (take i pieces) seen single
+    → HaveSeen (take (i + 1) pieces) seen (slice_set single p.vcpu false)
 seen_again pieces i p seen single lt is old have =
     let some : 0 < count_of p.vcpu (take i pieces) = ltb-true 0 (count_of p.vcpu (take i pieces))
     (sym (have.seen_is p.vcpu) ∙ old) in
@@ -191,7 +213,8 @@ seen_again pieces i p seen single lt is old have =
       single_size = length-set single p.vcpu false ∙ have.single_size;
       seen_is = λ v. elim (cases_eq v p.vcpu) [
         | inl same ↦ ap (has_vcpu seen) same ∙ old ∙ sym
-            (ap (λ w. ltb 0 (count_of w (take (i + 1) pieces))) same ∙ ap (ltb 0) (grows pieces i p lt is) ∙ lt-ltb 0
+            (ap (λ w. ltb 0 (count_of w (take (i + 1) pieces))) same
+            ∙ ap (ltb 0) (grows pieces i p lt is) ∙ lt-ltb 0
             (count_of p.vcpu (take i pieces) + 1) (omega arith))
         | inr other ↦ have.seen_is v ∙ ap (ltb 0) (sym (stays pieces i p v lt is other))
       ];
@@ -199,7 +222,8 @@ seen_again pieces i p seen single lt is old have =
         | inl same ↦ ap (has_vcpu (slice_set single p.vcpu false)) same ∙ member_same single p.vcpu false
             (omega (arith, have.single_size))
             ∙ sym (ap (λ w. eqb (count_of w (take (i + 1) pieces)) 1) same ∙ ap (λ n. eqb n 1)
-            (grows pieces i p lt is) ∙ ne_eqb (count_of p.vcpu (take i pieces) + 1) 1 (λ e. omega (arith, e, some)))
+            (grows pieces i p lt is) ∙ ne_eqb (count_of p.vcpu (take i pieces) + 1) 1
+            (λ e. omega (arith, e, some)))
         | inr other ↦ member_other single p.vcpu v false other ∙ have.single_is v ∙ ap (λ n. eqb n 1)
             (sym (stays pieces i p v lt is other))
       ];
@@ -237,4 +261,5 @@ seen_first pieces i p seen single lt is new have =
 pub all_seen : (pieces : List Piece) (i : ℕ) (seen single : List Bool) → length pieces ≤ i → HaveSeen
     (take i pieces) seen single → (v : ℕ) → has_vcpu single v ≡ has_single_piece pieces v
 unfolding count_of
-all_seen pieces i seen single past have v = have.single_is v ∙ ap (λ ps. eqb (count_of v ps) 1) (take_all i pieces past)
+all_seen pieces i seen single past have v = have.single_is v
+    ∙ ap (λ ps. eqb (count_of v ps) 1) (take_all i pieces past)

@@ -62,7 +62,8 @@ before_front : (v : ℕ) (front cells : Row) (m : ℕ) → cells_before v
 unfolding cells_before
 before_front v [] cells m = let e : m - 0 ≡ m = omega arith in rw e (nothing m)
   where
-    nothing : (m : ℕ) → count_by (λ cell. is_cell_of v cell) (take m cells) ≡ count_by (λ cell. is_cell_of v cell)
+    nothing : (m : ℕ) → count_by (λ cell. is_cell_of v cell) (take m cells)
+        ≡ count_by (λ cell. is_cell_of v cell)
         (take m (let none : Row = [] in none)) + count_by (λ cell. is_cell_of v cell) (take m cells)
     nothing zero = refl
     nothing (suc m) = omega arith
@@ -79,7 +80,8 @@ before_front v (c ∷ front) cells (suc m) =
       rest,
     ))
 
--- two rows, in which l cells of the second vCPU and a cells of the first, from the tick b on, have changed places
+-- two rows, in which l cells of the second vCPU and a cells of the first, from the tick b on, have
+-- changed places
 pub record AreMoved (row row' : Row) (b l a first second : ℕ) : Type 0 where
   pub front : Row
   pub back : Row
@@ -96,9 +98,11 @@ pub data IsOutside (b l a first second v n : ℕ) : Type 0 where
 -- two runs of cells have as many of the vCPU's in either order
 two_runs : (v first second l a n b : ℕ) (x y : Bool) → IsOutside b l a first second v n → eqb v first ≡ x
     → eqb v second ≡ y
-    → cond y (min (n - b) l) 0 + cond x (min (n - b - l) a) 0 ≡ cond x (min (n - b) a) 0 + cond y (min (n - b - a) l) 0
+    → cond y (min (n - b) l) 0 + cond x (min (n - b - l) a) 0
+    ≡ cond x (min (n - b) a) 0 + cond y (min (n - b - a) l) 0
 two_runs v first second l a n b false false out ex ey = refl
-two_runs v first second l a n b true y (Another no_first no_second) ex ey = absurd (no_first (eqb-true v first ex))
+two_runs v first second l a n b true y (Another no_first no_second) ex ey =
+    absurd (no_first (eqb-true v first ex))
 two_runs v first second l a n b false true (Another no_first no_second) ex ey = absurd
     (no_second (eqb-true v second ey))
 two_runs v first second l a n b true true (Before le) ex ey = omega arith

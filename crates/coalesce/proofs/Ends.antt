@@ -27,7 +27,13 @@ in_parts (s ∷ ss) (x ∷ xs) ys e =
     let here : stretch_of s ≡ x = cc in
     let there : map stretch_of ss ≡ xs ++ ys = cc in
     let rest = in_parts ss xs ys there in
-    record { front = s ∷ rest.front; bs = rest.bs; is = ap (λ ts. s ∷ ts) rest.is; first = cc; second = rest.second }
+    record {
+      front = s ∷ rest.front;
+      bs = rest.bs;
+      is = ap (λ ts. s ∷ ts) rest.is;
+      first = cc;
+      second = rest.second;
+    }
 
 pub record LastOne (ss : List Segment) (xs : List Stretch) (t : Stretch) : Type 0 where
   pub front : List Segment
@@ -61,7 +67,8 @@ pub last_two : (ss : List Segment) (xs : List Stretch) (u t : Stretch) → map s
 last_two ss xs u t e = let parts = in_parts ss xs
     (u ∷ t ∷ []) e in of_parts parts.front parts.bs parts.is parts.first parts.second
   where
-    of_parts : (fs bs : List Segment) → ss ≡ fs ++ bs → map stretch_of fs ≡ xs → map stretch_of bs ≡ u ∷ t ∷ []
+    of_parts : (fs bs : List Segment) → ss ≡ fs ++ bs → map stretch_of fs ≡ xs
+        → map stretch_of bs ≡ u ∷ t ∷ []
         → LastTwo ss xs u t
     of_parts fs [] is first second = absurd cc
     of_parts fs (a ∷ []) is first second = absurd cc
@@ -74,15 +81,18 @@ pub last_at : (ss : List Segment) (xs : List Stretch) (t : Stretch) (i : ℕ) (d
     → map stretch_of ss ≡ xs ++ t ∷ [] → i + 1 ≡ length ss → stretch_of (get_or ss i d) ≡ t
 last_at ss xs t i d e last =
     let one = last_one ss xs t e in
-    let at : i ≡ length one.front = omega (arith, ap length one.is, length-append one.front (one.b ∷ []), last) in
+    let at : i ≡ length one.front =
+    omega (arith, ap length one.is, length-append one.front (one.b ∷ []), last) in
     ap stretch_of (ap (λ n. get_or ss n d) at ∙ ap (λ ts. get_or ts (length one.front) d) one.is
     ∙ get_or-append_seam one.front one.b [] d) ∙ one.last
 
 pub set_last : (ss : List Segment) (xs : List Stretch) (t : Stretch) (i : ℕ) (s : Segment)
-    → map stretch_of ss ≡ xs ++ t ∷ [] → i + 1 ≡ length ss → map stretch_of (set ss i s) ≡ xs ++ stretch_of s ∷ []
+    → map stretch_of ss ≡ xs ++ t ∷ [] → i + 1 ≡ length ss
+    → map stretch_of (set ss i s) ≡ xs ++ stretch_of s ∷ []
 set_last ss xs t i s e last =
     let one = last_one ss xs t e in
-    let at : i ≡ length one.front = omega (arith, ap length one.is, length-append one.front (one.b ∷ []), last) in
+    let at : i ≡ length one.front =
+    omega (arith, ap length one.is, length-append one.front (one.b ∷ []), last) in
     ap (map stretch_of) (ap (λ n. set ss n s) at ∙ ap (λ ts. set ts (length one.front) s) one.is
     ∙ set-append_seam one.front one.b [] s)
     ∙ map-append stretch_of one.front (s ∷ []) ∙ ap (λ us. us ++ stretch_of s ∷ []) one.first
@@ -160,7 +170,8 @@ same_ends (x ∷ xs) (y ∷ ys) u t v w e =
     record { before = cc; first = rest.first; second = rest.second }
 
 -- where the last isn't of the next one's owner, that comes after it
-pub appends : (out : List Stretch) (s : Stretch) → (EndsWith out s.owner → ⊥) → out ++ s ∷ [] ≡ put_before out (s ∷ [])
+pub appends : (out : List Stretch) (s : Stretch) → (EndsWith out s.owner → ⊥)
+    → out ++ s ∷ [] ≡ put_before out (s ∷ [])
 appends [] s other = refl
 appends (o ∷ out) s other =
     let last = last_of o out in
@@ -183,7 +194,8 @@ replaces out s with =
     (before_last with.before with.last (s ∷ [])) ∙ ap (λ ts. put_before ts (s ∷ [])) (sym with.is)
 
 -- in stretches that end below a tick each ends below it
-pub ends_before : (start : ℕ) (xs : List Stretch) (t : Stretch) (ts : List Stretch) (end : ℕ) → AreMaximal start
+pub ends_before : (start : ℕ) (xs : List Stretch) (t : Stretch) (ts : List Stretch) (end : ℕ)
+    → AreMaximal start
     (xs ++ t ∷ ts) end → (start < t.end) × AreMaximal t.end ts end
 ends_before start [] t ts end m = (m.0, m.2)
 ends_before start (x ∷ xs) t ts end m = let rest = ends_before x.end xs t ts end m.2 in
@@ -204,7 +216,8 @@ two_rise ss tick i j d e below at at' =
     let t_end = ap (λ (s : Stretch). s.end) t in
     (omega (arith, rest.1.0), omega (arith, rest.1.2, below.below))
   where
-    two_ends_shape : (xs : List Stretch) (u t : Stretch) → map stretch_of ss ≡ xs ++ u ∷ t ∷ [] → map stretch_of ss ≡
+    two_ends_shape : (xs : List Stretch) (u t : Stretch) → map stretch_of ss ≡ xs ++ u ∷ t ∷ []
+        → map stretch_of ss ≡
         (xs ++ u ∷ []) ++ t ∷ []
     two_ends_shape xs u t is = is ∙ of_last_two xs u t
 
@@ -232,7 +245,8 @@ last_two_can pieces sliver ss next a b test le at_a at_b tells = (if_true, if_ca
         (stretch_of b ≡ t)
     here xs u t is = (
       ap stretch_of at_a ∙ last_but_one_at ss xs u t (length ss - 2) a is (omega arith),
-      ap stretch_of at_b ∙ last_at ss (xs ++ u ∷ []) t (length ss - 1) b (is ∙ of_last_two xs u t) (omega arith),
+      ap stretch_of at_b ∙ last_at ss (xs ++ u ∷ []) t (length ss - 1) b (is ∙ of_last_two xs u t)
+          (omega arith),
     )
 
     if_true : IsTrue test → CanSwapLast pieces sliver (map stretch_of ss) next
@@ -269,8 +283,10 @@ swap_ends ss end i j p q a b before x y is last last' at_a at_b of_p of_q =
     let same_x : stretch_of a ≡ x = ap stretch_of at_a ∙ last_but_one_at ss before x y i a is last in
     let same_y : stretch_of b ≡ y = ap stretch_of at_b ∙ last_at ss (before ++ x ∷ []) y j b
     (is ∙ of_last_two before x y) last' in
-    let first : Stretch → Stretch → Stretch = λ u t. record { owner = u.owner; end = u.end + (end - t.end) } in
+    let first : Stretch → Stretch → Stretch =
+    λ u t. record { owner = u.owner; end = u.end + (end - t.end) } in
     let second : Stretch → Stretch = λ t. record { owner = t.owner; end = end } in
     set_last_two ss before x y i j p q is last last'
-    ∙ ap (λ s. before ++ s ∷ stretch_of q ∷ []) (of_p ∙ ap (λ u. first u (stretch_of b)) same_x ∙ ap (first x) same_y)
+    ∙ ap (λ s. before ++ s ∷ stretch_of q ∷ [])
+    (of_p ∙ ap (λ u. first u (stretch_of b)) same_x ∙ ap (first x) same_y)
     ∙ ap (λ s. before ++ first x y ∷ s ∷ []) (of_q ∙ ap second same_y)

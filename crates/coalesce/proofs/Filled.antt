@@ -20,13 +20,15 @@ given_end may_grow sliver x y = by_test (is_given may_grow sliver x.owner y.owne
     by_test true e = rw e refl
     by_test false e = rw e refl
 
-pub filled_after_maximal : (may_grow : ℕ → Bool) (sliver start : ℕ) (x : Stretch) (ts : List Stretch) (end : ℕ)
+pub filled_after_maximal : (may_grow : ℕ → Bool) (sliver start : ℕ) (x : Stretch)
+    (ts : List Stretch) (end : ℕ)
     → AreMaximal start ts end → AreMaximal start (filled_after may_grow sliver x ts) end
 filled_after_maximal may_grow sliver start x [] end m = m
 filled_after_maximal may_grow sliver start x (y ∷ ts) end m =
     let e = given_end may_grow sliver x y in
     let rest = filled_after_maximal may_grow sliver y.end y ts end m.2 in
-    maximal_front start (given may_grow sliver x y) (filled_after may_grow sliver y ts) end (omega (arith, e, m.0))
+    maximal_front start (given may_grow sliver x y) (filled_after may_grow sliver y ts) end
+    (omega (arith, e, m.0))
     (subst (λ n. AreMaximal n (filled_after may_grow sliver y ts) end) (sym e) rest)
 
 pub filled_maximal : (may_grow : ℕ → Bool) (sliver : ℕ) (ts : List Stretch) (end : ℕ) → AreMaximal 0 ts end
@@ -53,7 +55,8 @@ pub record HasFilled (may_grow : ℕ → Bool) (sliver : ℕ) (segments : List S
       (map stretch_of (drop at segments))) ≡ filled may_grow sliver (map stretch_of segments)
 
 pub none_filled : (may_grow : ℕ → Bool) (sliver : ℕ) (segments : List Segment) → AreMaximal 0
-    (map stretch_of segments) ROUND → HasFilled may_grow sliver segments 0 (record { owner = None; end = 0 }) []
+    (map stretch_of segments) ROUND
+    → HasFilled may_grow sliver segments 0 (record { owner = None; end = 0 }) []
 none_filled may_grow sliver segments m = record { rises = m; leads = refl }
 
 -- one segment more
@@ -76,15 +79,18 @@ one_filled may_grow sliver segments at before out s lt is filling =
       },
     )
   where
-    left_at : (ss : List Segment) (i : ℕ) (t : Segment) → i < length ss → t ≡ get_or ss i t → drop i ss ≡ t ∷ drop
+    left_at : (ss : List Segment) (i : ℕ) (t : Segment) → i < length ss → t ≡ get_or ss i t
+        → drop i ss ≡ t ∷ drop
         (i + 1) ss
-    left_at ss i t lt is = rw (add-one i) (drop-cons ss i t lt ∙ ap (λ (x : Segment). x ∷ drop (suc i) ss) (sym is))
+    left_at ss i t lt is = rw (add-one i) (drop-cons ss i t lt
+        ∙ ap (λ (x : Segment). x ∷ drop (suc i) ss) (sym is))
 
 pub all_filled : (may_grow : ℕ → Bool) (sliver : ℕ) (segments : List Segment) (at : ℕ) (before : Stretch)
     (out : List Stretch) → length segments ≤ at → HasFilled may_grow sliver segments at before out
     → out ≡ filled may_grow sliver (map stretch_of segments)
 all_filled may_grow sliver segments at before out past filling =
-    let none : drop at segments ≡ [] = nil_from_length (drop at segments) (omega (arith, length-drop at segments)) in
+    let none : drop at segments ≡ [] =
+    nil_from_length (drop at segments) (omega (arith, length-drop at segments)) in
     sym (before_nothing out) ∙ subst (λ ts. put_before out
     (filled_after may_grow sliver before (map stretch_of ts)) ≡ filled may_grow sliver
     (map stretch_of segments)) none filling.leads

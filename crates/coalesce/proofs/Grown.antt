@@ -24,7 +24,8 @@ grows_nil : Grows [] []
 unfolding Grows
 grows_nil = tt
 
-grows_run : (n : ℕ) (o p : Option ℕ) (cs ds : Row) → (o ≡ None) ⊎ (p ≡ o) → Grows cs ds → Grows (replicate n o ++ cs)
+grows_run : (n : ℕ) (o p : Option ℕ) (cs ds : Row) → (o ≡ None) ⊎ (p ≡ o) → Grows cs ds
+    → Grows (replicate n o ++ cs)
     (replicate n p ++ ds)
 unfolding Grows
 grows_run zero o p cs ds same rest = rest
@@ -38,7 +39,8 @@ grows_drop (suc n) [] (d ∷ ds) g = absurd g
 grows_drop (suc n) (c ∷ cs) [] g = absurd g
 grows_drop (suc n) (c ∷ cs) (d ∷ ds) g = grows_drop n cs ds g.1
 
-count_grows : (v n : ℕ) (cs ds : Row) → Grows cs ds → count_by (λ cell. is_cell_of v cell) (take n cs) ≤ count_by
+count_grows : (v n : ℕ) (cs ds : Row) → Grows cs ds
+    → count_by (λ cell. is_cell_of v cell) (take n cs) ≤ count_by
     (λ cell. is_cell_of v cell) (take n ds)
 unfolding Grows
 count_grows v zero cs ds g = omega arith
@@ -51,8 +53,10 @@ count_grows v (suc n) (c ∷ cs) (d ∷ ds) g =
     omega (arith, sum_by-cons one c (take n cs), sum_by-cons one d (take n ds), rest, no_less c d g.0)
   where
     no_less : (c d : Option ℕ) → (c ≡ None) ⊎ (d ≡ c) → cond (is_cell_of v c) 1 0 ≤ cond (is_cell_of v d) 1 0
-    no_less c d (inl idle) = let none : ◌≡◌ {A = ℕ} (cond (is_cell_of v c) 1 0) 0 = rw idle refl in omega arith
-    no_less c d (inr same) = let e : ◌≡◌ {A = ℕ} (cond (is_cell_of v d) 1 0) (cond (is_cell_of v c) 1 0) = ap {B = ℕ}
+    no_less c d (inl idle) =
+        let none : ◌≡◌ {A = ℕ} (cond (is_cell_of v c) 1 0) 0 = rw idle refl in omega arith
+    no_less c d (inr same) =
+        let e : ◌≡◌ {A = ℕ} (cond (is_cell_of v d) 1 0) (cond (is_cell_of v c) 1 0) = ap {B = ℕ}
         (λ o. cond (is_cell_of v o) 1 0) same in omega arith
 
 -- so no vCPU has fewer cells in any interval
@@ -65,12 +69,15 @@ within_grows v from to row joined g = count_grows v (to - from) (drop from row) 
 -- what a stretch becomes
 pub data IsGift (may_grow : ℕ → Bool) (x y : Stretch) (owner : Option ℕ) : Type 0 where
   Kept : owner ≡ y.owner → IsGift may_grow x y owner
-  Gift : (v : ℕ) → x.owner ≡ Some v → y.owner ≡ None → may_grow v ≡ true → owner ≡ x.owner → IsGift may_grow x y owner
+  Gift : (v : ℕ) → x.owner ≡ Some v → y.owner ≡ None → may_grow v ≡ true → owner ≡ x.owner
+      → IsGift may_grow x y owner
 
-gift_of : (may_grow : ℕ → Bool) (sliver : ℕ) (x y : Stretch) → IsGift may_grow x y (given may_grow sliver x y).owner
+gift_of : (may_grow : ℕ → Bool) (sliver : ℕ) (x y : Stretch)
+    → IsGift may_grow x y (given may_grow sliver x y).owner
 gift_of may_grow sliver x y = by_test (is_given may_grow sliver x.owner y.owner (y.end - x.end)) refl
   where
-    owners : (o u : Option ℕ) → x.owner ≡ o → y.owner ≡ u → is_given may_grow sliver o u (y.end - x.end) ≡ true
+    owners : (o u : Option ℕ) → x.owner ≡ o → y.owner ≡ u
+        → is_given may_grow sliver o u (y.end - x.end) ≡ true
         → IsGift may_grow x y x.owner
     owners None u of_x of_y holds = absurd (false≢true holds)
     owners (Some v) (Some w) of_x of_y holds = absurd (false≢true holds)
@@ -82,7 +89,8 @@ gift_of may_grow sliver x y = by_test (is_given may_grow sliver x.owner y.owner 
     by_test true holds = rw holds (owners x.owner y.owner refl refl holds)
     by_test false no_ = rw no_ (Kept refl)
 
-gift_grows : (may_grow : ℕ → Bool) (x y : Stretch) (owner : Option ℕ) → IsGift may_grow x y owner → (y.owner ≡ None) ⊎
+gift_grows : (may_grow : ℕ → Bool) (x y : Stretch) (owner : Option ℕ) → IsGift may_grow x y owner
+    → (y.owner ≡ None) ⊎
     (owner ≡ y.owner)
 gift_grows may_grow x y owner (Kept same) = inr same
 gift_grows may_grow x y owner (Gift v of_x of_y may is) = inl of_y
@@ -103,7 +111,8 @@ filled_cells may_grow sliver start x y ts end m =
 pub filled_grows : (may_grow : ℕ → Bool) (sliver start : ℕ) (x : Stretch) (ts : List Stretch) (end : ℕ)
     → AreMaximal start ts end
     → Grows (cells_of start ts) (cells_of start (filled_after may_grow sliver x ts))
-filled_grows may_grow sliver start x [] end m = subst (λ row. Grows row row) (sym (cells_of-nil start)) grows_nil
+filled_grows may_grow sliver start x [] end m =
+    subst (λ row. Grows row row) (sym (cells_of-nil start)) grows_nil
 filled_grows may_grow sliver start x (y ∷ ts) end m =
     subst (Grows (cells_of start (y ∷ ts))) (sym (filled_cells may_grow sliver start x y ts end m))
     (subst (λ row. Grows row (replicate (y.end - start) (given may_grow sliver x y).owner ++ cells_of y.end
@@ -149,7 +158,8 @@ grown_cell may_grow sliver start x (y ∷ ts) end place v m at =
     at_run : (i : ℕ) → i < y.end - start → slice_get (cells_of start (y ∷ ts)) i ≡ Some y.owner
     at_run i lt = ap (λ row. slice_get row i) (cells_of-cons start y ts) ∙ get_front
         (replicate (y.end - start) y.owner) (cells_of y.end ts) i
-        (omega (arith, length-replicate (y.end - start) y.owner, lt)) ∙ get_replicate (y.end - start) y.owner i lt
+        (omega (arith, length-replicate (y.end - start) y.owner, lt))
+        ∙ get_replicate (y.end - start) y.owner i lt
 
     past_run : (i j : ℕ) → i ≡ (y.end - start) + j → slice_get (cells_of start (y ∷ ts)) i ≡ slice_get
         (cells_of y.end ts) j
@@ -167,7 +177,8 @@ grown_cell may_grow sliver start x (y ∷ ts) end place v m at =
         same_number : {a b : ℕ} → ◌≡◌ {A = Option ℕ} (Some a) (Some b) → a ≡ b
         same_number e = cc
 
-    further : y.end - start ≤ place → IsGrownCell may_grow y.owner (cells_of y.end ts) (place - (y.end - start)) v
+    further : y.end - start ≤ place
+        → IsGrownCell may_grow y.owner (cells_of y.end ts) (place - (y.end - start)) v
         → IsGrownCell may_grow x.owner (cells_of start (y ∷ ts)) place v
     further behind (Was was) = Was (past_run place (place - (y.end - start)) (omega (arith, behind)) ∙ was)
     further behind (HasBefore may owner) = HasCell may 0 (at_run 0 some ∙ ap Some owner)

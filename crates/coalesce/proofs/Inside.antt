@@ -1,5 +1,5 @@
--- A swap keeps each job's cells inside its window: one window of the first vCPU and one of the second contain all the
--- ticks that change places.
+-- A swap keeps each job's cells inside its window: one window of the first vCPU and one of the
+-- second contain all the ticks that change places.
 use Rattle.std.proofs.Common.{◌≡◌, ◌≢◌, ℕ, ◌+◌, ◌-◌, ◌*◌, ◌<◌, ◌≤◌, List, ◌∷◌, slice_get, Some, ◌⊎◌, ap, subst, sym, ◌∙◌, inl, inr, arith}
 use Rattle.std.proofs.Math.Nat.{mul-le-mul_left}
 use Rattle.std.proofs.lemmas.Bool.{cases_eq, cases_lt}
@@ -50,8 +50,10 @@ outside_windows : (p : Piece) (low high k : ℕ) → Holds p low high
     ((k * p.period + p.to ≤ low) ⊎ (high ≤ k * p.period + p.to))
 outside_windows p low high k holds = elim (cases_lt k holds.window) [
   | inl earlier ↦
-      let more = mul-le-mul_left {m = k + 1} {n = holds.window} p.period (omega arith) in
-      (inl (omega (arith, more, holds.begun, p.begins, p.within)), inl (omega (arith, more, holds.begun, p.within)))
+      let more = mul-le-mul_left {m = k + 1} {n = holds.window} p.period (omega arith) in (
+        inl (omega (arith, more, holds.begun, p.begins, p.within)),
+        inl (omega (arith, more, holds.begun, p.within)),
+      )
   | inr not_earlier ↦ elim (cases_lt holds.window k) [
     | inl later ↦
         let more = mul-le-mul_left {m = holds.window + 1} {n = k} p.period (omega arith) in
@@ -89,7 +91,8 @@ first_holds pieces row row' b l a first second may inside =
         window = w.window;
         begun = elim (cases_lt b (w.window * p.period + p.from)) [
           | inr le ↦ le
-          | inl late ↦ absurd {A = w.window * p.period + p.from ≤ b} (may.no_begin w.at w.window p w.listed w.owner late
+          | inl late ↦ absurd {A = w.window * p.period + p.from ≤ b}
+              (may.no_begin w.at w.window p w.listed w.owner late
               (omega (arith, w.begun)))
         ];
         over = omega (arith, w.not_over);
@@ -127,21 +130,24 @@ ends_outside : (pieces : List Piece) (row row' : Row) (b l a first second : ℕ)
     → (i k : ℕ) (p : Piece) → slice_get pieces i ≡ Some p
     → IsOutside b l a first second p.vcpu (k * p.period + p.from) × IsOutside b l a first second p.vcpu
     (k * p.period + p.to)
-ends_outside pieces row row' b l a first second may distinct inside i k p listed = elim (cases_eq p.vcpu first) [
-  | inl is_first ↦ held (first_holds pieces row row' b l a first second may inside) is_first
-  | inr no_first ↦ elim (cases_eq p.vcpu second) [
-    | inl is_second ↦ held (second_holds pieces row row' b l a first second may inside) is_second
-    | inr no_second ↦ (Another no_first no_second, Another no_first no_second)
-  ]
-]
+ends_outside pieces row row' b l a first second may distinct inside i k p listed =
+    elim (cases_eq p.vcpu first) [
+      | inl is_first ↦ held (first_holds pieces row row' b l a first second may inside) is_first
+      | inr no_first ↦ elim (cases_eq p.vcpu second) [
+        | inl is_second ↦ held (second_holds pieces row row' b l a first second may inside) is_second
+        | inr no_second ↦ (Another no_first no_second, Another no_first no_second)
+      ]
+    ]
   where
-    held : {v : ℕ} → (j : ℕ) × (q : Piece) × (slice_get pieces j ≡ Some q) × (q.vcpu ≡ v) × Holds q b (b + l + a)
+    held : {v : ℕ} → (j : ℕ) × (q : Piece) × (slice_get pieces j ≡ Some q) × (q.vcpu ≡ v)
+        × Holds q b (b + l + a)
         → p.vcpu ≡ v
         → IsOutside b l a first second p.vcpu (k * p.period + p.from) × IsOutside b l a first second p.vcpu
         (k * p.period + p.to)
     held found own =
         let same = one_piece pieces found.0 i found.1 p distinct found.2 listed (found.3 ∙ sym own) in
-        let sides = outside_windows p b (b + l + a) k (subst (λ (r : Piece). Holds r b (b + l + a)) same found.4) in (
+        let sides = outside_windows p b (b + l + a) k
+        (subst (λ (r : Piece). Holds r b (b + l + a)) same found.4) in (
           from_sides b l a first second p.vcpu (k * p.period + p.from) sides.0,
           from_sides b l a first second p.vcpu
               (k * p.period + p.to) sides.1,
@@ -166,7 +172,8 @@ pub move_keeps : (pieces : List Piece) (row row' : Row) (b l a first second : �
 move_keeps pieces row row' b l a first second may inside v x at = by_cell
     (cell_after row row' b l a first second x v may.moved at)
   where
-    held : {w : ℕ} → (j : ℕ) × (q : Piece) × (slice_get pieces j ≡ Some q) × (q.vcpu ≡ w) × Holds q b (b + l + a)
+    held : {w : ℕ} → (j : ℕ) × (q : Piece) × (slice_get pieces j ≡ Some q) × (q.vcpu ≡ w)
+        × Holds q b (b + l + a)
         → v ≡ w → b ≤ x → x < b + l + a → InWindow pieces v x
     held found own le lt = record {
       at = found.0;
@@ -215,7 +222,8 @@ swaps_serve pieces sliver bound end _ distinct (Done row quiet same) m served = 
     (λ ts. AreServed pieces (cells_of 0 ts)) same served
 swaps_serve pieces sliver bound end _ distinct (Again row next swap swaps) m served =
     let may = may_move pieces sliver row next bound swap m in
-    swaps_serve pieces sliver bound end next distinct swaps (swap_keeps pieces sliver 0 bound row next swap m) (record {
+    swaps_serve pieces sliver bound end next distinct swaps
+    (swap_keeps pieces sliver 0 bound row next swap m) (record {
       serves = move_serves pieces (cells_of 0 row) (cells_of 0 next) swap.x.end (swap.y.end - swap.x.end)
           (swap.z.end - swap.y.end) swap.can.first swap.can.second may distinct served.inside served.serves;
       inside = move_keeps pieces (cells_of 0 row) (cells_of 0 next) swap.x.end (swap.y.end - swap.x.end)

@@ -66,10 +66,12 @@ pub record JoinedSoFar (pieces : List Piece) (sliver : ℕ) (rows : List Row) (c
   pub each : (c : ℕ) (row new : Row) → slice_get rows c ≡ Some row → slice_get joined c ≡ Some new → IsJoined
       (pieces_at pieces c) (has_single_piece pieces) sliver row new
 
-pub one_joined : (pieces : List Piece) (sliver : ℕ) (rows : List Row) (core : ℕ) (joined : List Row) (row new : Row)
+pub one_joined : (pieces : List Piece) (sliver : ℕ) (rows : List Row) (core : ℕ) (joined : List Row)
+    (row new : Row)
     → slice_get rows core ≡ Some row
     → IsJoined (pieces_at pieces core) (has_single_piece pieces) sliver row new
-    → JoinedSoFar pieces sliver rows core joined → JoinedSoFar pieces sliver rows (core + 1) (joined ++ new ∷ [])
+    → JoinedSoFar pieces sliver rows core joined
+    → JoinedSoFar pieces sliver rows (core + 1) (joined ++ new ∷ [])
 one_joined pieces sliver rows core joined row new at is so_far = record {
   size = omega (arith, length-append joined (new ∷ []), so_far.size);
   each = λ c row' new' row_at new_at. elim (last_cases joined c new' new_at) [
@@ -108,8 +110,10 @@ no_more_segments pieces may_grow sliver row joined is =
     )
 
 -- the same of what equals them
-pub joined_as : (pieces pieces' : List Piece) (sliver : ℕ) (rows rows' joined joined' : List Row) → pieces' ≡ pieces
-    → rows' ≡ rows → joined ≡ joined' → AreJoined pieces' sliver rows' joined' → AreJoined pieces sliver rows joined
+pub joined_as : (pieces pieces' : List Piece) (sliver : ℕ) (rows rows' joined joined' : List Row)
+    → pieces' ≡ pieces
+    → rows' ≡ rows → joined ≡ joined' → AreJoined pieces' sliver rows' joined'
+    → AreJoined pieces sliver rows joined
 joined_as pieces pieces' sliver rows rows' joined joined' of_pieces of_rows of_joined are =
     subst (λ ps. AreJoined ps sliver rows joined) of_pieces
     (subst (λ rs. AreJoined pieces' sliver rs joined) of_rows

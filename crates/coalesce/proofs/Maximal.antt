@@ -72,7 +72,8 @@ pub front_differs : (s t : Stretch) (ts : List Stretch) → s.owner ≢ t.owner 
     (put_front t ts) ≡ s ∷ put_front t ts
 front_differs s t ts differ =
     let with = front_begins t ts in
-    ap (put_front s) with.is ∙ front_stays s (with.first ∷ with.rest) (λ same. differ (same ∙ sym with.same)) ∙ ap
+    ap (put_front s) with.is ∙ front_stays s (with.first ∷ with.rest)
+    (λ same. differ (same ∙ sym with.same)) ∙ ap
     (λ us. s ∷ us) (sym with.is)
 
 -- the ends rise, so the last is no earlier than the start
@@ -81,7 +82,8 @@ maximal_end start [] end m = omega (arith, m)
 maximal_end start (t ∷ ts) end m = let rest = maximal_end t.end ts end m.2 in omega (arith, m.0, rest)
 
 -- a stretch in front keeps them maximal
-pub maximal_front : (start : ℕ) (s : Stretch) (ts : List Stretch) (end : ℕ) → start < s.end → AreMaximal s.end ts end
+pub maximal_front : (start : ℕ) (s : Stretch) (ts : List Stretch) (end : ℕ) → start < s.end
+    → AreMaximal s.end ts end
     → AreMaximal start (put_front s ts) end
 maximal_front start s [] end lt m = (lt, tt, m)
 maximal_front start s (t ∷ ts) end lt m = elim (front_cases s.owner (t ∷ ts)) [
@@ -90,11 +92,13 @@ maximal_front start s (t ∷ ts) end lt m = elim (front_cases s.owner (t ∷ ts)
       (omega (arith, lt, m.0), m.1, m.2)
 ]
 
-pub maximal_of_row : (at : ℕ) (row : Row) (end : ℕ) → at + length row ≡ end → AreMaximal at (stretches_from at row) end
+pub maximal_of_row : (at : ℕ) (row : Row) (end : ℕ) → at + length row ≡ end
+    → AreMaximal at (stretches_from at row) end
 maximal_of_row at [] end e = subst (λ ts. AreMaximal at ts end) (sym (stretches-nil at)) (omega (arith, e))
 maximal_of_row at (cell ∷ cells) end e =
     subst (λ ts. AreMaximal at ts end) (sym (stretches-cons at cell cells))
-    (maximal_front at (record { owner = cell; end = at + 1 }) (stretches_from (at + 1) cells) end (omega arith)
+    (maximal_front at (record { owner = cell; end = at + 1 }) (stretches_from (at + 1) cells) end
+    (omega arith)
     (maximal_of_row (at + 1) cells end (omega (arith, e))))
 
 -- the cells that stretches stand for
@@ -120,7 +124,8 @@ replicate_parts o low middle high cells le le' =
     (sym (replicate-append-replicate (middle - low) (high - middle) o))
     ∙ append_assoc (replicate (middle - low) o) (replicate (high - middle) o) cells
 
-pub cells_of_front : (start : ℕ) (s : Stretch) (ts : List Stretch) (end : ℕ) → start ≤ s.end → AreMaximal s.end ts end
+pub cells_of_front : (start : ℕ) (s : Stretch) (ts : List Stretch) (end : ℕ) → start ≤ s.end
+    → AreMaximal s.end ts end
     → cells_of start (put_front s ts) ≡ replicate (s.end - start) s.owner ++ cells_of s.end ts
 cells_of_front start s ts end le m = elim (front_cases s.owner ts) [
   | inl other ↦ ap (cells_of start) (front_stays s ts other) ∙ cells_of-cons start s ts
@@ -132,7 +137,8 @@ cells_of_front start s ts end le m = elim (front_cases s.owner ts) [
       ∙ cells_of-cons start t us
       ∙ ap (λ o. replicate (t.end - start) o ++ cells_of t.end us) (sym with.same)
       ∙ replicate_parts s.owner start s.end t.end (cells_of t.end us) le (omega (arith, rises))
-      ∙ ap (λ o. replicate (s.end - start) s.owner ++ (replicate (t.end - s.end) o ++ cells_of t.end us)) with.same
+      ∙ ap (λ o. replicate (s.end - start) s.owner
+      ++ (replicate (t.end - s.end) o ++ cells_of t.end us)) with.same
       ∙ ap (λ cells. replicate (s.end - start) s.owner ++ cells)
       (sym (ap (cells_of s.end) with.is ∙ cells_of-cons s.end t us))
 ]
@@ -156,7 +162,8 @@ stretches_of_cells at (t ∷ ts) end m =
     ap (stretches_from at) (cells_of-cons at t ts) ∙ some_cells (t.end - at) refl
     ∙ ap (put_front t) (stretches_of_cells t.end ts end m.2) ∙ front_stays t ts m.1
   where
-    some_cells : (n : ℕ) → n ≡ t.end - at → stretches_from at (replicate n t.owner ++ cells_of t.end ts) ≡ put_front t
+    some_cells : (n : ℕ) → n ≡ t.end - at
+        → stretches_from at (replicate n t.owner ++ cells_of t.end ts) ≡ put_front t
         (stretches_from t.end (cells_of t.end ts))
     some_cells zero e = absurd (omega (arith, e, m.0))
     some_cells (suc n) e = stretches-replicate n at t.end t.owner (cells_of t.end ts) (omega (arith, e, m.0))
@@ -169,7 +176,8 @@ same_row row row' e = sym (cells_of_stretches 0 row) ∙ ap (cells_of 0) e ∙ c
 pub segments_are : (start : ℕ) (ss : List Segment) → cells_from start ss ≡ cells_of start (map stretch_of ss)
 segments_are start [] = cells-nil start ∙ sym (cells_of-nil start)
 segments_are start (s ∷ ss) =
-    cells-cons start s ss ∙ ap (λ cells. replicate (s.end - start) s.owner ++ cells) (segments_are s.end ss) ∙ sym
+    cells-cons start s ss ∙ ap (λ cells. replicate (s.end - start) s.owner ++ cells)
+    (segments_are s.end ss) ∙ sym
     (cells_of-cons start (stretch_of s) (map stretch_of ss))
 
 pub segments_rise : (start : ℕ) (ss : List Segment) (end : ℕ) → AreMaximal start (map stretch_of ss) end

@@ -9,7 +9,8 @@ slice_get-append_cases [] ys i x at = inr (i, at)
 slice_get-append_cases (z ∷ xs) ys zero x at = inl at
 slice_get-append_cases (z ∷ xs) ys (suc i) x at = slice_get-append_cases xs ys i x at
 
-pub slice_get-append_left : {X : Type 0} (xs ys : List X) (i : ℕ) (x : X) → slice_get xs i ≡ Some x → slice_get
+pub slice_get-append_left : {X : Type 0} (xs ys : List X) (i : ℕ) (x : X) → slice_get xs i ≡ Some x
+    → slice_get
     (xs ++ ys) i ≡ Some x
 slice_get-append_left [] ys i x at = absurd cc
 slice_get-append_left (z ∷ xs) ys zero x at = at
@@ -20,9 +21,11 @@ slice_get-append_last [] x = refl
 slice_get-append_last (z ∷ xs) x = slice_get-append_last xs x
 
 -- a write
-pub slice_get-set_same : {X : Type 0} (xs : List X) (i : ℕ) (y : X) → i < length xs → slice_get (set xs i y) i ≡ Some y
+pub slice_get-set_same : {X : Type 0} (xs : List X) (i : ℕ) (y : X) → i < length xs
+    → slice_get (set xs i y) i ≡ Some y
 slice_get-set_same xs i y lt =
-    slice_get-get_or (set xs i y) i y (omega (arith, length-set xs i y)) ∙ ap Some (get_or-set_same xs i y y lt)
+    slice_get-get_or (set xs i y) i y (omega (arith, length-set xs i y))
+    ∙ ap Some (get_or-set_same xs i y y lt)
 
 pub slice_get-set_other : {X : Type 0} (xs : List X) (i j : ℕ) (y : X) → (j ≡ i → ⊥) → slice_get
     (set xs i y) j ≡ slice_get xs j

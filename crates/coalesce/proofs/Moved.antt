@@ -21,14 +21,16 @@ unfolding end_of
 behind_maximal start [] ys end m = m
 behind_maximal start (x ∷ xs) ys end m = behind_maximal x.end xs ys end m.2
 
-cells_of_append : (start : ℕ) (xs ys : List Stretch) → cells_of start (xs ++ ys) ≡ cells_of start xs ++ cells_of
+cells_of_append : (start : ℕ) (xs ys : List Stretch)
+    → cells_of start (xs ++ ys) ≡ cells_of start xs ++ cells_of
     (end_of start xs) ys
 unfolding end_of
 cells_of_append start [] ys = ap (λ cells. cells ++ cells_of start ys) (sym (cells_of-nil start))
 cells_of_append start (x ∷ xs) ys =
     cells_of-cons start x (xs ++ ys) ∙ ap (λ cells. replicate (x.end - start) x.owner ++ cells)
     (cells_of_append x.end xs ys)
-    ∙ sym (append_assoc (replicate (x.end - start) x.owner) (cells_of x.end xs) (cells_of (end_of x.end xs) ys))
+    ∙ sym (append_assoc (replicate (x.end - start) x.owner) (cells_of x.end xs)
+    (cells_of (end_of x.end xs) ys))
     ∙ ap (λ cells. cells ++ cells_of (end_of x.end xs) ys) (sym (cells_of-cons start x xs))
 
 length-cells_of : (start : ℕ) (xs ys : List Stretch) (end : ℕ) → AreMaximal start (xs ++ ys) end → length
@@ -72,7 +74,8 @@ cells_moved pieces sliver row next end swap m =
     (cells_of-cons x.end y (z ∷ swap.after) ∙ ap (λ cells. replicate (y.end - x.end) y.owner ++ cells)
     (cells_of-cons y.end z swap.after))) in
     let grown = x.end + (z.end - y.end) in
-    let new : cells_of 0 next ≡ lead ++ (replicate (grown - e) x.owner ++ (replicate (z.end - grown) y.owner ++ back))
+    let new : cells_of 0 next
+    ≡ lead ++ (replicate (grown - e) x.owner ++ (replicate (z.end - grown) y.owner ++ back))
     = ap (cells_of 0) swap.next_is ∙ cells_of_append 0 swap.before (swapped x y z swap.after)
     ∙ ap (λ cells. lead ++ cells) (cells_of-cons e (record { owner = x.owner; end = grown })
     (put_front (record { owner = y.owner; end = z.end }) swap.after)
@@ -83,7 +86,8 @@ cells_moved pieces sliver row next end swap m =
     let l_size : z.end - grown ≡ y.end - x.end = omega (arith, three.2.0, three.2.2.0) in
     let parts : replicate (grown - e) x.owner ++ (replicate (z.end - grown) y.owner ++ back) ≡ replicate
     (x.end - e) x.owner ++ (replicate (grown - x.end) x.owner ++ (replicate (z.end - grown) y.owner ++ back))
-    = replicate_parts x.owner e x.end grown (replicate (z.end - grown) y.owner ++ back) (omega (arith, three.0))
+    = replicate_parts x.owner e x.end grown (replicate (z.end - grown) y.owner ++ back)
+    (omega (arith, three.0))
     (omega arith) in
     record {
       front = lead ++ replicate (x.end - e) x.owner;
@@ -99,9 +103,11 @@ cells_moved pieces sliver row next end swap m =
       old = old ∙ ap (λ o. lead ++ (replicate (x.end - e) x.owner ++
           (replicate (y.end - x.end) o ++ (replicate (z.end - y.end) z.owner ++ back)))) can.second_owns
           ∙ ap (λ o. lead ++ (replicate (x.end - e) x.owner ++
-          (replicate (y.end - x.end) (Some can.second) ++ (replicate (z.end - y.end) o ++ back)))) can.first_again
+          (replicate (y.end - x.end) (Some can.second) ++ (replicate (z.end - y.end) o ++ back))))
+          can.first_again
           ∙ sym (append_assoc lead (replicate (x.end - e) x.owner)
-          (replicate (y.end - x.end) (Some can.second) ++ (replicate (z.end - y.end) (Some can.first) ++ back)));
+          (replicate (y.end - x.end) (Some can.second)
+          ++ (replicate (z.end - y.end) (Some can.first) ++ back)));
       new = new ∙ ap (λ cells. lead ++ cells) parts
           ∙ ap (λ n. lead ++ (replicate (x.end - e) x.owner ++
           (replicate n x.owner ++ (replicate (z.end - grown) y.owner ++ back)))) a_size
@@ -110,9 +116,11 @@ cells_moved pieces sliver row next end swap m =
           ∙ ap (λ o. lead ++ (replicate (x.end - e) x.owner ++
           (replicate (z.end - y.end) o ++ (replicate (y.end - x.end) y.owner ++ back)))) can.first_owns
           ∙ ap (λ o. lead ++ (replicate (x.end - e) x.owner ++
-          (replicate (z.end - y.end) (Some can.first) ++ (replicate (y.end - x.end) o ++ back)))) can.second_owns
+          (replicate (z.end - y.end) (Some can.first) ++ (replicate (y.end - x.end) o ++ back))))
+          can.second_owns
           ∙ sym (append_assoc lead (replicate (x.end - e) x.owner)
-          (replicate (z.end - y.end) (Some can.first) ++ (replicate (y.end - x.end) (Some can.second) ++ back)));
+          (replicate (z.end - y.end) (Some can.first)
+          ++ (replicate (y.end - x.end) (Some can.second) ++ back)));
     }
 
 -- reading joined lists of cells
@@ -150,7 +158,8 @@ pub last_cell : (row row' : Row) (b l a first second y : ℕ) → AreMoved row r
     → y < b + l + a → slice_get row y ≡ Some (Some first)
 last_cell row row' b l a first second y moved le lt =
     ap (λ r. slice_get r y) moved.old ∙ get_behind moved.front _ y (y - b) (omega (arith, moved.size, le))
-    ∙ get_past_run l (Some second) _ (y - b) (y - b - l) (omega (arith, le)) ∙ get_run a (Some first) moved.back
+    ∙ get_past_run l (Some second) _ (y - b) (y - b - l) (omega (arith, le))
+    ∙ get_run a (Some first) moved.back
     (y - b - l) (omega (arith, le, lt))
 
 -- a cell after the swap is what it was, or one of the two vCPUs' between the ticks
@@ -168,7 +177,8 @@ cell_after row row' b l a first second x v moved at =
     let at' = sym (ap (λ r. slice_get r x) moved.new) ∙ at in
     elim (cases_lt x b) [
       | inl early ↦ AsBefore (ap (λ r. slice_get r x) moved.old ∙ get_front moved.front _ x
-          (omega (arith, moved.size, early)) ∙ sym (get_front moved.front _ x (omega (arith, moved.size, early))) ∙ at')
+          (omega (arith, moved.size, early))
+          ∙ sym (get_front moved.front _ x (omega (arith, moved.size, early))) ∙ at')
       | inr late ↦
           let rest = sym (get_behind moved.front (replicate a (Some first) ++
           (replicate l (Some second) ++ moved.back)) x (x - b) (omega (arith, moved.size, late))) ∙ at' in
@@ -181,14 +191,16 @@ cell_after row row' b l a first second x v moved at =
                 (x - b - a) (omega (arith, late, past_first))) ∙ rest in
                 elim (cases_lt x (b + l + a)) [
                   | inl in_second ↦ OfSecond (inside second v
-                      (sym (get_run l (Some second) _ (x - b - a) (omega (arith, late, past_first, in_second)))
+                      (sym (get_run l (Some second) _ (x - b - a)
+                      (omega (arith, late, past_first, in_second)))
                       ∙ rest')) late in_second
                   | inr past ↦
                       let rest'' = sym (get_past_run l (Some second) moved.back (x - b - a) (x - b - a - l)
                       (omega (arith, past))) ∙ rest' in
                       AsBefore (ap (λ r. slice_get r x) moved.old ∙ get_behind moved.front _ x (x - b)
                       (omega (arith, moved.size, late))
-                      ∙ get_past_run l (Some second) _ (x - b) (x - b - l) (omega (arith, past)) ∙ get_past_run a
+                      ∙ get_past_run l (Some second) _ (x - b) (x - b - l) (omega (arith, past))
+                      ∙ get_past_run a
                       (Some first) moved.back (x - b - l) (x - b - a - l) (omega (arith, past)) ∙ rest'')
                 ]
           ]

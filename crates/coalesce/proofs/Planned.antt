@@ -57,8 +57,10 @@ joined_row : (pieces : List Piece) (sliver core : ℕ) (row new : Row) → HaveO
     → IsGrownRow pieces core new
 joined_row pieces sliver core row new own served is =
     let m = maximal_of_row 0 row (length row) (omega arith) in
-    let m' = swaps_keep (pieces_at pieces core) sliver 0 (length row) is.end (stretches_from 0 row) is.swaps m in
-    let new_is : new ≡ cells_of 0 (filled (has_single_piece pieces) sliver is.end) = sym (cells_of_stretches 0 new)
+    let m' = swaps_keep (pieces_at pieces core) sliver 0 (length row) is.end
+    (stretches_from 0 row) is.swaps m in
+    let new_is : new ≡ cells_of 0 (filled (has_single_piece pieces) sliver is.end) =
+    sym (cells_of_stretches 0 new)
     ∙ ap (cells_of 0) is.fills in
     record {
       swapped = cells_of 0 is.end;
@@ -66,8 +68,10 @@ joined_row pieces sliver core row new own served is =
           (distinct_at pieces core own) is.swaps m
           (subst (AreServed (pieces_at pieces core)) (sym (cells_of_stretches 0 row)) served);
       grows = subst (Grows (cells_of 0 is.end)) (sym new_is)
-          (filled_grows (has_single_piece pieces) sliver 0 (record { owner = None; end = 0 }) is.end (length row) m');
-      cells = λ place v at. grown_cell (has_single_piece pieces) sliver 0 (record { owner = None; end = 0 }) is.end
+          (filled_grows (has_single_piece pieces) sliver 0 (record { owner = None; end = 0 }) is.end
+          (length row) m');
+      cells = λ place v at. grown_cell (has_single_piece pieces) sliver 0
+          (record { owner = None; end = 0 }) is.end
           (length row) place v m' (ap (λ r. slice_get r place) (sym new_is) ∙ at);
     }
 
@@ -86,7 +90,8 @@ grown_rows tasks pieces homes sliver rows joined draft are core new at =
     }) (are.each core row new row_at at)
 
 -- so each job has at least its cost inside its window
-pub jobs_served : (pieces : List Piece) (core : ℕ) (new : Row) → IsGrownRow pieces core new → (i k : ℕ) (p : Piece)
+pub jobs_served : (pieces : List Piece) (core : ℕ) (new : Row) → IsGrownRow pieces core new
+    → (i k : ℕ) (p : Piece)
     → slice_get (pieces_at pieces core) i ≡ Some p → k < ROUND / p.period
     → p.cost ≤ cells_within p.vcpu new (k * p.period + p.from) (k * p.period + p.to)
 jobs_served pieces core new grown i k p at lt =
@@ -98,7 +103,8 @@ jobs_served pieces core new grown i k p at lt =
     )
 
 costs_given : (pieces : List Piece) (joined : List Row) →
-    ((core : ℕ) (new : Row) → slice_get joined core ≡ Some new → IsGrownRow pieces core new) → GiveCosts pieces joined
+    ((core : ℕ) (new : Row) → slice_get joined core ≡ Some new → IsGrownRow pieces core new)
+    → GiveCosts pieces joined
 costs_given pieces joined grown core new new_at i k p at lt =
     let served = jobs_served pieces core new (grown core new new_at) i k p at lt in
     let more = cells_within-le p.vcpu new (k * p.period) (k * p.period + p.from) (k * p.period + p.to)
@@ -106,7 +112,8 @@ costs_given pieces joined grown core new new_at i k p at lt =
     omega (arith, served, more)
 
 -- the place of a tick in its period
-place_in_period : (t tick k from to : ℕ) → to ≤ t → k * t + from ≤ tick → tick < k * t + to → (from ≤ tick % t) ×
+place_in_period : (t tick k from to : ℕ) → to ≤ t → k * t + from ≤ tick → tick < k * t + to
+    → (from ≤ tick % t) ×
     (tick % t < to)
 place_in_period t tick k from to within begun not_over =
     let r = tick - k * t in
@@ -124,34 +131,41 @@ count_none v (q ∷ ps) none zero p at own =
     let one : ◌≡◌ {A = ℕ} (cond (eqb q.vcpu v) 1 0) 1 = ap {B = ℕ} (λ b. cond b 1 0) (eq-eqb q.vcpu v here) in
     omega (arith, none, one, sum_by-cons (λ (r : Piece). cond (eqb r.vcpu v) 1 0) q ps)
 count_none v (q ∷ ps) none (suc i) p at own =
-    count_none v ps (omega (arith, none, sum_by-cons (λ (r : Piece). cond (eqb r.vcpu v) 1 0) q ps)) i p at own
+    count_none v ps (omega (arith, none, sum_by-cons (λ (r : Piece). cond (eqb r.vcpu v) 1 0) q ps))
+    i p at own
 
-single_is_one : (v : ℕ) (ps : List Piece) → count_by (λ (p : Piece). eqb p.vcpu v) ps ≡ 1 → (i j : ℕ) (p q : Piece)
+single_is_one : (v : ℕ) (ps : List Piece) → count_by (λ (p : Piece). eqb p.vcpu v) ps ≡ 1
+    → (i j : ℕ) (p q : Piece)
     → slice_get ps i ≡ Some p → slice_get ps j ≡ Some q → p.vcpu ≡ v → q.vcpu ≡ v → p ≡ q
 single_is_one v [] one i j p q at at' own own' = absurd cc
 single_is_one v (r ∷ ps) one i j p q at at' own own' =
     let sum = sum_by-cons (λ (s : Piece). cond (eqb s.vcpu v) 1 0) r ps in
     elim (cases_eq r.vcpu v) [
       | inl here ↦
-          let first : ◌≡◌ {A = ℕ} (cond (eqb r.vcpu v) 1 0) 1 = ap {B = ℕ} (λ b. cond b 1 0) (eq-eqb r.vcpu v here) in
+          let first : ◌≡◌ {A = ℕ} (cond (eqb r.vcpu v) 1 0) 1 =
+          ap {B = ℕ} (λ b. cond b 1 0) (eq-eqb r.vcpu v here) in
           let none : count_by (λ (s : Piece). eqb s.vcpu v) ps ≡ 0 = omega (arith, one, sum, first) in
           both_first none i j at at'
       | inr other ↦
-          let first : ◌≡◌ {A = ℕ} (cond (eqb r.vcpu v) 1 0) 0 = ap {B = ℕ} (λ b. cond b 1 0) (ne_eqb r.vcpu v other) in
+          let first : ◌≡◌ {A = ℕ} (cond (eqb r.vcpu v) 1 0) 0 =
+          ap {B = ℕ} (λ b. cond b 1 0) (ne_eqb r.vcpu v other) in
           both_later other (λ k l at'' at'''. single_is_one v ps
           (omega (arith, one, sum, first)) k l p q at'' at''' own own') i j at at'
     ]
   where
-    both_first : count_by (λ (s : Piece). eqb s.vcpu v) ps ≡ 0 → (i j : ℕ) → slice_get (r ∷ ps) i ≡ Some p → slice_get
+    both_first : count_by (λ (s : Piece). eqb s.vcpu v) ps ≡ 0 → (i j : ℕ)
+        → slice_get (r ∷ ps) i ≡ Some p → slice_get
         (r ∷ ps) j ≡ Some q → p ≡ q
     both_first none zero zero at at' = sym (same_Some r p at) ∙ same_Some r q at'
     both_first none zero (suc j) at at' = absurd (count_none v ps none j q at' own')
     both_first none (suc i) j at at' = absurd (count_none v ps none i p at own)
 
-    both_later : r.vcpu ≢ v → ((k l : ℕ) → slice_get ps k ≡ Some p → slice_get ps l ≡ Some q → p ≡ q) → (i j : ℕ)
+    both_later : r.vcpu ≢ v → ((k l : ℕ) → slice_get ps k ≡ Some p → slice_get ps l ≡ Some q
+        → p ≡ q) → (i j : ℕ)
         → slice_get (r ∷ ps) i ≡ Some p → slice_get (r ∷ ps) j ≡ Some q → p ≡ q
     both_later other rest zero j at at' = absurd (other (ap (λ (s : Piece). s.vcpu) (same_Some r p at) ∙ own))
-    both_later other rest (suc i) zero at at' = absurd (other (ap (λ (s : Piece). s.vcpu) (same_Some r q at') ∙ own'))
+    both_later other rest (suc i) zero at at' =
+        absurd (other (ap (λ (s : Piece). s.vcpu) (same_Some r q at') ∙ own'))
     both_later other rest (suc i) (suc j) at at' = rest i j at at'
 
 -- each cell is at a place of its vCPU
@@ -205,13 +219,15 @@ owner_in_row rows core tick v owned = in_row (slice_get rows core) refl owned
     in_row (Some row) is e = (row, is, in_cell row (slice_get row tick) refl e)
 
 places_kept : (pieces : List Piece) (joined : List Row) →
-    ((core : ℕ) (new : Row) → slice_get joined core ≡ Some new → IsGrownRow pieces core new) → KeepPlaces pieces joined
+    ((core : ℕ) (new : Row) → slice_get joined core ≡ Some new → IsGrownRow pieces core new)
+    → KeepPlaces pieces joined
 places_kept pieces joined grown v tick core owned =
     let row = owner_in_row joined core tick v owned in
     cell_at_place pieces core tick v row.0 (grown core row.0 row.1) row.2
 
 -- the plan of a draft
-pub joined_is_plan : (tasks : List (Option Periodic)) (pieces : List Piece) (homes : List (Option ℕ)) (sliver : ℕ)
+pub joined_is_plan : (tasks : List (Option Periodic)) (pieces : List Piece)
+    (homes : List (Option ℕ)) (sliver : ℕ)
     (rows joined : List Row) → IsDraft tasks pieces homes rows → AreJoined pieces sliver rows joined
     → IsPlan (record { tasks = tasks; homes = homes; rows = joined })
 joined_is_plan tasks pieces homes sliver rows joined draft are =

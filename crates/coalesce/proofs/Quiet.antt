@@ -1,4 +1,5 @@
--- Stretches of which no three may be swapped: longer ones may not either, so one pass finds each leftmost swap.
+-- Stretches of which no three may be swapped: longer ones may not either, so one pass finds each
+-- leftmost swap.
 use Rattle.std.proofs.Common.{◌≡◌, ℕ, ◌≤◌, List, [], ◌∷◌, ◌++◌, refl, ap, subst, sym, ◌∙◌, inl, inr, arith, append_assoc}
 use Rattle.tab_core.specs.declared.piece.Piece.{Piece}
 use Rattle.table_form.specs.Stretches.{Stretch, put_front}
@@ -25,7 +26,8 @@ shorter_swap pieces sliver x y y' z z' of_y of_z can = record {
   second_owns = sym of_y.same ∙ can.second_owns;
   first_again = sym of_z.same ∙ can.first_again;
   short = omega (arith, can.short, of_y.later);
-  no_begin = λ at k p listed own low high. can.no_begin at k p listed own low (omega (arith, high, of_z.later));
+  no_begin = λ at k p listed own low high. can.no_begin at k p listed own low
+      (omega (arith, high, of_z.later));
   no_end = λ at k p listed own low high. can.no_end at k p listed own low (omega (arith, high, of_z.later));
 }
 
@@ -35,13 +37,17 @@ pub last_grows : (pieces : List Piece) (sliver : ℕ) (xs : List Stretch) (t t' 
     → NoSwap pieces sliver (xs ++ t ∷ []) → NoSwap pieces sliver (xs ++ t' ∷ [])
 last_grows pieces sliver [] t t' same le quiet = tt
 last_grows pieces sliver (x ∷ []) t t' same le quiet = tt
-last_grows pieces sliver (x ∷ y ∷ []) t t' same le quiet =
-    (λ can. quiet.0 (shorter_swap pieces sliver x y y t t' (itself y) (record { same = same; later = le }) can), tt)
+last_grows pieces sliver (x ∷ y ∷ []) t t' same le quiet = (
+  λ can. quiet.0 (shorter_swap pieces sliver x y y t t' (itself y)
+      (record { same = same; later = le }) can),
+  tt,
+)
 last_grows pieces sliver (x ∷ y ∷ z ∷ xs) t t' same le quiet =
     (quiet.0, last_grows pieces sliver (y ∷ z ∷ xs) t t' same le quiet.1)
 
 -- and the last two, as they do after a swap
-pub two_grow : (pieces : List Piece) (sliver : ℕ) (xs : List Stretch) (u u' t t' : Stretch) → u'.owner ≡ u.owner
+pub two_grow : (pieces : List Piece) (sliver : ℕ) (xs : List Stretch) (u u' t t' : Stretch)
+    → u'.owner ≡ u.owner
     → u.end ≤ u'.end → t'.owner ≡ t.owner → t.end ≤ t'.end
     → NoSwap pieces sliver (xs ++ u ∷ t ∷ []) → NoSwap pieces sliver (xs ++ u' ∷ t' ∷ [])
 two_grow pieces sliver [] u u' t t' of_u le_u of_t le_t quiet = tt
@@ -51,8 +57,11 @@ two_grow pieces sliver (x ∷ []) u u' t t' of_u le_u of_t le_t quiet = (
   tt,
 )
 two_grow pieces sliver (x ∷ y ∷ []) u u' t t' of_u le_u of_t le_t quiet =
-    let rest = two_grow pieces sliver (y ∷ []) u u' t t' of_u le_u of_t le_t quiet.1 in
-    (λ can. quiet.0 (shorter_swap pieces sliver x y y u u' (itself y) (record { same = of_u; later = le_u }) can), rest)
+    let rest = two_grow pieces sliver (y ∷ []) u u' t t' of_u le_u of_t le_t quiet.1 in (
+      λ can. quiet.0 (shorter_swap pieces sliver x y y u u' (itself y)
+          (record { same = of_u; later = le_u }) can),
+      rest,
+    )
 two_grow pieces sliver (x ∷ y ∷ z ∷ xs) u u' t t' of_u le_u of_t le_t quiet =
     (quiet.0, two_grow pieces sliver (y ∷ z ∷ xs) u u' t t' of_u le_u of_t le_t quiet.1)
 
@@ -71,12 +80,14 @@ one_more_quiet pieces sliver (x ∷ y ∷ xs) u t s cannot quiet = several x y x
     several x y (z ∷ xs) cannot quiet = (quiet.0, several y z xs cannot quiet.1)
 
 -- the last of some stretches
-pub last_of : (t : Stretch) (ts : List Stretch) → (xs : List Stretch) × (u : Stretch) × (t ∷ ts ≡ xs ++ u ∷ [])
+pub last_of : (t : Stretch) (ts : List Stretch)
+    → (xs : List Stretch) × (u : Stretch) × (t ∷ ts ≡ xs ++ u ∷ [])
 last_of t [] = ([], t, refl)
 last_of t (u ∷ ts) = (let rest = last_of u ts in (t ∷ rest.0, rest.1, ap (λ us. t ∷ us) rest.2))
 
 -- the next stretch is appended, where it can't be swapped with the last two
-pub append_quiet : (pieces : List Piece) (sliver : ℕ) (out : List Stretch) (s : Stretch) → NoSwap pieces sliver out
+pub append_quiet : (pieces : List Piece) (sliver : ℕ) (out : List Stretch) (s : Stretch)
+    → NoSwap pieces sliver out
     → ((before : List Stretch) (x y : Stretch) → out ≡ before ++ x ∷ y ∷ [] → CanSwap pieces sliver x y s → ⊥)
     → ((before : List Stretch) (t : Stretch) → out ≡ before ++ t ∷ [] → t.end ≤ s.end)
     → NoSwap pieces sliver (put_before out (s ∷ []))
@@ -89,7 +100,8 @@ append_quiet pieces sliver (o ∷ out) s quiet cannot rises =
     (λ before x y e. cannot before x y (last.2 ∙ e)) (rises last.0 last.1 last.2)))
   where
     behind : (xs : List Stretch) (t : Stretch) → NoSwap pieces sliver (xs ++ t ∷ [])
-        → ((before : List Stretch) (x y : Stretch) → xs ++ t ∷ [] ≡ before ++ x ∷ y ∷ [] → CanSwap pieces sliver x y s
+        → ((before : List Stretch) (x y : Stretch) → xs ++ t ∷ [] ≡ before ++ x ∷ y ∷ []
+        → CanSwap pieces sliver x y s
         → ⊥)
         → t.end ≤ s.end → NoSwap pieces sliver (xs ++ put_front t (s ∷ []))
     behind xs t quiet cannot le = elim (front_cases t.owner (s ∷ [])) [

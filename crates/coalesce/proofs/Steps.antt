@@ -29,7 +29,8 @@ first_after u t s = record { owner = u.owner; end = u.end + (s.end - t.end) }
 abbrev pub second_after : Stretch → Stretch → Stretch
 second_after t s = record { owner = t.owner; end = s.end }
 
-pub stands_after_swap : (xs : List Stretch) (u t s : Stretch) (rest : List Stretch) → StandInRow (xs ++ u ∷ t ∷ [])
+pub stands_after_swap : (xs : List Stretch) (u t s : Stretch) (rest : List Stretch)
+    → StandInRow (xs ++ u ∷ t ∷ [])
     (s ∷ rest)
     → StandInRow (xs ++ first_after u t s ∷ second_after t s ∷ []) rest
 stands_after_swap xs u t s rest stand =
@@ -52,7 +53,8 @@ passed_after_swap pieces sliver row xs u t s rest stand can passed =
     let two = parts.second in
     let late : t.end < s.end = omega (arith, two.2.2, stand.after.0) in
     let apart : t.owner ≢ s.owner = λ same. two.1 (can.first_owns ∙ sym can.first_again ∙ sym same) in
-    let old : put_before (xs ++ u ∷ t ∷ []) (s ∷ rest) ≡ xs ++ u ∷ t ∷ s ∷ rest = before_last_two xs u t (s ∷ rest)
+    let old : put_before (xs ++ u ∷ t ∷ []) (s ∷ rest) ≡ xs ++ u ∷ t ∷ s ∷ rest =
+    before_last_two xs u t (s ∷ rest)
     ∙ ap (λ ts. xs ++ u ∷ ts) (front_stays t (s ∷ rest) apart) in
     let new : put_before
     (xs ++ first_after u t s ∷ second_after t s ∷ []) rest ≡ xs ++ swapped u t s rest = before_last_two xs
@@ -86,26 +88,31 @@ stands_after_append out s rest stand = record {
 
 pub passed_after_append : (pieces : List Piece) (sliver : ℕ) (row out : List Stretch) (s : Stretch)
     (rest : List Stretch) → StandInRow out (s ∷ rest)
-    → (CanSwapLast pieces sliver out s → ⊥) → IsPassed pieces sliver row out (s ∷ rest) → IsPassed pieces sliver row
+    → (CanSwapLast pieces sliver out s → ⊥) → IsPassed pieces sliver row out (s ∷ rest)
+    → IsPassed pieces sliver row
     (put_before out (s ∷ [])) rest
 passed_after_append pieces sliver row out s rest stand cannot passed =
-    let same : put_before (put_before out (s ∷ [])) rest ≡ put_before out (s ∷ rest) = before_one_more out s rest ∙ ap
+    let same : put_before (put_before out (s ∷ [])) rest ≡ put_before out (s ∷ rest) =
+    before_one_more out s rest ∙ ap
     (put_before out) (front_stays s rest stand.after.1) in
     record {
       quiet = append_quiet pieces sliver out s passed.quiet
           (λ before x y is can. cannot (record { before = before; x = x; y = y; is = is; can = can }))
           (λ before t is. (let last = ends_before 0 before t [] stand.reached
-          (subst (λ ts. AreMaximal 0 ts stand.reached) is stand.before) in omega (arith, last.1, stand.after.0)));
+          (subst (λ ts. AreMaximal 0 ts stand.reached) is stand.before)
+          in omega (arith, last.1, stand.after.0)));
       leads = λ end swaps. passed.leads end (subst (SwapsTo pieces sliver end) same swaps);
     }
 
 -- a segment ends a stretch where the next one has another owner
 pub stretch_ends : (start : ℕ) (s : Segment) (ss : List Segment) (end : ℕ) → RisesTo start (s ∷ ss) end
     → BeginsOther s.owner (map stretch_of ss)
-    → stretches_from start (cells_from start (s ∷ ss)) ≡ stretch_of s ∷ stretches_from s.end (cells_from s.end ss)
+    → stretches_from start (cells_from start (s ∷ ss))
+    ≡ stretch_of s ∷ stretches_from s.end (cells_from s.end ss)
 stretch_ends start s [] end rises other =
     let parts = rises_parts start s [] end rises in
-    stretches-segment start s [] parts.0 ∙ front_stays (stretch_of s) (stretches_from s.end (cells_from s.end []))
+    stretches-segment start s [] parts.0
+    ∙ front_stays (stretch_of s) (stretches_from s.end (cells_from s.end []))
     (subst (BeginsOther s.owner) (sym (ap (stretches_from s.end) (cells-nil s.end) ∙ stretches-nil s.end)) tt)
 stretch_ends start s (t ∷ ss) end rises other =
     let parts = rises_parts start s (t ∷ ss) end rises in
@@ -145,7 +152,8 @@ pub record HasPassed (segments : List Segment) (table : List (Option Piece)) (sl
       (stretches_from start (cells_from start (drop at segments)))
 
 -- before the first segment
-pub none_passed : (segments : List Segment) (table : List (Option Piece)) (sliver : ℕ) → RisesTo 0 segments ROUND
+pub none_passed : (segments : List Segment) (table : List (Option Piece)) (sliver : ℕ)
+    → RisesTo 0 segments ROUND
     → HasPassed segments table sliver 0 []
 none_passed segments table sliver rises = record {
   start = 0;
@@ -159,10 +167,12 @@ none_passed segments table sliver rises = record {
   passed = λ pieces is. record { quiet = tt; leads = λ end swaps. swaps };
 }
 
-segment_at : (ss : List Segment) (i : ℕ) (s : Segment) → slice_get ss i ≡ Some s → drop i ss ≡ s ∷ drop (i + 1) ss
+segment_at : (ss : List Segment) (i : ℕ) (s : Segment) → slice_get ss i ≡ Some s
+    → drop i ss ≡ s ∷ drop (i + 1) ss
 segment_at ss i s at =
     let lt = slice_get_within ss i s at in
-    rw (add-one i) (drop-cons ss i s lt ∙ ap (λ (x : Segment). x ∷ drop (suc i) ss) (get_or_from_slice_get ss i s s at))
+    rw (add-one i) (drop-cons ss i s lt ∙ ap (λ (x : Segment). x ∷ drop (suc i) ss)
+    (get_or_from_slice_get ss i s s at))
 
 -- a list has a segment at each place
 pub some_segment : (ss : List Segment) (i : ℕ) → i < length ss → (s : Segment) × (slice_get ss i ≡ Some s)
@@ -194,14 +204,17 @@ ends_by_next ss i s a b test is lt tells =
     by_test o false other differ = ap not other
 
 -- a segment that goes on with the next one
-pub one_passed_over : (segments : List Segment) (table : List (Option Piece)) (sliver at : ℕ) (out : List Stretch)
+pub one_passed_over : (segments : List Segment) (table : List (Option Piece)) (sliver at : ℕ)
+    (out : List Stretch)
     (s : Segment) → slice_get segments at ≡ Some s
-    → (BeginsOther s.owner (map stretch_of (drop (at + 1) segments)) → ⊥) → HasPassed segments table sliver at out
+    → (BeginsOther s.owner (map stretch_of (drop (at + 1) segments)) → ⊥)
+    → HasPassed segments table sliver at out
     → HasPassed segments table sliver (at + 1) out
 one_passed_over segments table sliver at out s is with passed =
     let ss = drop (at + 1) segments in
     let rises = subst (λ ts. RisesTo passed.start ts ROUND) (segment_at segments at s is) passed.rises in
-    let rest = ap (λ ts. stretches_from passed.start (cells_from passed.start ts)) (segment_at segments at s is)
+    let rest = ap (λ ts. stretches_from passed.start (cells_from passed.start ts))
+    (segment_at segments at s is)
     ∙ stretch_goes_on passed.start s ss ROUND rises with in
     record {
       start = s.end;
@@ -231,7 +244,8 @@ pub one_comes : (segments : List Segment) (table : List (Option Piece)) (sliver 
 one_comes segments table sliver at out s is other passed =
     let ss = drop (at + 1) segments in
     let rises = subst (λ ts. RisesTo passed.start ts ROUND) (segment_at segments at s is) passed.rises in
-    let rest = ap (λ ts. stretches_from passed.start (cells_from passed.start ts)) (segment_at segments at s is)
+    let rest = ap (λ ts. stretches_from passed.start (cells_from passed.start ts))
+    (segment_at segments at s is)
     ∙ stretch_ends passed.start s ss ROUND rises other in
     let parts = rises_parts passed.start s ss ROUND rises in
     record {
@@ -240,12 +254,21 @@ one_comes segments table sliver at out s is other passed =
       stands = subst (StandInRow out) rest passed.stands;
       passed = λ pieces of. subst (IsPassed pieces sliver (stretches_from 0 (cells_from 0 segments)) out) rest
           (passed.passed pieces of);
-      after = λ new stands' passed'. record { start = s.end; rises = parts.1; stands = stands'; passed = passed' };
+      after = λ new stands' passed'. record {
+        start = s.end;
+        rises = parts.1;
+        stands = stands';
+        passed = passed';
+      };
     }
 
 pub below_next : (out : List Stretch) (s : Stretch) (rest : List Stretch) → StandInRow out (s ∷ rest)
     → EndBelow out s.end
-below_next out s rest stand = record { reached = stand.reached; maximal = stand.before; below = stand.after.0 }
+below_next out s rest stand = record {
+  reached = stand.reached;
+  maximal = stand.before;
+  below = stand.after.0;
+}
 
 -- behind the last segment
 pub record Ended (segments : List Segment) (table : List (Option Piece)) (sliver : ℕ)
@@ -258,7 +281,8 @@ pub all_passed : (segments : List Segment) (table : List (Option Piece)) (sliver
     → length segments ≤ at → HasPassed segments table sliver at out
     → Ended segments table sliver out
 all_passed segments table sliver at out past passed =
-    let none : drop at segments ≡ [] = nil_from_length (drop at segments) (omega (arith, length-drop at segments)) in
+    let none : drop at segments ≡ [] =
+    nil_from_length (drop at segments) (omega (arith, length-drop at segments)) in
     let rest = ap (λ ts. stretches_from passed.start (cells_from passed.start ts)) none ∙ ap
     (stretches_from passed.start) (cells-nil passed.start) ∙ stretches-nil passed.start in
     let stands = subst (StandInRow out) rest passed.stands in
@@ -267,6 +291,8 @@ all_passed segments table sliver at out past passed =
       swaps = λ pieces of. (
           let end = subst (IsPassed pieces sliver (stretches_from 0 (cells_from 0 segments)) out) rest
           (passed.passed pieces of) in
-          end.leads out (Done (put_before out []) (subst (NoSwap pieces sliver) (sym (before_nothing out)) end.quiet)
+          end.leads out
+          (Done (put_before out []) (subst (NoSwap pieces sliver)
+          (sym (before_nothing out)) end.quiet)
           (before_nothing out)));
     }

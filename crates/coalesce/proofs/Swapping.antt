@@ -11,7 +11,8 @@ use Rattle.coalesce.proofs.Maximal.{front_begins, front_cases, front_joins, fron
 pub record Parts (start : ℕ) (xs : List Stretch) (y : Stretch) (ys : List Stretch) (end : ℕ) : Type 0 where
   pub middle : ℕ
   pub second : AreMaximal middle (y ∷ ys) end
-  pub instead : (z : Stretch) (zs : List Stretch) (end' : ℕ) → z.owner ≡ y.owner → AreMaximal middle (z ∷ zs) end'
+  pub instead : (z : Stretch) (zs : List Stretch) (end' : ℕ) → z.owner ≡ y.owner
+      → AreMaximal middle (z ∷ zs) end'
       → AreMaximal start (xs ++ z ∷ zs) end'
 
 pub parts_of : (start : ℕ) (xs : List Stretch) (y : Stretch) (ys : List Stretch) (end : ℕ) → AreMaximal start
@@ -29,7 +30,8 @@ parts_of start (x ∷ w ∷ xs) y ys end m =
     }
 
 -- the first two of a swap have different owners
-pub swap_differs : (pieces : List Piece) (sliver : ℕ) (start : ℕ) (x y z : Stretch) (after : List Stretch) (end : ℕ)
+pub swap_differs : (pieces : List Piece) (sliver : ℕ) (start : ℕ) (x y z : Stretch)
+    (after : List Stretch) (end : ℕ)
     → AreMaximal start (x ∷ y ∷ z ∷ after) end → CanSwap pieces sliver x y z
     → AreMaximal start (swapped x y z after) end
 swap_differs pieces sliver start x y z after end m can =
@@ -50,7 +52,8 @@ swap_keeps pieces sliver start end row next swap m =
 
 pub swaps_keep : (pieces : List Piece) (sliver : ℕ) (start bound : ℕ) (end row : List Stretch)
     → SwapsTo pieces sliver end row → AreMaximal start row bound → AreMaximal start end bound
-swaps_keep pieces sliver start bound end _ (Done row quiet same) m = subst (λ ts. AreMaximal start ts bound) same m
+swaps_keep pieces sliver start bound end _ (Done row quiet same) m =
+    subst (λ ts. AreMaximal start ts bound) same m
 swaps_keep pieces sliver start bound end _
     (Again row next swap swaps) m = swaps_keep pieces sliver start bound end next swaps
     (swap_keeps pieces sliver start bound row next swap m)
@@ -76,7 +79,8 @@ swap_shortens pieces sliver row next swap =
       front_length t swap.after,
     )
 
-pub swaps_shorten : (pieces : List Piece) (sliver : ℕ) (end row : List Stretch) → SwapsTo pieces sliver end row
+pub swaps_shorten : (pieces : List Piece) (sliver : ℕ) (end row : List Stretch)
+    → SwapsTo pieces sliver end row
     → length end ≤ length row
 swaps_shorten pieces sliver end _ (Done row quiet same) = omega (arith, ap length same)
 swaps_shorten pieces sliver end _ (Again row next swap swaps) =

@@ -13,12 +13,14 @@ use Rattle.coalesce.specs.Joining.{CanSwap, NoBegin, NoEnd}
 use Rattle.coalesce.specs.Passing.{IsTableOf}
 
 -- what stands at the vCPU's number
-pub at_number : (table : List (Option Piece)) (v i : ℕ) (d o : Option Piece) → length table ≡ MAX_VCPUS → i ≡ v
+pub at_number : (table : List (Option Piece)) (v i : ℕ) (d o : Option Piece)
+    → length table ≡ MAX_VCPUS → i ≡ v
     → i < MAX_VCPUS → get_or table i d ≡ o → slice_get table v ≡ Some o
 at_number table v i d o size same lt is = ap (slice_get table) (sym same) ∙ slice_get-get_or table i d
     (omega (arith, size, lt)) ∙ ap Some is
 
-pub none_listed : (pieces : List Piece) (table : List (Option Piece)) (v at : ℕ) (p : Piece) → IsTableOf pieces table
+pub none_listed : (pieces : List Piece) (table : List (Option Piece)) (v at : ℕ) (p : Piece)
+    → IsTableOf pieces table
     → slice_get table v ≡ Some None
     → slice_get pieces at ≡ Some p → p.vcpu ≡ v → ⊥
 none_listed pieces table v at p is none listed own = clash
@@ -27,7 +29,8 @@ none_listed pieces table v at p is none listed own = clash
     clash : ◌≡◌ {A = Option (Option Piece)} (Some None) (Some (Some p)) → ⊥
     clash e = cc
 
-pub one_listed : (pieces : List Piece) (table : List (Option Piece)) (v at : ℕ) (p q : Piece) → IsTableOf pieces table
+pub one_listed : (pieces : List Piece) (table : List (Option Piece)) (v at : ℕ) (p q : Piece)
+    → IsTableOf pieces table
     → slice_get table v ≡ Some (Some q)
     → slice_get pieces at ≡ Some p → p.vcpu ≡ v → p ≡ q
 one_listed pieces table v at p q is some listed own = inside
@@ -66,7 +69,8 @@ NoneAt offset pieces vcpu low high = (at k : ℕ) (p : Piece) → slice_get piec
     low < k * p.period + offset p → k * p.period + offset p < high → ⊥
 
 -- as the first behind the lower one tells
-pub none_by_next : (offset : Piece → ℕ) (pieces : List Piece) (table : List (Option Piece)) (v low high next : ℕ)
+pub none_by_next : (offset : Piece → ℕ) (pieces : List Piece) (table : List (Option Piece))
+    (v low high next : ℕ)
     (q : Piece) → IsTableOf pieces table → slice_get table v ≡ Some (Some q)
     → low < next → (k : ℕ) × (next ≡ k * q.period + offset q) →
     ((k : ℕ) → low < k * q.period + offset q → next ≤ k * q.period + offset q)
@@ -86,5 +90,6 @@ none_by_next offset pieces table v low high next q is some later one least = (if
       | inr le ↦ le-leb high next le
       | inl lt ↦
           let listed = is.listed v q some in
-          absurd (none listed.1 one.0 q listed.2 listed.0 (omega (arith, later, one.1)) (omega (arith, lt, one.1)))
+          absurd (none listed.1 one.0 q listed.2 listed.0 (omega (arith, later, one.1))
+          (omega (arith, lt, one.1)))
     ]

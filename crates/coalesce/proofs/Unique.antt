@@ -10,13 +10,15 @@ use Rattle.coalesce.specs.Joining.{AreJoined, CanSwap, IsJoined, NoSwap, has_sin
 use Rattle.coalesce.specs.Joining.SwapsTo.{Again, Done}
 use Rattle.coalesce.proofs.Maximal.{same_row}
 
-no_swap_behind : (pieces : List Piece) (sliver : ℕ) (w : Stretch) (ws : List Stretch) → NoSwap pieces sliver (w ∷ ws)
+no_swap_behind : (pieces : List Piece) (sliver : ℕ) (w : Stretch) (ws : List Stretch)
+    → NoSwap pieces sliver (w ∷ ws)
     → NoSwap pieces sliver ws
 no_swap_behind pieces sliver w [] quiet = tt
 no_swap_behind pieces sliver w (x ∷ []) quiet = tt
 no_swap_behind pieces sliver w (x ∷ y ∷ ws) quiet = quiet.1
 
-no_swap_at : (pieces : List Piece) (sliver : ℕ) (before : List Stretch) (x y z : Stretch) (after : List Stretch)
+no_swap_at : (pieces : List Piece) (sliver : ℕ) (before : List Stretch) (x y z : Stretch)
+    (after : List Stretch)
     → NoSwap pieces sliver (before ++ x ∷ y ∷ z ∷ after) → CanSwap pieces sliver x y z → ⊥
 no_swap_at pieces sliver [] x y z after quiet can = quiet.0 can
 no_swap_at pieces sliver (w ∷ before) x y z after quiet can = no_swap_at pieces sliver before x y z after
@@ -31,7 +33,8 @@ can_moved pieces sliver x y z u v w a b c can =
 -- no swap is further left than the leftmost
 none_earlier : (pieces : List Piece) (sliver : ℕ) (x y z : Stretch) (after : List Stretch) (w : Stretch)
     (ws : List Stretch) (x' y' z' : Stretch) (after' : List Stretch)
-    → x ∷ y ∷ z ∷ after ≡ w ∷ (ws ++ x' ∷ y' ∷ z' ∷ after') → CanSwap pieces sliver x y z → NoSwap pieces sliver
+    → x ∷ y ∷ z ∷ after ≡ w ∷ (ws ++ x' ∷ y' ∷ z' ∷ after') → CanSwap pieces sliver x y z
+    → NoSwap pieces sliver
     (w ∷ (ws ++ x' ∷ y' ∷ [])) → ⊥
 none_earlier pieces sliver x y z after w [] x' y' z' after' same can quiet = quiet.0
     (can_moved pieces sliver x y z w x' y' (cc) (cc) (cc) can)
@@ -51,7 +54,8 @@ same_swap pieces sliver [] x y z after [] x' y' z' after' same can can' quiet qu
     let b : y ≡ y' = cc in
     let c : z ≡ z' = cc in
     let d : after ≡ after' = cc in
-    ap (λ s. swapped s y z after) a ∙ ap (λ s. swapped x' s z after) b ∙ ap (λ s. swapped x' y' s after) c ∙ ap
+    ap (λ s. swapped s y z after) a ∙ ap (λ s. swapped x' s z after) b
+    ∙ ap (λ s. swapped x' y' s after) c ∙ ap
     (swapped x' y' z') d
 same_swap pieces sliver [] x y z after (w ∷ ws) x' y' z' after' same can can' quiet quiet' =
     absurd (none_earlier pieces sliver x y z after w ws x' y' z' after' same can quiet')
@@ -65,7 +69,8 @@ same_swap pieces sliver (w ∷ ws) x y z after (w' ∷ ws') x' y' z' after' same
     (no_swap_behind pieces sliver w' (ws' ++ x' ∷ y' ∷ []) quiet') in
     ap (λ s. s ∷ (ws ++ swapped x y z after)) here ∙ ap (λ ss. w' ∷ ss) rest
 
-leftmost_unique : (pieces : List Piece) (sliver : ℕ) (row a b : List Stretch) → SwapsLeftmost pieces sliver row a
+leftmost_unique : (pieces : List Piece) (sliver : ℕ) (row a b : List Stretch)
+    → SwapsLeftmost pieces sliver row a
     → SwapsLeftmost pieces sliver row b → a ≡ b
 leftmost_unique pieces sliver row a b s t =
     s.next_is ∙ same_swap pieces sliver s.before s.x s.y s.z s.after t.before t.x t.y t.z t.after
@@ -102,6 +107,7 @@ rows_unique pieces sliver rows a b s t = ext_get_or [] a b (s.size ∙ sym t.siz
     let lt_b : core < length b = omega (arith, t.size, lt_row) in
     let row = get_or rows core [] in
     let at = slice_get-get_or rows core [] lt_row in
-    joined_unique (pieces_at pieces core) (has_single_piece pieces) sliver row (get_or a core []) (get_or b core [])
+    joined_unique (pieces_at pieces core) (has_single_piece pieces) sliver row (get_or a core [])
+    (get_or b core [])
     (s.each core row (get_or a core []) at (slice_get-get_or a core [] lt))
     (t.each core row (get_or b core []) at (slice_get-get_or b core [] lt_b))))

@@ -1,7 +1,7 @@
 -- Joining of slivers on one core: short segments are moved together, and short idle ones are given away.
--- Source: the coalescing of allocations too short to be of use in M. Vanga, A. Gujarati, B. B. Brandenburg, "Tableau: a
--- high-throughput and predictable VM scheduler for high-density workloads", EuroSys 2018; the two rules are this
--- project's own.
+-- Source: the coalescing of allocations too short to be of use in M. Vanga, A. Gujarati, B. B.
+-- Brandenburg, "Tableau: a high-throughput and predictable VM scheduler for high-density
+-- workloads", EuroSys 2018; the two rules are this project's own.
 use Rattle.std.specs.Prelude.{◌≡◌, ℕ, ◌+◌, ◌-◌, ◌*◌, ◌<◌, ◌==◌, ◌&&◌, Bool, false, nat_lt, if◌then◌else◌, List, [], ◌∷◌, ◌++◌, Option, Some, None, count_by, length, slice_get}
 use Rattle.tab_core.specs.declared.piece.Piece.{Piece}
 use Rattle.table_form.specs.Drafts.{pieces_at}
@@ -18,9 +18,9 @@ abbrev pub NoEnd : List Piece → ℕ → ℕ → ℕ → Type 0
 NoEnd pieces vcpu low high = (at k : ℕ) (p : Piece) → slice_get pieces at ≡ Some p → p.vcpu ≡ vcpu →
     low < k * p.period + p.to → k * p.period + p.to < high → ⊥
 
--- the third of three neighbours may come before the second: the first and the third are of one vCPU, the second is a
--- short one of another vCPU, and strictly between the second's begin and the third's end no window of the first vCPU
--- begins and none of the second vCPU ends
+-- the third of three neighbours may come before the second: the first and the third are of one
+-- vCPU, the second is a short one of another vCPU, and strictly between the second's begin and the
+-- third's end no window of the first vCPU begins and none of the second vCPU ends
 pub record CanSwap (pieces : List Piece) (sliver : ℕ) (x y z : Stretch) : Type 0 where
   pub first : ℕ
   pub second : ℕ
@@ -36,9 +36,11 @@ abbrev pub NoSwap : List Piece → ℕ → List Stretch → Type 0
 NoSwap pieces sliver [] = Unit {0}
 NoSwap pieces sliver (x ∷ []) = Unit {0}
 NoSwap pieces sliver (x ∷ y ∷ []) = Unit {0}
-NoSwap pieces sliver (x ∷ y ∷ z ∷ rest) = (CanSwap pieces sliver x y z → ⊥) × NoSwap pieces sliver (y ∷ z ∷ rest)
+NoSwap pieces sliver (x ∷ y ∷ z ∷ rest) = (CanSwap pieces sliver x y z → ⊥)
+    × NoSwap pieces sliver (y ∷ z ∷ rest)
 
--- the first takes the third's ticks behind its own, and the second comes after them, in front of what followed
+-- the first takes the third's ticks behind its own, and the second comes after them, in front of
+-- what followed
 abbrev pub swapped : Stretch → Stretch → Stretch → List Stretch → List Stretch
 swapped x y z after =
     record { owner = x.owner; end = x.end + (z.end - y.end) }
@@ -76,7 +78,8 @@ given may_grow sliver x y =
 -- each short idle stretch goes to the vCPU before it, if that may have more; `x` is the stretch before these
 abbrev pub filled_after : (ℕ → Bool) → ℕ → Stretch → List Stretch → List Stretch
 filled_after may_grow sliver x [] = []
-filled_after may_grow sliver x (y ∷ rest) = put_front (given may_grow sliver x y) (filled_after may_grow sliver y rest)
+filled_after may_grow sliver x (y ∷ rest) =
+    put_front (given may_grow sliver x y) (filled_after may_grow sliver y rest)
 
 -- no vCPU stands before the first stretch
 abbrev pub filled : (ℕ → Bool) → ℕ → List Stretch → List Stretch

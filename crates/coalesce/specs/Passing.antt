@@ -28,16 +28,19 @@ pub record IsTableOf (pieces : List Piece) (table : List (Option Piece)) : Type 
       → (p.vcpu ≡ v) × (at : ℕ) × (slice_get pieces at ≡ Some p)
   pub complete : (at : ℕ) (p : Piece) → slice_get pieces at ≡ Some p → slice_get table p.vcpu ≡ Some (Some p)
 
--- stretches up to a tick, and the rest of the row from there; the last of the first may join the first of the rest
+-- stretches up to a tick, and the rest of the row from there; the last of the first may join the
+-- first of the rest
 pub record StandInRow (out rest : List Stretch) : Type 0 where
   pub reached : ℕ
   pub before : AreMaximal 0 out reached
   pub after : AreMaximal reached rest ROUND
 
--- no three of the stretches in `out` may be swapped, and leftmost swaps lead from the row to these and the rest
+-- no three of the stretches in `out` may be swapped, and leftmost swaps lead from the row to these
+-- and the rest
 pub record IsPassed (pieces : List Piece) (sliver : ℕ) (row out rest : List Stretch) : Type 0 where
   pub quiet : NoSwap pieces sliver out
-  pub leads : (end : List Stretch) → SwapsTo pieces sliver end (put_before out rest) → SwapsTo pieces sliver end row
+  pub leads : (end : List Stretch) → SwapsTo pieces sliver end (put_before out rest)
+      → SwapsTo pieces sliver end row
 
 -- the last of the stretches has the owner
 pub record EndsWith (out : List Stretch) (owner : Option ℕ) : Type 0 where

@@ -69,15 +69,18 @@ fn join_rows(
 /// So each job has at least its cost of ticks inside its window, and no row has more segments than
 /// before. Only want of memory prevents it.
 pub fn join_slivers(alloc: Global, draft: &Draft, sliver: u32) -> Result<Plan, NoMemory>
-    ensures joined { IfOk result (λ plan. AreJoined draft.now.pieces sliver draft.now.tables.rows plan.tables.rows) }
-    ensures only { IfOk result (λ plan. (rows : List Row) → AreJoined draft.now.pieces sliver draft.now.tables.rows rows
+    ensures joined { IfOk result
+        (λ plan. AreJoined draft.now.pieces sliver draft.now.tables.rows plan.tables.rows) }
+    ensures only { IfOk result (λ plan. (rows : List Row)
+        → AreJoined draft.now.pieces sliver draft.now.tables.rows rows
         → rows ≡ plan.tables.rows) }
     ensures tasks { IfOk result (λ plan. plan.tasks ≡ draft.now.tasks) }
     ensures homes { IfOk result (λ plan. plan.tables.homes ≡ draft.now.tables.homes) }
     ensures jobs { IfOk result (λ plan. (core i k : ℕ) (row : Row) (p : Piece)
         → slice_get plan.tables.rows core ≡ Some row → slice_get (pieces_at draft.now.pieces core) i ≡ Some p
         → k < ROUND / p.period → p.cost ≤ cells_within p.vcpu row (k * p.period + p.from) (k * p.period + p.to)) }
-    ensures fewer { IfOk result (λ plan. (core : ℕ) (row new : Row) → slice_get draft.now.tables.rows core ≡ Some row
+    ensures fewer { IfOk result (λ plan. (core : ℕ) (row new : Row)
+        → slice_get draft.now.tables.rows core ≡ Some row
         → slice_get plan.tables.rows core ≡ Some new → length (stretches_from 0 new) ≤ length (stretches_from 0 row)) }
 {
     let joined = join_rows(

@@ -79,7 +79,8 @@ fn take_next(
     requires sized { length table.now ≡ MAX_VCPUS }
     requires below { EndBelow (map stretch_of out.old.items) next.end }
     requires in_round { next.end ≤ ROUND }
-    ensures stands { (rest : List Stretch) → StandInRow (map stretch_of out.old.items) (stretch_of next ∷ rest)
+    ensures stands { (rest : List Stretch) → StandInRow (map stretch_of out.old.items)
+        (stretch_of next ∷ rest)
         → OnOk result (StandInRow (map stretch_of out.new.items) rest) }
     ensures passed { (pieces : List Piece) (row rest : List Stretch) → IsTableOf pieces table.now
         → StandInRow (map stretch_of out.old.items) (stretch_of next ∷ rest)

@@ -28,7 +28,8 @@ fn next_at(offset: u32, period: u32, tick: u32) -> u32
 fn has_no_begin(table: &[Option<Piece>], vcpu: VcpuNo, low: u32, high: u32) -> bool
     requires sized { length table.now ≡ MAX_VCPUS }
     requires in_round { low < ROUND }
-    ensures { (pieces : List Piece) → IsTableOf pieces table.now → (IsTrue result ↔ NoBegin pieces vcpu low high) }
+    ensures { (pieces : List Piece) → IsTableOf pieces table.now
+        → (IsTrue result ↔ NoBegin pieces vcpu low high) }
 {
     match table[vcpu.index()] {
         None => true,
@@ -40,7 +41,8 @@ fn has_no_begin(table: &[Option<Piece>], vcpu: VcpuNo, low: u32, high: u32) -> b
 fn has_no_end(table: &[Option<Piece>], vcpu: VcpuNo, low: u32, high: u32) -> bool
     requires sized { length table.now ≡ MAX_VCPUS }
     requires in_round { low < ROUND }
-    ensures { (pieces : List Piece) → IsTableOf pieces table.now → (IsTrue result ↔ NoEnd pieces vcpu low high) }
+    ensures { (pieces : List Piece) → IsTableOf pieces table.now
+        → (IsTrue result ↔ NoEnd pieces vcpu low high) }
 {
     match table[vcpu.index()] {
         None => true,

@@ -14,7 +14,8 @@ use Rattle.edf_table.proofs.Steps.{counted_idle, counted_run, idle_cell_any, met
 use Rattle.edf_table.proofs.Turns.{begun, not_later, ready_parts, some_period, urgent_cell}
 
 -- the window that began last stays so
-calm_window_begun : (p : Piece) (tick until x : ℕ) → IsCalm p tick until → tick ≤ x → x < until → p.from ≤ tick → window_no p x ≡ window_no p tick
+calm_window_begun : (p : Piece) (tick until x : ℕ) → IsCalm p tick until → tick ≤ x → x < until
+    → p.from ≤ tick → window_no p x ≡ window_no p tick
 calm_window_begun p tick until x calm le lt from =
     let w = window_no p tick in
     let next : tick < (w + 1) * p.period + p.from = (elim (cases_lt tick ((w + 1) * p.period + p.from)) [
@@ -24,41 +25,51 @@ calm_window_begun p tick until x calm le lt from =
     let bound = calm.no_begin (w + 1) next in
     let low = not_later p x w (omega (arith, begun p tick from)) in
     elim (cases_lt w (window_no p x)) [
-      | inl above ↦ (let more = mul-le-mul_left {m = w + 1} {n = window_no p x} p.period (omega arith) in absurd (omega (arith, begun p x (omega arith))))
+      | inl above ↦
+          (let more = mul-le-mul_left {m = w + 1} {n = window_no p x} p.period (omega arith) in absurd (omega (arith, begun p x (omega arith))))
       | inr same ↦ omega arith
     ]
 
 no_window_yet : (p : Piece) (tick : ℕ) → tick < p.from → window_no p tick ≡ 0
-no_window_yet p tick lt = let none : tick - p.from ≡ 0 = omega arith in ap (λ n. n / p.period) none ∙ div-eq_of_lt (some_period p)
+no_window_yet p tick lt = let none : tick - p.from ≡ 0 = omega arith in ap (λ n. n / p.period) none
+    ∙ div-eq_of_lt (some_period p)
 
 calm_from : (p : Piece) (tick until x : ℕ) → IsCalm p tick until → x < until → tick < p.from → x < p.from
 calm_from p tick until x calm lt early = let first = calm.no_begin 0 (omega arith) in omega arith
 
-pub calm_window : (p : Piece) (tick until x : ℕ) → IsCalm p tick until → tick ≤ x → x < until → window_no p x ≡ window_no p tick
+pub calm_window : (p : Piece) (tick until x : ℕ) → IsCalm p tick until → tick ≤ x → x < until
+    → window_no p x ≡ window_no p tick
 calm_window p tick until x calm le lt = elim (cases_lt tick p.from) [
   | inl early ↦ no_window_yet p x (calm_from p tick until x calm lt early) ∙ sym (no_window_yet p tick early)
   | inr from ↦ calm_window_begun p tick until x calm le lt from
 ]
 
-calm_begun : (p : Piece) (tick until x : ℕ) → IsCalm p tick until → tick ≤ x → x < until → leb p.from x ≡ leb p.from tick
+calm_begun : (p : Piece) (tick until x : ℕ) → IsCalm p tick until → tick ≤ x → x < until
+    → leb p.from x ≡ leb p.from tick
 calm_begun p tick until x calm le lt = elim (cases_lt tick p.from) [
   | inl early ↦ lt-leb p.from x (calm_from p tick until x calm lt early) ∙ sym (lt-leb p.from tick early)
   | inr from ↦ le-leb p.from x (omega arith) ∙ sym (le-leb p.from tick from)
 ]
 
-calm_ready : (p : Piece) (given tick until x : ℕ) → IsCalm p tick until → tick ≤ x → x < until → is_ready p given x ≡ is_ready p given tick
+calm_ready : (p : Piece) (given tick until x : ℕ) → IsCalm p tick until → tick ≤ x → x < until
+    → is_ready p given x ≡ is_ready p given tick
 calm_ready p given tick until x calm le lt =
     ap (λ b. b && ltb given ((window_no p x + 1) * p.cost)) (calm_begun p tick until x calm le lt)
     ∙ ap (λ n. leb p.from tick && ltb given ((n + 1) * p.cost)) (calm_window p tick until x calm le lt)
 
-calm_due : (p : Piece) (tick until x : ℕ) → IsCalm p tick until → tick ≤ x → x < until → due_at p x ≡ due_at p tick
+calm_due : (p : Piece) (tick until x : ℕ) → IsCalm p tick until → tick ≤ x → x < until
+    → due_at p x ≡ due_at p tick
 calm_due p tick until x calm le lt = ap (λ n. n * p.period + p.to) (calm_window p tick until x calm le lt)
 
 -- nothing is due between
-calm_served : (ps : List Piece) (gs : List ℕ) (tick until x : ℕ) → AreCalm ps (length ps) tick until → tick < x → x < until → ServedBelow ps gs x (length ps)
-calm_served ps gs tick until x calm gt lt i d i-in k at = absurd (let far = (calm i d i-in).no_end k (omega arith) in omega arith)
+calm_served : (ps : List Piece) (gs : List ℕ) (tick until x : ℕ) → AreCalm ps (length ps) tick until
+    → tick < x → x < until → ServedBelow ps gs x (length ps)
+calm_served ps gs tick until x calm gt lt i d i-in k at =
+    absurd (let far = (calm i d i-in).no_end k (omega arith) in omega arith)
 
-met_along : (ps : List Piece) (gs : List ℕ) (tick until x : ℕ) → AreCalm ps (length ps) tick until → tick ≤ x → x < until → IsCounted ps gs x → MetBefore (jobs_of ps) (tick + 1) → MetBefore (jobs_of ps) x →
+met_along : (ps : List Piece) (gs : List ℕ) (tick until x : ℕ) → AreCalm ps (length ps) tick until
+    → tick ≤ x → x < until → IsCounted ps gs x → MetBefore (jobs_of ps) (tick + 1)
+    → MetBefore (jobs_of ps) x →
     MetBefore (jobs_of ps) (x + 1)
 met_along ps gs tick until x calm le lt counted start met = elim (cases_eq tick x) [
   | inl same ↦ subst (λ n. MetBefore (jobs_of ps) (n + 1)) same start
@@ -82,10 +93,12 @@ more-suc gs i n lt =
 
 -- the piece lacks more than m ticks of the window that began last
 abbrev pub LacksMore : List Piece → List ℕ → ℕ → ℕ → ℕ → Type 0
-LacksMore ps gs tick i m = (d : Piece) → get_or gs i 0 + m < (window_no (get_or ps i d) tick + 1) * (get_or ps i d).cost
+LacksMore ps gs tick i m = (d : Piece)
+    → get_or gs i 0 + m < (window_no (get_or ps i d) tick + 1) * (get_or ps i d).cost
 
 -- the most urgent piece stays so while it lacks ticks
-still_urgent : (ps : List Piece) (gs : List ℕ) (tick until i n : ℕ) → length ps ≤ length gs → AreCalm ps (length ps) tick until → tick + n < until → IsMostUrgent ps gs tick (length ps) i →
+still_urgent : (ps : List Piece) (gs : List ℕ) (tick until i n : ℕ) → length ps ≤ length gs
+    → AreCalm ps (length ps) tick until → tick + n < until → IsMostUrgent ps gs tick (length ps) i →
     LacksMore ps gs tick i n → IsMostUrgent ps (more_given gs i n) (tick + n) (length ps) i
 still_urgent ps gs tick until i n enough calm lt urgent lacks = record {
   in_range = urgent.in_range;
@@ -97,20 +110,28 @@ still_urgent ps gs tick until i n enough calm lt urgent lacks = record {
     ready_now e =
         let p = get_or ps i e in
         let from = (ready_parts p (get_or gs i 0) tick (urgent.ready e)).0 in
-        and_from (leb p.from tick) (ltb (get_or gs i 0 + n) ((window_no p tick + 1) * p.cost)) (le-leb _ _ from) (lt-ltb _ _ (lacks e))
+        and_from (leb p.from tick) (ltb (get_or gs i 0 + n) ((window_no p tick + 1) * p.cost))
+        (le-leb _ _ from) (lt-ltb _ _ (lacks e))
 
     ready' : (e : Piece) → is_ready (get_or ps i e) (get_or (more_given gs i n) i 0) (tick + n) ≡ true
     ready' e =
         rw (get_or-set_same gs i (get_or gs i 0 + n) 0 (omega (arith, urgent.in_range)))
-        (calm_ready (get_or ps i e) (get_or gs i 0 + n) tick until (tick + n) (calm i e urgent.in_range) (omega arith) lt ∙ ready_now e)
+        (calm_ready (get_or ps i e) (get_or gs i 0 + n) tick until (tick + n)
+        (calm i e urgent.in_range) (omega arith) lt ∙ ready_now e)
 
-    first' : (k : ℕ) (e : Piece) → k < length ps → is_ready (get_or ps k e) (get_or (more_given gs i n) k 0) (tick + n) ≡ true → IsDueFirst (tick + n) (get_or ps i e) (get_or ps k e)
+    first' : (k : ℕ) (e : Piece) → k < length ps
+        → is_ready (get_or ps k e) (get_or (more_given gs i n) k 0) (tick + n) ≡ true
+        → IsDueFirst (tick + n) (get_or ps i e) (get_or ps k e)
     first' k e k-in ready = elim (cases_eq k i) [
-      | inl same ↦ subst (λ m. IsDueFirst (tick + n) (get_or ps i e) (get_or ps m e)) (sym same) (inr (refl, omega arith))
+      | inl same ↦ subst (λ m. IsDueFirst (tick + n) (get_or ps i e) (get_or ps m e)) (sym same)
+          (inr (refl, omega arith))
       | inr ne ↦ (let before : is_ready (get_or ps k e) (get_or gs k 0) tick ≡ true =
-          sym (calm_ready (get_or ps k e) (get_or gs k 0) tick until (tick + n) (calm k e k-in) (omega arith) lt)
-          ∙ subst (λ g. is_ready (get_or ps k e) g (tick + n) ≡ true) (get_or-set_other gs i k (get_or gs i 0 + n) 0 ne) ready in
-          let due_i = calm_due (get_or ps i e) tick until (tick + n) (calm i e urgent.in_range) (omega arith) lt in
+          sym (calm_ready (get_or ps k e) (get_or gs k 0) tick until (tick + n) (calm k e k-in)
+          (omega arith) lt)
+          ∙ subst (λ g. is_ready (get_or ps k e) g (tick + n) ≡ true)
+          (get_or-set_other gs i k (get_or gs i 0 + n) 0 ne) ready in
+          let due_i = calm_due (get_or ps i e) tick until (tick + n) (calm i e urgent.in_range)
+          (omega arith) lt in
           let due_k = calm_due (get_or ps k e) tick until (tick + n) (calm k e k-in) (omega arith) lt in
           elim (urgent.first k e k-in before) [
             | inl earlier ↦ inl (omega arith)
@@ -127,59 +148,86 @@ pub record BeforeTurn (ps : List Piece) (gs : List ℕ) (tick until : ℕ) : Typ
   pub calm : AreCalm ps (length ps) tick until
 
 -- after n ticks of one piece
-pub run_along : (ps : List Piece) (gs : List ℕ) (tick until i n : ℕ) → BeforeTurn ps gs tick until → IsMostUrgent ps gs tick (length ps) i → tick + n ≤ until → ((m : ℕ) → m < n → LacksMore ps gs tick i m) →
+pub run_along : (ps : List Piece) (gs : List ℕ) (tick until i n : ℕ) → BeforeTurn ps gs tick until
+    → IsMostUrgent ps gs tick (length ps) i → tick + n ≤ until
+    → ((m : ℕ) → m < n → LacksMore ps gs tick i m) →
     IsCounted ps (more_given gs i n) (tick + n) × MetBefore (jobs_of ps) (tick + n)
 run_along ps gs tick until i zero now urgent le lacks =
     rw (add-zero tick) (rw (more-zero gs i) (now.counted, met_less (jobs_of ps) tick now.met))
 run_along ps gs tick until i (suc n) now urgent le lacks =
     let before = run_along ps gs tick until i n now urgent (omega arith) (λ m lt. lacks m (omega arith)) in
-    let met = met_along ps (more_given gs i n) tick until (tick + n) now.calm (omega arith) (omega arith) before.0 now.met before.1 in
-    let here = still_urgent ps gs tick until i n now.counted.enough now.calm (omega arith) urgent (lacks n (omega arith)) in
-    let after = counted_run ps (more_given gs i n) (tick + n) i now.apart before.0 met (omega (arith, now.in_round)) here in
+    let met = met_along ps (more_given gs i n) tick until (tick + n) now.calm (omega arith)
+    (omega arith) before.0 now.met before.1 in
+    let here = still_urgent ps gs tick until i n now.counted.enough now.calm (omega arith) urgent
+    (lacks n (omega arith)) in
+    let after = counted_run ps (more_given gs i n) (tick + n) i now.apart before.0 met
+    (omega (arith, now.in_round)) here in
     let e : tick + n + 1 ≡ tick + suc n = omega arith in
-    let given = more-suc gs i n (omega (arith, now.counted.enough, urgent.in_range)) in
-    (subst (λ hs. IsCounted ps hs (tick + suc n)) given (subst (IsCounted ps (one_more (more_given gs i n) i)) e after), subst (MetBefore (jobs_of ps)) e met)
+    let given = more-suc gs i n (omega (arith, now.counted.enough, urgent.in_range)) in (
+      subst (λ hs. IsCounted ps hs (tick + suc n)) given
+          (subst (IsCounted ps (one_more (more_given gs i n) i)) e after),
+      subst (MetBefore (jobs_of ps)) e met,
+    )
 
-pub run_goes : (ps : List Piece) (gs : List ℕ) (tick until i n : ℕ) (d : Piece) → BeforeTurn ps gs tick until → IsMostUrgent ps gs tick (length ps) i → tick + n ≤ until → ((m : ℕ) → m < n → LacksMore ps gs tick i m) →
+pub run_goes : (ps : List Piece) (gs : List ℕ) (tick until i n : ℕ) (d : Piece)
+    → BeforeTurn ps gs tick until → IsMostUrgent ps gs tick (length ps) i → tick + n ≤ until
+    → ((m : ℕ) → m < n → LacksMore ps gs tick i m) →
     GoesTo (jobs_of ps) tick (tick + n) (Some (get_or ps i d).vcpu)
 run_goes ps gs tick until i n d now urgent le lacks x x-ge x-lt =
     let m = x - tick in
     let at : tick + m ≡ x = omega arith in
     let before = run_along ps gs tick until i m now urgent (omega arith) (λ k lt. lacks k (omega arith)) in
-    let met = met_along ps (more_given gs i m) tick until (tick + m) now.calm (omega arith) (omega arith) before.0 now.met before.1 in
-    let here = still_urgent ps gs tick until i m now.counted.enough now.calm (omega arith) urgent (lacks m (omega arith)) in
+    let met = met_along ps (more_given gs i m) tick until (tick + m) now.calm (omega arith)
+    (omega arith) before.0 now.met before.1 in
+    let here = still_urgent ps gs tick until i m now.counted.enough now.calm (omega arith) urgent
+    (lacks m (omega arith)) in
     subst (λ y. owner_of (cell (jobs_of ps) y) ≡ Some (get_or ps i d).vcpu) at
-    (ap owner_of (urgent_cell ps (more_given gs i m) (tick + m) i d now.apart before.0 met (omega (arith, now.in_round)) here))
+    (ap owner_of (urgent_cell ps (more_given gs i m) (tick + m) i d now.apart before.0 met
+    (omega (arith, now.in_round)) here))
 
 -- no piece is ready
 abbrev pub NoneReady : List Piece → List ℕ → ℕ → Type 0
-NoneReady ps gs tick = (i : ℕ) (d : Piece) → i < length ps → is_ready (get_or ps i d) (get_or gs i 0) tick ≡ false
+NoneReady ps gs tick = (i : ℕ) (d : Piece) → i < length ps
+    → is_ready (get_or ps i d) (get_or gs i 0) tick ≡ false
 
-idle_at : (ps : List Piece) (gs : List ℕ) (tick until x : ℕ) → BeforeTurn ps gs tick until → NoneReady ps gs tick → tick ≤ x → x < until → IsCounted ps gs x → MetBefore (jobs_of ps) (x + 1) → cell (jobs_of ps) x ≡ None
-idle_at ps gs tick until x now unready ge lt counted met = idle_cell_any ps gs x counted met (omega (arith, now.in_round))
-    (λ i d i-in. calm_ready (get_or ps i d) (get_or gs i 0) tick until x (now.calm i d i-in) ge lt ∙ unready i d i-in)
+idle_at : (ps : List Piece) (gs : List ℕ) (tick until x : ℕ) → BeforeTurn ps gs tick until
+    → NoneReady ps gs tick → tick ≤ x → x < until → IsCounted ps gs x
+    → MetBefore (jobs_of ps) (x + 1) → cell (jobs_of ps) x ≡ None
+idle_at ps gs tick until x now unready ge lt counted met =
+    idle_cell_any ps gs x counted met (omega (arith, now.in_round))
+    (λ i d i-in. calm_ready (get_or ps i d) (get_or gs i 0) tick until x (now.calm i d i-in) ge lt
+    ∙ unready i d i-in)
 
 -- after n idle ticks
-pub idle_along : (ps : List Piece) (gs : List ℕ) (tick until n : ℕ) → BeforeTurn ps gs tick until → NoneReady ps gs tick → tick + n ≤ until → IsCounted ps gs (tick + n) × MetBefore (jobs_of ps) (tick + n)
-idle_along ps gs tick until zero now unready le = rw (add-zero tick) (now.counted, met_less (jobs_of ps) tick now.met)
+pub idle_along : (ps : List Piece) (gs : List ℕ) (tick until n : ℕ) → BeforeTurn ps gs tick until
+    → NoneReady ps gs tick → tick + n ≤ until
+    → IsCounted ps gs (tick + n) × MetBefore (jobs_of ps) (tick + n)
+idle_along ps gs tick until zero now unready le =
+    rw (add-zero tick) (now.counted, met_less (jobs_of ps) tick now.met)
 idle_along ps gs tick until (suc n) now unready le =
     let before = idle_along ps gs tick until n now unready (omega arith) in
-    let met = met_along ps gs tick until (tick + n) now.calm (omega arith) (omega arith) before.0 now.met before.1 in
-    let after = counted_idle ps gs (tick + n) before.0 (idle_at ps gs tick until (tick + n) now unready (omega arith) (omega arith) before.0 met) in
+    let met = met_along ps gs tick until (tick + n) now.calm (omega arith)
+    (omega arith) before.0 now.met before.1 in
+    let after = counted_idle ps gs (tick + n) before.0
+    (idle_at ps gs tick until (tick + n) now unready (omega arith)
+    (omega arith) before.0 met) in
     let e : tick + n + 1 ≡ tick + suc n = omega arith in
     (subst (IsCounted ps gs) e after, subst (MetBefore (jobs_of ps)) e met)
 
-pub idle_goes : (ps : List Piece) (gs : List ℕ) (tick until : ℕ) → BeforeTurn ps gs tick until → NoneReady ps gs tick → GoesTo (jobs_of ps) tick until None
+pub idle_goes : (ps : List Piece) (gs : List ℕ) (tick until : ℕ) → BeforeTurn ps gs tick until
+    → NoneReady ps gs tick → GoesTo (jobs_of ps) tick until None
 idle_goes ps gs tick until now unready x ge lt =
     let m = x - tick in
     let at : tick + m ≡ x = omega arith in
     let before = idle_along ps gs tick until m now unready (omega arith) in
-    let met = met_along ps gs tick until (tick + m) now.calm (omega arith) (omega arith) before.0 now.met before.1 in
+    let met = met_along ps gs tick until (tick + m) now.calm (omega arith)
+    (omega arith) before.0 now.met before.1 in
     subst (λ y. owner_of (cell (jobs_of ps) y) ≡ None) at
     (ap owner_of (idle_at ps gs tick until (tick + m) now unready (omega arith) (omega arith) before.0 met))
 
 -- a turn's cells follow those before it
-cells_along : (js : List Job) (tick n : ℕ) (owner : Option ℕ) → GoesTo js tick (tick + n) owner → map owner_of (edf_cells js tick) ++ replicate n owner ≡ map owner_of (edf_cells js (tick + n))
+cells_along : (js : List Job) (tick n : ℕ) (owner : Option ℕ) → GoesTo js tick (tick + n) owner
+    → map owner_of (edf_cells js tick) ++ replicate n owner ≡ map owner_of (edf_cells js (tick + n))
 cells_along js tick zero owner goes = rw (add-zero tick) (append_empty (map owner_of (edf_cells js tick)))
   where
     append_empty : (xs : List (Option ℕ)) → xs ++ [] ≡ xs
@@ -190,12 +238,17 @@ cells_along js tick (suc n) owner goes =
     let here = goes (tick + n) (omega arith) (omega arith) in
     let cells = map owner_of (edf_cells js tick) in
     let count : n + 1 ≡ suc n = omega arith in
-    let more : replicate (suc n) owner ≡ replicate n owner ++ owner ∷ [] = sym (replicate-append-replicate n 1 owner ∙ ap (λ k. replicate k owner) count) in
+    let more : replicate (suc n) owner ≡ replicate n owner ++ owner ∷ [] =
+    sym (replicate-append-replicate n 1 owner ∙ ap (λ k. replicate k owner) count) in
     ap (λ ys. cells ++ ys) more ∙ sym (append_assoc cells (replicate n owner) (owner ∷ []))
-    ∙ ap (λ ys. ys ++ owner ∷ []) before ∙ ap (λ o. map owner_of (edf_cells js (tick + n)) ++ o ∷ []) (sym here)
+    ∙ ap (λ ys. ys ++ owner ∷ []) before
+    ∙ ap (λ o. map owner_of (edf_cells js (tick + n)) ++ o ∷ []) (sym here)
     ∙ sym (map-append owner_of (edf_cells js (tick + n)) (cell js (tick + n) ∷ []))
     ∙ ap (map owner_of) (sym (edf_cells-suc js (tick + n)) ∙ ap (edf_cells js) (sym (add-suc tick n)))
 
-pub row_along : (js : List Job) (row next : List (Option ℕ)) (tick n : ℕ) (owner : Option ℕ) → row ≡ map owner_of (edf_cells js tick) → GoesTo js tick (tick + n) owner → next ≡ row ++ replicate n owner →
+pub row_along : (js : List Job) (row next : List (Option ℕ)) (tick n : ℕ) (owner : Option ℕ)
+    → row ≡ map owner_of (edf_cells js tick) → GoesTo js tick (tick + n) owner
+    → next ≡ row ++ replicate n owner →
     next ≡ map owner_of (edf_cells js (tick + n))
-row_along js row next tick n owner row_is goes pushed = pushed ∙ ap (λ ys. ys ++ replicate n owner) row_is ∙ cells_along js tick n owner goes
+row_along js row next tick n owner row_is goes pushed = pushed
+    ∙ ap (λ ys. ys ++ replicate n owner) row_is ∙ cells_along js tick n owner goes

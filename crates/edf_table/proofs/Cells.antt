@@ -5,7 +5,8 @@ use Rattle.table_form.specs.Jobs.{Job}
 use Rattle.table_form.specs.EdfRow.{cells_of, is_run_of, edf_cells, first_pending}
 
 -- one more cell
-pub cells_of-push : (j : Job) (cells : List (Option Job)) (c : Option Job) → cells_of j (cells ++ c ∷ []) ≡ cells_of j cells + cond (is_run_of j c) 1 0
+pub cells_of-push : (j : Job) (cells : List (Option Job)) (c : Option Job)
+    → cells_of j (cells ++ c ∷ []) ≡ cells_of j cells + cond (is_run_of j c) 1 0
 unfolding cells_of
 cells_of-push j cells c = sum_by_push (λ cell. cond (is_run_of j cell) 1 0) cells c
 
@@ -13,14 +14,19 @@ pub cells_of-none : (j : Job) → cells_of j [] ≡ 0
 unfolding cells_of
 cells_of-none j = refl
 
-pub edf_cells-suc : (js : List Job) (n : ℕ) → edf_cells js (suc n) ≡ edf_cells js n ++ first_pending (edf_cells js n) n js ∷ []
+pub edf_cells-suc : (js : List Job) (n : ℕ)
+    → edf_cells js (suc n) ≡ edf_cells js n ++ first_pending (edf_cells js n) n js ∷ []
 unfolding edf_cells
 edf_cells-suc js n = refl
 
 pub length-edf_cells : (js : List Job) (n : ℕ) → length (edf_cells js n) ≡ n
 unfolding edf_cells
 length-edf_cells js zero = refl
-length-edf_cells js (suc n) = omega (arith, length-edf_cells js n, length-append (edf_cells js n) (first_pending (edf_cells js n) n js ∷ []))
+length-edf_cells js (suc n) = omega (
+  arith,
+  length-edf_cells js n,
+  length-append (edf_cells js n) (first_pending (edf_cells js n) n js ∷ []),
+)
 
 pub edf_cells-zero : (js : List Job) → edf_cells js 0 ≡ []
 unfolding edf_cells

@@ -12,20 +12,27 @@ abbrev pub Distinct : List Job → Type 0
 Distinct [] = Unit {0}
 Distinct (j ∷ js) = ((k : Job) → Among js k → k.vcpu ≡ j.vcpu → k.deadline ≡ j.deadline → ⊥) × Distinct js
 
-pub distinct_same : (js : List Job) (i j : Job) → Distinct js → Among js i → Among js j → i.vcpu ≡ j.vcpu → i.deadline ≡ j.deadline → i ≡ j
+pub distinct_same : (js : List Job) (i j : Job) → Distinct js → Among js i → Among js j
+    → i.vcpu ≡ j.vcpu → i.deadline ≡ j.deadline → i ≡ j
 distinct_same [] i j d a b v t = absurd a
 distinct_same (x ∷ xs) i j d (inl e) (inl f) v t = sym e ∙ f
-distinct_same (x ∷ xs) i j d (inl e) (inr b) v t = absurd (d.0 j b (sym v ∙ sym (ap (λ (y : Job). y.vcpu) e)) (sym t ∙ sym (ap (λ (y : Job). y.deadline) e)))
-distinct_same (x ∷ xs) i j d (inr a) (inl f) v t = absurd (d.0 i a (v ∙ sym (ap (λ (y : Job). y.vcpu) f)) (t ∙ sym (ap (λ (y : Job). y.deadline) f)))
+distinct_same (x ∷ xs) i j d (inl e) (inr b) v t =
+    absurd (d.0 j b (sym v ∙ sym (ap (λ (y : Job). y.vcpu) e))
+    (sym t ∙ sym (ap (λ (y : Job). y.deadline) e)))
+distinct_same (x ∷ xs) i j d (inr a) (inl f) v t =
+    absurd (d.0 i a (v ∙ sym (ap (λ (y : Job). y.vcpu) f))
+    (t ∙ sym (ap (λ (y : Job). y.deadline) f)))
 distinct_same (x ∷ xs) i j d (inr a) (inr b) v t = distinct_same xs i j d.1 a b v t
 
-pub had-suc : (js : List Job) (j : Job) (n : ℕ) → had js j (suc n) ≡ had js j n + cond (is_run_of j (cell js n)) 1 0
+pub had-suc : (js : List Job) (j : Job) (n : ℕ)
+    → had js j (suc n) ≡ had js j n + cond (is_run_of j (cell js n)) 1 0
 had-suc js j n = ap (cells_of j) (edf_cells-suc js n) ∙ cells_of-push j (edf_cells js n) (cell js n)
 
 pub had-zero : (js : List Job) (j : Job) → had js j 0 ≡ 0
 had-zero js j = ap (cells_of j) (edf_cells-zero js) ∙ cells_of-none j
 
-first_run : (cells : List (Option Job)) (n : ℕ) (js : List Job) (c : Option Job) (j : Job) → IsFirst cells n js c → Distinct js → Among js j →
+first_run : (cells : List (Option Job)) (n : ℕ) (js : List Job) (c : Option Job) (j : Job)
+    → IsFirst cells n js c → Distinct js → Among js j →
     is_run_of j c ≡ true → is_pending cells n j ≡ true
 first_run cells n js None j h d a r = absurd (false≢true r)
 first_run cells n js (Some i) j h d a r =
@@ -34,14 +41,16 @@ first_run cells n js (Some i) j h d a r =
     subst (λ (x : Job). is_pending cells n x ≡ true) same h.1
 
 -- a job that gets a tick was pending there
-pub run_was_pending : (js : List Job) (j : Job) (n : ℕ) → Distinct js → Among js j → is_run_of j (cell js n) ≡ true → (j.release ≤ n) × (had js j n < j.cost)
+pub run_was_pending : (js : List Job) (j : Job) (n : ℕ) → Distinct js → Among js j
+    → is_run_of j (cell js n) ≡ true → (j.release ≤ n) × (had js j n < j.cost)
 run_was_pending js j n d a r =
     let p = first_run (edf_cells js n) n js (cell js n) j (first_pending_is (edf_cells js n) n js) d a r in
     let both = and_parts (leb j.release n) (ltb (had js j n) j.cost) p in
     (leb-true _ _ both.0, ltb-true _ _ both.1)
 
 -- before its window a job has had nothing
-pub nothing_early : (js : List Job) (j : Job) (n : ℕ) → Distinct js → Among js j → n ≤ j.release → had js j n ≡ 0
+pub nothing_early : (js : List Job) (j : Job) (n : ℕ) → Distinct js → Among js j → n ≤ j.release
+    → had js j n ≡ 0
 nothing_early js j zero d a le = had-zero js j
 nothing_early js j (suc n) d a le =
     let before : had js j n ≡ 0 = nothing_early js j n d a (omega arith) in

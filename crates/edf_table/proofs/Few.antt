@@ -29,7 +29,8 @@ unfolding below of_vcpu
 below-suc n [] = refl
 below-suc n (p ∷ ps) = omega (arith, below-suc n ps, one_step p.vcpu n)
 
-of_no_other : (v : ℕ) (ps : List Piece) → ((i : ℕ) (q : Piece) → slice_get ps i ≡ Some q → q.vcpu ≡ v → ⊥) → of_vcpu v ps ≡ 0
+of_no_other : (v : ℕ) (ps : List Piece)
+    → ((i : ℕ) (q : Piece) → slice_get ps i ≡ Some q → q.vcpu ≡ v → ⊥) → of_vcpu v ps ≡ 0
 unfolding of_vcpu
 of_no_other v [] other = refl
 of_no_other v (p ∷ ps) other =
@@ -40,7 +41,8 @@ of_one : (v : ℕ) (ps : List Piece) → DistinctVcpus ps → of_vcpu v ps ≤ 1
 unfolding of_vcpu
 of_one v [] apart = omega arith
 of_one v (p ∷ ps) apart = elim (cases_Bool (eqb p.vcpu v)) [
-  | inl same ↦ (let none = of_no_other v ps (λ i q at e. (let place = apart 0 (suc i) p q refl at (eqb-true p.vcpu v same ∙ sym e) in omega arith)) in
+  | inl same ↦
+      (let none = of_no_other v ps (λ i q at e. (let place = apart 0 (suc i) p q refl at (eqb-true p.vcpu v same ∙ sym e) in omega arith)) in
       rw same (omega arith))
   | inr other ↦ rw other (omega (arith, of_one v ps (tail_distinct p ps apart)))
 ]

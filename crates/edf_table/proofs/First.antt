@@ -28,14 +28,18 @@ not_after_refl a = inr (refl, omega arith)
 -- the answer is a pending job that no pending job of the list precedes, or there is none
 abbrev pub IsFirst : List (Option Job) → ℕ → List Job → Option Job → Type 0
 IsFirst cells tick js None = (j : Job) → Among js j → is_pending cells tick j ≡ false
-IsFirst cells tick js (Some i) = Among js i × (is_pending cells tick i ≡ true) × ((j : Job) → Among js j → is_pending cells tick j ≡ true → NotAfter i j)
+IsFirst cells tick js (Some i) = Among js i × (is_pending cells tick i ≡ true)
+    × ((j : Job) → Among js j → is_pending cells tick j ≡ true → NotAfter i j)
 
-none_first : (cells : List (Option Job)) (tick : ℕ) (j : Job) (js : List Job) → is_pending cells tick j ≡ false →
+none_first : (cells : List (Option Job)) (tick : ℕ) (j : Job) (js : List Job)
+    → is_pending cells tick j ≡ false →
     IsFirst cells tick js None → IsFirst cells tick (j ∷ js) None
-none_first cells tick j js unready rest k (inl e) = subst (λ (x : Job). is_pending cells tick x ≡ false) e unready
+none_first cells tick j js unready rest k (inl e) =
+    subst (λ (x : Job). is_pending cells tick x ≡ false) e unready
 none_first cells tick j js unready rest k (inr a) = rest k a
 
-stays_first : (cells : List (Option Job)) (tick : ℕ) (j : Job) (js : List Job) (i : Job) → is_pending cells tick j ≡ false →
+stays_first : (cells : List (Option Job)) (tick : ℕ) (j : Job) (js : List Job) (i : Job)
+    → is_pending cells tick j ≡ false →
     IsFirst cells tick js (Some i) → IsFirst cells tick (j ∷ js) (Some i)
 stays_first cells tick j js i unready (a, p, least) = (inr a, p, least')
   where
@@ -43,7 +47,8 @@ stays_first cells tick j js i unready (a, p, least) = (inr a, p, least')
     least' k (inl e) pk = absurd (false≢true (sym unready ∙ (ap (is_pending cells tick) e ∙ pk)))
     least' k (inr b) pk = least k b pk
 
-alone_first : (cells : List (Option Job)) (tick : ℕ) (j : Job) (js : List Job) → is_pending cells tick j ≡ true →
+alone_first : (cells : List (Option Job)) (tick : ℕ) (j : Job) (js : List Job)
+    → is_pending cells tick j ≡ true →
     IsFirst cells tick js None → IsFirst cells tick (j ∷ js) (Some j)
 alone_first cells tick j js ready rest = (inl refl, ready, least')
   where
@@ -59,7 +64,8 @@ kept_first cells tick j js i le (a, p, least) = (inr a, p, least')
     least' k (inl e) pk = subst (λ (x : Job). NotAfter i x) e le
     least' k (inr b) pk = least k b pk
 
-new_first : (cells : List (Option Job)) (tick : ℕ) (j : Job) (js : List Job) (i : Job) → is_pending cells tick j ≡ true → NotAfter j i →
+new_first : (cells : List (Option Job)) (tick : ℕ) (j : Job) (js : List Job) (i : Job)
+    → is_pending cells tick j ≡ true → NotAfter j i →
     IsFirst cells tick js (Some i) → IsFirst cells tick (j ∷ js) (Some j)
 new_first cells tick j js i ready le (a, p, least) = (inl refl, ready, least')
   where
@@ -67,19 +73,25 @@ new_first cells tick j js i ready le (a, p, least) = (inl refl, ready, least')
     least' k (inl e) pk = subst (λ (x : Job). NotAfter j x) e (not_after_refl j)
     least' k (inr b) pk = not_after_trans j i k le (least k b pk)
 
-choose_first : (cells : List (Option Job)) (tick : ℕ) (j : Job) (js : List Job) (i : Job) (b : Bool) → comes_before i j ≡ b → is_pending cells tick j ≡ true →
+choose_first : (cells : List (Option Job)) (tick : ℕ) (j : Job) (js : List Job) (i : Job) (b : Bool)
+    → comes_before i j ≡ b → is_pending cells tick j ≡ true →
     IsFirst cells tick js (Some i) → IsFirst cells tick (j ∷ js) (Some (cond b i j))
 choose_first cells tick j js i true e ready h = kept_first cells tick j js i (not_after_from_before i j e) h
-choose_first cells tick j js i false e ready h = new_first cells tick j js i ready (not_after_from_test j i e) h
+choose_first cells tick j js i false e ready h =
+    new_first cells tick j js i ready (not_after_from_test j i e) h
 
-first_more : (cells : List (Option Job)) (tick : ℕ) (j : Job) (js : List Job) (rest : Option Job) (b : Bool) → is_pending cells tick j ≡ b →
+first_more : (cells : List (Option Job)) (tick : ℕ) (j : Job) (js : List Job) (rest : Option Job)
+    (b : Bool) → is_pending cells tick j ≡ b →
     IsFirst cells tick js rest → IsFirst cells tick (j ∷ js) (cond b (Some (sooner j rest)) rest)
 first_more cells tick j js None true e h = alone_first cells tick j js e h
 first_more cells tick j js (Some i) true e h = choose_first cells tick j js i (comes_before i j) refl e h
 first_more cells tick j js None false e h = none_first cells tick j js e h
 first_more cells tick j js (Some i) false e h = stays_first cells tick j js i e h
 
-pub first_pending_is : (cells : List (Option Job)) (tick : ℕ) (js : List Job) → IsFirst cells tick js (first_pending cells tick js)
+pub first_pending_is : (cells : List (Option Job)) (tick : ℕ) (js : List Job)
+    → IsFirst cells tick js (first_pending cells tick js)
 unfolding first_pending
 first_pending_is cells tick [] = λ j a. absurd a
-first_pending_is cells tick (j ∷ js) = first_more cells tick j js (first_pending cells tick js) (is_pending cells tick j) refl (first_pending_is cells tick js)
+first_pending_is cells tick (j ∷ js) =
+    first_more cells tick j js (first_pending cells tick js) (is_pending cells tick j) refl
+    (first_pending_is cells tick js)

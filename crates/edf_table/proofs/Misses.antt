@@ -17,7 +17,8 @@ use Rattle.edf_table.proofs.Steps.{met_more_any}
 use Rattle.edf_table.proofs.Pieces.{job_among, jobs_of_distinct}
 
 -- a window that ends in the round is one of the round's
-pub ends_in_round : (p : Piece) (k tick : ℕ) → k * p.period + p.to ≡ tick → tick ≤ ROUND → k < ROUND / p.period
+pub ends_in_round : (p : Piece) (k tick : ℕ) → k * p.period + p.to ≡ tick → tick ≤ ROUND
+    → k < ROUND / p.period
 ends_in_round p k tick e le = elim (cases_lt k (ROUND / p.period)) [
   | inl here ↦ here
   | inr beyond ↦ (let facts = period_facts p.period p.listed in
@@ -26,66 +27,92 @@ ends_in_round p k tick e le = elim (cases_lt k (ROUND / p.period)) [
 ]
 
 -- a window without its cost at its end makes an overload
-window_overloads : (ps : List Piece) (gs : List ℕ) (tick i : ℕ) (d : Piece) → DistinctVcpus ps → IsCounted ps gs tick → i < length ps →
-    IsMissedAt (get_or ps i d) (get_or gs i 0) tick → tick ≤ ROUND → (start : ℕ) × IsOverloaded (jobs_of ps) start tick
+window_overloads : (ps : List Piece) (gs : List ℕ) (tick i : ℕ) (d : Piece) → DistinctVcpus ps
+    → IsCounted ps gs tick → i < length ps →
+    IsMissedAt (get_or ps i d) (get_or gs i 0) tick → tick ≤ ROUND
+    → (start : ℕ) × IsOverloaded (jobs_of ps) start tick
 window_overloads ps gs tick i d apart counted i-in window le =
     let p = get_or ps i d in
     let k = window.0 in
     let job = job_of (subtask_of p) k in
     let has = counted.each i d i-in k in
     let lacks : had (jobs_of ps) job tick < p.cost = omega (arith, window.2, p.costs) in
-    let lacks' : had (jobs_of ps) job (k * p.period + p.to) < p.cost = subst (λ n. had (jobs_of ps) job n < p.cost) (sym window.1) lacks in
-    let found = miss_overloads (jobs_of ps) job (jobs_of_distinct ps apart) (job_among ps d i k i-in (ends_in_round p k tick window.1 le)) (omega (arith, p.begins)) lacks' in
+    let lacks' : had (jobs_of ps) job (k * p.period + p.to) < p.cost =
+    subst (λ n. had (jobs_of ps) job n < p.cost) (sym window.1) lacks in
+    let found = miss_overloads (jobs_of ps) job (jobs_of_distinct ps apart)
+    (job_among ps d i k i-in (ends_in_round p k tick window.1 le))
+    (omega (arith, p.begins)) lacks' in
     let P : ℕ → Type 0 = λ n. (found.0 < n) × (n - found.0 < demand_in (jobs_of ps) found.0 n) in
     let at = subst P window.1 (found.1, found.2) in
     (found.0, record { some_ticks = at.0; within = le; too_much = at.1 })
 
-missed_overloads : (ps : List Piece) (gs : List ℕ) (tick : ℕ) (d : Piece) → DistinctVcpus ps → IsCounted ps gs tick → SomeMissed ps gs tick → tick ≤ ROUND →
+missed_overloads : (ps : List Piece) (gs : List ℕ) (tick : ℕ) (d : Piece) → DistinctVcpus ps
+    → IsCounted ps gs tick → SomeMissed ps gs tick → tick ≤ ROUND →
     (start : ℕ) × IsOverloaded (jobs_of ps) start tick
-missed_overloads ps gs tick d apart counted missed le = window_overloads ps gs tick missed.at d apart counted missed.in_range (missed.missed d) le
+missed_overloads ps gs tick d apart counted missed le =
+    window_overloads ps gs tick missed.at d apart counted missed.in_range (missed.missed d) le
 
 -- where the pieces fit, each window is given its cost by its end
-fits_served : (ps : List Piece) (gs : List ℕ) (tick : ℕ) → DistinctVcpus ps → IsCounted ps gs tick → Fits (jobs_of ps) → tick ≤ ROUND → ServedBelow ps gs tick (length ps)
-fits_served ps gs tick apart counted fits le i d i-in k at = elim (cases_lt (get_or gs i 0) ((k + 1) * (get_or ps i d).cost)) [
-  | inl short ↦ (let found = window_overloads ps gs tick i d apart counted i-in (k, at, short) le in
-      let bound = fits found.0 tick found.1.some_ticks le in
-      absurd (omega (arith, found.1.too_much)))
-  | inr served ↦ served
-]
+fits_served : (ps : List Piece) (gs : List ℕ) (tick : ℕ) → DistinctVcpus ps → IsCounted ps gs tick
+    → Fits (jobs_of ps) → tick ≤ ROUND → ServedBelow ps gs tick (length ps)
+fits_served ps gs tick apart counted fits le i d i-in k at =
+    elim (cases_lt (get_or gs i 0) ((k + 1) * (get_or ps i d).cost)) [
+      | inl short ↦ (let found = window_overloads ps gs tick i d apart counted i-in (k, at, short) le in
+          let bound = fits found.0 tick found.1.some_ticks le in
+          absurd (omega (arith, found.1.too_much)))
+      | inr served ↦ served
+    ]
 
-pub fits_met : (ps : List Piece) (gs : List ℕ) (tick : ℕ) → DistinctVcpus ps → IsCounted ps gs tick → MetBefore (jobs_of ps) tick → Fits (jobs_of ps) → tick ≤ ROUND → MetBefore (jobs_of ps) (tick + 1)
-fits_met ps gs tick apart counted met fits le = met_more_any ps gs tick counted met (fits_served ps gs tick apart counted fits le)
+pub fits_met : (ps : List Piece) (gs : List ℕ) (tick : ℕ) → DistinctVcpus ps → IsCounted ps gs tick
+    → MetBefore (jobs_of ps) tick → Fits (jobs_of ps) → tick ≤ ROUND
+    → MetBefore (jobs_of ps) (tick + 1)
+fits_met ps gs tick apart counted met fits le =
+    met_more_any ps gs tick counted met (fits_served ps gs tick apart counted fits le)
 
 no_piece_missed : (gs : List ℕ) (tick : ℕ) → SomeMissed [] gs tick → ⊥
 no_piece_missed gs tick missed = let lt = missed.in_range in omega arith
 
-missed_overloads_any : (ps : List Piece) (gs : List ℕ) (tick : ℕ) → DistinctVcpus ps → IsCounted ps gs tick → SomeMissed ps gs tick → tick ≤ ROUND →
+missed_overloads_any : (ps : List Piece) (gs : List ℕ) (tick : ℕ) → DistinctVcpus ps
+    → IsCounted ps gs tick → SomeMissed ps gs tick → tick ≤ ROUND →
     (start : ℕ) × IsOverloaded (jobs_of ps) start tick
 missed_overloads_any [] gs tick apart counted missed le = absurd (no_piece_missed gs tick missed)
-missed_overloads_any (p ∷ ps) gs tick apart counted missed le = missed_overloads (p ∷ ps) gs tick p apart counted missed le
+missed_overloads_any (p ∷ ps) gs tick apart counted missed le =
+    missed_overloads (p ∷ ps) gs tick p apart counted missed le
 
 -- no interval that ends before a tick by which all is met is overloaded
-overloads_end_later : (ps : List Piece) (tick : ℕ) → DistinctVcpus ps → MetBefore (jobs_of ps) tick → (s e : ℕ) → IsOverloaded (jobs_of ps) s e → tick ≤ e
+overloads_end_later : (ps : List Piece) (tick : ℕ) → DistinctVcpus ps → MetBefore (jobs_of ps) tick
+    → (s e : ℕ) → IsOverloaded (jobs_of ps) s e → tick ≤ e
 overloads_end_later ps tick apart met s e over = elim (cases_lt e tick) [
-  | inl before ↦ (let fits = met_fits (jobs_of ps) s e (jobs_of_distinct ps apart) (λ j a due. met j a (omega arith)) (omega (arith, over.some_ticks)) in
+  | inl before ↦
+      (let fits = met_fits (jobs_of ps) s e (jobs_of_distinct ps apart) (λ j a due. met j a (omega arith)) (omega (arith, over.some_ticks)) in
       absurd (omega (arith, over.too_much)))
   | inr after ↦ after
 ]
 
 -- the first window without its cost ends where the first overloaded interval ends
-pub first_end : (ps : List Piece) (gs : List ℕ) (tick : ℕ) → DistinctVcpus ps → IsCounted ps gs tick → MetBefore (jobs_of ps) tick → SomeMissed ps gs tick → tick ≤ ROUND →
+pub first_end : (ps : List Piece) (gs : List ℕ) (tick : ℕ) → DistinctVcpus ps → IsCounted ps gs tick
+    → MetBefore (jobs_of ps) tick → SomeMissed ps gs tick → tick ≤ ROUND →
     IsFirstEnd (jobs_of ps) tick
 first_end ps gs tick apart counted met missed le =
     let found = missed_overloads_any ps gs tick apart counted missed le in
-    record { within = le; begin = found.0; overloaded = found.1; least = overloads_end_later ps tick apart met }
+    record {
+      within = le;
+      begin = found.0;
+      overloaded = found.1;
+      least = overloads_end_later ps tick apart met;
+    }
 
 -- where all is met to the end of the round, the pieces fit
-pub all_met_fits : (ps : List Piece) → DistinctVcpus ps → MetBefore (jobs_of ps) (ROUND + 1) → Fits (jobs_of ps)
-all_met_fits ps apart met s e lt le = met_fits (jobs_of ps) s e (jobs_of_distinct ps apart) (λ j a due. met j a (omega arith)) (omega arith)
+pub all_met_fits : (ps : List Piece) → DistinctVcpus ps → MetBefore (jobs_of ps) (ROUND + 1)
+    → Fits (jobs_of ps)
+all_met_fits ps apart met s e lt le =
+    met_fits (jobs_of ps) s e (jobs_of_distinct ps apart) (λ j a due. met j a (omega arith))
+    (omega arith)
 
 -- the demand of an interval, by the windows that begin at its first tick
 demand_term : (s e : ℕ) (j : Job) → cond (leb s j.release && leb j.deadline e) j.cost 0
-    ≡ cond (leb (s + 1) j.release && leb j.deadline e) j.cost 0 + cond (eqb j.release s && leb j.deadline e) j.cost 0
+    ≡ cond (leb (s + 1) j.release && leb j.deadline e) j.cost 0
+    + cond (eqb j.release s && leb j.deadline e) j.cost 0
 demand_term s e j = grind (arith, nat_tests)
 
 pub demand_step : (js : List Job) (s e : ℕ) → demand_in js s e ≡ demand_in js (s + 1) e + demand_from js s e

@@ -41,7 +41,8 @@ first_job_among s (suc n) k lt = rw (first_jobs-suc s n) (elim (cases_eq k n) [
   | inr ne ↦ among_left (first_jobs s n) (job_of s n ∷ []) (job_of s k) (first_job_among s n k (omega arith))
 ])
 
-pub first_job_place : (s : Subtask) (n : ℕ) (j : Job) → Among (first_jobs s n) j → (k : ℕ) × (k < n) × (job_of s k ≡ j)
+pub first_job_place : (s : Subtask) (n : ℕ) (j : Job) → Among (first_jobs s n) j
+    → (k : ℕ) × (k < n) × (job_of s k ≡ j)
 first_job_place s zero j a = absurd (rw (first_jobs-zero s) at a)
 first_job_place s (suc n) j a =
     elim (among_either (first_jobs s n) (job_of s n ∷ []) j (rw (first_jobs-suc s n) at a)) [
@@ -49,7 +50,8 @@ first_job_place s (suc n) j a =
       | inr b ↦ elim b [ inl e ↦ (n, omega arith, e) | inr none ↦ absurd none ]
     ]
 
-pub jobs_of-cons : (p : Piece) (ps : List Piece) → jobs_of (p ∷ ps) ≡ first_jobs (subtask_of p) (ROUND / p.period) ++ jobs_of ps
+pub jobs_of-cons : (p : Piece) (ps : List Piece)
+    → jobs_of (p ∷ ps) ≡ first_jobs (subtask_of p) (ROUND / p.period) ++ jobs_of ps
 unfolding jobs_of
 jobs_of-cons p ps = refl
 
@@ -59,23 +61,33 @@ jobs_of-nil = refl
 
 -- a job of a round is one of a piece's windows
 pub job_place : (ps : List Piece) (d : Piece) (j : Job) → Among (jobs_of ps) j →
-    (i : ℕ) × (i < length ps) × (k : ℕ) × (k < ROUND / (get_or ps i d).period) × (job_of (subtask_of (get_or ps i d)) k ≡ j)
+    (i : ℕ) × (i < length ps) × (k : ℕ) × (k < ROUND / (get_or ps i d).period)
+    × (job_of (subtask_of (get_or ps i d)) k ≡ j)
 job_place [] d j a = absurd (rw jobs_of-nil at a)
 job_place (p ∷ ps) d j a =
-    elim (among_either (first_jobs (subtask_of p) (ROUND / p.period)) (jobs_of ps) j (rw (jobs_of-cons p ps) at a)) [
-      | inl b ↦ (let place = first_job_place (subtask_of p) (ROUND / p.period) j b in (0, omega arith, place.0, place.1, place.2))
-      | inr b ↦ (let place = job_place ps d j b in (suc place.0, omega (arith, place.1), place.2, place.3, place.4))
+    elim (among_either (first_jobs (subtask_of p) (ROUND / p.period)) (jobs_of ps) j
+    (rw (jobs_of-cons p ps) at a)) [
+      | inl b ↦
+          (let place = first_job_place (subtask_of p) (ROUND / p.period) j b in
+          (0, omega arith, place.0, place.1, place.2))
+      | inr b ↦
+          (let place = job_place ps d j b in
+          (suc place.0, omega (arith, place.1), place.2, place.3, place.4))
     ]
 
 pub job_among : (ps : List Piece) (d : Piece) (i k : ℕ) → i < length ps → k < ROUND / (get_or ps i d).period →
     Among (jobs_of ps) (job_of (subtask_of (get_or ps i d)) k)
 job_among [] d i k lt lt' = absurd (omega arith)
 job_among (p ∷ ps) d zero k lt lt' =
-    rw (jobs_of-cons p ps) (among_left (first_jobs (subtask_of p) (ROUND / p.period)) (jobs_of ps) (job_of (subtask_of p) k) (first_job_among (subtask_of p) (ROUND / p.period) k lt'))
+    rw (jobs_of-cons p ps) (among_left (first_jobs (subtask_of p) (ROUND / p.period)) (jobs_of ps)
+    (job_of (subtask_of p) k) (first_job_among (subtask_of p) (ROUND / p.period) k lt'))
 job_among (p ∷ ps) d (suc i) k lt lt' =
-    rw (jobs_of-cons p ps) (among_right (first_jobs (subtask_of p) (ROUND / p.period)) (jobs_of ps) (job_of (subtask_of (get_or ps i d)) k) (job_among ps d i k (omega arith) lt'))
+    rw (jobs_of-cons p ps) (among_right (first_jobs (subtask_of p) (ROUND / p.period)) (jobs_of ps)
+    (job_of (subtask_of (get_or ps i d)) k) (job_among ps d i k (omega arith) lt'))
 
-distinct_append : (xs ys : List Job) → Distinct xs → Distinct ys → ((i j : Job) → Among xs i → Among ys j → j.vcpu ≡ i.vcpu → j.deadline ≡ i.deadline → ⊥) → Distinct (xs ++ ys)
+distinct_append : (xs ys : List Job) → Distinct xs → Distinct ys
+    → ((i j : Job) → Among xs i → Among ys j → j.vcpu ≡ i.vcpu → j.deadline ≡ i.deadline → ⊥)
+    → Distinct (xs ++ ys)
 distinct_append [] ys dx dy apart = dy
 distinct_append (x ∷ xs) ys dx dy apart = (
   (λ k a v t. elim (among_either xs ys k a) [ inl b ↦ dx.0 k b v t | inr b ↦ apart x k (inl refl) b v t ]),
@@ -87,18 +99,24 @@ pub same_multiple : (period a b c : ℕ) → 0 < period → a * period + c ≡ b
 same_multiple period a b c some e = elim (cases_order a b) [
   | inl same ↦ same
   | inr apart ↦ elim apart [
-    | inl below ↦ (let more = mul-le-mul_left {m = a + 1} {n = b} period (omega arith) in absurd (omega arith))
-    | inr above ↦ (let more = mul-le-mul_left {m = b + 1} {n = a} period (omega arith) in absurd (omega arith))
+    | inl below ↦
+        (let more = mul-le-mul_left {m = a + 1} {n = b} period (omega arith) in absurd
+        (omega arith))
+    | inr above ↦
+        (let more = mul-le-mul_left {m = b + 1} {n = a} period (omega arith) in absurd
+        (omega arith))
   ]
 ]
 
 pub first_jobs_distinct : (s : Subtask) (n : ℕ) → 0 < s.period → Distinct (first_jobs s n)
 first_jobs_distinct s zero some = rw (first_jobs-zero s) tt
 first_jobs_distinct s (suc n) some =
-    rw (first_jobs-suc s n) (distinct_append (first_jobs s n) (job_of s n ∷ []) (first_jobs_distinct s n some) ((λ k none v t. none), tt) (λ i j a b v t.
+    rw (first_jobs-suc s n) (distinct_append (first_jobs s n) (job_of s n ∷ [])
+    (first_jobs_distinct s n some) ((λ k none v t. none), tt) (λ i j a b v t.
     (let place = first_job_place s n i a in
     elim b [
-      | inl e ↦ (let there : place.0 * s.period + s.to ≡ n * s.period + s.to = ap (λ (x : Job). x.deadline) place.2 ∙ sym t ∙ sym (ap (λ (x : Job). x.deadline) e) in
+      | inl e ↦
+          (let there : place.0 * s.period + s.to ≡ n * s.period + s.to = ap (λ (x : Job). x.deadline) place.2 ∙ sym t ∙ sym (ap (λ (x : Job). x.deadline) e) in
           let same = same_multiple s.period place.0 n s.to some there in omega (arith, place.1))
       | inr none ↦ none
     ])))

@@ -5,7 +5,8 @@ use Rattle.std.proofs.lemmas.List.Sums.{sum_by-cons}
 use Rattle.table_form.specs.Jobs.{Job}
 use Rattle.edf_table.specs.Progress.{Among}
 
-pub sum_le : (f g : Job → ℕ) (js : List Job) → ((j : Job) → Among js j → f j ≤ g j) → sum_by f js ≤ sum_by g js
+pub sum_le : (f g : Job → ℕ) (js : List Job) → ((j : Job) → Among js j → f j ≤ g j)
+    → sum_by f js ≤ sum_by g js
 sum_le f g [] h = omega arith
 sum_le f g (i ∷ js) h =
     let rest : sum_by f js ≤ sum_by g js = sum_le f g js (λ j a. h j (inr a)) in
@@ -13,7 +14,8 @@ sum_le f g (i ∷ js) h =
     omega (arith, sum_by-cons f i js, sum_by-cons g i js)
 
 -- and less, where one term is less
-pub sum_lt : (f g : Job → ℕ) (js : List Job) → ((j : Job) → Among js j → f j ≤ g j) → (m : Job) → Among js m → f m < g m → sum_by f js < sum_by g js
+pub sum_lt : (f g : Job → ℕ) (js : List Job) → ((j : Job) → Among js j → f j ≤ g j) → (m : Job)
+    → Among js m → f m < g m → sum_by f js < sum_by g js
 sum_lt f g [] h m in_m lt = absurd in_m
 sum_lt f g (i ∷ js) h m (inl e) lt =
     let rest : sum_by f js ≤ sum_by g js = sum_le f g js (λ j a. h j (inr a)) in
@@ -33,7 +35,8 @@ sum_zero f (i ∷ js) h =
     omega (arith, sum_by-cons f i js)
 
 -- f grows over g by at most the sum of h
-pub sum_le_add : (f g h : Job → ℕ) (js : List Job) → ((j : Job) → f j ≤ g j + h j) → sum_by f js ≤ sum_by g js + sum_by h js
+pub sum_le_add : (f g h : Job → ℕ) (js : List Job) → ((j : Job) → f j ≤ g j + h j)
+    → sum_by f js ≤ sum_by g js + sum_by h js
 sum_le_add f g h [] le = omega arith
 sum_le_add f g h (i ∷ js) le =
     let rest : sum_by f js ≤ sum_by g js + sum_by h js = sum_le_add f g h js le in

@@ -25,10 +25,12 @@ begun p tick le = omega (arith, div-mul-le_self (tick - p.from) p.period)
 
 -- a window that has begun is not after the one that began last
 pub not_later : (p : Piece) (tick k : ℕ) → k * p.period + p.from ≤ tick → k ≤ window_no p tick
-not_later p tick k le = (le-div_iff_mul-le {k = p.period} {x = k} {y = tick - p.from} (some_period p)).1 (omega arith)
+not_later p tick k le =
+    (le-div_iff_mul-le {k = p.period} {x = k} {y = tick - p.from} (some_period p)).1 (omega arith)
 
 -- an earlier window is over
-pub earlier_is_over : (p : Piece) (tick k : ℕ) → p.from ≤ tick → k < window_no p tick → k * p.period + p.to ≤ tick
+pub earlier_is_over : (p : Piece) (tick k : ℕ) → p.from ≤ tick → k < window_no p tick
+    → k * p.period + p.to ≤ tick
 earlier_is_over p tick k le lt =
     let more = mul-le-mul_left {m = k + 1} {n = window_no p tick} p.period (omega arith) in
     omega (arith, begun p tick le, p.within)
@@ -42,14 +44,17 @@ in_round p tick le lt = elim (cases_lt (window_no p tick) (ROUND / p.period)) [
       absurd (omega (arith, begun p tick le, facts.whole)))
 ]
 
-pub ready_parts : (p : Piece) (given tick : ℕ) → is_ready p given tick ≡ true → (p.from ≤ tick) × (given < (window_no p tick + 1) * p.cost)
+pub ready_parts : (p : Piece) (given tick : ℕ) → is_ready p given tick ≡ true
+    → (p.from ≤ tick) × (given < (window_no p tick + 1) * p.cost)
 ready_parts p given tick h =
     let both = and_parts (leb p.from tick) (ltb given ((window_no p tick + 1) * p.cost)) h in
     (leb-true _ _ both.0, ltb-true _ _ both.1)
 
-ready_pending : (ps : List Piece) (gs : List ℕ) (tick i : ℕ) (d : Piece) → IsCounted ps gs tick → i < length ps →
+ready_pending : (ps : List Piece) (gs : List ℕ) (tick i : ℕ) (d : Piece) → IsCounted ps gs tick
+    → i < length ps →
     is_ready (get_or ps i d) (get_or gs i 0) tick ≡ true →
-    is_pending (edf_cells (jobs_of ps) tick) tick (job_of (subtask_of (get_or ps i d)) (window_no (get_or ps i d) tick)) ≡ true
+    is_pending (edf_cells (jobs_of ps) tick) tick
+    (job_of (subtask_of (get_or ps i d)) (window_no (get_or ps i d) tick)) ≡ true
 ready_pending ps gs tick i d counted lt ready =
     let p = get_or ps i d in
     let w = window_no p tick in
@@ -57,17 +62,23 @@ ready_pending ps gs tick i d counted lt ready =
     let started = begun p tick parts.0 in
     let has = counted.each i d lt w in
     let lacks : had (jobs_of ps) (job_of (subtask_of p) w) tick < p.cost = omega (arith, parts.1, p.costs) in
-    and_from (leb (w * p.period + p.from) tick) (ltb (had (jobs_of ps) (job_of (subtask_of p) w) tick) p.cost) (le-leb _ _ started) (lt-ltb _ _ lacks)
+    and_from (leb (w * p.period + p.from) tick)
+    (ltb (had (jobs_of ps) (job_of (subtask_of p) w) tick) p.cost) (le-leb _ _ started)
+    (lt-ltb _ _ lacks)
 
-pending_ready : (ps : List Piece) (gs : List ℕ) (tick i : ℕ) (d : Piece) (k : ℕ) → IsCounted ps gs tick → MetBefore (jobs_of ps) (tick + 1) →
-    i < length ps → k < ROUND / (get_or ps i d).period → is_pending (edf_cells (jobs_of ps) tick) tick (job_of (subtask_of (get_or ps i d)) k) ≡ true →
+pending_ready : (ps : List Piece) (gs : List ℕ) (tick i : ℕ) (d : Piece) (k : ℕ)
+    → IsCounted ps gs tick → MetBefore (jobs_of ps) (tick + 1) →
+    i < length ps → k < ROUND / (get_or ps i d).period
+    → is_pending (edf_cells (jobs_of ps) tick) tick (job_of (subtask_of (get_or ps i d)) k)
+    ≡ true →
     (k ≡ window_no (get_or ps i d) tick) × (is_ready (get_or ps i d) (get_or gs i 0) tick ≡ true)
 pending_ready ps gs tick i d k counted met lt lt' pending =
     let p = get_or ps i d in
     let w = window_no p tick in
     let g = get_or gs i 0 in
     let job = job_of (subtask_of p) k in
-    let parts = and_parts (leb (k * p.period + p.from) tick) (ltb (had (jobs_of ps) job tick) p.cost) pending in
+    let parts = and_parts (leb (k * p.period + p.from) tick)
+    (ltb (had (jobs_of ps) job tick) p.cost) pending in
     let started : k * p.period + p.from ≤ tick = leb-true _ _ parts.0 in
     let lacks : had (jobs_of ps) job tick < p.cost = ltb-true _ _ parts.1 in
     let from : p.from ≤ tick = omega arith in
@@ -85,8 +96,10 @@ pending_ready ps gs tick i d k counted met lt lt' pending =
     (is_last, and_from (leb p.from tick) (ltb g ((w + 1) * p.cost)) (le-leb _ _ from) (lt-ltb _ _ short'))
 
 -- what is first is first alone
-first_alone : (cells : List (Option Job)) (tick : ℕ) (js : List Job) (c : Option Job) (j : Job) → Distinct js → IsFirst cells tick js c → Among js j →
-    is_pending cells tick j ≡ true → ((k : Job) → Among js k → is_pending cells tick k ≡ true → NotAfter j k) → c ≡ Some j
+first_alone : (cells : List (Option Job)) (tick : ℕ) (js : List Job) (c : Option Job) (j : Job)
+    → Distinct js → IsFirst cells tick js c → Among js j →
+    is_pending cells tick j ≡ true
+    → ((k : Job) → Among js k → is_pending cells tick k ≡ true → NotAfter j k) → c ≡ Some j
 first_alone cells tick js None j d first a pending least = absurd (false≢true (sym (first j a) ∙ pending))
 first_alone cells tick js (Some i) j d first a pending least =
     let here = first.2 j a pending in
@@ -101,33 +114,48 @@ first_alone cells tick js (Some i) j d first a pending least =
     same_keys x y (inr p) (inr q) = (omega arith, omega arith)
 
 -- the most urgent piece's job gets the tick
-pub urgent_cell : (ps : List Piece) (gs : List ℕ) (tick i : ℕ) (d : Piece) → DistinctVcpus ps → IsCounted ps gs tick → MetBefore (jobs_of ps) (tick + 1) → tick < ROUND →
-    IsMostUrgent ps gs tick (length ps) i → cell (jobs_of ps) tick ≡ Some (job_of (subtask_of (get_or ps i d)) (window_no (get_or ps i d) tick))
+pub urgent_cell : (ps : List Piece) (gs : List ℕ) (tick i : ℕ) (d : Piece) → DistinctVcpus ps
+    → IsCounted ps gs tick → MetBefore (jobs_of ps) (tick + 1) → tick < ROUND →
+    IsMostUrgent ps gs tick (length ps) i
+    → cell (jobs_of ps) tick
+    ≡ Some (job_of (subtask_of (get_or ps i d)) (window_no (get_or ps i d) tick))
 urgent_cell ps gs tick i d apart counted met lt urgent =
     let p = get_or ps i d in
     let w = window_no p tick in
     let ready = urgent.ready d in
     let from = (ready_parts p (get_or gs i 0) tick ready).0 in
-    first_alone (edf_cells (jobs_of ps) tick) tick (jobs_of ps) (cell (jobs_of ps) tick) (job_of (subtask_of p) w) (jobs_of_distinct ps apart)
+    first_alone (edf_cells (jobs_of ps) tick) tick (jobs_of ps) (cell (jobs_of ps) tick)
+    (job_of (subtask_of p) w) (jobs_of_distinct ps apart)
     (first_pending_is (edf_cells (jobs_of ps) tick) tick (jobs_of ps))
     (job_among ps d i w urgent.in_range (in_round p tick from lt))
     (ready_pending ps gs tick i d counted urgent.in_range ready)
     (λ k a pending.
     (let place = job_place ps d k a in
-    let there = pending_ready ps gs tick place.0 d place.2 counted met place.1 place.3 (subst (λ (x : Job). is_pending (edf_cells (jobs_of ps) tick) tick x ≡ true) (sym place.4) pending) in
-    let job_is : job_of (subtask_of (get_or ps place.0 d)) (window_no (get_or ps place.0 d) tick) ≡ k = ap (job_of (subtask_of (get_or ps place.0 d))) (sym there.0) ∙ place.4 in
-    subst (λ (x : Job). NotAfter (job_of (subtask_of p) w) x) job_is (urgent.first place.0 d place.1 there.1)))
+    let there = pending_ready ps gs tick place.0 d place.2 counted met place.1 place.3
+    (subst (λ (x : Job). is_pending (edf_cells (jobs_of ps) tick) tick x ≡ true)
+    (sym place.4) pending) in
+    let job_is : job_of (subtask_of (get_or ps place.0 d)) (window_no (get_or ps place.0 d) tick)
+    ≡ k = ap (job_of (subtask_of (get_or ps place.0 d))) (sym there.0) ∙ place.4 in
+    subst (λ (x : Job). NotAfter (job_of (subtask_of p) w) x) job_is
+    (urgent.first place.0 d place.1 there.1)))
 
-idle_first : (cells : List (Option Job)) (tick : ℕ) (js : List Job) (c : Option Job) → IsFirst cells tick js c → ((k : Job) → Among js k → is_pending cells tick k ≡ true → ⊥) → c ≡ None
+idle_first : (cells : List (Option Job)) (tick : ℕ) (js : List Job) (c : Option Job)
+    → IsFirst cells tick js c → ((k : Job) → Among js k → is_pending cells tick k ≡ true → ⊥)
+    → c ≡ None
 idle_first cells tick js None first unready = refl
 idle_first cells tick js (Some i) first unready = absurd (unready i first.0 first.1)
 
 -- where no piece is ready the tick is idle
-pub idle_cell : (ps : List Piece) (gs : List ℕ) (tick : ℕ) (d : Piece) → IsCounted ps gs tick → MetBefore (jobs_of ps) (tick + 1) → tick < ROUND →
-    ((i : ℕ) → i < length ps → is_ready (get_or ps i d) (get_or gs i 0) tick ≡ false) → cell (jobs_of ps) tick ≡ None
+pub idle_cell : (ps : List Piece) (gs : List ℕ) (tick : ℕ) (d : Piece) → IsCounted ps gs tick
+    → MetBefore (jobs_of ps) (tick + 1) → tick < ROUND →
+    ((i : ℕ) → i < length ps → is_ready (get_or ps i d) (get_or gs i 0) tick ≡ false)
+    → cell (jobs_of ps) tick ≡ None
 idle_cell ps gs tick d counted met lt unready =
-    idle_first (edf_cells (jobs_of ps) tick) tick (jobs_of ps) (cell (jobs_of ps) tick) (first_pending_is (edf_cells (jobs_of ps) tick) tick (jobs_of ps))
+    idle_first (edf_cells (jobs_of ps) tick) tick (jobs_of ps) (cell (jobs_of ps) tick)
+    (first_pending_is (edf_cells (jobs_of ps) tick) tick (jobs_of ps))
     (λ k a pending.
     (let place = job_place ps d k a in
-    let there = pending_ready ps gs tick place.0 d place.2 counted met place.1 place.3 (subst (λ (x : Job). is_pending (edf_cells (jobs_of ps) tick) tick x ≡ true) (sym place.4) pending) in
+    let there = pending_ready ps gs tick place.0 d place.2 counted met place.1 place.3
+    (subst (λ (x : Job). is_pending (edf_cells (jobs_of ps) tick) tick x ≡ true)
+    (sym place.4) pending) in
     false≢true (sym (unready place.0 place.1) ∙ there.1)))

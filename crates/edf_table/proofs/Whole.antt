@@ -12,7 +12,8 @@ use Rattle.table_form.specs.Demand.{demand_in, is_inside, Fits}
 use Rattle.edf_table.specs.Load.{AllWhole, IsWhole, load}
 use Rattle.edf_table.proofs.Pieces.{first_jobs-suc, first_jobs-zero, jobs_of-cons, jobs_of-nil}
 
-pub demand_in-append : (xs ys : List Job) (s e : ℕ) → demand_in (xs ++ ys) s e ≡ demand_in xs s e + demand_in ys s e
+pub demand_in-append : (xs ys : List Job) (s e : ℕ)
+    → demand_in (xs ++ ys) s e ≡ demand_in xs s e + demand_in ys s e
 unfolding demand_in
 demand_in-append xs ys s e = sum_by-append (λ j. cond (is_inside s e j) j.cost 0) xs ys
 
@@ -25,51 +26,78 @@ unfolding demand_in
 demand_in-none s e = refl
 
 -- whole windows inside an interval leave it room in proportion
-whole_room : (s : Subtask) (n start end : ℕ) → s.from ≡ 0 → s.to ≡ s.period → demand_in (first_jobs s n) start end * s.period ≤ s.cost * (min end (n * s.period) - start)
+whole_room : (s : Subtask) (n start end : ℕ) → s.from ≡ 0 → s.to ≡ s.period
+    → demand_in (first_jobs s n) start end * s.period ≤ s.cost * (min end (n * s.period) - start)
 whole_room s zero start end from to = rw (first_jobs-zero s) (rw (demand_in-none start end) (omega arith))
 whole_room s (suc n) start end from to =
-    let before : demand_in (first_jobs s n) start end * s.period ≤ s.cost * (min end (n * s.period) - start) = whole_room s n start end from to in
-    let split : demand_in (first_jobs s (suc n)) start end ≡ demand_in (first_jobs s n) start end + cond (is_inside start end (job_of s n)) s.cost 0 =
-    ap (λ js. demand_in js start end) (first_jobs-suc s n) ∙ demand_in-append (first_jobs s n) (job_of s n ∷ []) start end ∙ ap (λ x. demand_in (first_jobs s n) start end + x) (demand_in-one (job_of s n) start end) in
+    let before : demand_in (first_jobs s n) start end * s.period ≤ s.cost
+    * (min end (n * s.period) - start) = whole_room s n start end from to in
+    let split : demand_in (first_jobs s (suc n)) start end
+    ≡ demand_in (first_jobs s n) start end
+    + cond (is_inside start end (job_of s n)) s.cost 0 =
+    ap (λ js. demand_in js start end) (first_jobs-suc s n)
+    ∙ demand_in-append (first_jobs s n) (job_of s n ∷ []) start end
+    ∙ ap (λ x. demand_in (first_jobs s n) start end + x) (demand_in-one (job_of s n) start end)
+    in
     rw split (elim (cases_Bool (is_inside start end (job_of s n))) [
-      | inl inside ↦ (let both = and_parts (leb start (n * s.period + s.from)) (leb (n * s.period + s.to) end) inside in
+      | inl inside ↦
+          (let both = and_parts (leb start (n * s.period + s.from)) (leb (n * s.period + s.to) end) inside in
           let low = leb-true _ _ both.0 in
           let high = leb-true _ _ both.1 in
           let here : min end (n * s.period) - start ≡ n * s.period - start = omega arith in
           let next : min end (suc n * s.period) - start ≡ (n * s.period - start) + s.period = omega arith in
-          let before' : demand_in (first_jobs s n) start end * s.period ≤ s.cost * (n * s.period - start) = subst (λ x. demand_in (first_jobs s n) start end * s.period ≤ s.cost * x) here before in
+          let before' : demand_in (first_jobs s n) start end * s.period ≤ s.cost
+          * (n * s.period - start) =
+          subst (λ x. demand_in (first_jobs s n) start end * s.period ≤ s.cost * x) here
+          before in
           rw inside (rw next (omega arith)))
-      | inr outside ↦ (let grows : min end (n * s.period) - start ≤ min end (suc n * s.period) - start = omega arith in
-          let more = mul-le-mul_left {m = min end (n * s.period) - start} {n = min end (suc n * s.period) - start} s.cost grows in
+      | inr outside ↦
+          (let grows : min end (n * s.period) - start ≤ min end (suc n * s.period) - start = omega arith in
+          let more = mul-le-mul_left {m = min end (n * s.period) - start}
+          {n = min end (suc n * s.period) - start} s.cost grows in
           rw outside (omega arith))
     ])
 
 -- what one piece asks for, against its part of a round
 piece_room : (p : Piece) (start end : ℕ) → IsWhole p → end ≤ ROUND →
-    demand_in (first_jobs (subtask_of p) (ROUND / p.period)) start end * ROUND ≤ (end - start) * (p.cost * (ROUND / p.period))
+    demand_in (first_jobs (subtask_of p) (ROUND / p.period)) start end * ROUND ≤ (end - start)
+    * (p.cost * (ROUND / p.period))
 piece_room p start end whole within =
     let facts = period_facts p.period p.listed in
     let m = ROUND / p.period in
     let demand_p = demand_in (first_jobs (subtask_of p) m) start end in
-    let room : demand_p * p.period ≤ p.cost * (min end (m * p.period) - start) = whole_room (subtask_of p) m start end whole.begins whole.ends in
+    let room : demand_p * p.period ≤ p.cost * (min end (m * p.period) - start) =
+    whole_room (subtask_of p) m start end whole.begins whole.ends in
     let all : min end (m * p.period) - start ≡ end - start = omega (arith, facts.whole) in
-    let room' : demand_p * p.period ≤ p.cost * (end - start) = subst (λ x. demand_p * p.period ≤ p.cost * x) all room in
+    let room' : demand_p * p.period ≤ p.cost * (end - start) =
+    subst (λ x. demand_p * p.period ≤ p.cost * x) all room in
     let scaled = mul-le-mul_left {m = demand_p * p.period} {n = p.cost * (end - start)} m room' in
-    let left : m * (demand_p * p.period) ≡ demand_p * ROUND = regroup m demand_p p.period ∙ ap (λ x. demand_p * x) facts.whole in
+    let left : m * (demand_p * p.period) ≡ demand_p * ROUND =
+    regroup m demand_p p.period ∙ ap (λ x. demand_p * x) facts.whole in
     let right : m * (p.cost * (end - start)) ≡ (end - start) * (p.cost * m) = omega arith in
-    subst (λ x. x ≤ (end - start) * (p.cost * m)) left (subst (λ x. m * (demand_p * p.period) ≤ x) right scaled)
+    subst (λ x. x ≤ (end - start) * (p.cost * m)) left
+    (subst (λ x. m * (demand_p * p.period) ≤ x) right scaled)
   where
     regroup : (a b c : ℕ) → a * (b * c) ≡ b * (c * a)
     regroup a b c = omega arith
 
-all_room : (ps : List Piece) (start end : ℕ) → AllWhole ps → end ≤ ROUND → demand_in (jobs_of ps) start end * ROUND ≤ (end - start) * load ps
+all_room : (ps : List Piece) (start end : ℕ) → AllWhole ps → end ≤ ROUND
+    → demand_in (jobs_of ps) start end * ROUND ≤ (end - start) * load ps
 all_room [] start end whole within = rw jobs_of-nil (rw (demand_in-none start end) (omega arith))
 all_room (p ∷ ps) start end whole within =
-    let rest : demand_in (jobs_of ps) start end * ROUND ≤ (end - start) * load ps = all_room ps start end whole.1 within in
-    let here : demand_in (first_jobs (subtask_of p) (ROUND / p.period)) start end * ROUND ≤ (end - start) * (p.cost * (ROUND / p.period)) = piece_room p start end whole.0 within in
-    let split : demand_in (jobs_of (p ∷ ps)) start end ≡ demand_in (first_jobs (subtask_of p) (ROUND / p.period)) start end + demand_in (jobs_of ps) start end =
-    ap (λ js. demand_in js start end) (jobs_of-cons p ps) ∙ demand_in-append (first_jobs (subtask_of p) (ROUND / p.period)) (jobs_of ps) start end in
-    rw split (sum_bound (demand_in (first_jobs (subtask_of p) (ROUND / p.period)) start end) (demand_in (jobs_of ps) start end) (end - start) (p.cost * (ROUND / p.period)) (load ps) here rest)
+    let rest : demand_in (jobs_of ps) start end * ROUND ≤ (end - start) * load ps =
+    all_room ps start end whole.1 within in
+    let here : demand_in (first_jobs (subtask_of p) (ROUND / p.period)) start end * ROUND
+    ≤ (end - start) * (p.cost * (ROUND / p.period)) = piece_room p start end whole.0 within
+    in
+    let split : demand_in (jobs_of (p ∷ ps)) start end
+    ≡ demand_in (first_jobs (subtask_of p) (ROUND / p.period)) start end
+    + demand_in (jobs_of ps) start end =
+    ap (λ js. demand_in js start end) (jobs_of-cons p ps)
+    ∙ demand_in-append (first_jobs (subtask_of p) (ROUND / p.period)) (jobs_of ps) start end in
+    rw split (sum_bound (demand_in (first_jobs (subtask_of p) (ROUND / p.period)) start end)
+    (demand_in (jobs_of ps) start end) (end - start) (p.cost * (ROUND / p.period))
+    (load ps) here rest)
   where
     sum_bound : (a b x c d : ℕ) → a * ROUND ≤ x * c → b * ROUND ≤ x * d → (a + b) * ROUND ≤ x * (c + d)
     sum_bound a b x c d h g = omega arith
@@ -77,7 +105,8 @@ all_room (p ∷ ps) start end whole within =
 -- pieces of whole periods fit where they take no more than a round
 pub whole_fits : (ps : List Piece) → AllWhole ps → load ps ≤ ROUND → Fits (jobs_of ps)
 whole_fits ps whole light start end lt within =
-    let room : demand_in (jobs_of ps) start end * ROUND ≤ (end - start) * load ps = all_room ps start end whole within in
+    let room : demand_in (jobs_of ps) start end * ROUND ≤ (end - start) * load ps =
+    all_room ps start end whole within in
     let more = mul-le-mul_left {m = load ps} {n = ROUND} (end - start) light in
     omega arith
 
@@ -90,8 +119,12 @@ load_push : (ps : List Piece) (p : Piece) → load (ps ++ p ∷ []) ≡ load ps 
 load_push [] p = omega arith
 load_push (q ∷ ps) p = omega (arith, load_push ps p)
 
-pub all_whole_more : (ps : List Piece) (i : ℕ) (d : Piece) → i < length ps → AllWhole (take i ps) → IsWhole (get_or ps i d) → AllWhole (take (i + 1) ps)
-all_whole_more ps i d lt all whole = rw (take_more ps i d lt) (all_whole_push (take i ps) (get_or ps i d) all whole)
+pub all_whole_more : (ps : List Piece) (i : ℕ) (d : Piece) → i < length ps → AllWhole (take i ps)
+    → IsWhole (get_or ps i d) → AllWhole (take (i + 1) ps)
+all_whole_more ps i d lt all whole =
+    rw (take_more ps i d lt) (all_whole_push (take i ps) (get_or ps i d) all whole)
 
-pub load_more : (ps : List Piece) (i : ℕ) (d : Piece) → i < length ps → load (take (i + 1) ps) ≡ load (take i ps) + (get_or ps i d).cost * (ROUND / (get_or ps i d).period)
+pub load_more : (ps : List Piece) (i : ℕ) (d : Piece) → i < length ps
+    → load (take (i + 1) ps) ≡ load (take i ps) + (get_or ps i d).cost
+    * (ROUND / (get_or ps i d).period)
 load_more ps i d lt = ap load (take_more ps i d lt) ∙ load_push (take i ps) (get_or ps i d)

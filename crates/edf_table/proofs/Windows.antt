@@ -23,8 +23,12 @@ served_early p given tick lt k e = absurd (omega arith)
 pub served_between : (p : Piece) (given tick : ℕ) → (tick - p.to) % p.period ≢ 0 → IsServedAt p given tick
 served_between p given tick ne k e = absurd (ne (whole_at tick p.to p.period k (some_period p) e))
 
-pub served_at_end : (p : Piece) (given tick : ℕ) → ((tick - p.to) / p.period + 1) * p.cost ≤ given → IsServedAt p given tick
-served_at_end p given tick le k e = subst (λ n. (n + 1) * p.cost ≤ given) (window_at tick p.to p.period k (some_period p) e) le
+pub served_at_end : (p : Piece) (given tick : ℕ) → ((tick - p.to) / p.period + 1) * p.cost ≤ given
+    → IsServedAt p given tick
+served_at_end p given tick le k e =
+    subst (λ n. (n + 1) * p.cost ≤ given) (window_at tick p.to p.period k (some_period p) e) le
 
-pub missed_at_end : (p : Piece) (given tick : ℕ) → p.to ≤ tick → (tick - p.to) % p.period ≡ 0 → given < ((tick - p.to) / p.period + 1) * p.cost → IsMissedAt p given tick
-missed_at_end p given tick le whole lt = ((tick - p.to) / p.period, (let some = some_period p in omega arith), lt)
+pub missed_at_end : (p : Piece) (given tick : ℕ) → p.to ≤ tick → (tick - p.to) % p.period ≡ 0
+    → given < ((tick - p.to) / p.period + 1) * p.cost → IsMissedAt p given tick
+missed_at_end p given tick le whole lt =
+    ((tick - p.to) / p.period, (let some = some_period p in omega arith), lt)

@@ -6,7 +6,8 @@ use Rattle.edf_table.specs.declared.overload.Overload.{Overload}
 use Rattle.edf_table.specs.declared.fault.EdfFault.{EdfFault}
 use Rattle.edf_table.specs.declared.fault.EdfFault.TheVariants.{Miss, NoMemory}
 
--- the jobs' overloaded interval of least end, and of those the one of greatest begin, with what it is asked for
+-- the jobs' overloaded interval of least end, and of those the one of greatest begin, with what it
+-- is asked for
 pub record IsReported (jobs : List Job) (from to demand : ℕ) : Type 0 where
   pub first : IsFirstOverload jobs from to
   pub asked : demand ≡ demand_in jobs from to

@@ -52,7 +52,8 @@ IsDueFirst tick a b = (due_at a tick < due_at b tick) ⊎ ((due_at a tick ≡ du
 pub record IsMostUrgent (ps : List Piece) (given : List ℕ) (tick n i : ℕ) : Type 0 where
   pub in_range : i < length ps
   pub ready : (d : Piece) → is_ready (slice_index_or ps i d) (slice_index given i) tick ≡ true
-  pub first : (k : ℕ) (d : Piece) → k < n → is_ready (slice_index_or ps k d) (slice_index given k) tick ≡ true →
+  pub first : (k : ℕ) (d : Piece) → k < n
+      → is_ready (slice_index_or ps k d) (slice_index given k) tick ≡ true →
       IsDueFirst tick (slice_index_or ps i d) (slice_index_or ps k d)
 
 -- the most urgent of the first n pieces, or none of them is ready
@@ -72,7 +73,8 @@ IsMissedAt p given tick = (k : ℕ) × (k * p.period + p.to ≡ tick) × (given 
 
 -- of the first n pieces, none has a window that ends at the tick without its cost
 abbrev pub ServedBelow : List Piece → List ℕ → ℕ → ℕ → Type 0
-ServedBelow ps given tick n = (i : ℕ) (d : Piece) → i < n → IsServedAt (slice_index_or ps i d) (slice_index given i) tick
+ServedBelow ps given tick n = (i : ℕ) (d : Piece) → i < n
+    → IsServedAt (slice_index_or ps i d) (slice_index given i) tick
 
 -- some piece has a window that ends at the tick without its cost
 pub record SomeMissed (ps : List Piece) (given : List ℕ) (tick : ℕ) : Type 0 where
@@ -92,7 +94,8 @@ AreCalm ps n tick until = (i : ℕ) (d : Piece) → i < n → IsCalm (slice_inde
 -- of the first n pieces none has a window that begins at a tick above `from` and below `tick`
 abbrev pub NoBegin : List Piece → ℕ → ℕ → ℕ → Type 0
 NoBegin ps n from tick = (i : ℕ) (d : Piece) → i < n →
-    (k : ℕ) → from < k * (slice_index_or ps i d).period + (slice_index_or ps i d).from → tick ≤ k * (slice_index_or ps i d).period + (slice_index_or ps i d).from
+    (k : ℕ) → from < k * (slice_index_or ps i d).period + (slice_index_or ps i d).from
+    → tick ≤ k * (slice_index_or ps i d).period + (slice_index_or ps i d).from
 
 -- each tick from the first up to the second goes to the owner, or to nobody
 abbrev pub GoesTo : List Job → ℕ → ℕ → Option ℕ → Type 0
@@ -100,7 +103,8 @@ GoesTo js tick end owner = (x : ℕ) → tick ≤ x → x < end → owner_of (ce
 
 -- the demand of the windows that begin at `start` and end by `end`
 unfoldable pub demand_from : List Job → ℕ → ℕ → ℕ
-demand_from jobs start end = sum_by (λ j. if (j.release == start) && nat_le j.deadline end then j.cost else 0) jobs
+demand_from jobs start end = sum_by (λ j. if (j.release == start) && nat_le j.deadline end
+    then j.cost else 0) jobs
 
 -- some interval that ends there is overloaded, and none that ends earlier
 pub record IsFirstEnd (jobs : List Job) (end : ℕ) : Type 0 where

@@ -10,7 +10,8 @@ ghost use Rattle.edf_table.specs.Load.{AllWhole, load};
 
 /// Where a tight piece fits, one that is a tick shorter fits. So bisection finds the longest.
 pub fn shorter_piece_fits()
-    ensures { (jobs : List Job) (vcpu cost from period : ℕ) → IsPeriod period → 2 ≤ cost → from + cost ≤ period
+    ensures { (jobs : List Job) (vcpu cost from period : ℕ) → IsPeriod period → 2 ≤ cost
+        → from + cost ≤ period
         → FitsBeside jobs (tight vcpu cost from period) → FitsBeside jobs (tight vcpu (cost - 1) from period) }
 {}
 

@@ -33,21 +33,25 @@ either None b of_a of_b = of_b
 either (Some fault) b of_a of_b = of_a
 
 -- each key's own faults
-range : (path : Path) (least most : ℕ) (number : Option ℤ) → is_of_key (result_err (in_range path least most number)) ≡ true
+range : (path : Path) (least most : ℕ) (number : Option ℤ)
+    → is_of_key (result_err (in_range path least most number)) ≡ true
 range path least most None = refl
 range path least most (Some (pos n)) = grind (arith, common_steps)
 range path least most (Some (negsuc n)) = refl
 
-whole : (path : Path) (least most : ℕ) (default : Option ℕ) (found : Option Data) → is_of_key (result_err (whole_or path least most default found)) ≡ true
+whole : (path : Path) (least most : ℕ) (default : Option ℕ) (found : Option Data)
+    → is_of_key (result_err (whole_or path least most default found)) ≡ true
 whole path least most None None = refl
 whole path least most (Some default) None = refl
 whole path least most default (Some found) = range path least most (as_integer found)
 
-truth : (path : Path) (default : Bool) (found : Option Data) → is_of_key (result_err (truth_or path default found)) ≡ true
+truth : (path : Path) (default : Bool) (found : Option Data)
+    → is_of_key (result_err (truth_or path default found)) ≡ true
 truth path default None = refl
 truth path default (Some found) = grind (arith, common_steps)
 
-name : (path : Path) (found : Option Data) → is_of_key (result_err (well_formed path (text_in path found))) ≡ true
+name : (path : Path) (found : Option Data)
+    → is_of_key (result_err (well_formed path (text_in path found))) ≡ true
 name path None = refl
 name path (Some found) = grind (arith, common_steps)
 
@@ -55,11 +59,13 @@ items : (path : Path) (found : Option Data) → is_of_key (result_err (items_or 
 items path None = refl
 items path (Some found) = grind (arith, common_steps)
 
-same : (earlier : List (List ℕ)) (number : ℕ) (name : Result (List ℕ) HostFault) → is_of_key (same_name earlier number name) ≡ true
+same : (earlier : List (List ℕ)) (number : ℕ) (name : Result (List ℕ) HostFault)
+    → is_of_key (same_name earlier number name) ≡ true
 same earlier number (Ok name) = grind (arith, common_steps)
 same earlier number (Err fault) = refl
 
-admitted : (found : Result Bool HostFault) (fault : Option HostFault) → is_of_key fault ≡ true → is_of_key (where_admitted found fault) ≡ true
+admitted : (found : Result Bool HostFault) (fault : Option HostFault) → is_of_key fault ≡ true
+    → is_of_key (where_admitted found fault) ≡ true
 admitted (Ok true) fault of = of
 admitted (Ok false) fault of = refl
 admitted (Err refused) fault of = refl
@@ -67,30 +73,42 @@ admitted (Err refused) fault of = refl
 unknown : (path : Path) (keys : List Key) (ms : Members) → is_of_key (unknown_key path keys ms) ≡ true
 unknown path keys ms = grind (arith, common_steps)
 
-reservation : (number : ℕ) (ms : Members) → is_of_key (first_of (result_err (share_of number ms) ∷ result_err (latency_of number ms) ∷ [])) ≡ true
+reservation : (number : ℕ) (ms : Members)
+    → is_of_key
+    (first_of (result_err (share_of number ms) ∷ result_err (latency_of number ms) ∷ [])) ≡ true
 reservation number ms =
-    either (result_err (share_of number ms)) _ (whole (of_vcpu number Share) 1 WHOLE_PPM None (found_at (of_vcpu number Share) ms))
-    (either (result_err (latency_of number ms)) None (whole (of_vcpu number Latency) 0 MAX_LATENCY_NS None (found_at (of_vcpu number Latency) ms)) refl)
+    either (result_err (share_of number ms)) _
+    (whole (of_vcpu number Share) 1 WHOLE_PPM None (found_at (of_vcpu number Share) ms))
+    (either (result_err (latency_of number ms)) None
+    (whole (of_vcpu number Latency) 0 MAX_LATENCY_NS None
+    (found_at (of_vcpu number Latency) ms)) refl)
 
 -- the faults of a member, of all members, and of the document
 settings : (number : ℕ) (ms : Members) → is_of_key (settings_fault number ms) ≡ true
 settings number ms =
-    either (result_err (admitted_of number ms)) _ (truth (of_vcpu number Admitted) true (found_at (of_vcpu number Admitted) ms))
-    (either (result_err (runnable_of number ms)) _ (truth (of_vcpu number Runnable) true (found_at (of_vcpu number Runnable) ms))
+    either (result_err (admitted_of number ms)) _
+    (truth (of_vcpu number Admitted) true (found_at (of_vcpu number Admitted) ms))
+    (either (result_err (runnable_of number ms)) _
+    (truth (of_vcpu number Runnable) true (found_at (of_vcpu number Runnable) ms))
     (either (reservation_fault number ms) _ (admitted (admitted_of number ms) _ (reservation number ms))
-    (either (unknown_key (of_vcpu number Unknown) vcpu_keys ms) None (unknown (of_vcpu number Unknown) vcpu_keys ms) refl)))
+    (either (unknown_key (of_vcpu number Unknown) vcpu_keys ms) None
+    (unknown (of_vcpu number Unknown) vcpu_keys ms) refl)))
 
-vcpu : (earlier : List (List ℕ)) (number : ℕ) (found : Option Members) → is_of_key (vcpu_fault earlier number found) ≡ true
+vcpu : (earlier : List (List ℕ)) (number : ℕ) (found : Option Members)
+    → is_of_key (vcpu_fault earlier number found) ≡ true
 vcpu earlier number None = refl
 vcpu earlier number (Some ms) =
     either (result_err (name_of number ms)) _ (name (of_vcpu number Name) (found_at (of_vcpu number Name) ms))
     (either (same_name earlier number (name_of number ms)) _ (same earlier number (name_of number ms))
     (either (settings_fault number ms) None (settings number ms) refl))
 
-vcpus : (earlier : List (List ℕ)) (number : ℕ) (found : Items) → is_of_key (vcpus_fault earlier number found) ≡ true
+vcpus : (earlier : List (List ℕ)) (number : ℕ) (found : Items)
+    → is_of_key (vcpus_fault earlier number found) ≡ true
 unfolding vcpus_fault
 vcpus earlier number no_items = refl
-vcpus earlier number (item found more) = either _ _ (vcpu earlier number (as_table found)) (vcpus (earlier ++ names_of number (as_table found)) (number + 1) more)
+vcpus earlier number (item found more) =
+    either _ _ (vcpu earlier number (as_table found))
+    (vcpus (earlier ++ names_of number (as_table found)) (number + 1) more)
 
 inside : (found : Result Items HostFault) → is_of_key (members_fault found) ≡ true
 inside (Ok found) = vcpus [] 0 found
@@ -100,18 +118,28 @@ inside (Err fault) = refl
 pub first_is_of_key : (ms : Members) → is_of_key (first_fault ms) ≡ true
 unfolding first_fault
 first_is_of_key ms =
-    either (result_err (format_of ms)) _ (whole (of_document Format) 1 1 (Some 1) (found_at (of_document Format) ms))
-    (either (result_err (cores_of ms)) _ (whole (of_document Cores) 1 MAX_CORES None (found_at (of_document Cores) ms))
-    (either (result_err (lag_of ms)) _ (whole (of_document Lag) 1 ROUND (Some 1000) (found_at (of_document Lag) ms))
-    (either (result_err (sliver_of ms)) _ (whole (of_document Sliver) 0 MAX_SLIVER (Some 30) (found_at (of_document Sliver) ms))
-    (either (result_err (quantum_of ms)) _ (whole (of_document Quantum) 1 ROUND (Some 1000) (found_at (of_document Quantum) ms))
+    either (result_err (format_of ms)) _
+    (whole (of_document Format) 1 1 (Some 1) (found_at (of_document Format) ms))
+    (either (result_err (cores_of ms)) _
+    (whole (of_document Cores) 1 MAX_CORES None (found_at (of_document Cores) ms))
+    (either (result_err (lag_of ms)) _
+    (whole (of_document Lag) 1 ROUND (Some 1000) (found_at (of_document Lag) ms))
+    (either (result_err (sliver_of ms)) _
+    (whole (of_document Sliver) 0 MAX_SLIVER (Some 30) (found_at (of_document Sliver) ms))
+    (either (result_err (quantum_of ms)) _
+    (whole (of_document Quantum) 1 ROUND (Some 1000) (found_at (of_document Quantum) ms))
     (either (result_err (vcpus_of ms)) _ (items (of_document Vcpu) (found_at (of_document Vcpu) ms))
-    (either (unknown_key (of_document Unknown) document_keys ms) _ (unknown (of_document Unknown) document_keys ms)
+    (either (unknown_key (of_document Unknown) document_keys ms) _
+    (unknown (of_document Unknown) document_keys ms)
     (either (members_fault (vcpus_of ms)) None (inside (vcpus_of ms)) refl)))))))
 
 -- so an answer of such faults is never that the bytes are no document
-pub no_not_toml : (result : Result Host HostFault) (ms : Members) → IfErr result (λ fault. (fault ≡ NoMemory) ⊎ (first_fault ms ≡ Some fault))
+pub no_not_toml : (result : Result Host HostFault) (ms : Members)
+    → IfErr result (λ fault. (fault ≡ NoMemory) ⊎ (first_fault ms ≡ Some fault))
     → IsErrOf result NotToml → ⊥
 no_not_toml (Ok host) ms of is = cc
 no_not_toml (Err fault) ms (inl memory) is = cc
-no_not_toml (Err fault) ms (inr first) is = let of_key = first_is_of_key ms in let toml : first_fault ms ≡ Some NotToml = cc in let wrong : is_of_key (Some NotToml) ≡ true = sym (ap is_of_key toml) ∙ of_key in cc
+no_not_toml (Err fault) ms (inr first) is =
+    let of_key =
+    first_is_of_key ms
+    in let toml : first_fault ms ≡ Some NotToml = cc in let wrong : is_of_key (Some NotToml) ≡ true = sym (ap is_of_key toml) ∙ of_key in cc

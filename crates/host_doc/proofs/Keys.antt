@@ -11,6 +11,7 @@ use Rattle.host_doc.specs.declared.fault.Key.{Key}
 abbrev pub is_other : List Key → String Global → Bool
 is_other keys word = not (is_among keys (string_bytes word))
 
-pub any-is_other : (keys : List Key) (es : List (String Global × Value)) → list_any (is_other keys) (keys_of es) ≡ has_other_key keys (members_view es)
+pub any-is_other : (keys : List Key) (es : List (String Global × Value))
+    → list_any (is_other keys) (keys_of es) ≡ has_other_key keys (members_view es)
 any-is_other keys [] = refl
 any-is_other keys (e ∷ es) = ap (λ (rest : Bool). is_other keys e.0 || rest) (any-is_other keys es)

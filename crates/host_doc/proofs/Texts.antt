@@ -16,13 +16,16 @@ cond-true : (b c : Bool) → cond b true c ≡ (b || c)
 cond-true true c = refl
 cond-true false c = refl
 
-pub has_text-added : (old new : BTreeSet (Bor (List ℕ))) (text : Bor (List ℕ)) → Updates (λ a b. slice_cmp nat_cmp a.now b.now) old new text true
+pub has_text-added : (old new : BTreeSet (Bor (List ℕ))) (text : Bor (List ℕ))
+    → Updates (λ a b. slice_cmp nat_cmp a.now b.now) old new text true
     → (other : List ℕ) → has_text new other ≡ (bytes_eq other text.now || has_text old other)
 has_text-added old new text h other =
     h.0 (record { ref_ptr = (0, 0); now = other })
-    ∙ ap (λ (b : Bool). cond b true (has_text old other)) (is_eq-slice_cmp text.now other ∙ bytes_eq-swap text.now other)
+    ∙ ap (λ (b : Bool). cond b true (has_text old other))
+    (is_eq-slice_cmp text.now other ∙ bytes_eq-swap text.now other)
     ∙ cond-true (bytes_eq other text.now) (has_text old other)
 
 -- a text that was added as a new one wasn't there
-pub absent_if_new : (added : Bool) (texts : BTreeSet (Bor (List ℕ))) (text : List ℕ) → added ≡ true → added ≡ not (has_text texts text) → has_text texts text ≡ false
+pub absent_if_new : (added : Bool) (texts : BTreeSet (Bor (List ℕ))) (text : List ℕ) → added ≡ true
+    → added ≡ not (has_text texts text) → has_text texts text ≡ false
 absent_if_new added texts text new is = grind arith

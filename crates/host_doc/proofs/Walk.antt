@@ -35,23 +35,32 @@ abbrev pub names : List Vcpu → List (List ℕ)
 names vcpus = map (λ vcpu. vcpu.name) vcpus
 
 -- the first fault of the members, where those before this value have none
-pub fault_from : (values : List Value) (earlier : List (List ℕ)) (number : ℕ) (value : Value) → number < length values → value ≡ get_or values number value
+pub fault_from : (values : List Value) (earlier : List (List ℕ)) (number : ℕ) (value : Value)
+    → number < length values → value ≡ get_or values number value
     → vcpus_fault [] 0 (items_view values) ≡ vcpus_fault earlier number (items_view (drop number values))
-    → vcpus_fault [] 0 (items_view values) ≡ option_or (vcpu_fault earlier number (as_table (view value))) (vcpus_fault (earlier ++ names_of number (as_table (view value))) (number + 1) (items_view (drop (number + 1) values)))
+    → vcpus_fault [] 0 (items_view values)
+    ≡ option_or (vcpu_fault earlier number (as_table (view value)))
+    (vcpus_fault (earlier ++ names_of number (as_table (view value))) (number + 1)
+    (items_view (drop (number + 1) values)))
 unfolding vcpus_fault
 fault_from values earlier number value within is rest =
     rest
     ∙ ap (vcpus_fault earlier number) (items_view-drop values number value within)
-    ∙ ap (λ (v : Value). option_or (vcpu_fault earlier number (as_table (view v))) (vcpus_fault (earlier ++ names_of number (as_table (view v))) (number + 1) (items_view (drop (number + 1) values)))) (sym is)
+    ∙ ap (λ (v : Value). option_or (vcpu_fault earlier number (as_table (view v)))
+    (vcpus_fault (earlier ++ names_of number (as_table (view v))) (number + 1)
+    (items_view (drop (number + 1) values)))) (sym is)
 
 or-none : (fault : Option HostFault) → option_or fault None ≡ fault
 or-none None = refl
 or-none (Some fault) = refl
 
 -- a member whose name is new has the fault of what is behind its name
-pub fault_named : (earlier : List (List ℕ)) (number : ℕ) (found : Option Members) (keys : Members) (name : List ℕ) → found ≡ Some keys
-    → name_of number keys ≡ Ok name → list_any (bytes_eq name) earlier ≡ false → vcpu_fault earlier number found ≡ settings_fault number keys
-fault_named earlier number found keys name is named new = rw (is, named, new) (or-none (settings_fault number keys))
+pub fault_named : (earlier : List (List ℕ)) (number : ℕ) (found : Option Members) (keys : Members)
+    (name : List ℕ) → found ≡ Some keys
+    → name_of number keys ≡ Ok name → list_any (bytes_eq name) earlier ≡ false
+    → vcpu_fault earlier number found ≡ settings_fault number keys
+fault_named earlier number found keys name is named new =
+    rw (is, named, new) (or-none (settings_fault number keys))
 
 pub names_named : (number : ℕ) (found : Option Members) (keys : Members) (name : List ℕ) → found ≡ Some keys
     → name_of number keys ≡ Ok name → names_of number found ≡ name ∷ []
@@ -61,31 +70,39 @@ length-last : {A : Type 0} (xs : List A) (x : A) → length (xs ++ x ∷ []) ≡
 length-last xs x = grind (arith, common_steps)
 
 -- an element of a list with one more is that one or stood there before
-slice_get-last : {A : Type 0} (xs : List A) (x y : A) (k : ℕ) → slice_get (xs ++ x ∷ []) k ≡ Some y → (slice_get xs k ≡ Some y) ⊎ ((k ≡ length xs) × (x ≡ y))
+slice_get-last : {A : Type 0} (xs : List A) (x y : A) (k : ℕ) → slice_get (xs ++ x ∷ []) k ≡ Some y
+    → (slice_get xs k ≡ Some y) ⊎ ((k ≡ length xs) × (x ≡ y))
 slice_get-last [] x y zero h = inr (refl, cc)
 slice_get-last [] x y (suc k) h = absurd (cc)
 slice_get-last (z ∷ xs) x y zero h = inl h
-slice_get-last (z ∷ xs) x y (suc k) h = elim (slice_get-last xs x y k h) [ inl before ↦ inl before | inr last ↦ inr (ap suc last.0, last.1) ]
+slice_get-last (z ∷ xs) x y (suc k) h =
+    elim (slice_get-last xs x y k h)
+    [ inl before ↦ inl before | inr last ↦ inr (ap suc last.0, last.1) ]
 
-name_held : (vcpus : List Vcpu) (a : Vcpu) (j : ℕ) → slice_get vcpus j ≡ Some a → list_any (bytes_eq a.name) (names vcpus) ≡ true
+name_held : (vcpus : List Vcpu) (a : Vcpu) (j : ℕ) → slice_get vcpus j ≡ Some a
+    → list_any (bytes_eq a.name) (names vcpus) ≡ true
 name_held [] a j h = absurd (cc)
 name_held (v ∷ vcpus) a zero h = let same : v ≡ a = cc in rw (same, bytes_eq-same a.name)
 name_held (v ∷ vcpus) a (suc j) h = rw (name_held vcpus a j h) (or-true (bytes_eq a.name v.name))
 
-pub distinct_with : (vcpus : List Vcpu) (vcpu : Vcpu) → HaveDistinctNames vcpus → list_any (bytes_eq vcpu.name) (names vcpus) ≡ false → HaveDistinctNames (vcpus ++ vcpu ∷ [])
+pub distinct_with : (vcpus : List Vcpu) (vcpu : Vcpu) → HaveDistinctNames vcpus
+    → list_any (bytes_eq vcpu.name) (names vcpus) ≡ false → HaveDistinctNames (vcpus ++ vcpu ∷ [])
 distinct_with vcpus vcpu distinct new = λ j k a b at_j at_k same.
     elim (slice_get-last vcpus vcpu a j at_j) [
       | inl j_before ↦ elim (slice_get-last vcpus vcpu b k at_k) [
         | inl k_before ↦ distinct j k a b j_before k_before same
-        | inr k_last ↦ absurd (let held = name_held vcpus a j j_before in let name : a.name ≡ vcpu.name = same ∙ ap (λ (v : Vcpu). v.name) (sym k_last.1) in cc)
+        | inr k_last ↦
+            absurd (let held = name_held vcpus a j j_before in let name : a.name ≡ vcpu.name = same ∙ ap (λ (v : Vcpu). v.name) (sym k_last.1) in cc)
       ]
       | inr j_last ↦ elim (slice_get-last vcpus vcpu b k at_k) [
-        | inl k_before ↦ absurd (let held = name_held vcpus b k k_before in let name : b.name ≡ vcpu.name = sym same ∙ ap (λ (v : Vcpu). v.name) (sym j_last.1) in cc)
+        | inl k_before ↦
+            absurd (let held = name_held vcpus b k k_before in let name : b.name ≡ vcpu.name = sym same ∙ ap (λ (v : Vcpu). v.name) (sym j_last.1) in cc)
         | inr k_last ↦ j_last.0 ∙ sym k_last.0
       ]
     ]
 
-pub each_with : (values : List Value) (vcpus : List Vcpu) (vcpu : Vcpu) (number : ℕ) (value : Value) (members : Members) → length vcpus ≡ number → number < length values
+pub each_with : (values : List Value) (vcpus : List Vcpu) (vcpu : Vcpu) (number : ℕ) (value : Value)
+    (members : Members) → length vcpus ≡ number → number < length values
     → value ≡ get_or values number value → as_table (view value) ≡ Some members → IsVcpuOf number members vcpu
     → EachIsVcpuOf (items_view values) vcpus → EachIsVcpuOf (items_view values) (vcpus ++ vcpu ∷ [])
 each_with values vcpus vcpu number value members count within is found this each = λ k ms v at_item at_vcpu.
@@ -93,17 +110,21 @@ each_with values vcpus vcpu number value members count within is found this each
       | inl before ↦ each k ms v at_item before
       | inr last ↦
           let here : k ≡ number = last.0 ∙ count in
-          let item : Some (view value) ≡ get_item number (items_view values) = ap (λ (x : Value). Some (view x)) is ∙ get_item_within values number value within in
+          let item : Some (view value) ≡ get_item number (items_view values) =
+          ap (λ (x : Value). Some (view x)) is ∙ get_item_within values number value within
+          in
           let same : view value ≡ table ms = cc in
           let of : members ≡ ms = cc in
           rw (here, ← of, ← last.1) this
     ]
 
 -- the members below `index` have no fault and stand for the vCPUs, whose names are the set's texts
-pub record AreRead (values : List Value) (index : ℕ) (texts : BTreeSet (Bor (List ℕ))) (vcpus : List Vcpu) : Type 0 where
+pub record AreRead (values : List Value) (index : ℕ) (texts : BTreeSet (Bor (List ℕ)))
+    (vcpus : List Vcpu) : Type 0 where
   pub count : length vcpus ≡ index
   pub each : EachIsVcpuOf (items_view values) vcpus
-  pub rest : vcpus_fault [] 0 (items_view values) ≡ vcpus_fault (names vcpus) index (items_view (drop index values))
+  pub rest : vcpus_fault [] 0 (items_view values)
+      ≡ vcpus_fault (names vcpus) index (items_view (drop index values))
   pub held : (text : List ℕ) → has_text texts text ≡ list_any (bytes_eq text) (names vcpus)
   pub distinct : HaveDistinctNames vcpus
 
@@ -117,8 +138,10 @@ or-last false true = refl
 or-last false false = refl
 
 -- one more member
-pub read_more : (values : List Value) (index : ℕ) (texts more : BTreeSet (Bor (List ℕ))) (vcpus : List Vcpu) (vcpu : Vcpu) (value : Value) (found : Members)
-    → AreRead values index texts vcpus → index < length values → value ≡ get_or values index value → as_table (view value) ≡ Some found
+pub read_more : (values : List Value) (index : ℕ) (texts more : BTreeSet (Bor (List ℕ)))
+    (vcpus : List Vcpu) (vcpu : Vcpu) (value : Value) (found : Members)
+    → AreRead values index texts vcpus → index < length values → value ≡ get_or values index value
+    → as_table (view value) ≡ Some found
     → IsVcpuOf index found vcpu → settings_fault index found ≡ None → has_text texts vcpu.name ≡ false
     → ((text : List ℕ) → has_text more text ≡ (bytes_eq text vcpu.name || has_text texts text))
     → AreRead values (index + 1) more (vcpus ++ vcpu ∷ [])
@@ -129,17 +152,31 @@ read_more values index texts more vcpus vcpu value found read within is table_is
       each = each_with values vcpus vcpu index value found read.count within is table_is this read.each;
       rest =
           fault_from values (names vcpus) index value within is read.rest
-          ∙ rw (fault_named (names vcpus) index (as_table (view value)) found vcpu.name table_is this.name new, settled, names_named index (as_table (view value)) found vcpu.name table_is this.name, ← names-last vcpus vcpu) refl;
-      held = λ text. adds text ∙ rw (names-last vcpus vcpu, list_any-append (bytes_eq text) (names vcpus) (vcpu.name ∷ []), read.held text) (or-last (bytes_eq text vcpu.name) (list_any (bytes_eq text) (names vcpus)));
+          ∙ rw (
+            fault_named (names vcpus) index
+                (as_table (view value)) found vcpu.name table_is this.name new,
+            settled,
+            names_named index (as_table (view value)) found vcpu.name table_is this.name,
+            ← names-last vcpus vcpu,
+          ) refl;
+      held = λ text. adds text ∙ rw (
+        names-last vcpus vcpu,
+        list_any-append (bytes_eq text) (names vcpus) (vcpu.name ∷ []),
+        read.held text,
+      )
+          (or-last (bytes_eq text vcpu.name) (list_any (bytes_eq text) (names vcpus)));
       distinct = distinct_with vcpus vcpu read.distinct new;
     }
 
 -- all members
-pub all_faultless : (values : List Value) (index : ℕ) (texts : BTreeSet (Bor (List ℕ))) (vcpus : List Vcpu) → AreRead values index texts vcpus → length values ≤ index
+pub all_faultless : (values : List Value) (index : ℕ) (texts : BTreeSet (Bor (List ℕ)))
+    (vcpus : List Vcpu) → AreRead values index texts vcpus → length values ≤ index
     → vcpus_fault [] 0 (items_view values) ≡ None
 unfolding vcpus_fault
 all_faultless values index texts vcpus read past = read.rest ∙ rw (drop_all index values past) refl
 
-pub all_read : (values : List Value) (index : ℕ) (texts : BTreeSet (Bor (List ℕ))) (vcpus : List Vcpu) → AreRead values index texts vcpus → index ≡ length values
+pub all_read : (values : List Value) (index : ℕ) (texts : BTreeSet (Bor (List ℕ)))
+    (vcpus : List Vcpu) → AreRead values index texts vcpus → index ≡ length values
     → AreVcpusOf (items_view values) vcpus
-all_read values index texts vcpus read past = record { count = read.count ∙ past ∙ sym (count_of_values values); each = read.each }
+all_read values index texts vcpus read past =
+    record { count = read.count ∙ past ∙ sym (count_of_values values); each = read.each }

@@ -48,4 +48,5 @@ IsHostText bytes host = (members : Members) × IsDocument bytes members × IsHos
 
 -- the bytes are a document with this first fault
 abbrev pub HasFirstFault : List ℕ → HostFault → Type 0
-HasFirstFault bytes fault = (members : Members) × IsDocument bytes members × (first_fault members ≡ Some fault)
+HasFirstFault bytes fault = (members : Members) × IsDocument bytes members
+    × (first_fault members ≡ Some fault)

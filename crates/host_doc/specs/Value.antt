@@ -17,7 +17,8 @@ found_at path members = get_member (word_of path.key) members
 -- a whole number from `least` to `most`; a value of another type is none
 abbrev pub in_range : Path → ℕ → ℕ → Option ℤ → Result ℕ HostFault
 in_range path least most None = Err (BadKey path)
-in_range path least most (Some (pos n)) = if nat_le least n && nat_le n most then Ok n else Err (OutOfRange path)
+in_range path least most (Some (pos n)) = if nat_le least n && nat_le n most then Ok n
+    else Err (OutOfRange path)
 in_range path least most (Some (negsuc n)) = Err (OutOfRange path)
 
 -- such a number, or where nothing stands there its default, if it has one
@@ -64,7 +65,8 @@ count_of (item found items) = suc (count_of items)
 -- an array of at most as many values as a host may have vCPUs
 abbrev pub limited : Path → Option Items → Result Items HostFault
 limited path None = Err (BadKey path)
-limited path (Some items) = if nat_le (count_of items) MAX_VCPUS then Ok items else Err (TooMany (count_of items))
+limited path (Some items) = if nat_le (count_of items) MAX_VCPUS then Ok items
+    else Err (TooMany (count_of items))
 
 -- such an array, or its default
 abbrev pub items_or : Path → Items → Option Data → Result Items HostFault

@@ -81,7 +81,8 @@ pub record IsVcpuOf (number : ℕ) (members : Members) (vcpu : Vcpu) : Type 0 wh
 -- each vCPU is the one that the member of its number stands for
 abbrev pub EachIsVcpuOf : Items → List Vcpu → Type 0
 EachIsVcpuOf items vcpus =
-    (number : ℕ) (members : Members) (vcpu : Vcpu) → get_item number items ≡ Some (table members) → slice_get vcpus number ≡ Some vcpu
+    (number : ℕ) (members : Members) (vcpu : Vcpu) → get_item number items ≡ Some (table members)
+    → slice_get vcpus number ≡ Some vcpu
     → IsVcpuOf number members vcpu
 
 -- the members stand for these vCPUs, by number

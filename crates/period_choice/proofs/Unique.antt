@@ -18,17 +18,43 @@ alike a costs within listed =
     let first : IsProp (1 ≤ a.cost) = hlevel props in
     let second : IsProp (a.cost ≤ a.period) = hlevel props in
     let third : IsProp (IsPeriod a.period) = hlevel props in
-    let one : Periodic = record { cost = a.cost; period = a.period; costs = costs; within = a.within; listed = a.listed } in
-    let two : Periodic = record { cost = a.cost; period = a.period; costs = costs; within = within; listed = a.listed } in
-    let three : Periodic = record { cost = a.cost; period = a.period; costs = costs; within = within; listed = listed } in
-    let e1 : a ≡ one = ap (λ (x : 1 ≤ a.cost). let t : Periodic = record { cost = a.cost; period = a.period; costs = x; within = a.within; listed = a.listed } in t) (first a.costs costs) in
-    let e2 : one ≡ two = ap (λ (x : a.cost ≤ a.period). let t : Periodic = record { cost = a.cost; period = a.period; costs = costs; within = x; listed = a.listed } in t) (second a.within within) in
-    let e3 : two ≡ three = ap (λ (x : IsPeriod a.period). let t : Periodic = record { cost = a.cost; period = a.period; costs = costs; within = within; listed = x } in t) (third a.listed listed) in
+    let one : Periodic =
+    record {
+      cost = a.cost;
+      period = a.period;
+      costs = costs;
+      within = a.within;
+      listed = a.listed;
+    } in
+    let two : Periodic =
+    record {
+      cost = a.cost;
+      period = a.period;
+      costs = costs;
+      within = within;
+      listed = a.listed;
+    } in
+    let three : Periodic =
+    record {
+      cost = a.cost;
+      period = a.period;
+      costs = costs;
+      within = within;
+      listed = listed;
+    } in
+    let e1 : a ≡ one =
+    ap (λ (x : 1 ≤ a.cost). let t : Periodic = record { cost = a.cost; period = a.period; costs = x; within = a.within; listed = a.listed } in t) (first a.costs costs) in
+    let e2 : one ≡ two =
+    ap (λ (x : a.cost
+    ≤ a.period). let t : Periodic = record { cost = a.cost; period = a.period; costs = costs; within = x; listed = a.listed } in t) (second a.within within) in
+    let e3 : two ≡ three =
+    ap (λ (x : IsPeriod a.period). let t : Periodic = record { cost = a.cost; period = a.period; costs = costs; within = within; listed = x } in t) (third a.listed listed) in
     e1 ∙ e2 ∙ e3
 
 same_numbers : (a b : Periodic) → a.cost ≡ b.cost → a.period ≡ b.period → a ≡ b
 same_numbers a b cost_is period =
-    let At : ℕ → ℕ → Type 0 = λ c p. (costs : 1 ≤ c) (within : c ≤ p) (listed : IsPeriod p) → let t : Periodic = record { cost = c; period = p; costs = costs; within = within; listed = listed } in a ≡ t in
+    let At : ℕ → ℕ → Type 0 = λ c p. (costs : 1 ≤ c) (within : c ≤ p) (listed : IsPeriod p)
+    → let t : Periodic = record { cost = c; period = p; costs = costs; within = within; listed = listed } in a ≡ t in
     subst (At b.cost) period (subst (λ c. At c a.period) cost_is (alike a)) b.costs b.within b.listed
 
 -- the budgets of two chosen periods: each is least, and of those the largest
@@ -42,13 +68,15 @@ chosen_unique r a b of_a of_b =
     let period : a.period ≡ b.period = omega arith in
     same_numbers a b (of_a.cost_is ∙ ap (cost r.share_ppm) period ∙ sym of_b.cost_is) period
 
-pub task_unique : (reservation : Option Reservation) (a b : Option Periodic) → IsTaskOf reservation a → IsTaskOf reservation b → a ≡ b
+pub task_unique : (reservation : Option Reservation) (a b : Option Periodic)
+    → IsTaskOf reservation a → IsTaskOf reservation b → a ≡ b
 task_unique None a b of_a of_b = of_a ∙ sym of_b
 task_unique (Some r) None b of_a of_b = absurd of_a
 task_unique (Some r) (Some a) None of_a of_b = absurd of_b
 task_unique (Some r) (Some a) (Some b) of_a of_b = ap Some (chosen_unique r a b of_a of_b)
 
-pub tasks_unique : (vcpus : List Vcpu) (a b : List (Option Periodic)) → AreTasksOf vcpus a → AreTasksOf vcpus b → a ≡ b
+pub tasks_unique : (vcpus : List Vcpu) (a b : List (Option Periodic)) → AreTasksOf vcpus a
+    → AreTasksOf vcpus b → a ≡ b
 tasks_unique vcpus a b of_a of_b = same_lists a b (of_a.as_many ∙ sym of_b.as_many) (λ k d lt.
     let many_a = of_a.as_many in
     let many_b = of_b.as_many in

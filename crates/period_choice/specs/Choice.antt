@@ -31,4 +31,5 @@ pub record IsChosen (r : Reservation) (task : Periodic) : Type 0 where
   pub cost_is : task.cost ≡ cost r.share_ppm task.period
   pub admissible : IsAdmissible r task.period
   pub least : (other : ℕ) → IsAdmissible r other → demand_at r task.period ≤ demand_at r other
-  pub largest : (other : ℕ) → IsAdmissible r other → demand_at r other ≡ demand_at r task.period → other ≤ task.period
+  pub largest : (other : ℕ) → IsAdmissible r other → demand_at r other ≡ demand_at r task.period
+      → other ≤ task.period

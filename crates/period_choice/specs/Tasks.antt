@@ -13,7 +13,9 @@ IsTaskOf (Some r) task = IsSomeAnd task (IsChosen r)
 -- each vCPU has its task, at its number
 pub record AreTasksOf (vcpus : List Vcpu) (tasks : List (Option Periodic)) : Type 0 where
   pub as_many : length tasks ≡ length vcpus
-  pub each : (number : ℕ) (vcpu : Vcpu) (task : Option Periodic) → slice_get vcpus number ≡ Some vcpu → slice_get tasks number ≡ Some task → IsTaskOf vcpu.reservation task
+  pub each : (number : ℕ) (vcpu : Vcpu) (task : Option Periodic)
+      → slice_get vcpus number ≡ Some vcpu → slice_get tasks number ≡ Some task
+      → IsTaskOf vcpu.reservation task
 
 -- there is a reservation, and no period is admissible for it
 abbrev pub LacksPeriod : Option Reservation → Type 0
@@ -24,4 +26,5 @@ pub record IsFirstWithoutPeriod (vcpus : List Vcpu) (number : ℕ) : Type 0 wher
   pub vcpu : Vcpu
   pub at : slice_get vcpus number ≡ Some vcpu
   pub lacks : LacksPeriod vcpu.reservation
-  pub lowest : (lower : ℕ) (other : Vcpu) → lower < number → slice_get vcpus lower ≡ Some other → IfSome other.reservation HasPeriod
+  pub lowest : (lower : ℕ) (other : Vcpu) → lower < number → slice_get vcpus lower ≡ Some other
+      → IfSome other.reservation HasPeriod

@@ -29,7 +29,8 @@ fn better_of(r: &Reservation, best: Option<Periodic>, period: u32) -> Option<Per
     requires { IsPeriod period }
     ensures late { ¬ (MeetsLatency r.now period) → result ≡ best }
     ensures kept { IsSomeAnd best (λ b. demand b.cost b.period < demand_at r.now period) → result ≡ best }
-    ensures taken { MeetsLatency r.now period → IfSome best (λ b. demand_at r.now period ≤ demand b.cost b.period)
+    ensures taken { MeetsLatency r.now period
+        → IfSome best (λ b. demand_at r.now period ≤ demand b.cost b.period)
         → IsSomeAnd result (λ task. (task.period ≡ period) × (task.cost ≡ cost r.now.share_ppm period)) }
 {
     let cost = cost_of(r.share_ppm, period);

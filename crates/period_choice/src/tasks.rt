@@ -12,8 +12,10 @@ use tab_core::{Host, Periodic, Reservation, Tasks, VcpuNo};
 /// `NoPeriod` comes exactly where an admitted vCPU has no admissible period, and names the lowest.
 pub fn tasks_of(alloc: Global, host: &Host) -> Result<Tasks, TaskFault>
     ensures ok { IfOk result (AreTasksOf host.now.vcpus) }
-    ensures only { IfOk result (λ tasks. (other : List (Option Periodic)) → AreTasksOf host.now.vcpus other → other ≡ tasks) }
-    ensures no_period { (vcpu : ℕ) → IsErrOf result (TaskFault.NoPeriod vcpu) → IsFirstWithoutPeriod host.now.vcpus vcpu }
+    ensures only { IfOk result (λ tasks. (other : List (Option Periodic)) → AreTasksOf host.now.vcpus other
+        → other ≡ tasks) }
+    ensures no_period { (vcpu : ℕ) → IsErrOf result (TaskFault.NoPeriod vcpu)
+        → IsFirstWithoutPeriod host.now.vcpus vcpu }
 {
     let vcpus = host.vcpus.items();
     let mut tasks = Vec::with_capacity(alloc, vcpus.len())?;

@@ -14,9 +14,13 @@ vcpu_with name reservation runnable = record { name = name; reservation = reserv
 
 same_vcpu : (a b : Vcpu) → a.name ≡ b.name → a.runnable ≡ b.runnable → a.reservation ≡ b.reservation → a ≡ b
 same_vcpu a b name runnable reservation =
-    ap (λ n. vcpu_with n a.reservation a.runnable) name ∙ ap (λ r. vcpu_with b.name r a.runnable) reservation ∙ ap (vcpu_with b.name b.reservation) runnable
+    ap (λ n. vcpu_with n a.reservation a.runnable) name
+    ∙ ap (λ r. vcpu_with b.name r a.runnable) reservation
+    ∙ ap (vcpu_with b.name b.reservation) runnable
 
-same_vcpus : (us ws : List Vcpu) → map (λ vcpu. vcpu.name) us ≡ map (λ vcpu. vcpu.name) ws → map (λ vcpu. vcpu.runnable) us ≡ map (λ vcpu. vcpu.runnable) ws → reservations_of us ≡ reservations_of ws → us ≡ ws
+same_vcpus : (us ws : List Vcpu) → map (λ vcpu. vcpu.name) us ≡ map (λ vcpu. vcpu.name) ws
+    → map (λ vcpu. vcpu.runnable) us ≡ map (λ vcpu. vcpu.runnable) ws
+    → reservations_of us ≡ reservations_of ws → us ≡ ws
 same_vcpus [] [] names runnable reservations = refl
 same_vcpus [] (b ∷ ws) names runnable reservations = absurd cc
 same_vcpus (a ∷ us) [] names runnable reservations = absurd cc
@@ -72,20 +76,27 @@ facts_of host = record {
 one_proof : (cores lag sliver quantum : ℕ) → IsProp (Facts cores lag sliver quantum)
 one_proof cores lag sliver quantum = hlevel props
 
-same_host : (a b : Host) → a.cores ≡ b.cores → a.lag ≡ b.lag → a.sliver ≡ b.sliver → a.quantum ≡ b.quantum → a.vcpus ≡ b.vcpus → a ≡ b
+same_host : (a b : Host) → a.cores ≡ b.cores → a.lag ≡ b.lag → a.sliver ≡ b.sliver
+    → a.quantum ≡ b.quantum → a.vcpus ≡ b.vcpus → a ≡ b
 same_host a b cores lag sliver quantum vcpus =
-    let At : ℕ → ℕ → ℕ → ℕ → List Vcpu → Type 0 = λ c l s q vs. (f : Facts c l s q) → a ≡ host_with c l s q vs f in
-    let here : At a.cores a.lag a.sliver a.quantum a.vcpus = λ f. ap (host_with a.cores a.lag a.sliver a.quantum a.vcpus) (one_proof a.cores a.lag a.sliver a.quantum (facts_of a) f) in
+    let At : ℕ → ℕ → ℕ → ℕ → List Vcpu → Type 0 =
+    λ c l s q vs. (f : Facts c l s q) → a ≡ host_with c l s q vs f in
+    let here : At a.cores a.lag a.sliver a.quantum a.vcpus =
+    λ f. ap (host_with a.cores a.lag a.sliver a.quantum a.vcpus)
+    (one_proof a.cores a.lag a.sliver a.quantum (facts_of a) f) in
     subst (At b.cores b.lag b.sliver b.quantum) vcpus
     (subst (λ q. At b.cores b.lag b.sliver q a.vcpus) quantum
     (subst (λ s. At b.cores b.lag s a.quantum a.vcpus) sliver
     (subst (λ l. At b.cores l a.sliver a.quantum a.vcpus) lag
     (subst (λ c. At c a.lag a.sliver a.quantum a.vcpus) cores here)))) (facts_of b)
 
-pub edited_unique : (host : Host) (edits : List Edit) (a b : Host) → IsEdited host edits a → IsEdited host edits b → a ≡ b
+pub edited_unique : (host : Host) (edits : List Edit) (a b : Host) → IsEdited host edits a
+    → IsEdited host edits b → a ≡ b
 edited_unique host edits a b of_a of_b =
-    same_host a b (of_a.cores ∙ sym of_b.cores) (of_a.lag ∙ sym of_b.lag) (of_a.sliver ∙ sym of_b.sliver) (of_a.quantum ∙ sym of_b.quantum)
-    (same_vcpus a.vcpus b.vcpus (of_a.names ∙ sym of_b.names) (of_a.runnable ∙ sym of_b.runnable) (of_a.reservations ∙ sym of_b.reservations))
+    same_host a b (of_a.cores ∙ sym of_b.cores) (of_a.lag ∙ sym of_b.lag)
+    (of_a.sliver ∙ sym of_b.sliver) (of_a.quantum ∙ sym of_b.quantum)
+    (same_vcpus a.vcpus b.vcpus (of_a.names ∙ sym of_b.names) (of_a.runnable ∙ sym of_b.runnable)
+    (of_a.reservations ∙ sym of_b.reservations))
 
 pub unedited : (host : Host) (copy : Host) → IsEdited host [] copy → copy ≡ host
 unedited host copy of = edited_unique host [] copy host of (record {
@@ -99,6 +110,8 @@ unedited host copy of = edited_unique host [] copy host of (record {
 })
 
 -- the host keeps its count of vCPUs
-pub same_count : (host : Host) (edits : List Edit) (new : Host) → IsEdited host edits new → length new.vcpus ≡ length host.vcpus
+pub same_count : (host : Host) (edits : List Edit) (new : Host) → IsEdited host edits new
+    → length new.vcpus ≡ length host.vcpus
 same_count host edits new of =
-    sym (length-map new.vcpus (λ (vcpu : Vcpu). vcpu.name)) ∙ ap length of.names ∙ length-map host.vcpus (λ (vcpu : Vcpu). vcpu.name)
+    sym (length-map new.vcpus (λ (vcpu : Vcpu). vcpu.name)) ∙ ap length of.names
+    ∙ length-map host.vcpus (λ (vcpu : Vcpu). vcpu.name)

@@ -10,19 +10,24 @@ use Rattle.plan_book.specs.After.{runnable_at_first}
 abbrev pub flags_of : List Vcpu → ℕ → List Bool
 flags_of vcpus n = map (λ vcpu. vcpu.runnable) (take n vcpus) ++ replicate (MAX_VCPUS - n) false
 
-one_flag : (flags : List Bool) (n rest : ℕ) (flag : Bool) → length flags ≡ n → set (flags ++ replicate (suc rest) false) n flag ≡ (flags ++ flag ∷ []) ++ replicate rest false
+one_flag : (flags : List Bool) (n rest : ℕ) (flag : Bool) → length flags ≡ n
+    → set (flags ++ replicate (suc rest) false) n flag
+    ≡ (flags ++ flag ∷ []) ++ replicate rest false
 one_flag flags n rest flag size =
     ap (λ k. set (flags ++ replicate (suc rest) false) k flag) (sym size)
     ∙ set-append_seam flags false (replicate rest false) flag
     ∙ sym (append_assoc flags (flag ∷ []) (replicate rest false))
 
-pub flag_more : (vcpus : List Vcpu) (n : ℕ) (vcpu : Vcpu) → n < length vcpus → length vcpus ≤ 256 → vcpu ≡ get_or vcpus n vcpu →
+pub flag_more : (vcpus : List Vcpu) (n : ℕ) (vcpu : Vcpu) → n < length vcpus → length vcpus ≤ 256
+    → vcpu ≡ get_or vcpus n vcpu →
     set (flags_of vcpus n) n vcpu.runnable ≡ flags_of vcpus (n + 1)
 flag_more vcpus n vcpu lt few is =
     let rest : ℕ = MAX_VCPUS - (n + 1) in
     let left : MAX_VCPUS - n ≡ suc rest = omega arith in
     let before : List Bool = map (λ (v : Vcpu). v.runnable) (take n vcpus) in
-    let size : length before ≡ n = length-map (take n vcpus) (λ (v : Vcpu). v.runnable) ∙ length-take-le n vcpus (omega arith) in
+    let size : length before ≡ n =
+    length-map (take n vcpus) (λ (v : Vcpu). v.runnable)
+    ∙ length-take-le n vcpus (omega arith) in
     let next : n + 1 ≡ suc n = omega arith in
     let more : map (λ (v : Vcpu). v.runnable) (take (n + 1) vcpus) ≡ before ++ vcpu.runnable ∷ [] =
     ap (λ k. map (λ (v : Vcpu). v.runnable) (take k vcpus)) next
@@ -34,4 +39,6 @@ flag_more vcpus n vcpu lt few is =
     ∙ ap (λ flags. flags ++ replicate rest false) (sym more)
 
 pub flags_at_end : (vcpus : List Vcpu) → flags_of vcpus (length vcpus) ≡ runnable_at_first vcpus
-flags_at_end vcpus = ap (λ (vs : List Vcpu). map (λ (v : Vcpu). v.runnable) vs ++ replicate (MAX_VCPUS - length vcpus) false) (take-length vcpus)
+flags_at_end vcpus =
+    ap (λ (vs : List Vcpu). map (λ (v : Vcpu). v.runnable) vs
+    ++ replicate (MAX_VCPUS - length vcpus) false) (take-length vcpus)

@@ -2,7 +2,8 @@
 use Rattle.std.proofs.Common.{◌≡◌, ℕ, zero, suc, ◌<◌, List, [], ◌∷◌, ◌++◌, length, Option, Some, refl, arith}
 use Rattle.std.specs.Prelude.{slice_get, slice_index, slice_index_or}
 
-pub push_old : {X : Type 0} (xs : List X) (k : ℕ) (x y : X) → slice_get xs k ≡ Some y → slice_get (xs ++ x ∷ []) k ≡ Some y
+pub push_old : {X : Type 0} (xs : List X) (k : ℕ) (x y : X) → slice_get xs k ≡ Some y
+    → slice_get (xs ++ x ∷ []) k ≡ Some y
 push_old [] k x y at = absurd cc
 push_old (z ∷ zs) zero x y at = at
 push_old (z ∷ zs) (suc k) x y at = push_old zs k x y at
@@ -19,12 +20,14 @@ index_is [] k x at = absurd cc
 index_is (z ∷ zs) zero x at = cc
 index_is (z ∷ zs) (suc k) x at = index_is zs k x at
 
-pub index_or_is : {X : Type 0} (xs : List X) (k : ℕ) (x d : X) → slice_get xs k ≡ Some x → slice_index_or xs k d ≡ x
+pub index_or_is : {X : Type 0} (xs : List X) (k : ℕ) (x d : X) → slice_get xs k ≡ Some x
+    → slice_index_or xs k d ≡ x
 index_or_is [] k x d at = absurd cc
 index_or_is (z ∷ zs) zero x d at = cc
 index_or_is (z ∷ zs) (suc k) x d at = index_or_is zs k x d at
 
-pub there : {X : Type 0} (xs : List X) (k : ℕ) (d : X) → k < length xs → slice_get xs k ≡ Some (slice_index_or xs k d)
+pub there : {X : Type 0} (xs : List X) (k : ℕ) (d : X) → k < length xs
+    → slice_get xs k ≡ Some (slice_index_or xs k d)
 there [] k d lt = absurd (omega arith)
 there (z ∷ zs) zero d lt = refl
 there (z ∷ zs) (suc k) d lt = there zs k d (omega arith)

@@ -26,7 +26,8 @@ use Rattle.plan_book.proofs.Lists.{index_or_is, push_new}
 -- a refusal that is an outcome has its cause
 pub told_unplanned : (host : Host) (fault : PlanFault) (told : Outcome) → outcome_of_lem fault ≡ Some told
     → ((vcpu : ℕ) → fault ≡ plan.NoPeriod vcpu → IsFirstWithoutPeriod host.vcpus vcpu)
-    → ((vcpu rest : ℕ) (over : List Over) → fault ≡ plan.NoRoom vcpu rest over → IsFirstWithoutRoom host vcpu rest over)
+    → ((vcpu rest : ℕ) (over : List Over) → fault ≡ plan.NoRoom vcpu rest over
+    → IsFirstWithoutRoom host vcpu rest over)
     → IsUnplanned host told
 told_unplanned host (plan.NoPeriod vcpu) told is period room =
     let same : outcome.NoPeriod vcpu ≡ told = cc in
@@ -37,20 +38,26 @@ told_unplanned host (plan.NoRoom vcpu rest over) told is period room =
 told_unplanned host plan.NoMemory told is period room = absurd cc
 
 -- the plan that was pushed last
-last_plan : (plans : List Plan) (p : Plan) → plan_of (plans ++ p ∷ []) (length (plans ++ p ∷ []) - 1) ≡ plan_view p
+last_plan : (plans : List Plan) (p : Plan)
+    → plan_of (plans ++ p ∷ []) (length (plans ++ p ∷ []) - 1) ≡ plan_view p
 last_plan plans p =
-    let size : length (plans ++ p ∷ []) - 1 ≡ length (map plan_view plans) = (let sum = length-append plans (p ∷ []) in let same = length-map plans plan_view in omega arith) in
+    let size : length (plans ++ p ∷ []) - 1 ≡ length (map plan_view plans) =
+    (let sum = length-append plans (p ∷ []) in let same = length-map plans plan_view in omega arith) in
     let at : slice_get (map plan_view (plans ++ p ∷ [])) (length (plans ++ p ∷ []) - 1) ≡ Some (plan_view p) =
     ap (λ k. slice_get (map plan_view (plans ++ p ∷ [])) k) size
-    ∙ ap (λ (views : List PlanView). slice_get views (length (map plan_view plans))) (map-append plan_view plans (p ∷ []))
+    ∙ ap (λ (views : List PlanView). slice_get views (length (map plan_view plans)))
+    (map-append plan_view plans (p ∷ []))
     ∙ push_new (map plan_view plans) (plan_view p) in
     index_or_is (map plan_view (plans ++ p ∷ [])) (length (plans ++ p ∷ []) - 1) (plan_view p) no_plan at
 
-pub last_is : (latest : Latest) (plans : List Plan) (p : Plan) → latest.plans.items ≡ plans ++ p ∷ [] → (known_of latest).plan ≡ plan_view p
+pub last_is : (latest : Latest) (plans : List Plan) (p : Plan)
+    → latest.plans.items ≡ plans ++ p ∷ [] → (known_of latest).plan ≡ plan_view p
 last_is latest plans p is = ap (λ (ps : List Plan). plan_of ps (length ps - 1)) is ∙ last_plan plans p
 
-pub known_first : (host : Host) (latest : Latest) (p : Plan) → IsEdited host [] latest.host → IsPlanned host (plan_view p) → latest.plans.items ≡ p ∷ []
-    → latest.runnable ≡ runnable_at_first host.vcpus → latest.outcomes.items ≡ [] → IsKnownAtFirst host (known_of latest)
+pub known_first : (host : Host) (latest : Latest) (p : Plan) → IsEdited host [] latest.host
+    → IsPlanned host (plan_view p) → latest.plans.items ≡ p ∷ []
+    → latest.runnable ≡ runnable_at_first host.vcpus → latest.outcomes.items ≡ []
+    → IsKnownAtFirst host (known_of latest)
 known_first host latest p edited planned plans runnable outcomes = record {
   host_is = unedited host latest.host edited;
   planned = subst (IsPlanned host) (sym (last_is latest [] p plans)) planned;
@@ -59,13 +66,17 @@ known_first host latest p edited planned plans runnable outcomes = record {
   no_outcome = outcomes;
 }
 
-pub fits_first : (host : Host) (latest : Latest) (p : Plan) → IsEdited host [] latest.host → IsPlanFor host (plan_view p) → latest.plans.items ≡ p ∷ []
+pub fits_first : (host : Host) (latest : Latest) (p : Plan) → IsEdited host [] latest.host
+    → IsPlanFor host (plan_view p) → latest.plans.items ≡ p ∷ []
     → IsPlanFor latest.host (known_of latest).plan
 fits_first host latest p edited fits plans =
-    subst (λ h. IsPlanFor h (known_of latest).plan) (sym (unedited host latest.host edited)) (subst (IsPlanFor host) (sym (last_is latest [] p plans)) fits)
+    subst (λ h. IsPlanFor h (known_of latest).plan) (sym (unedited host latest.host edited))
+    (subst (IsPlanFor host) (sym (last_is latest [] p plans)) fits)
 
-pub known_taken : (old new : Latest) (edits : List Edit) (p : Plan) → 0 < length old.plans.items → IsEdited old.host edits new.host → IsPlanned new.host (plan_view p)
-    → new.plans.items ≡ old.plans.items ++ p ∷ [] → new.runnable ≡ old.runnable → new.outcomes.items ≡ old.outcomes.items ++ outcome.Planned ∷ []
+pub known_taken : (old new : Latest) (edits : List Edit) (p : Plan) → 0 < length old.plans.items
+    → IsEdited old.host edits new.host → IsPlanned new.host (plan_view p)
+    → new.plans.items ≡ old.plans.items ++ p ∷ [] → new.runnable ≡ old.runnable
+    → new.outcomes.items ≡ old.outcomes.items ++ outcome.Planned ∷ []
     → IsTaken (known_of old) edits (known_of new)
 known_taken old new edits p some edited planned plans runnable outcomes = record {
   edited = edited;
@@ -75,15 +86,19 @@ known_taken old new edits p some edited planned plans runnable outcomes = record
   outcomes = outcomes;
 }
 
-pub fits_taken : (old new : Latest) (p : Plan) → new.plans.items ≡ old.plans.items ++ p ∷ [] → IsPlanFor new.host (plan_view p) → IsPlanFor new.host (known_of new).plan
+pub fits_taken : (old new : Latest) (p : Plan) → new.plans.items ≡ old.plans.items ++ p ∷ []
+    → IsPlanFor new.host (plan_view p) → IsPlanFor new.host (known_of new).plan
 fits_taken old new p plans fits = subst (IsPlanFor new.host) (sym (last_is new old.plans.items p plans)) fits
 
 abbrev known_with : Known → List Outcome → Known
 known_with known outcomes = record known { outcomes = outcomes }
 
 -- a refusal is told, and all else stays
-pub known_refused : (old : Latest) (edits : List Edit) (host : Host) (told : Outcome) → IsEdited old.host edits host → IsUnplanned host told → (new : Latest)
-    → known_of new ≡ record (known_of old) { outcomes = new.outcomes.items } → new.outcomes.items ≡ old.outcomes.items ++ told ∷ [] → IsRefused (known_of old) edits (known_of new)
+pub known_refused : (old : Latest) (edits : List Edit) (host : Host) (told : Outcome)
+    → IsEdited old.host edits host → IsUnplanned host told → (new : Latest)
+    → known_of new ≡ record (known_of old) { outcomes = new.outcomes.items }
+    → new.outcomes.items ≡ old.outcomes.items ++ told ∷ []
+    → IsRefused (known_of old) edits (known_of new)
 known_refused old edits host told edited unplanned new same outcomes = record {
   host = host;
   edited = edited;

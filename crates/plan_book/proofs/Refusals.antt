@@ -9,7 +9,10 @@ use Rattle.plan_book.specs.Steps.{IsHostFault}
 use Rattle.plan_book.specs.declared.fault.BookFault.{BookFault}
 use Rattle.plan_book.specs.declared.fault.BookFault.TheVariants.{NoPeriod, NoRoom, NoMemory}
 
-pub no_memory_for_book : (host : Host) (plan : PlanView) (fault : BookFault) → IsPlanned host plan → IsHostFault host fault → fault ≡ NoMemory
-no_memory_for_book host plan (NoPeriod vcpu) planned told = absurd (planned_or_without_period host plan vcpu planned told)
-no_memory_for_book host plan (NoRoom vcpu rest over) planned told = absurd (planned_or_refused host plan vcpu rest over planned told)
+pub no_memory_for_book : (host : Host) (plan : PlanView) (fault : BookFault) → IsPlanned host plan
+    → IsHostFault host fault → fault ≡ NoMemory
+no_memory_for_book host plan (NoPeriod vcpu) planned told =
+    absurd (planned_or_without_period host plan vcpu planned told)
+no_memory_for_book host plan (NoRoom vcpu rest over) planned told =
+    absurd (planned_or_refused host plan vcpu rest over planned told)
 no_memory_for_book host plan NoMemory planned told = refl

@@ -18,21 +18,44 @@ pub record SameShape (a b : Host) : Type 0 where
   pub cores : a.cores ≡ b.cores
   pub vcpus : length a.vcpus ≡ length b.vcpus
 
-shape_follows : (known : Known) (act : Act) (next : Known) → Follows known act next → SameShape next.host known.host
-shape_follows known (Wake vcpu) next follows = record { cores = ap (λ (k : Known). k.host.cores) follows; vcpus = ap (λ (k : Known). length k.host.vcpus) follows }
-shape_follows known (Block vcpu) next follows = record { cores = ap (λ (k : Known). k.host.cores) follows; vcpus = ap (λ (k : Known). length k.host.vcpus) follows }
-shape_follows known (Change edits) next (inl taken) = record { cores = taken.edited.cores; vcpus = same_count known.host edits next.host taken.edited }
-shape_follows known (Change edits) next (inr refused) = record { cores = ap (λ (k : Known). k.host.cores) refused.becomes; vcpus = ap (λ (k : Known). length k.host.vcpus) refused.becomes }
+shape_follows : (known : Known) (act : Act) (next : Known) → Follows known act next
+    → SameShape next.host known.host
+shape_follows known (Wake vcpu) next follows =
+    record {
+      cores = ap (λ (k : Known). k.host.cores) follows;
+      vcpus = ap (λ (k : Known). length k.host.vcpus) follows;
+    }
+shape_follows known (Block vcpu) next follows =
+    record {
+      cores = ap (λ (k : Known). k.host.cores) follows;
+      vcpus = ap (λ (k : Known). length k.host.vcpus) follows;
+    }
+shape_follows known (Change edits) next (inl taken) =
+    record {
+      cores = taken.edited.cores;
+      vcpus = same_count known.host edits next.host taken.edited;
+    }
+shape_follows known (Change edits) next (inr refused) =
+    record {
+      cores = ap (λ (k : Known). k.host.cores) refused.becomes;
+      vcpus = ap (λ (k : Known). length k.host.vcpus) refused.becomes;
+    }
 
-pub same_shape : (host : Host) (events : List Event) (n : ℕ) (known : Known) → IsKnownAfter host events n known → SameShape known.host host
-same_shape host events zero known is = record { cores = ap (λ (h : Host). h.cores) is.host_is; vcpus = ap (λ (h : Host). length h.vcpus) is.host_is }
+pub same_shape : (host : Host) (events : List Event) (n : ℕ) (known : Known)
+    → IsKnownAfter host events n known → SameShape known.host host
+same_shape host events zero known is =
+    record {
+      cores = ap (λ (h : Host). h.cores) is.host_is;
+      vcpus = ap (λ (h : Host). length h.vcpus) is.host_is;
+    }
 same_shape host events (suc n) known is =
     let before = same_shape host events n is.0 is.2 in
     let here = shape_follows is.0 is.1.act known is.4 in
     record { cores = here.cores ∙ before.cores; vcpus = here.vcpus ∙ before.vcpus }
 
 -- no more is known than after all events
-pub known_within : (host : Host) (events : List Event) (n : ℕ) (known : Known) → IsKnownAfter host events n known → n ≤ length events
+pub known_within : (host : Host) (events : List Event) (n : ℕ) (known : Known)
+    → IsKnownAfter host events n known → n ≤ length events
 known_within host events zero known is = omega arith
 known_within host events (suc n) known is = (let lt = slice_get_within events n is.1 is.3 in omega arith)
 
@@ -41,7 +64,8 @@ pub record HasOutcomes (count : ℕ) (known : Known) : Type 0 where
   pub outcomes : length known.outcomes ≡ count
   pub number : known.number ≤ count
 
-outcomes_follow : (known : Known) (act : Act) (next : Known) (count : ℕ) → HasOutcomes count known → Follows known act next → HasOutcomes (count + cond (is_change act) 1 0) next
+outcomes_follow : (known : Known) (act : Act) (next : Known) (count : ℕ) → HasOutcomes count known
+    → Follows known act next → HasOutcomes (count + cond (is_change act) 1 0) next
 outcomes_follow known (Wake vcpu) next count has follows = record {
   outcomes = ap (λ (k : Known). length k.outcomes) follows ∙ omega (arith, has.outcomes);
   number = (let is = ap (λ (k : Known). k.number) follows in omega (arith, has.number));
@@ -55,30 +79,41 @@ outcomes_follow known (Change edits) next count has (inl taken) = record {
   number = omega (arith, has.number, taken.number);
 }
 outcomes_follow known (Change edits) next count has (inr refused) = record {
-  outcomes = ap (λ (k : Known). length k.outcomes) refused.becomes ∙ length-append known.outcomes _ ∙ omega (arith, has.outcomes);
+  outcomes = ap (λ (k : Known). length k.outcomes) refused.becomes ∙ length-append known.outcomes _
+      ∙ omega (arith, has.outcomes);
   number = (let is = ap (λ (k : Known). k.number) refused.becomes in omega (arith, has.number));
 }
 
-changes_more : (events : List Event) (n : ℕ) (event : Event) → slice_get events n ≡ Some event → changes_in (take n events) + cond (is_change event.act) 1 0 ≡ changes_in (take (n + 1) events)
+changes_more : (events : List Event) (n : ℕ) (event : Event) → slice_get events n ≡ Some event
+    → changes_in (take n events) + cond (is_change event.act) 1 0 ≡ changes_in (take (n + 1) events)
 changes_more events n event at =
     let lt = slice_get_within events n event at in
     let here = get_or_from_slice_get events n event event at in
     by_case (is_change event.act) refl lt here
   where
-    by_case : (change : Bool) → is_change event.act ≡ change → n < length events → get_or events n event ≡ event →
+    by_case : (change : Bool) → is_change event.act ≡ change → n < length events
+        → get_or events n event ≡ event →
         changes_in (take n events) + cond (is_change event.act) 1 0 ≡ changes_in (take (n + 1) events)
-    by_case true is lt here = (let more = count_by_more_yes (λ (e : Event). is_change e.act) events n event lt (ap (λ (e : Event). is_change e.act) here ∙ is) in rw is (sym more))
-    by_case false is lt here = (let more = count_by_more_no (λ (e : Event). is_change e.act) events n event lt (ap (λ (e : Event). is_change e.act) here ∙ is) in rw is (omega (arith, more)))
+    by_case true is lt here =
+        (let more = count_by_more_yes (λ (e : Event). is_change e.act) events n event lt (ap (λ (e : Event). is_change e.act) here ∙ is) in rw is (sym more))
+    by_case false is lt here =
+        (let more = count_by_more_no (λ (e : Event). is_change e.act) events n event lt (ap (λ (e : Event). is_change e.act) here ∙ is) in rw is (omega (arith, more)))
 
-has_outcomes_in : (host : Host) (events : List Event) (n : ℕ) (known : Known) → IsKnownAfter host events n known → HasOutcomes (changes_in (take n events)) known
-has_outcomes_in host events zero known is = record { outcomes = ap length is.no_outcome; number = omega (arith, is.number_is) }
+has_outcomes_in : (host : Host) (events : List Event) (n : ℕ) (known : Known)
+    → IsKnownAfter host events n known → HasOutcomes (changes_in (take n events)) known
+has_outcomes_in host events zero known is =
+    record { outcomes = ap length is.no_outcome; number = omega (arith, is.number_is) }
 has_outcomes_in host events (suc n) known is =
     let next : n + 1 ≡ suc n = omega arith in
-    subst (λ count. HasOutcomes count known) (changes_more events n is.1 is.3 ∙ ap (λ k. changes_in (take k events)) next)
-    (outcomes_follow is.0 is.1.act known (changes_in (take n events)) (has_outcomes_in host events n is.0 is.2) is.4)
+    subst (λ count. HasOutcomes count known)
+    (changes_more events n is.1 is.3 ∙ ap (λ k. changes_in (take k events)) next)
+    (outcomes_follow is.0 is.1.act known (changes_in (take n events))
+    (has_outcomes_in host events n is.0 is.2) is.4)
 
 -- so there are at most as many as there are changes
-pub few_outcomes : (host : Host) (events : List Event) (n : ℕ) (known : Known) → IsKnownAfter host events n known → (length known.outcomes ≤ changes_in events) × (known.number ≤ changes_in events)
+pub few_outcomes : (host : Host) (events : List Event) (n : ℕ) (known : Known)
+    → IsKnownAfter host events n known
+    → (length known.outcomes ≤ changes_in events) × (known.number ≤ changes_in events)
 few_outcomes host events n known is =
     let has = has_outcomes_in host events n known is in
     let parts = sum_by-append (λ (e : Event). cond (is_change e.act) 1 0) (take n events) (drop n events) in
@@ -86,5 +121,7 @@ few_outcomes host events n known is =
     (omega (arith, has.outcomes), omega (arith, has.number))
 
 -- and after all events as many
-pub all_outcomes : (host : Host) (events : List Event) (known : Known) → IsKnownAfter host events (length events) known → length known.outcomes ≡ changes_in events
-all_outcomes host events known is = (has_outcomes_in host events (length events) known is).outcomes ∙ ap changes_in (take-length events)
+pub all_outcomes : (host : Host) (events : List Event) (known : Known)
+    → IsKnownAfter host events (length events) known → length known.outcomes ≡ changes_in events
+all_outcomes host events known is = (has_outcomes_in host events (length events) known is).outcomes
+    ∙ ap changes_in (take-length events)

@@ -16,9 +16,11 @@ use Rattle.plan_book.proofs.Edits.{edited_unique}
 use Rattle.plan_book.proofs.Lists.{same}
 
 abbrev known_with : Host → PlanView → ℕ → List Bool → List Outcome → Known
-known_with host plan number runnable outcomes = record { host = host; plan = plan; number = number; runnable = runnable; outcomes = outcomes }
+known_with host plan number runnable outcomes =
+    record { host = host; plan = plan; number = number; runnable = runnable; outcomes = outcomes }
 
-same_known : (a b : Known) → a.host ≡ b.host → a.plan ≡ b.plan → a.number ≡ b.number → a.runnable ≡ b.runnable → a.outcomes ≡ b.outcomes → a ≡ b
+same_known : (a b : Known) → a.host ≡ b.host → a.plan ≡ b.plan → a.number ≡ b.number
+    → a.runnable ≡ b.runnable → a.outcomes ≡ b.outcomes → a ≡ b
 same_known a b host plan number runnable outcomes =
     ap (λ h. known_with h a.plan a.number a.runnable a.outcomes) host
     ∙ ap (λ p. known_with b.host p a.number a.runnable a.outcomes) plan
@@ -28,45 +30,64 @@ same_known a b host plan number runnable outcomes =
 
 first_unique : (host : Host) (a b : Known) → IsKnownAtFirst host a → IsKnownAtFirst host b → a ≡ b
 first_unique host a b of_a of_b =
-    same_known a b (of_a.host_is ∙ sym of_b.host_is) (planned_unique host a.plan b.plan of_a.planned of_b.planned)
-    (of_a.number_is ∙ sym of_b.number_is) (of_a.runnable_is ∙ sym of_b.runnable_is) (of_a.no_outcome ∙ sym of_b.no_outcome)
+    same_known a b (of_a.host_is ∙ sym of_b.host_is)
+    (planned_unique host a.plan b.plan of_a.planned of_b.planned)
+    (of_a.number_is ∙ sym of_b.number_is) (of_a.runnable_is ∙ sym of_b.runnable_is)
+    (of_a.no_outcome ∙ sym of_b.no_outcome)
 
 -- one outcome tells why a host has no plan
 pub outcome_unique : (host : Host) (a b : Outcome) → IsUnplanned host a → IsUnplanned host b → a ≡ b
 outcome_unique host Planned b of_a of_b = absurd of_a
 outcome_unique host (NoPeriod vcpu) Planned of_a of_b = absurd of_b
-outcome_unique host (NoPeriod vcpu) (NoPeriod other) of_a of_b = ap NoPeriod (one_without_period host.vcpus vcpu other of_a of_b)
-outcome_unique host (NoPeriod vcpu) (NoRoom other) of_a of_b = absurd (room_or_without_period host vcpu other of_b.0 of_b.1 of_b.2 of_a)
+outcome_unique host (NoPeriod vcpu) (NoPeriod other) of_a of_b =
+    ap NoPeriod (one_without_period host.vcpus vcpu other of_a of_b)
+outcome_unique host (NoPeriod vcpu) (NoRoom other) of_a of_b =
+    absurd (room_or_without_period host vcpu other of_b.0 of_b.1 of_b.2 of_a)
 outcome_unique host (NoRoom vcpu) Planned of_a of_b = absurd of_b
-outcome_unique host (NoRoom vcpu) (NoPeriod other) of_a of_b = absurd (room_or_without_period host other vcpu of_a.0 of_a.1 of_a.2 of_b)
-outcome_unique host (NoRoom vcpu) (NoRoom other) of_a of_b = ap NoRoom (one_without_room host vcpu other of_a.0 of_b.0 of_a.1 of_b.1 of_a.2 of_b.2)
+outcome_unique host (NoRoom vcpu) (NoPeriod other) of_a of_b =
+    absurd (room_or_without_period host other vcpu of_a.0 of_a.1 of_a.2 of_b)
+outcome_unique host (NoRoom vcpu) (NoRoom other) of_a of_b =
+    ap NoRoom (one_without_room host vcpu other of_a.0 of_b.0 of_a.1 of_b.1 of_a.2 of_b.2)
 
 -- and none where it has one
-pub planned_or_unplanned : (host : Host) (plan : PlanView) (outcome : Outcome) → IsPlanned host plan → IsUnplanned host outcome → ⊥
+pub planned_or_unplanned : (host : Host) (plan : PlanView) (outcome : Outcome) → IsPlanned host plan
+    → IsUnplanned host outcome → ⊥
 planned_or_unplanned host plan Planned planned unplanned = unplanned
-planned_or_unplanned host plan (NoPeriod vcpu) planned unplanned = planned_or_without_period host plan vcpu planned unplanned
-planned_or_unplanned host plan (NoRoom vcpu) planned unplanned = planned_or_refused host plan vcpu unplanned.0 unplanned.1 planned unplanned.2
+planned_or_unplanned host plan (NoPeriod vcpu) planned unplanned =
+    planned_or_without_period host plan vcpu planned unplanned
+planned_or_unplanned host plan (NoRoom vcpu) planned unplanned =
+    planned_or_refused host plan vcpu unplanned.0 unplanned.1 planned unplanned.2
 
-taken_unique : (known : Known) (edits : List Edit) (a b : Known) → IsTaken known edits a → IsTaken known edits b → a ≡ b
+taken_unique : (known : Known) (edits : List Edit) (a b : Known) → IsTaken known edits a
+    → IsTaken known edits b → a ≡ b
 taken_unique known edits a b of_a of_b =
     let host = edited_unique known.host edits a.host b.host of_a.edited of_b.edited in
-    let plan = planned_unique b.host a.plan b.plan (subst (λ h. IsPlanned h a.plan) host of_a.planned) of_b.planned in
-    same_known a b host plan (of_a.number ∙ sym of_b.number) (of_a.runnable ∙ sym of_b.runnable) (of_a.outcomes ∙ sym of_b.outcomes)
+    let plan = planned_unique b.host a.plan b.plan
+    (subst (λ h. IsPlanned h a.plan) host of_a.planned) of_b.planned in
+    same_known a b host plan (of_a.number ∙ sym of_b.number) (of_a.runnable ∙ sym of_b.runnable)
+    (of_a.outcomes ∙ sym of_b.outcomes)
 
-refused_unique : (known : Known) (edits : List Edit) (a b : Known) → IsRefused known edits a → IsRefused known edits b → a ≡ b
+refused_unique : (known : Known) (edits : List Edit) (a b : Known) → IsRefused known edits a
+    → IsRefused known edits b → a ≡ b
 refused_unique known edits a b of_a of_b =
     let host = edited_unique known.host edits of_a.host of_b.host of_a.edited of_b.edited in
-    let outcome = outcome_unique of_b.host of_a.outcome of_b.outcome (subst (λ h. IsUnplanned h of_a.outcome) host of_a.unplanned) of_b.unplanned in
+    let outcome = outcome_unique of_b.host of_a.outcome of_b.outcome
+    (subst (λ h. IsUnplanned h of_a.outcome) host of_a.unplanned) of_b.unplanned in
     of_a.becomes
-    ∙ ap (λ o. known_with known.host known.plan known.number known.runnable (known.outcomes ++ o ∷ [])) outcome
+    ∙ ap (λ o. known_with known.host known.plan known.number known.runnable
+    (known.outcomes ++ o ∷ [])) outcome
     ∙ sym of_b.becomes
 
-taken_or_refused : (known : Known) (edits : List Edit) (a b : Known) → IsTaken known edits a → IsRefused known edits b → ⊥
+taken_or_refused : (known : Known) (edits : List Edit) (a b : Known) → IsTaken known edits a
+    → IsRefused known edits b → ⊥
 taken_or_refused known edits a b taken refused =
     let host = edited_unique known.host edits a.host refused.host taken.edited refused.edited in
-    planned_or_unplanned refused.host a.plan refused.outcome (subst (λ h. IsPlanned h a.plan) host taken.planned) refused.unplanned
+    planned_or_unplanned refused.host a.plan refused.outcome
+    (subst (λ h. IsPlanned h a.plan) host taken.planned) refused.unplanned
 
-changed_unique : (known : Known) (edits : List Edit) (a b : Known) → IsTaken known edits a ⊎ IsRefused known edits a → IsTaken known edits b ⊎ IsRefused known edits b → a ≡ b
+changed_unique : (known : Known) (edits : List Edit) (a b : Known)
+    → IsTaken known edits a ⊎ IsRefused known edits a
+    → IsTaken known edits b ⊎ IsRefused known edits b → a ≡ b
 changed_unique known edits a b (inl of_a) (inl of_b) = taken_unique known edits a b of_a of_b
 changed_unique known edits a b (inl of_a) (inr of_b) = absurd (taken_or_refused known edits a b of_a of_b)
 changed_unique known edits a b (inr of_a) (inl of_b) = absurd (taken_or_refused known edits b a of_b of_a)
@@ -77,10 +98,12 @@ follows_unique known (Wake vcpu) a b of_a of_b = of_a ∙ sym of_b
 follows_unique known (Block vcpu) a b of_a of_b = of_a ∙ sym of_b
 follows_unique known (Change edits) a b of_a of_b = changed_unique known edits a b of_a of_b
 
-pub known_unique : (host : Host) (events : List Event) (n : ℕ) (a b : Known) → IsKnownAfter host events n a → IsKnownAfter host events n b → a ≡ b
+pub known_unique : (host : Host) (events : List Event) (n : ℕ) (a b : Known)
+    → IsKnownAfter host events n a → IsKnownAfter host events n b → a ≡ b
 known_unique host events zero a b of_a of_b = first_unique host a b of_a of_b
 known_unique host events (suc n) a b of_a of_b =
     let before = known_unique host events n of_a.0 of_b.0 of_a.2 of_b.2 in
     let event = same _ of_a.1 of_b.1 of_a.3 of_b.3 in
-    let of_a' = subst (λ (e : Event). Follows of_b.0 e.act a) event (subst (λ k. Follows k of_a.1.act a) before of_a.4) in
+    let of_a' = subst (λ (e : Event). Follows of_b.0 e.act a) event
+    (subst (λ k. Follows k of_a.1.act a) before of_a.4) in
     follows_unique of_b.0 of_b.1.act a b of_a' of_b.4

@@ -1,5 +1,5 @@
--- What is known after the first events of a script: who is runnable, and the host and its plan, which changes of
--- reservations replace where the changed host has a plan.
+-- What is known after the first events of a script: who is runnable, and the host and its plan,
+-- which changes of reservations replace where the changed host has a plan.
 -- Source: the rules of this project.
 use Rattle.std.specs.Prelude.{◌≡◌, ◌⊎◌, ℕ, zero, suc, ◌+◌, ◌-◌, Bool, true, false, List, [], ◌∷◌, ◌++◌, Some, length, map, replicate, slice_get, slice_set}
 use Rattle.tab_core.specs.declared.TheConstants.{MAX_VCPUS}
@@ -43,8 +43,8 @@ IsUnplanned host Planned = ⊥
 IsUnplanned host (NoPeriod vcpu) = IsFirstWithoutPeriod host.vcpus vcpu
 IsUnplanned host (NoRoom vcpu) = (rest : ℕ) × (over : List Over) × IsFirstWithoutRoom host vcpu rest over
 
--- a change is planned: its edits make a host that has a plan, these are the host and the plan from then on, and the
--- plan has the next number
+-- a change is planned: its edits make a host that has a plan, these are the host and the plan from
+-- then on, and the plan has the next number
 pub record IsTaken (known : Known) (edits : List Edit) (next : Known) : Type 0 where
   pub edited : IsEdited known.host edits next.host
   pub planned : IsPlanned next.host next.plan
@@ -60,7 +60,8 @@ pub record IsRefused (known : Known) (edits : List Edit) (next : Known) : Type 0
   pub unplanned : IsUnplanned host outcome
   pub becomes : next ≡ record known { outcomes = known.outcomes ++ outcome ∷ [] }
 
--- what an event makes of it; a wake or a block sets the flag of its vCPU alone, whether that is admitted or not
+-- what an event makes of it; a wake or a block sets the flag of its vCPU alone, whether that is
+-- admitted or not
 abbrev pub Follows : Known → Act → Known → Type 0
 Follows known (Wake vcpu) next = next ≡ record known { runnable = slice_set known.runnable vcpu true }
 Follows known (Block vcpu) next = next ≡ record known { runnable = slice_set known.runnable vcpu false }
@@ -70,4 +71,5 @@ Follows known (Change edits) next = IsTaken known edits next ⊎ IsRefused known
 abbrev pub IsKnownAfter : Host → List Event → ℕ → Known → Type 0
 IsKnownAfter host events zero known = IsKnownAtFirst host known
 IsKnownAfter host events (suc n) known =
-    (before : Known) × (event : Event) × IsKnownAfter host events n before × (slice_get events n ≡ Some event) × Follows before event.act known
+    (before : Known) × (event : Event) × IsKnownAfter host events n before
+    × (slice_get events n ≡ Some event) × Follows before event.act known

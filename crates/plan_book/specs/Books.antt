@@ -31,4 +31,5 @@ pub record IsBookOf (host : Host) (events : List Event) (book : BookView) : Type
   pub quantum : book.course.quantum ≡ host.quantum
   pub ticks : book.course.ticks ≡ ticks_of events
   pub after : (n : ℕ) (known : Known) → IsKnownAfter host events n known → Shows book.course n known
-  pub outcomes : (known : Known) → IsKnownAfter host events (length events) known → book.outcomes ≡ known.outcomes
+  pub outcomes : (known : Known) → IsKnownAfter host events (length events) known
+      → book.outcomes ≡ known.outcomes

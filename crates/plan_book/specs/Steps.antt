@@ -38,7 +38,8 @@ IsHostFault host (NoRoom vcpu rest over) = IsFirstWithoutRoom host vcpu rest ove
 IsHostFault host NoMemory = Unit {0}
 
 -- what was known after k events, with its plan among these and its entries in these lists
-pub record IsKept (host : Host) (events : List Event) (plans : List Plan) (numbers : List ℕ) (runnable : List (List Bool)) (k : ℕ) : Type 0 where
+pub record IsKept (host : Host) (events : List Event) (plans : List Plan) (numbers : List ℕ)
+    (runnable : List (List Bool)) (k : ℕ) : Type 0 where
   pub known : Known
   pub is : IsKnownAfter host events k known
   pub fits : IsPlanFor known.host known.plan
@@ -47,7 +48,8 @@ pub record IsKept (host : Host) (events : List Event) (plans : List Plan) (numbe
   pub set : slice_get runnable k ≡ Some known.runnable
 
 -- the state of the book's making after n events
-pub record IsMade (host : Host) (events : List Event) (n : ℕ) (latest : Latest) (numbers : List ℕ) (runnable : List (List Bool)) : Type 0 where
+pub record IsMade (host : Host) (events : List Event) (n : ℕ) (latest : Latest) (numbers : List ℕ)
+    (runnable : List (List Bool)) : Type 0 where
   pub known : IsKnownAfter host events n (known_of latest)
   pub some : 0 < length latest.plans.items
   pub fits : IsPlanFor latest.host (known_of latest).plan

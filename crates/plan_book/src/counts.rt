@@ -30,7 +30,8 @@ impl Counts {
         requires few { length latest.now.plans.items < 2 ^ 32 }
         ensures numbers { OnOk result (self.new.numbers.items
             ≡ self.old.numbers.items ++ (known_of latest.now).number ∷ []) }
-        ensures runnable { OnOk result (self.new.runnable.items ≡ self.old.runnable.items ++ latest.now.runnable ∷ []) }
+        ensures runnable { OnOk result (self.new.runnable.items ≡ self.old.runnable.items
+            ++ latest.now.runnable ∷ []) }
     {
         self.numbers.push(latest.number())?;
         self.runnable.push(latest.runnable.copy())?;

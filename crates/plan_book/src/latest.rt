@@ -108,7 +108,8 @@ impl Latest {
         ensures host { OnOk result (self.new.host ≡ host) }
         ensures plans { OnOk result (self.new.plans.items ≡ self.old.plans.items ++ plan ∷ []) }
         ensures runnable { OnOk result (self.new.runnable ≡ self.old.runnable) }
-        ensures outcomes { OnOk result (self.new.outcomes.items ≡ self.old.outcomes.items ++ Outcome.Planned ∷ []) }
+        ensures outcomes { OnOk result (self.new.outcomes.items ≡ self.old.outcomes.items
+            ++ Outcome.Planned ∷ []) }
     {
         self.plans.push(plan)?;
         self.outcomes.push(Outcome::Planned)?;

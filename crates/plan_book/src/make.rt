@@ -58,7 +58,8 @@ pub fn make_book<R: Threads + Sync>(
         → IsErr result }
     ensures bound { (tasks : List (Option Periodic)) → AreTasksOf host.now.vcpus tasks
         → IsWithinBound tasks host.now.cores → IfErr result (λ fault. fault ≡ BookFault.NoMemory) }
-    ensures planned { (plan : PlanView) → IsPlanned host.now plan → IfErr result (λ fault. fault ≡ BookFault.NoMemory) }
+    ensures planned { (plan : PlanView) → IsPlanned host.now plan
+        → IfErr result (λ fault. fault ≡ BookFault.NoMemory) }
 {
     let events = script.events();
     let mut latest = Latest::start(rt, alloc, host)?;

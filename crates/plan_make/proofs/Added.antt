@@ -23,12 +23,15 @@ pieces_on-with_piece cores p core there = elim (cases_Bool (eqb p.core core)) [
       rw same (subst (λ c. pieces_on (with_piece cores p) c ≡ pieces_on cores c ++ p ∷ []) e
       (get_or-set_same cores p.core (pieces_on cores p.core ++ p ∷ []) [] there)))
   | inr other ↦ (let ne : core ≡ p.core → ⊥ = λ e. eqb-false p.core core other (sym e) in
-      rw other (get_or-set_other cores p.core core (pieces_on cores p.core ++ p ∷ []) [] ne ∙ sym (append-nil (pieces_on cores core))))
+      rw other (get_or-set_other cores p.core core (pieces_on cores p.core ++ p ∷ []) [] ne
+      ∙ sym (append-nil (pieces_on cores core))))
 ]
 
-pub length-with_pieces : (cores : List (List Piece)) (ps : List Piece) → length (with_pieces cores ps) ≡ length cores
+pub length-with_pieces : (cores : List (List Piece)) (ps : List Piece)
+    → length (with_pieces cores ps) ≡ length cores
 length-with_pieces cores [] = refl
-length-with_pieces cores (p ∷ ps) = length-with_pieces (with_piece cores p) ps ∙ length-set cores p.core (pieces_on cores p.core ++ p ∷ [])
+length-with_pieces cores (p ∷ ps) = length-with_pieces (with_piece cores p) ps
+    ∙ length-set cores p.core (pieces_on cores p.core ++ p ∷ [])
 
 -- those of the pieces that stand on the core
 abbrev pub of_core : ℕ → List Piece → List Piece
@@ -36,19 +39,22 @@ of_core core ps = filter (λ q. eqb q.core core) ps
 
 pub of_core-cons : (core : ℕ) (p : Piece) (ps : List Piece)
     → of_core core (p ∷ ps) ≡ cond (eqb p.core core) (p ∷ []) [] ++ of_core core ps
-of_core-cons core p ps = elim (cases_Bool (eqb p.core core)) [ inl same ↦ rw same refl | inr other ↦ rw other refl ]
+of_core-cons core p ps = elim (cases_Bool (eqb p.core core))
+    [ inl same ↦ rw same refl | inr other ↦ rw other refl ]
 
 -- each of the pieces stands on one of so many cores
 abbrev pub StandBelow : ℕ → List Piece → Type 0
 StandBelow count ps = All (λ p. p.core < count) ps
 
-pub pieces_on-with_pieces : (cores : List (List Piece)) (ps : List Piece) (core : ℕ) → StandBelow (length cores) ps →
+pub pieces_on-with_pieces : (cores : List (List Piece)) (ps : List Piece) (core : ℕ)
+    → StandBelow (length cores) ps →
     pieces_on (with_pieces cores ps) core ≡ pieces_on cores core ++ of_core core ps
 pieces_on-with_pieces cores [] core below = sym (append-nil (pieces_on cores core))
 pieces_on-with_pieces cores (p ∷ ps) core below =
     let here = All-head (λ (q : Piece). q.core < length cores) p ps below in
     let same = length-set cores p.core (pieces_on cores p.core ++ p ∷ []) in
-    let rest = subst (λ n. StandBelow n ps) (sym same) (All-tail (λ (q : Piece). q.core < length cores) p ps below) in
+    let rest = subst (λ n. StandBelow n ps) (sym same)
+    (All-tail (λ (q : Piece). q.core < length cores) p ps below) in
     pieces_on-with_pieces (with_piece cores p) ps core rest
     ∙ ap (λ qs. qs ++ of_core core ps) (pieces_on-with_piece cores p core here)
     ∙ append_assoc (pieces_on cores core) (cond (eqb p.core core) (p ∷ []) []) (of_core core ps)
@@ -72,13 +78,15 @@ costs-with_piece vcpu cores p there =
     let more = cost_on-append vcpu (pieces_on cores p.core) (p ∷ []) in
     omega arith
 
-pub costs-with_pieces : (vcpu : ℕ) (cores : List (List Piece)) (ps : List Piece) → StandBelow (length cores) ps →
+pub costs-with_pieces : (vcpu : ℕ) (cores : List (List Piece)) (ps : List Piece)
+    → StandBelow (length cores) ps →
     sum_by (cost_on vcpu) (with_pieces cores ps) ≡ sum_by (cost_on vcpu) cores + cost_on vcpu ps
 costs-with_pieces vcpu cores [] below = omega (arith, cost_on-nil vcpu)
 costs-with_pieces vcpu cores (p ∷ ps) below =
     let here = All-head (λ (q : Piece). q.core < length cores) p ps below in
     let same = length-set cores p.core (pieces_on cores p.core ++ p ∷ []) in
-    let rest = subst (λ n. StandBelow n ps) (sym same) (All-tail (λ (q : Piece). q.core < length cores) p ps below) in
+    let rest = subst (λ n. StandBelow n ps) (sym same)
+    (All-tail (λ (q : Piece). q.core < length cores) p ps below) in
     let after = costs-with_pieces vcpu (with_piece cores p) ps rest in
     let first = costs-with_piece vcpu cores p here in
     let all = cost_on-first vcpu p ps in

@@ -36,14 +36,16 @@ one_on_core cores rows i j p q made a b same one =
     let at = ap (λ c. slice_get (pieces_on cores c) b.place) same ∙ b.at in
     same_number cores i j p q a b same (made.distinct a.core a.place b.place p q a.at at one)
 
-own_cores : (cores : List (List Piece)) (rows : List Row) → AreRowsOf cores rows → HaveOwnCores (all_pieces cores)
+own_cores : (cores : List (List Piece)) (rows : List Row) → AreRowsOf cores rows
+    → HaveOwnCores (all_pieces cores)
 own_cores cores rows made i j p q at at' one on =
     let a = standing cores i p at in
     let b = standing cores j q at' in
     one_on_core cores rows i j p q made a b (sym (core_of cores rows i p made a) ∙ on
     ∙ core_of cores rows j q made b) one
 
-own_windows : (tasks : List (Option Periodic)) (cores : List (List Piece)) (homes : List (Option ℕ)) (rows : List Row)
+own_windows : (tasks : List (Option Periodic)) (cores : List (List Piece)) (homes : List (Option ℕ))
+    (rows : List Row)
     → AreLaidOut tasks cores homes [] → AreRowsOf cores rows → HaveOwnWindows (all_pieces cores)
 own_windows tasks cores homes rows laid made i j p q at at' one begins ends =
     let a = standing cores i p at in
@@ -68,7 +70,8 @@ window_found pieces vcpu tick a =
         let rest = tick - k * p.period in
         let small : rest < p.period = omega (arith, p.within) in
         let place : k * p.period + rest ≡ tick = omega arith in
-        let rest_is : tick % p.period ≡ rest = ap (λ n. n % p.period) (sym place) ∙ mod-mul-add k p.period rest small in
+        let rest_is : tick % p.period ≡ rest =
+        ap (λ n. n % p.period) (sym place) ∙ mod-mul-add k p.period rest small in
         let begins : p.from ≤ tick % p.period = omega arith in
         let ends : tick % p.period < p.to = omega arith in
         and_from (eqb p.vcpu vcpu && leb p.from (tick % p.period)) (ltb (tick % p.period) p.to)
@@ -109,7 +112,8 @@ piece_on_core vcpu core (p ∷ ps) has = elim (cases_Bool (eqb p.core core)) [
   ]
 ]
 
-on_pieces : (tasks : List (Option Periodic)) (cores : List (List Piece)) (homes : List (Option ℕ)) (rows : List Row)
+on_pieces : (tasks : List (Option Periodic)) (cores : List (List Piece)) (homes : List (Option ℕ))
+    (rows : List Row)
     → AreLaidOut tasks cores homes [] → AreRowsOf cores rows → AreOnPieces homes (all_pieces cores)
 on_pieces tasks cores homes rows laid made vcpu core at =
     piece_on_core vcpu core (all_pieces cores) (ap (has_piece vcpu) (pieces_at_core cores core made.own)

@@ -77,7 +77,9 @@ one_proof core s = hlevel props
 same_numbers : (p q : Piece) → IsSamePiece p q → p ≡ q
 same_numbers p q same =
     let At : ℕ → Subtask → Type 0 = λ core s. (f : Facts core s) → p ≡ piece_of core s f in
-    let here : At p.core (subtask_of p) = λ f. ap (piece_of p.core (subtask_of p)) (one_proof p.core (subtask_of p) (facts_of p) f) in
+    let here : At p.core (subtask_of p) =
+    λ f. ap (piece_of p.core (subtask_of p))
+    (one_proof p.core (subtask_of p) (facts_of p) f) in
     subst (At q.core) same.1 (subst (λ core. At core (subtask_of p)) same.0 here) (facts_of q)
 
 same_pieces : (ps qs : List Piece) → AllZip IsSamePiece ps qs → ps ≡ qs
@@ -91,7 +93,8 @@ same_pieces (p ∷ ps) (q ∷ qs) zip =
 
 -- the cores of those that stand whole are determined
 
-same_on_core : (core : ℕ) (ps qs : List Piece) → map subtask_of ps ≡ map subtask_of qs → All (λ p. p.core ≡ core) ps
+same_on_core : (core : ℕ) (ps qs : List Piece) → map subtask_of ps ≡ map subtask_of qs
+    → All (λ p. p.core ≡ core) ps
     → All (λ q. q.core ≡ core) qs → ps ≡ qs
 same_on_core core [] [] same own own' = refl
 same_on_core core [] (q ∷ qs) same own own' = absurd (cc)
@@ -104,15 +107,18 @@ same_on_core core (p ∷ ps) (q ∷ qs) same own own' =
     let rest = same_on_core core ps qs rest_subtasks (All-tail On p ps own) (All-tail On q qs own') in
     cc
 
-start_unique : (tasks : List (Option Periodic)) (core_of : List (Option ℕ)) (count : ℕ) (a b : List (List Piece))
+start_unique : (tasks : List (Option Periodic)) (core_of : List (Option ℕ)) (count : ℕ)
+    (a b : List (List Piece))
     → StandWhole tasks core_of count a → StandWhole tasks core_of count b → a ≡ b
 start_unique tasks core_of count a b of_a of_b = ext_get_or [] a b (of_a.size ∙ sym of_b.size) (λ core lt.
     let lt' = subst (λ n. core < n) of_a.size lt in
-    same_on_core core (pieces_on a core) (pieces_on b core) (of_a.stand core lt' ∙ sym (of_b.stand core lt')) (of_a.own core) (of_b.own core))
+    same_on_core core (pieces_on a core) (pieces_on b core)
+    (of_a.stand core lt' ∙ sym (of_b.stand core lt')) (of_a.own core) (of_b.own core))
 
 -- where splitting begins on a host
 
-pub record SameStart (tasks tasks' : List (Option Periodic)) (placed placed' : Placed) (start start' : List (List Piece)) : Type 0 where
+pub record SameStart (tasks tasks' : List (Option Periodic)) (placed placed' : Placed)
+    (start start' : List (List Piece)) : Type 0 where
   pub tasks_same : tasks ≡ tasks'
   pub placed_same : placed ≡ placed'
   pub start_same : start ≡ start'
@@ -135,40 +141,50 @@ one_start host tasks tasks' placed placed' start start' a b =
 
 -- one vCPU after the other is split in one way
 
-pub split_unique : (tasks : List (Option Periodic)) (cores : List (List Piece)) (vcpu : ℕ) (ps qs : List Piece)
+pub split_unique : (tasks : List (Option Periodic)) (cores : List (List Piece)) (vcpu : ℕ)
+    (ps qs : List Piece)
     → GetsSplit tasks cores vcpu ps → GetsSplit tasks cores vcpu qs → ps ≡ qs
 split_unique tasks cores vcpu ps qs a b =
     let at = a.at in
     let at' = b.at in
     let same : b.task ≡ a.task = cc in
-    let of_b = subst (λ (t : Periodic). Splits cores vcpu t.period t.cost 0 (core_numbers cores) qs) same b.splits in
-    sym (same_pieces qs ps (splits_unique cores vcpu a.task.period a.task.cost 0 (core_numbers cores) ps qs a.splits of_b))
+    let of_b = subst (λ (t : Periodic). Splits cores vcpu t.period t.cost 0 (core_numbers cores) qs)
+    same b.splits in
+    sym (same_pieces qs ps (splits_unique cores vcpu a.task.period a.task.cost 0
+    (core_numbers cores) ps qs a.splits of_b))
 
 record SameEnd (end end' : List (List Piece)) (homes homes' : List (Option ℕ)) : Type 0 where
   pub end_same : end ≡ end'
   pub homes_same : homes ≡ homes'
 
 -- the second begins as the first went on
-pub went_on : (tasks : List (Option Periodic)) (cores : List (List Piece)) (homes : List (Option ℕ)) (vcpu : ℕ)
+pub went_on : (tasks : List (Option Periodic)) (cores : List (List Piece)) (homes : List (Option ℕ))
+    (vcpu : ℕ)
     (left : List ℕ) (ps qs : List Piece) (end : List (List Piece)) (homes' : List (Option ℕ))
     → ps ≡ qs →
     SplitsEach tasks (with_pieces cores qs) (set homes vcpu (Some (home_of qs))) left end homes'
     → SplitsEach tasks (with_pieces cores ps) (set homes vcpu (Some (home_of ps))) left end homes'
 went_on tasks cores homes vcpu left ps qs end homes' same each =
-    subst (λ rs. SplitsEach tasks (with_pieces cores rs) (set homes vcpu (Some (home_of rs))) left end homes') (sym same) each
+    subst (λ rs. SplitsEach tasks (with_pieces cores rs)
+    (set homes vcpu (Some (home_of rs))) left end homes') (sym same) each
 
-each_unique : (tasks : List (Option Periodic)) (cores : List (List Piece)) (homes : List (Option ℕ)) (left : List ℕ)
+each_unique : (tasks : List (Option Periodic)) (cores : List (List Piece)) (homes : List (Option ℕ))
+    (left : List ℕ)
     (end end' : List (List Piece)) (homes' homes'' : List (Option ℕ)) →
-    SplitsEach tasks cores homes left end homes' → SplitsEach tasks cores homes left end' homes'' → SameEnd end end' homes' homes''
-each_unique tasks cores homes [] end end' homes' homes'' a b = record { end_same = a.0 ∙ sym b.0; homes_same = a.1 ∙ sym b.1 }
+    SplitsEach tasks cores homes left end homes' → SplitsEach tasks cores homes left end' homes''
+    → SameEnd end end' homes' homes''
+each_unique tasks cores homes [] end end' homes' homes'' a b =
+    record { end_same = a.0 ∙ sym b.0; homes_same = a.1 ∙ sym b.1 }
 each_unique tasks cores homes (vcpu ∷ left) end end' homes' homes'' a b =
     let same = split_unique tasks cores vcpu a.0 b.0 a.1 b.1 in
-    each_unique tasks (with_pieces cores a.0) (set homes vcpu (Some (home_of a.0))) left end end' homes' homes'' a.2
+    each_unique tasks (with_pieces cores a.0)
+    (set homes vcpu (Some (home_of a.0))) left end end' homes' homes'' a.2
     (went_on tasks cores homes vcpu left a.0 b.0 end' homes'' same b.2)
 
 -- a vCPU that can't be split beside those before it isn't
 pub each_or_refused : (tasks : List (Option Periodic)) (cores : List (List Piece)) (homes : List (Option ℕ))
-    (before : List ℕ) (vcpu : ℕ) (after : List ℕ) (end middle : List (List Piece)) (homes' homes'' : List (Option ℕ))
+    (before : List ℕ) (vcpu : ℕ) (after : List ℕ) (end middle : List (List Piece))
+    (homes' homes'' : List (Option ℕ))
     (task : Periodic) (rest : ℕ) (over : List Over) →
     SplitsEach tasks cores homes (before ++ vcpu ∷ after) end homes'
     → SplitsEach tasks cores homes before middle homes'' → slice_get tasks vcpu ≡ Some (Some task) →
@@ -177,10 +193,13 @@ each_or_refused tasks cores homes [] vcpu after end middle homes' homes'' task r
     let split = a.1 in
     let at' = split.at in
     let same : split.task ≡ task = cc in
-    let splits = subst (λ (t : Periodic). Splits cores vcpu t.period t.cost 0 (core_numbers cores) a.0) same split.splits in
+    let splits =
+    subst (λ (t : Periodic). Splits cores vcpu t.period t.cost 0 (core_numbers cores) a.0)
+    same split.splits in
     never_both cores vcpu task.period task.cost 0 (core_numbers cores) a.0 rest over splits
     (subst (λ cs. Refuses cs vcpu task.period task.cost 0 (core_numbers cs) rest over) b.0 refuses)
-each_or_refused tasks cores homes (v ∷ before) vcpu after end middle homes' homes'' task rest over a b at refuses =
+each_or_refused tasks cores homes
+    (v ∷ before) vcpu after end middle homes' homes'' task rest over a b at refuses =
     let same = split_unique tasks cores v a.0 b.0 a.1 b.1 in
     each_or_refused tasks (with_pieces cores a.0)
     (set homes v (Some (home_of a.0))) before vcpu after end middle homes' homes'' task rest over a.2
@@ -190,32 +209,42 @@ each_or_refused tasks cores homes (v ∷ before) vcpu after end middle homes' ho
 pub record AreAlike (host : Host) (a b : PlanView) (cores : List (List Piece)) : Type 0 where
   pub tasks_same : a.tasks ≡ b.tasks
   pub homes_same : a.homes ≡ b.homes
-  pub joined : AreJoined (all_pieces cores) host.sliver (map (λ pieces. edf_row (jobs_of pieces)) cores) a.rows
+  pub joined : AreJoined (all_pieces cores) host.sliver
+      (map (λ pieces. edf_row (jobs_of pieces)) cores) a.rows
 
 -- a host has one plan but for the joining of its rows
 pub planned_alike : (host : Host) (a b : PlanView) (of_a : IsPlanned host a) (of_b : IsPlanned host b)
     → AreAlike host a b of_b.cores
 planned_alike host a b of_a of_b =
-    let same = one_start host a.tasks b.tasks of_a.placed of_b.placed of_a.start of_b.start of_a.is_start of_b.is_start in
-    let moved = subst (λ cs. SplitsEach b.tasks cs of_b.placed.core_of of_b.placed.left of_a.cores a.homes) same.start_same
-    (subst (λ (p : Placed). SplitsEach b.tasks of_a.start p.core_of p.left of_a.cores a.homes) same.placed_same
-    (subst (λ ts. SplitsEach ts of_a.start of_a.placed.core_of of_a.placed.left of_a.cores a.homes) same.tasks_same of_a.split)) in
-    let ends = each_unique b.tasks of_b.start of_b.placed.core_of of_b.placed.left of_a.cores of_b.cores a.homes b.homes moved of_b.split in
+    let same = one_start host a.tasks b.tasks of_a.placed of_b.placed of_a.start of_b.start
+    of_a.is_start of_b.is_start in
+    let moved =
+    subst (λ cs. SplitsEach b.tasks cs of_b.placed.core_of of_b.placed.left of_a.cores
+    a.homes) same.start_same
+    (subst (λ (p : Placed). SplitsEach b.tasks of_a.start p.core_of p.left of_a.cores a.homes)
+    same.placed_same
+    (subst (λ ts. SplitsEach ts of_a.start of_a.placed.core_of of_a.placed.left of_a.cores a.homes)
+    same.tasks_same of_a.split)) in
+    let ends = each_unique b.tasks of_b.start of_b.placed.core_of of_b.placed.left of_a.cores
+    of_b.cores a.homes b.homes moved of_b.split in
     record {
       tasks_same = same.tasks_same;
       homes_same = ends.homes_same;
-      joined = subst (λ cs. AreJoined (all_pieces cs) host.sliver (map (λ pieces. edf_row (jobs_of pieces)) cs) a.rows) ends.end_same of_a.joined;
+      joined = subst (λ cs. AreJoined (all_pieces cs) host.sliver
+          (map (λ pieces. edf_row (jobs_of pieces)) cs) a.rows) ends.end_same of_a.joined;
     }
 
 abbrev view_of : List (Option Periodic) → List (Option ℕ) → List Row → PlanView
 view_of tasks homes rows = record { tasks = tasks; homes = homes; rows = rows }
 
 pub same_view : (a b : PlanView) → a.tasks ≡ b.tasks → a.homes ≡ b.homes → a.rows ≡ b.rows → a ≡ b
-same_view a b tasks homes rows = ap (λ t. view_of t a.homes a.rows) tasks ∙ ap (λ h. view_of b.tasks h a.rows) homes
+same_view a b tasks homes rows = ap (λ t. view_of t a.homes a.rows) tasks
+    ∙ ap (λ h. view_of b.tasks h a.rows) homes
     ∙ ap (view_of b.tasks b.homes) rows
 
 -- what the draft of a layout has, and the plan that is made of it by joining
-pub record IsMadeOf (host : Host) (tasks : List (Option Periodic)) (cores : List (List Piece)) (homes : List (Option ℕ))
+pub record IsMadeOf (host : Host) (tasks : List (Option Periodic)) (cores : List (List Piece))
+    (homes : List (Option ℕ))
     (pieces : List Piece) (rows : List Row) (plan : PlanView) : Type 0 where
   pub pieces_are : pieces ≡ all_pieces cores
   pub rows_are : rows ≡ map (λ pieces. edf_row (jobs_of pieces)) cores
@@ -223,11 +252,14 @@ pub record IsMadeOf (host : Host) (tasks : List (Option Periodic)) (cores : List
   pub homes_are : plan.homes ≡ homes
   pub joined : AreJoined pieces host.sliver rows plan.rows
 
-joined_of : (host : Host) (tasks : List (Option Periodic)) (cores : List (List Piece)) (homes : List (Option ℕ))
-    (pieces : List Piece) (rows : List Row) (plan : PlanView) → IsMadeOf host tasks cores homes pieces rows plan
+joined_of : (host : Host) (tasks : List (Option Periodic)) (cores : List (List Piece))
+    (homes : List (Option ℕ))
+    (pieces : List Piece) (rows : List Row) (plan : PlanView)
+    → IsMadeOf host tasks cores homes pieces rows plan
     → AreJoined (all_pieces cores) host.sliver (map (λ pieces. edf_row (jobs_of pieces)) cores) plan.rows
 joined_of host tasks cores homes pieces rows plan made =
-    subst (λ ps. AreJoined ps host.sliver (map (λ pieces. edf_row (jobs_of pieces)) cores) plan.rows) made.pieces_are
+    subst (λ ps. AreJoined ps host.sliver
+    (map (λ pieces. edf_row (jobs_of pieces)) cores) plan.rows) made.pieces_are
     (subst (λ rs. AreJoined pieces host.sliver rs plan.rows) made.rows_are made.joined)
 
 -- the plan is that of its layout
@@ -240,8 +272,11 @@ layout_is_planned host tasks cores homes pieces rows plan layout made = record {
   start = layout.start;
   is_start = subst (λ ts. IsStart host ts layout.placed layout.start) (sym made.tasks_are) layout.is_start;
   cores = cores;
-  split = subst (λ ts. SplitsEach ts layout.start layout.placed.core_of layout.placed.left cores plan.homes) (sym made.tasks_are)
-      (subst (SplitsEach tasks layout.start layout.placed.core_of layout.placed.left cores) (sym made.homes_are) layout.split);
+  split = subst
+      (λ ts. SplitsEach ts layout.start layout.placed.core_of layout.placed.left cores plan.homes)
+      (sym made.tasks_are)
+      (subst (SplitsEach tasks layout.start layout.placed.core_of layout.placed.left cores)
+      (sym made.homes_are) layout.split);
   joined = joined_of host tasks cores homes pieces rows plan made;
 }
 
@@ -257,11 +292,18 @@ planned_unique host a b of_a of_b =
 pub planned_or_refused : (host : Host) (a : PlanView) (vcpu rest : ℕ) (over : List Over) → IsPlanned host a
     → IsFirstWithoutRoom host vcpu rest over → ⊥
 planned_or_refused host a vcpu rest over planned first =
-    let same = one_start host a.tasks first.tasks planned.placed first.placed planned.start first.start planned.is_start first.is_start in
-    let moved = subst (λ cs. SplitsEach first.tasks cs first.placed.core_of first.placed.left planned.cores a.homes) same.start_same
-    (subst (λ (p : Placed). SplitsEach first.tasks planned.start p.core_of p.left planned.cores a.homes) same.placed_same
-    (subst (λ ts. SplitsEach ts planned.start planned.placed.core_of planned.placed.left planned.cores a.homes) same.tasks_same planned.split)) in
-    let all = subst (λ left. SplitsEach first.tasks first.start first.placed.core_of left planned.cores a.homes) first.left_is moved in
+    let same = one_start host a.tasks first.tasks planned.placed first.placed planned.start
+    first.start planned.is_start first.is_start in
+    let moved =
+    subst (λ cs. SplitsEach first.tasks cs first.placed.core_of first.placed.left
+    planned.cores a.homes) same.start_same
+    (subst (λ (p : Placed). SplitsEach first.tasks planned.start p.core_of p.left planned.cores
+    a.homes) same.placed_same
+    (subst (λ ts. SplitsEach ts planned.start planned.placed.core_of planned.placed.left
+    planned.cores a.homes) same.tasks_same planned.split)) in
+    let all =
+    subst (λ left. SplitsEach first.tasks first.start first.placed.core_of left
+    planned.cores a.homes) first.left_is moved in
     each_or_refused first.tasks first.start first.placed.core_of first.before vcpu first.after
     planned.cores first.cores a.homes first.homes
     first.task rest over all first.split first.at first.refuses
@@ -269,5 +311,6 @@ planned_or_refused host a vcpu rest over planned first =
 -- so a host that has a plan is laid out but for want of memory
 pub no_memory_for_layout : (host : Host) (a : PlanView) (fault : SplitFault) → IsPlanned host a
     → IsLayoutFault host fault → fault_of_split fault ≡ plan.NoMemory
-no_memory_for_layout host a (NoRoom vcpu rest over) planned told = absurd (planned_or_refused host a vcpu rest over planned told)
+no_memory_for_layout host a (NoRoom vcpu rest over) planned told =
+    absurd (planned_or_refused host a vcpu rest over planned told)
 no_memory_for_layout host a NoMemory planned told = refl

@@ -25,12 +25,14 @@ pub record IsStanding (cores : List (List Piece)) (i : ℕ) (p : Piece) : Type 0
   pub at : slice_get (pieces_on cores core) place ≡ Some p
   pub number : i ≡ before cores core + place
 
-slice_get-append_left : {X : Type 0} (xs ys : List X) (i : ℕ) → i < length xs → slice_get (xs ++ ys) i ≡ slice_get xs i
+slice_get-append_left : {X : Type 0} (xs ys : List X) (i : ℕ) → i < length xs
+    → slice_get (xs ++ ys) i ≡ slice_get xs i
 slice_get-append_left [] ys i lt = absurd (omega arith)
 slice_get-append_left (x ∷ xs) ys zero lt = refl
 slice_get-append_left (x ∷ xs) ys (suc i) lt = slice_get-append_left xs ys i (omega arith)
 
-slice_get-append_right : {X : Type 0} (xs ys : List X) (i : ℕ) → slice_get (xs ++ ys) (length xs + i) ≡ slice_get ys i
+slice_get-append_right : {X : Type 0} (xs ys : List X) (i : ℕ)
+    → slice_get (xs ++ ys) (length xs + i) ≡ slice_get ys i
 slice_get-append_right [] ys i = let e : 0 + i ≡ i = omega arith in ap (slice_get ys) e
 slice_get-append_right (x ∷ xs) ys i =
     let e : suc (length xs) + i ≡ suc (length xs + i) = omega arith in
@@ -77,7 +79,8 @@ kept_all : (core : ℕ) (ps : List Piece) → All (λ p. p.core ≡ core) ps →
 kept_all core [] own = refl
 kept_all core (p ∷ ps) own =
     let On : Piece → Type 0 = λ q. q.core ≡ core in
-    rw (eq-eqb p.core core (All-head On p ps own)) (ap (λ qs. p ∷ qs) (kept_all core ps (All-tail On p ps own)))
+    rw (eq-eqb p.core core (All-head On p ps own))
+    (ap (λ qs. p ∷ qs) (kept_all core ps (All-tail On p ps own)))
 
 kept_none : (core other : ℕ) (ps : List Piece) → All (λ p. p.core ≡ other) ps → (other ≡ core → ⊥)
     → pieces_at ps core ≡ []
@@ -118,7 +121,8 @@ at_place first zero (ps ∷ cores) own =
     let e : first + 0 ≡ first = omega arith in
     let here = kept_all first ps (own_first first ps cores own) in
     let rest = none_before (first + 1) first cores (own_later first ps cores own) (omega arith) in
-    ap (pieces_at (ps ++ all_pieces cores)) e ∙ filter-append (λ (p : Piece). eqb p.core first) ps (all_pieces cores)
+    ap (pieces_at (ps ++ all_pieces cores)) e
+    ∙ filter-append (λ (p : Piece). eqb p.core first) ps (all_pieces cores)
     ∙ ap (λ qs. qs ++ pieces_at (all_pieces cores) first) here ∙ ap (λ qs. ps ++ qs) rest ∙ append-nil ps
 at_place first (suc k) (ps ∷ cores) own =
     let e : first + suc k ≡ (first + 1) + k = omega arith in
@@ -128,7 +132,8 @@ at_place first (suc k) (ps ∷ cores) own =
     (all_pieces cores)
     ∙ ap (λ qs. qs ++ pieces_at (all_pieces cores) ((first + 1) + k)) here ∙ rest
 
-pub pieces_at_core : (cores : List (List Piece)) (core : ℕ) → ((k : ℕ) → All (λ p. p.core ≡ k) (pieces_on cores k))
+pub pieces_at_core : (cores : List (List Piece)) (core : ℕ)
+    → ((k : ℕ) → All (λ p. p.core ≡ k) (pieces_on cores k))
     → pieces_at (all_pieces cores) core ≡ pieces_on cores core
 pieces_at_core cores core own =
     let e : 0 + core ≡ core = omega arith in
@@ -137,7 +142,8 @@ pieces_at_core cores core own =
     (λ n. All (λ (p : Piece). p.core ≡ n) (pieces_on cores k)) same (own k)))
 
 -- all pieces cost a vCPU what those of the cores do
-pub cost_of_all : (vcpu : ℕ) (cores : List (List Piece)) → cost_on vcpu (all_pieces cores) ≡ sum_by (cost_on vcpu) cores
+pub cost_of_all : (vcpu : ℕ) (cores : List (List Piece))
+    → cost_on vcpu (all_pieces cores) ≡ sum_by (cost_on vcpu) cores
 cost_of_all vcpu [] = cost_on-nil vcpu
 cost_of_all vcpu (ps ∷ cores) =
     let rest = cost_of_all vcpu cores in

@@ -19,14 +19,16 @@ pub record AreMade (cores : List (List Piece)) (rows : List Row) : Type 0 where
   pub size : length rows ≡ length cores
   pub each : (core : ℕ) → core < length cores → IsRowOf core (pieces_on cores core) (get_or rows core [])
 
-pub are_made : (cores : List (List Piece)) (rows : List Row) (made : List (Result Row AllocError)) → map Ok rows ≡ made
+pub are_made : (cores : List (List Piece)) (rows : List Row) (made : List (Result Row AllocError))
+    → map Ok rows ≡ made
     → length made ≡ length cores →
     ((core : ℕ) → core < length cores → (d : Result Row AllocError)
     → IfOk (get_or made core d) (IsRowOf core (pieces_on cores core))) → AreMade cores rows
 are_made cores rows made all count each = record {
   size = size;
   each = λ core lt. (
-      let here : get_or made core (Ok []) ≡ Ok (get_or rows core []) = ap (λ rs. get_or rs core (Ok [])) (sym all)
+      let here : get_or made core (Ok []) ≡ Ok (get_or rows core []) =
+      ap (λ rs. get_or rs core (Ok [])) (sym all)
       ∙ get_or-map Ok rows core [] (Ok []) (omega (arith, size)) in
       subst (λ r. IfOk r (IsRowOf core (pieces_on cores core))) here (each core lt (Ok [])));
 }
@@ -37,7 +39,8 @@ are_made cores rows made all count each = record {
 pub made_rows : (cores : List (List Piece)) (rows : List Row) → AreMade cores rows
     → rows ≡ map (λ pieces. edf_row (jobs_of pieces)) cores
 made_rows cores rows made =
-    ext_get_or [] rows (map (λ pieces. edf_row (jobs_of pieces)) cores) (made.size ∙ sym (length-map cores (λ pieces. edf_row (jobs_of pieces))))
+    ext_get_or [] rows (map (λ pieces. edf_row (jobs_of pieces)) cores)
+    (made.size ∙ sym (length-map cores (λ pieces. edf_row (jobs_of pieces))))
     (λ core lt. let lt' : core < length cores = (let size = made.size in omega arith) in
     (made.each core lt').edf ∙ sym (get_or-map (λ pieces. edf_row (jobs_of pieces)) cores core [] [] lt'))
 
@@ -49,7 +52,8 @@ made_at cores rows core row made at =
 
 -- what holds of the pieces of each core with a row, and of none, holds on each core
 on_each : (P : ℕ → List Piece → Type 0) (cores : List (List Piece)) → ((core : ℕ) → P core [])
-    → ((core : ℕ) → core < length cores → P core (pieces_on cores core)) → (core : ℕ) → P core (pieces_on cores core)
+    → ((core : ℕ) → core < length cores → P core (pieces_on cores core)) → (core : ℕ)
+    → P core (pieces_on cores core)
 on_each P cores none each core = elim (cases_lt core (length cores)) [
   | inl lt ↦ each core lt
   | inr past ↦ subst (P core) (sym (get_or_past cores core [] past)) (none core)
@@ -61,9 +65,11 @@ none_distinct i j a b at at' same = absurd (cc)
 pub made_of : (cores : List (List Piece)) (rows : List Row) → AreMade cores rows → AreRowsOf cores rows
 made_of cores rows made = record {
   size = made.size;
-  own = on_each (λ core pieces. All (λ p. p.core ≡ core) pieces) cores (λ core. All-nil (λ (p : Piece). p.core ≡ core))
+  own = on_each (λ core pieces. All (λ p. p.core ≡ core) pieces) cores
+      (λ core. All-nil (λ (p : Piece). p.core ≡ core))
       (λ core lt. (made.each core lt).own);
-  distinct = on_each (λ core. DistinctVcpus) cores (λ core. none_distinct) (λ core lt. (made.each core lt).distinct);
+  distinct = on_each (λ core. DistinctVcpus) cores (λ core. none_distinct)
+      (λ core lt. (made.each core lt).distinct);
   serve = λ core row at. (made_at cores rows core row made at).serves;
   inside = λ core row at. (made_at cores rows core row made at).inside;
 }

@@ -27,7 +27,8 @@ reserved_where None (Some task) is = absurd (cc)
 reserved_where (Some r) None is = absurd is
 reserved_where (Some r) (Some task) is = refl
 
-has_task_is : (tasks : List (Option Periodic)) (v : ℕ) (task : Option Periodic) → slice_get tasks v ≡ Some task
+has_task_is : (tasks : List (Option Periodic)) (v : ℕ) (task : Option Periodic)
+    → slice_get tasks v ≡ Some task
     → has_task tasks v ≡ is_some task
 has_task_is tasks v None at = rw at refl
 has_task_is tasks v (Some task) at = rw at refl
@@ -35,21 +36,29 @@ has_task_is tasks v (Some task) at = rw at refl
 pub tasks_admit : (vcpus : List Vcpu) (tasks : List (Option Periodic)) → AreTasksOf vcpus tasks → (v : ℕ)
     → has_task tasks v ≡ is_reserved (slice_get vcpus v)
 tasks_admit vcpus tasks are v = elim (slice_get_cases vcpus v).1 [
-  | inl found ↦ (let lt : v < length tasks = (let within = found.1 in let size = are.as_many in omega arith) in
+  | inl found ↦
+      (let lt : v < length tasks = (let within = found.1 in let size = are.as_many in omega arith) in
       let at = slice_get-get_or tasks v None lt in
       rw (found.2) (has_task_is tasks v (get_or tasks v None) at
       ∙ reserved_where (found.0).reservation (get_or tasks v None)
       (are.each v found.0 (get_or tasks v None) found.2 at)))
-  | inr past ↦ rw (slice_get_past tasks v (let beyond = past.0 in let size = are.as_many in omega arith), past.1) refl
+  | inr past ↦
+      rw (
+        slice_get_past tasks v (let beyond = past.0 in let size = are.as_many in omega arith),
+        past.1,
+      ) refl
 ]
 
 -- where each vCPU has its task none is without a period
-pub none_without_period : (vcpus : List Vcpu) (tasks : List (Option Periodic)) (vcpu : ℕ) → AreTasksOf vcpus tasks
+pub none_without_period : (vcpus : List Vcpu) (tasks : List (Option Periodic)) (vcpu : ℕ)
+    → AreTasksOf vcpus tasks
     → IsFirstWithoutPeriod vcpus vcpu → ⊥
 none_without_period vcpus tasks vcpu are first =
-    let lt : vcpu < length tasks = (let within = slice_get_within vcpus vcpu first.vcpu first.at in let size = are.as_many in omega arith) in
+    let lt : vcpu < length tasks =
+    (let within = slice_get_within vcpus vcpu first.vcpu first.at in let size = are.as_many in omega arith) in
     lacks_none first.vcpu.reservation (get_or tasks vcpu None)
-    (are.each vcpu first.vcpu (get_or tasks vcpu None) first.at (slice_get-get_or tasks vcpu None lt)) first.lacks
+    (are.each vcpu first.vcpu (get_or tasks vcpu None) first.at
+    (slice_get-get_or tasks vcpu None lt)) first.lacks
   where
     lacks_none : (reservation : Option Reservation) (task : Option Periodic) → IsTaskOf reservation task
         → LacksPeriod reservation → ⊥
@@ -70,7 +79,8 @@ all_cost tasks cores homes laid vcpu task at = elim (laid.places.each vcpu (task
 pub no_memory_for_tasks : (vcpus : List Vcpu) (tasks : List (Option Periodic)) (fault : TaskFault)
     → AreTasksOf vcpus tasks → ((vcpu : ℕ) → fault ≡ NoPeriod vcpu → IsFirstWithoutPeriod vcpus vcpu) →
     fault_of_tasks fault ≡ plan.NoMemory
-no_memory_for_tasks vcpus tasks (NoPeriod vcpu) are told = absurd (none_without_period vcpus tasks vcpu are (told vcpu refl))
+no_memory_for_tasks vcpus tasks (NoPeriod vcpu) are told =
+    absurd (none_without_period vcpus tasks vcpu are (told vcpu refl))
 no_memory_for_tasks vcpus tasks NoMemory are told = refl
 
 -- each task has a home below the count of rows

@@ -17,7 +17,8 @@ use Rattle.plan_make.proofs.Exact.{each_or_refused, one_start, split_unique, wen
 use Rattle.plan_make.proofs.Plans.{none_without_period}
 
 -- the split of the left-over vCPUs comes to one that can't be split
-record Sticks (tasks : List (Option Periodic)) (cores : List (List Piece)) (homes : List (Option ℕ)) (before : List ℕ) (vcpu : ℕ) : Type 0 where
+record Sticks (tasks : List (Option Periodic)) (cores : List (List Piece)) (homes : List (Option ℕ))
+    (before : List ℕ) (vcpu : ℕ) : Type 0 where
   pub end : List (List Piece)
   pub homes' : List (Option ℕ)
   pub split : SplitsEach tasks cores homes before end homes'
@@ -27,15 +28,21 @@ record Sticks (tasks : List (Option Periodic)) (cores : List (List Piece)) (home
   pub over : List Over
   pub refuses : Refuses end vcpu task.period task.cost 0 (core_numbers end) rest over
 
-sticks_later : (tasks : List (Option Periodic)) (cores : List (List Piece)) (homes : List (Option ℕ)) (vcpu : ℕ) (next : ℕ) (before : List ℕ) (other : ℕ) →
+sticks_later : (tasks : List (Option Periodic)) (cores : List (List Piece))
+    (homes : List (Option ℕ)) (vcpu : ℕ) (next : ℕ) (before : List ℕ) (other : ℕ) →
     Sticks tasks cores homes [] vcpu → Sticks tasks cores homes (next ∷ before) other → vcpu ≡ next → ⊥
 sticks_later tasks cores homes vcpu next before other here later same =
-    let split = subst (λ v. SplitsEach tasks cores homes (v ∷ before) later.end later.homes') (sym same) later.split in
-    each_or_refused tasks cores homes [] vcpu before later.end here.end later.homes' here.homes' here.task here.rest here.over split here.split here.at here.refuses
+    let split = subst (λ v. SplitsEach tasks cores homes (v ∷ before) later.end later.homes')
+    (sym same) later.split in
+    each_or_refused tasks cores homes [] vcpu before later.end here.end later.homes' here.homes'
+    here.task here.rest here.over split here.split here.at here.refuses
 
 -- where both come to the next, so do they behind it
-next_sticks : (tasks : List (Option Periodic)) (cores : List (List Piece)) (homes : List (Option ℕ)) (next : ℕ) (before : List ℕ) (vcpu : ℕ) (pieces : List Piece) (is : Sticks tasks cores homes (next ∷ before) vcpu) →
-    pieces ≡ is.split.0 → Sticks tasks (with_pieces cores pieces) (set homes next (Some (home_of pieces))) before vcpu
+next_sticks : (tasks : List (Option Periodic)) (cores : List (List Piece)) (homes : List (Option ℕ))
+    (next : ℕ) (before : List ℕ) (vcpu : ℕ) (pieces : List Piece)
+    (is : Sticks tasks cores homes (next ∷ before) vcpu) →
+    pieces ≡ is.split.0 → Sticks tasks (with_pieces cores pieces)
+    (set homes next (Some (home_of pieces))) before vcpu
 next_sticks tasks cores homes next before vcpu pieces is same = record {
   end = is.end;
   homes' = is.homes';
@@ -47,8 +54,10 @@ next_sticks tasks cores homes next before vcpu pieces is same = record {
   refuses = is.refuses;
 }
 
-same_stuck : (tasks : List (Option Periodic)) (cores : List (List Piece)) (homes : List (Option ℕ)) (before before' : List ℕ) (vcpu vcpu' : ℕ) (after after' : List ℕ) →
-    before ++ vcpu ∷ after ≡ before' ++ vcpu' ∷ after' → Sticks tasks cores homes before vcpu → Sticks tasks cores homes before' vcpu' → vcpu ≡ vcpu'
+same_stuck : (tasks : List (Option Periodic)) (cores : List (List Piece)) (homes : List (Option ℕ))
+    (before before' : List ℕ) (vcpu vcpu' : ℕ) (after after' : List ℕ) →
+    before ++ vcpu ∷ after ≡ before' ++ vcpu' ∷ after' → Sticks tasks cores homes before vcpu
+    → Sticks tasks cores homes before' vcpu' → vcpu ≡ vcpu'
 same_stuck tasks cores homes [] [] vcpu vcpu' after after' same a b = cc
 same_stuck tasks cores homes [] (next ∷ before') vcpu vcpu' after after' same a b =
     let first : vcpu ≡ next = cc in
@@ -62,11 +71,14 @@ same_stuck tasks cores homes (next ∷ before) (next' ∷ before') vcpu vcpu' af
     let b' = subst (λ n. Sticks tasks cores homes (n ∷ before') vcpu') first b in
     let pieces = a.split.0 in
     let one = split_unique tasks cores next pieces b'.split.0 a.split.1 b'.split.1 in
-    same_stuck tasks (with_pieces cores pieces) (set homes next (Some (home_of pieces))) before before' vcpu vcpu' after after' rest
+    same_stuck tasks (with_pieces cores pieces)
+    (set homes next (Some (home_of pieces))) before before' vcpu vcpu' after after' rest
     (next_sticks tasks cores homes next before vcpu pieces a refl)
     (next_sticks tasks cores homes next before' vcpu' pieces b' one)
 
-sticks_of : (host : Host) (vcpu rest : ℕ) (over : List Over) (is : IsFirstWithoutRoom host vcpu rest over) → Sticks is.tasks is.start is.placed.core_of is.before vcpu
+sticks_of : (host : Host) (vcpu rest : ℕ) (over : List Over)
+    (is : IsFirstWithoutRoom host vcpu rest over)
+    → Sticks is.tasks is.start is.placed.core_of is.before vcpu
 sticks_of host vcpu rest over is = record {
   end = is.cores;
   homes' = is.homes;
@@ -79,33 +91,45 @@ sticks_of host vcpu rest over is = record {
 }
 
 -- one vCPU is the first without room
-pub one_without_room : (host : Host) (vcpu vcpu' rest rest' : ℕ) (over over' : List Over) → IsFirstWithoutRoom host vcpu rest over → IsFirstWithoutRoom host vcpu' rest' over' → vcpu ≡ vcpu'
+pub one_without_room : (host : Host) (vcpu vcpu' rest rest' : ℕ) (over over' : List Over)
+    → IsFirstWithoutRoom host vcpu rest over → IsFirstWithoutRoom host vcpu' rest' over'
+    → vcpu ≡ vcpu'
 one_without_room host vcpu vcpu' rest rest' over over' a b =
     let same = one_start host a.tasks b.tasks a.placed b.placed a.start b.start a.is_start b.is_start in
     let moved = subst (λ cs. Sticks b.tasks cs b.placed.core_of a.before vcpu) same.start_same
     (subst (λ (p : Placed). Sticks b.tasks a.start p.core_of a.before vcpu) same.placed_same
-    (subst (λ ts. Sticks ts a.start a.placed.core_of a.before vcpu) same.tasks_same (sticks_of host vcpu rest over a))) in
-    let left : a.before ++ vcpu ∷ a.after ≡ b.before ++ vcpu' ∷ b.after = sym a.left_is ∙ ap (λ (p : Placed). p.left) same.placed_same ∙ b.left_is in
-    same_stuck b.tasks b.start b.placed.core_of a.before b.before vcpu vcpu' a.after b.after left moved (sticks_of host vcpu' rest' over' b)
+    (subst (λ ts. Sticks ts a.start a.placed.core_of a.before vcpu) same.tasks_same
+    (sticks_of host vcpu rest over a))) in
+    let left : a.before ++ vcpu ∷ a.after ≡ b.before ++ vcpu' ∷ b.after =
+    sym a.left_is ∙ ap (λ (p : Placed). p.left) same.placed_same ∙ b.left_is in
+    same_stuck b.tasks b.start b.placed.core_of a.before b.before vcpu vcpu' a.after b.after left
+    moved (sticks_of host vcpu' rest' over' b)
 
 has_or_lacks : (reservation : Option Reservation) → IfSome reservation HasPeriod → LacksPeriod reservation → ⊥
 has_or_lacks None has lacks = lacks
 has_or_lacks (Some r) has lacks = lacks has
 
-not_lower : (vcpus : List Vcpu) (vcpu vcpu' : ℕ) → IsFirstWithoutPeriod vcpus vcpu → IsFirstWithoutPeriod vcpus vcpu' → vcpu < vcpu' → ⊥
-not_lower vcpus vcpu vcpu' a b lower = has_or_lacks a.vcpu.reservation (b.lowest vcpu a.vcpu lower a.at) a.lacks
+not_lower : (vcpus : List Vcpu) (vcpu vcpu' : ℕ) → IsFirstWithoutPeriod vcpus vcpu
+    → IsFirstWithoutPeriod vcpus vcpu' → vcpu < vcpu' → ⊥
+not_lower vcpus vcpu vcpu' a b lower =
+    has_or_lacks a.vcpu.reservation (b.lowest vcpu a.vcpu lower a.at) a.lacks
 
 -- one vCPU is the first without a period
-pub one_without_period : (vcpus : List Vcpu) (vcpu vcpu' : ℕ) → IsFirstWithoutPeriod vcpus vcpu → IsFirstWithoutPeriod vcpus vcpu' → vcpu ≡ vcpu'
+pub one_without_period : (vcpus : List Vcpu) (vcpu vcpu' : ℕ) → IsFirstWithoutPeriod vcpus vcpu
+    → IsFirstWithoutPeriod vcpus vcpu' → vcpu ≡ vcpu'
 one_without_period vcpus vcpu vcpu' a b =
     let over = not_lower vcpus vcpu vcpu' a b in
     let under = not_lower vcpus vcpu' vcpu b a in
     omega arith
 
 -- and then the host has no plan
-pub planned_or_without_period : (host : Host) (plan : PlanView) (vcpu : ℕ) → IsPlanned host plan → IsFirstWithoutPeriod host.vcpus vcpu → ⊥
-planned_or_without_period host plan vcpu planned first = none_without_period host.vcpus plan.tasks vcpu planned.is_start.tasks_are first
+pub planned_or_without_period : (host : Host) (plan : PlanView) (vcpu : ℕ) → IsPlanned host plan
+    → IsFirstWithoutPeriod host.vcpus vcpu → ⊥
+planned_or_without_period host plan vcpu planned first =
+    none_without_period host.vcpus plan.tasks vcpu planned.is_start.tasks_are first
 
 -- nor is one without room
-pub room_or_without_period : (host : Host) (vcpu vcpu' rest : ℕ) (over : List Over) → IsFirstWithoutRoom host vcpu' rest over → IsFirstWithoutPeriod host.vcpus vcpu → ⊥
-room_or_without_period host vcpu vcpu' rest over room first = none_without_period host.vcpus room.tasks vcpu room.is_start.tasks_are first
+pub room_or_without_period : (host : Host) (vcpu vcpu' rest : ℕ) (over : List Over)
+    → IsFirstWithoutRoom host vcpu' rest over → IsFirstWithoutPeriod host.vcpus vcpu → ⊥
+room_or_without_period host vcpu vcpu' rest over room first =
+    none_without_period host.vcpus room.tasks vcpu room.is_start.tasks_are first

@@ -34,21 +34,27 @@ others_elsewhere ps i p at apart = of_core_none p.core (take i ps) (λ k d lt sa
     let before : k < i = omega (arith, length-take i ps) in
     let listed : k < length ps = omega (arith, length-take i ps) in
     let read = get_or-take i ps k d before in
-    let place = apart k i (get_or ps k d) p (slice_get-get_or ps k d listed) at (ap (λ (q : Piece). q.core) (sym read) ∙ same) in
+    let place = apart k i (get_or ps k d) p (slice_get-get_or ps k d listed) at
+    (ap (λ (q : Piece). q.core) (sym read) ∙ same) in
     absurd (omega arith)))
 
-pub core_as_before : (cores : List (List Piece)) (ps : List Piece) (i : ℕ) (p : Piece) → slice_get ps i ≡ Some p
+pub core_as_before : (cores : List (List Piece)) (ps : List Piece) (i : ℕ) (p : Piece)
+    → slice_get ps i ≡ Some p
     → StandApart ps → StandBelow (length cores) ps →
     pieces_on (with_pieces cores (take i ps)) p.core ≡ pieces_on cores p.core
 core_as_before cores ps i p at apart below =
-    pieces_on-with_pieces cores (take i ps) p.core (All-take (λ (q : Piece). q.core < length cores) i ps below)
-    ∙ ap (λ qs. pieces_on cores p.core ++ qs) (others_elsewhere ps i p at apart) ∙ append-nil (pieces_on cores p.core)
+    pieces_on-with_pieces cores (take i ps) p.core
+    (All-take (λ (q : Piece). q.core < length cores) i ps below)
+    ∙ ap (λ qs. pieces_on cores p.core ++ qs) (others_elsewhere ps i p at apart)
+    ∙ append-nil (pieces_on cores p.core)
 
 -- the last is on the home
-pub home_of_last : (ps : List Piece) (d : Piece) → 0 < length ps → (get_or ps (length ps - 1) d).core ≡ home_of ps
+pub home_of_last : (ps : List Piece) (d : Piece) → 0 < length ps
+    → (get_or ps (length ps - 1) d).core ≡ home_of ps
 home_of_last [] d lt = absurd (omega arith)
 home_of_last (p ∷ []) d lt = refl
-home_of_last (p ∷ q ∷ ps) d lt = ap (λ (r : Piece). r.core) (step (length ps)) ∙ home_of_last (q ∷ ps) d (omega arith)
+home_of_last (p ∷ q ∷ ps) d lt = ap (λ (r : Piece). r.core) (step (length ps))
+    ∙ home_of_last (q ∷ ps) d (omega arith)
   where
     step : (n : ℕ) → get_or (p ∷ q ∷ ps) (suc (suc n) - 1) d ≡ get_or (q ∷ ps) (suc n - 1) d
     step n = ap (λ m. get_or (p ∷ q ∷ ps) m d) (let e : suc (suc n) - 1 ≡ suc n = omega arith in e)
@@ -63,7 +69,9 @@ some_piece cores vcpu period rest from unused (p ∷ ps) splits = omega arith
 pub home_below : (count : ℕ) (ps : List Piece) → 0 < length ps → StandBelow count ps → home_of ps < count
 home_below count [] lt below = absurd (omega arith)
 home_below count (p ∷ []) lt below = All-head (λ (q : Piece). q.core < count) p [] below
-home_below count (p ∷ q ∷ ps) lt below = home_below count (q ∷ ps) (omega arith) (All-tail (λ (r : Piece). r.core < count) p (q ∷ ps) below)
+home_below count (p ∷ q ∷ ps) lt below =
+    home_below count (q ∷ ps) (omega arith)
+    (All-tail (λ (r : Piece). r.core < count) p (q ∷ ps) below)
 
 -- the windows of earlier pieces end before those of later ones begin
 
@@ -85,7 +93,8 @@ ends_before (r ∷ ps) from to zero (suc n) p q follow lt at at' =
     let same = ap (λ (s : Piece). s.to) (same_Some r p at) in
     let later = begins_later ps r.to to n q follow.1 at' in
     omega arith
-ends_before (r ∷ ps) from to (suc m) (suc n) p q follow lt at at' = ends_before ps r.to to m n p q follow.1 (omega arith) at at'
+ends_before (r ∷ ps) from to (suc m) (suc n) p q follow lt at at' =
+    ends_before ps r.to to m n p q follow.1 (omega arith) at at'
 
 -- what a vCPU gets of pieces
 
@@ -96,18 +105,22 @@ cost_on_none vcpu ps lack =
     (λ k d lt. rw (ne_eqb (get_or ps k d).vcpu vcpu (lack k d lt)) (omega arith)) in
     omega arith
 
-pub costs_none : (vcpu : ℕ) (cores : List (List Piece)) → All (LackVcpu vcpu) cores → sum_by (cost_on vcpu) cores ≡ 0
+pub costs_none : (vcpu : ℕ) (cores : List (List Piece)) → All (LackVcpu vcpu) cores
+    → sum_by (cost_on vcpu) cores ≡ 0
 costs_none vcpu cores lack =
-    let none = sum_by-le (cost_on vcpu) 0 cores (λ k d lt. omega (arith, cost_on_none vcpu (get_or cores k d) (lack k d lt))) in
+    let none = sum_by-le (cost_on vcpu) 0 cores
+    (λ k d lt. omega (arith, cost_on_none vcpu (get_or cores k d) (lack k d lt))) in
     omega arith
 
-pub cost_on_all : (vcpu : ℕ) (ps : List Piece) → All (λ p. p.vcpu ≡ vcpu) ps → cost_on vcpu ps ≡ sum_by (λ p. p.cost) ps
+pub cost_on_all : (vcpu : ℕ) (ps : List Piece) → All (λ p. p.vcpu ≡ vcpu) ps
+    → cost_on vcpu ps ≡ sum_by (λ p. p.cost) ps
 unfolding cost_on
 cost_on_all vcpu [] all = refl
 cost_on_all vcpu (p ∷ ps) all =
     let P : Piece → Type 0 = λ q. q.vcpu ≡ vcpu in
     let rest = cost_on_all vcpu ps (All-tail P p ps all) in
-    let this : cond (eqb p.vcpu vcpu) p.cost 0 ≡ p.cost = rw (eq-eqb p.vcpu vcpu (All-head P p ps all)) refl in
+    let this : cond (eqb p.vcpu vcpu) p.cost 0 ≡ p.cost =
+    rw (eq-eqb p.vcpu vcpu (All-head P p ps all)) refl in
     let first = sum_by-cons (λ (q : Piece). cond (eqb q.vcpu vcpu) q.cost 0) p ps in
     let first' = sum_by-cons (λ (q : Piece). q.cost) p ps in
     omega arith
@@ -118,14 +131,17 @@ next_at : (ps : List Piece) (i : ℕ) (p : Piece) → i < length ps → p ≡ ge
 next_at ps i p lt is = slice_get-get_or ps i p lt ∙ ap Some (sym is)
 
 next_as_before : (cores : List (List Piece)) (ps : List Piece) (i : ℕ) (p : Piece) (now : List (List Piece)) →
-    now ≡ with_pieces cores (take i ps) → i < length ps → p ≡ get_or ps i p → StandApart ps → FitTheirCores cores ps →
+    now ≡ with_pieces cores (take i ps) → i < length ps → p ≡ get_or ps i p → StandApart ps
+    → FitTheirCores cores ps →
     pieces_on now p.core ≡ pieces_on cores p.core
 next_as_before cores ps i p now added lt is apart fit =
-    ap (λ cs. pieces_on cs p.core) added ∙ core_as_before cores ps i p (next_at ps i p lt is) apart (below_from_fit cores ps fit)
+    ap (λ cs. pieces_on cs p.core) added
+    ∙ core_as_before cores ps i p (next_at ps i p lt is) apart (below_from_fit cores ps fit)
 
 -- the next one has room on its core
 pub next_fits : (cores : List (List Piece)) (ps : List Piece) (i : ℕ) (p : Piece) (now : List (List Piece)) →
-    now ≡ with_pieces cores (take i ps) → i < length ps → p ≡ get_or ps i p → StandApart ps → FitTheirCores cores ps →
+    now ≡ with_pieces cores (take i ps) → i < length ps → p ≡ get_or ps i p → StandApart ps
+    → FitTheirCores cores ps →
     (p.core < length now) × HaveRoomFor (pieces_on now p.core) p
 next_fits cores ps i p now added lt is apart fit =
     let At : Piece → Type 0 = λ q. (q.core < length cores) × HaveRoomFor (pieces_on cores q.core) q in
@@ -136,13 +152,17 @@ next_fits cores ps i p now added lt is apart fit =
 
 -- and none of its vCPU is there
 pub next_lacks : (cores : List (List Piece)) (ps : List Piece) (i : ℕ) (p : Piece) (now : List (List Piece)) →
-    now ≡ with_pieces cores (take i ps) → i < length ps → p ≡ get_or ps i p → StandApart ps → FitTheirCores cores ps →
+    now ≡ with_pieces cores (take i ps) → i < length ps → p ≡ get_or ps i p → StandApart ps
+    → FitTheirCores cores ps →
     All (λ q. LackVcpu q.vcpu (pieces_on cores q.core)) ps → LackVcpu p.vcpu (pieces_on now p.core)
 next_lacks cores ps i p now added lt is apart fit lack =
     let before = next_as_before cores ps i p now added lt is apart fit in
-    subst (LackVcpu p.vcpu) (sym before) (all_at (λ (q : Piece). LackVcpu q.vcpu (pieces_on cores q.core)) ps i p lack (next_at ps i p lt is))
+    subst (LackVcpu p.vcpu) (sym before)
+    (all_at (λ (q : Piece). LackVcpu q.vcpu (pieces_on cores q.core)) ps i p lack
+    (next_at ps i p lt is))
 
-pub one_more_added : (cores : List (List Piece)) (ps : List Piece) (i : ℕ) (p : Piece) (now end : List (List Piece)) →
+pub one_more_added : (cores : List (List Piece)) (ps : List Piece) (i : ℕ) (p : Piece)
+    (now end : List (List Piece)) →
     now ≡ with_pieces cores (take i ps) → i < length ps → p ≡ get_or ps i p → end ≡ with_piece now p →
     end ≡ with_pieces cores (take (i + 1) ps)
 one_more_added cores ps i p now end added lt is more =

@@ -36,10 +36,13 @@ next_is_new n tasks homes count cores core stand there =
 -- a core's pieces with that of the next vCPU
 stand_on_home : (n : ℕ) (tasks : List (Option Periodic)) (homes : List (Option ℕ)) (count : ℕ)
     (cores : List (List Piece)) (task : Periodic) (core : ℕ) (p : Piece) →
-    FirstStand n tasks homes count cores → core < count → slice_get tasks n ≡ Some (Some task) → slice_get homes n ≡ Some (Some core) →
-    subtask_of p ≡ whole n task → map subtask_of (pieces_on cores core ++ p ∷ []) ≡ wholes_from core 0 (take (n + 1) tasks) (take (n + 1) homes)
+    FirstStand n tasks homes count cores → core < count → slice_get tasks n ≡ Some (Some task)
+    → slice_get homes n ≡ Some (Some core) →
+    subtask_of p ≡ whole n task → map subtask_of (pieces_on cores core ++ p ∷ [])
+    ≡ wholes_from core 0 (take (n + 1) tasks) (take (n + 1) homes)
 stand_on_home n tasks homes count cores task core p stand there at at' is =
-    let here : whole_at core n (Some task) (Some core) ≡ subtask_of p ∷ [] = rw (eq-eqb core core refl) (ap (λ s. s ∷ []) (sym is)) in
+    let here : whole_at core n (Some task) (Some core) ≡ subtask_of p ∷ [] =
+    rw (eq-eqb core core refl) (ap (λ s. s ∷ []) (sym is)) in
     map_push subtask_of (pieces_on cores core) p ∙ ap (λ ss. ss ++ subtask_of p ∷ []) (stand.stand core there)
     ∙ sym (ap (λ ss. wholes_from core 0 (take n tasks) (take n homes) ++ ss) here)
     ∙ sym (wholes_from-take_more core n tasks homes (Some task) (Some core) at at')
@@ -47,19 +50,26 @@ stand_on_home n tasks homes count cores task core p stand there at at' is =
 -- it has room on its core
 pub next_has_room : (n : ℕ) (tasks : List (Option Periodic)) (homes : List (Option ℕ)) (count : ℕ)
     (cores : List (List Piece)) (task : Periodic) (core : ℕ) (p : Piece) →
-    FirstStand n tasks homes count cores → FitsEachCore tasks count homes → core < count → slice_get tasks n ≡ Some (Some task) → slice_get homes n ≡ Some (Some core) →
+    FirstStand n tasks homes count cores → FitsEachCore tasks count homes → core < count
+    → slice_get tasks n ≡ Some (Some task) → slice_get homes n ≡ Some (Some core) →
     subtask_of p ≡ whole n task → HaveRoomFor (pieces_on cores core) p
 next_has_room n tasks homes count cores task core p stand fits there at at' is =
-    wholes_fit core (n + 1) tasks homes (pieces_on cores core ++ p ∷ []) (stand_on_home n tasks homes count cores task core p stand there at at' is) (fits core there)
+    wholes_fit core (n + 1) tasks homes (pieces_on cores core ++ p ∷ [])
+    (stand_on_home n tasks homes count cores task core p stand there at at' is)
+    (fits core there)
 
 -- with its piece one vCPU more stands whole
 pub next_stands : (n : ℕ) (tasks : List (Option Periodic)) (homes : List (Option ℕ)) (count : ℕ)
     (cores : List (List Piece)) (task : Periodic) (core : ℕ) (p : Piece) →
-    FirstStand n tasks homes count cores → core < count → slice_get tasks n ≡ Some (Some task) → slice_get homes n ≡ Some (Some core) →
+    FirstStand n tasks homes count cores → core < count → slice_get tasks n ≡ Some (Some task)
+    → slice_get homes n ≡ Some (Some core) →
     subtask_of p ≡ whole n task → p.core ≡ core → FirstStand (n + 1) tasks homes count (with_piece cores p)
 next_stands n tasks homes count cores task core p stand there at at' is on = record {
   size = length-set cores p.core (pieces_on cores p.core ++ p ∷ []) ∙ stand.size;
-  own = λ other. subst (All (λ q. q.core ≡ other)) (sym (pieces_on-with_piece cores p other in_range)) (All-append (λ q. q.core ≡ other) (pieces_on cores other) (cond (eqb p.core other) (p ∷ []) []) (stand.own other) (new_own other));
+  own = λ other. subst (All (λ q. q.core ≡ other))
+      (sym (pieces_on-with_piece cores p other in_range))
+      (All-append (λ q. q.core ≡ other) (pieces_on cores other)
+      (cond (eqb p.core other) (p ∷ []) []) (stand.own other) (new_own other));
   stand = λ other lt. ap (map subtask_of) (pieces_on-with_piece cores p other in_range)
       ∙ map-append subtask_of (pieces_on cores other) (cond (eqb p.core other) (p ∷ []) [])
       ∙ ap (λ ss. ss ++ map subtask_of (cond (eqb p.core other) (p ∷ []) [])) (stand.stand other lt)
@@ -72,16 +82,19 @@ next_stands n tasks homes count cores task core p stand there at at' is on = rec
 
     new_own : (other : ℕ) → All (λ q. q.core ≡ other) (cond (eqb p.core other) (p ∷ []) [])
     new_own other = elim (cases_Bool (eqb p.core other)) [
-      | inl same ↦ rw same (All-cons (λ q. q.core ≡ other) p [] (eqb-true p.core other same) (All-nil (λ (q : Piece). q.core ≡ other)))
+      | inl same ↦
+          rw same (All-cons (λ q. q.core ≡ other) p [] (eqb-true p.core other same)
+          (All-nil (λ (q : Piece). q.core ≡ other)))
       | inr not ↦ rw not (All-nil (λ (q : Piece). q.core ≡ other))
     ]
 
     new_at : (other : ℕ)
         → map subtask_of (cond (eqb p.core other) (p ∷ []) []) ≡ whole_at other n (Some task) (Some core)
-    new_at other = subst (λ c. map subtask_of (cond (eqb p.core other) (p ∷ []) []) ≡ whole_at other n (Some task) (Some c)) on (elim (cases_Bool (eqb p.core other)) [
-      | inl same ↦ rw same (ap (λ s. s ∷ []) is)
-      | inr not ↦ rw not refl
-    ])
+    new_at other = subst (λ c. map subtask_of (cond (eqb p.core other) (p ∷ []) [])
+        ≡ whole_at other n (Some task) (Some c)) on (elim (cases_Bool (eqb p.core other)) [
+          | inl same ↦ rw same (ap (λ s. s ∷ []) is)
+          | inr not ↦ rw not refl
+        ])
 
 -- a vCPU that stands on no core changes nothing
 pub next_is_none : (n : ℕ) (tasks : List (Option Periodic)) (homes : List (Option ℕ)) (count : ℕ)
@@ -97,11 +110,13 @@ next_is_none n tasks homes count cores task home stand at at' none = record {
 }
 
 -- at first nobody stands anywhere
-pub none_stand : (tasks : List (Option Periodic)) (homes : List (Option ℕ)) (count : ℕ) (cores : List (List Piece))
+pub none_stand : (tasks : List (Option Periodic)) (homes : List (Option ℕ)) (count : ℕ)
+    (cores : List (List Piece))
     → cores ≡ replicate count [] → FirstStand 0 tasks homes count cores
 none_stand tasks homes count cores empty = record {
   size = ap length empty ∙ length-replicate count [];
-  own = λ core. subst (All (λ p. p.core ≡ core)) (sym (nothing core)) (All-nil (λ (p : Piece). p.core ≡ core));
+  own = λ core. subst (All (λ p. p.core ≡ core)) (sym (nothing core))
+      (All-nil (λ (p : Piece). p.core ≡ core));
   stand = λ core lt. ap (map subtask_of) (nothing core) ∙ sym (wholes_from-none core);
 }
   where

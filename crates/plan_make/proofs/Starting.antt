@@ -27,7 +27,8 @@ whole_on : (tasks : List (Option Periodic)) (homes : List (Option ℕ)) (count :
 whole_on tasks homes count cores stand core i p at = elim (cases_lt core count) [
   | inl lt ↦ all_at (λ (q : Piece). IsWholeOn core 0 tasks homes (subtask_of q)) (pieces_on cores core) i p
       (All-from_map subtask_of (IsWholeOn core 0 tasks homes) (pieces_on cores core)
-      (subst (All (IsWholeOn core 0 tasks homes)) (sym (stand.stand core lt)) (all_whole_on core 0 tasks homes))) at
+      (subst (All (IsWholeOn core 0 tasks homes)) (sym (stand.stand core lt))
+      (all_whole_on core 0 tasks homes))) at
   | inr past ↦ (let past' : length cores ≤ core = subst (λ n. n ≤ core) (sym stand.size) past in
       let nothing = ap (λ ps. slice_get ps i) (sym (get_or_past cores core [] past')) ∙ at in absurd (cc))
 ]
@@ -58,7 +59,8 @@ cost_on_subtasks vcpu (p ∷ ps) =
 
 no_cost : (vcpu : ℕ) (ss : List Subtask) → All (λ s. s.vcpu ≡ vcpu → ⊥) ss → sum_by (cost_of vcpu) ss ≡ 0
 no_cost vcpu ss none =
-    let zero_sum = sum_by-le (cost_of vcpu) 0 ss (λ k d lt. rw (ne_eqb (get_or ss k d).vcpu vcpu (none k d lt)) (omega arith)) in
+    let zero_sum = sum_by-le (cost_of vcpu) 0 ss
+    (λ k d lt. rw (ne_eqb (get_or ss k d).vcpu vcpu (none k d lt)) (omega arith)) in
     omega arith
 
 later_cost : (core first vcpu : ℕ) (tasks : List (Option Periodic)) (homes : List (Option ℕ)) → vcpu < first
@@ -72,7 +74,8 @@ later_cost core first vcpu tasks homes lt = no_cost vcpu (wholes_from core first
 own_cost : (core vcpu : ℕ) (task : Periodic) (home : ℕ)
     → sum_by (cost_of vcpu) (whole_at core vcpu (Some task) (Some home)) ≡ cond (eqb home core) task.cost 0
 own_cost core vcpu task home = elim (cases_Bool (eqb home core)) [
-  | inl same ↦ rw same (sum_by-cons (cost_of vcpu) (whole vcpu task) [] ∙ rw (eq-eqb vcpu vcpu refl) (omega arith))
+  | inl same ↦ rw same (sum_by-cons (cost_of vcpu) (whole vcpu task) []
+      ∙ rw (eq-eqb vcpu vcpu refl) (omega arith))
   | inr not ↦ rw not refl
 ]
 
@@ -85,7 +88,8 @@ other_cost core vcpu other (Some task) (Some home) ne = elim (cases_Bool (eqb ho
   | inr not ↦ rw not refl
 ]
 
-cost_of_wholes : (core first n : ℕ) (tasks : List (Option Periodic)) (homes : List (Option ℕ)) (task : Periodic)
+cost_of_wholes : (core first n : ℕ) (tasks : List (Option Periodic)) (homes : List (Option ℕ))
+    (task : Periodic)
     (home : ℕ)
     → slice_get tasks n ≡ Some (Some task) → slice_get homes n ≡ Some (Some home) →
     sum_by (cost_of (first + n)) (wholes_from core first tasks homes) ≡ cond (eqb home core) task.cost 0
@@ -94,29 +98,34 @@ cost_of_wholes core first n [] homes task home at at' = absurd (cc)
 cost_of_wholes core first n (t ∷ tasks) [] task home at at' = absurd (cc)
 cost_of_wholes core first zero (t ∷ tasks) (h ∷ homes) task home at at' =
     let number : first + 0 ≡ first = omega arith in
-    let all = sum_by-append (cost_of first) (whole_at core first t h) (wholes_from core (first + 1) tasks homes) in
+    let all = sum_by-append (cost_of first) (whole_at core first t h)
+    (wholes_from core (first + 1) tasks homes) in
     let rest = later_cost core (first + 1) first tasks homes (omega arith) in
     let t_is : t ≡ Some task = cc in
     let h_is : h ≡ Some home = cc in
     let here = ap (λ x. sum_by (cost_of first) (whole_at core first x h)) t_is
-    ∙ ap (λ x. sum_by (cost_of first) (whole_at core first (Some task) x)) h_is ∙ own_cost core first task home in
+    ∙ ap (λ x. sum_by (cost_of first) (whole_at core first (Some task) x)) h_is
+    ∙ own_cost core first task home in
     ap (λ v. sum_by (cost_of v) (wholes_from core first (t ∷ tasks) (h ∷ homes))) number ∙ omega arith
 cost_of_wholes core first (suc n) (t ∷ tasks) (h ∷ homes) task home at at' =
     let number : first + suc n ≡ (first + 1) + n = omega arith in
-    let all = sum_by-append (cost_of ((first + 1) + n)) (whole_at core first t h) (wholes_from core (first + 1) tasks homes) in
+    let all = sum_by-append (cost_of ((first + 1) + n)) (whole_at core first t h)
+    (wholes_from core (first + 1) tasks homes) in
     let rest = cost_of_wholes core (first + 1) n tasks homes task home at at' in
     let here = other_cost core ((first + 1) + n) first t h (λ e. omega arith) in
     ap (λ v. sum_by (cost_of v) (wholes_from core first (t ∷ tasks) (h ∷ homes))) number ∙ omega arith
 
 -- on its home a vCPU gets its cost, and on no other core anything
-cost_where : (tasks : List (Option Periodic)) (homes : List (Option ℕ)) (count : ℕ) (cores : List (List Piece))
+cost_where : (tasks : List (Option Periodic)) (homes : List (Option ℕ)) (count : ℕ)
+    (cores : List (List Piece))
     → StandWhole tasks homes count cores → (core vcpu home : ℕ) (task : Periodic) → core < count →
     slice_get tasks vcpu ≡ Some (Some task) → slice_get homes vcpu ≡ Some (Some home)
     → cost_on vcpu (pieces_on cores core) ≡ cond (eqb home core) task.cost 0
 cost_where tasks homes count cores stand core vcpu home task lt at at' =
     let number : 0 + vcpu ≡ vcpu = omega arith in
     cost_on_subtasks vcpu (pieces_on cores core) ∙ ap (sum_by (cost_of vcpu)) (stand.stand core lt)
-    ∙ sym (ap (λ v. sum_by (cost_of v) (wholes_from core 0 tasks homes)) number) ∙ cost_of_wholes core 0 vcpu tasks homes task home at at'
+    ∙ sym (ap (λ v. sum_by (cost_of v) (wholes_from core 0 tasks homes)) number)
+    ∙ cost_of_wholes core 0 vcpu tasks homes task home at at'
 
 -- a sum of which one term alone counts
 sum_at_one : {X : Type 0} (f : X → ℕ) (xs : List X) (at : ℕ) (d : X) (value : ℕ) → at < length xs → f d ≡ 0
@@ -124,9 +133,12 @@ sum_at_one : {X : Type 0} (f : X → ℕ) (xs : List X) (at : ℕ) (d : X) (valu
     → sum_by f xs ≡ value
 sum_at_one f xs at d value lt none here elsewhere =
     let change = sum_by-set f xs at d d lt in
-    let nothing = sum_by-le f 0 (set xs at d) (All-from_get_or (λ x. f x ≤ 0) (set xs at d) d (λ k lt'. elim (cases_eq k at) [
-      | inl same ↦ (let read = ap (λ j. f (get_or (set xs at d) j d)) same ∙ ap f (get_or-set_same xs at d d lt) in omega arith)
-      | inr ne ↦ (let read = ap f (get_or-set_other xs at k d d ne) in let e = elsewhere k (omega (arith, length-set xs at d)) ne in omega arith)
+    let nothing = sum_by-le f 0 (set xs at d)
+    (All-from_get_or (λ x. f x ≤ 0) (set xs at d) d (λ k lt'. elim (cases_eq k at) [
+      | inl same ↦
+          (let read = ap (λ j. f (get_or (set xs at d) j d)) same ∙ ap f (get_or-set_same xs at d d lt) in omega arith)
+      | inr ne ↦
+          (let read = ap f (get_or-set_other xs at k d d ne) in let e = elsewhere k (omega (arith, length-set xs at d)) ne in omega arith)
     ])) in
     omega arith
 
@@ -146,17 +158,27 @@ pub start_is_allotted : (tasks : List (Option Periodic)) (homes : List (Option �
     AreAllottedTo tasks homes cores
 start_is_allotted tasks homes count cores stand there = record {
   of_tasks = λ core i p at. (let w = whole_on tasks homes count cores stand core i p at in
-      record { task = w.task; at = ap (slice_get tasks) (number_is core tasks homes p w) ∙ w.at; period = ap (λ (s : Subtask). s.period) w.is });
+      record {
+        task = w.task;
+        at = ap (slice_get tasks) (number_is core tasks homes p w) ∙ w.at;
+        period = ap (λ (s : Subtask). s.period) w.is;
+      });
   costs = λ vcpu home task at at'. (
       let below = (there vcpu home at).0 in
       sum_at_one (cost_on vcpu) cores home [] task.cost (subst (λ n. home < n) (sym stand.size) below)
       (cost_on_none vcpu [] (λ k d lt e. absurd (omega arith)))
-      (cost_where tasks homes count cores stand home vcpu home task below at' at ∙ rw (eq-eqb home home refl) refl)
-      (λ k lt ne. cost_where tasks homes count cores stand k vcpu home task (subst (λ n. k < n) stand.size lt) at' at
+      (cost_where tasks homes count cores stand home vcpu home task below at' at
+      ∙ rw (eq-eqb home home refl) refl)
+      (λ k lt ne. cost_where tasks homes count cores stand k vcpu home task
+      (subst (λ n. k < n) stand.size lt) at' at
       ∙ rw (ne_eqb home k (λ e. ne (sym e))) refl));
   lack = λ vcpu homeless. All-from_get_or (LackVcpu vcpu) cores []
       (λ core lt. all_from_places (λ (p : Piece). p.vcpu ≡ vcpu → ⊥) (pieces_on cores core) (λ i p at same.
-      homeless (core, ap (slice_get homes) (sym same) ∙ home_is core tasks homes p (whole_on tasks homes count cores stand core i p at))));
+      homeless (
+        core,
+        ap (slice_get homes) (sym same)
+            ∙ home_is core tasks homes p (whole_on tasks homes count cores stand core i p at),
+      )));
   at_home = λ vcpu home at. (
       let on = there vcpu home at in
       let task : Periodic = on.1.0 in
@@ -174,16 +196,19 @@ start_is_allotted tasks homes count cores stand there = record {
     same_home core other p q a b one = (let e = sym a ∙ ap (slice_get homes) one ∙ b in cc)
 
 -- at first those that stand whole are laid out
-pub start_is_laid_out : (tasks : List (Option Periodic)) (placed : Placed) (count : ℕ) (cores : List (List Piece))
+pub start_is_laid_out : (tasks : List (Option Periodic)) (placed : Placed) (count : ℕ)
+    (cores : List (List Piece))
     → PlacesEach tasks count placed → StandWhole tasks placed.core_of count cores →
     AreLaidOut tasks cores placed.core_of placed.left
 start_is_laid_out tasks placed count cores places stand = record {
   places = subst (λ n. PlacesEach tasks n placed) (sym stand.size) places;
-  allotted = start_is_allotted tasks placed.core_of count cores stand (λ vcpu home at. (let on = places.on_core vcpu home at in (on.0, on.1)));
+  allotted = start_is_allotted tasks placed.core_of count cores stand
+      (λ vcpu home at. (let on = places.on_core vcpu home at in (on.0, on.1)));
 }
 
 -- the same, of what the calls gave: the tasks, homes and left-over vCPUs are read through references
-pub record IsRead (tasks tasks' : List (Option Periodic)) (placed : Placed) (homes : List (Option ℕ)) (left : List ℕ) : Type 0 where
+pub record IsRead (tasks tasks' : List (Option Periodic)) (placed : Placed)
+    (homes : List (Option ℕ)) (left : List ℕ) : Type 0 where
   pub tasks_are : tasks' ≡ tasks
   pub homes_are : homes ≡ placed.core_of
   pub left_is : left ≡ placed.left
@@ -195,9 +220,11 @@ pub read_is_laid_out : (tasks tasks' : List (Option Periodic)) (placed : Placed)
 read_is_laid_out tasks tasks' placed homes left count cores read places stand =
     subst (λ ts. AreLaidOut ts cores homes left) (sym read.tasks_are)
     (subst (λ hs. AreLaidOut tasks cores hs left) (sym read.homes_are)
-    (subst (AreLaidOut tasks cores placed.core_of) (sym read.left_is) (start_is_laid_out tasks placed count cores places stand)))
+    (subst (AreLaidOut tasks cores placed.core_of) (sym read.left_is)
+    (start_is_laid_out tasks placed count cores places stand)))
 
-pub read_is_stuck : (tasks tasks' : List (Option Periodic)) (placed : Placed) (homes : List (Option ℕ)) (left : List ℕ)
+pub read_is_stuck : (tasks tasks' : List (Option Periodic)) (placed : Placed)
+    (homes : List (Option ℕ)) (left : List ℕ)
     (cores : List (List Piece)) (fault : SplitFault) → IsRead tasks tasks' placed homes left →
     IsStuckFault tasks' cores homes left fault → IsStuckFault tasks cores placed.core_of placed.left fault
 read_is_stuck tasks tasks' placed homes left cores fault read stuck =

@@ -20,7 +20,9 @@ use Rattle.plan_make.specs.Layout.{whole, whole_at, wholes_from}
 wholes_from-take_suc : (core first n : ℕ) (tasks : List (Option Periodic)) (homes : List (Option ℕ))
     (task : Option Periodic) (home : Option ℕ) →
     slice_get tasks n ≡ Some task → slice_get homes n ≡ Some home →
-    wholes_from core first (take (suc n) tasks) (take (suc n) homes) ≡ wholes_from core first (take n tasks) (take n homes) ++ whole_at core (first + n) task home
+    wholes_from core first (take (suc n) tasks) (take (suc n) homes)
+    ≡ wholes_from core first (take n tasks) (take n homes)
+    ++ whole_at core (first + n) task home
 unfolding wholes_from
 wholes_from-take_suc core first zero [] homes task home at at' = absurd (cc)
 wholes_from-take_suc core first zero (t ∷ tasks) [] task home at at' = absurd (cc)
@@ -28,23 +30,31 @@ wholes_from-take_suc core first zero (t ∷ tasks) (h ∷ homes) task home at at
     let same : t ≡ task = cc in
     let same' : h ≡ home = cc in
     let number : first ≡ first + 0 = omega arith in
-    append-nil (whole_at core first t h) ∙ ap (λ v. whole_at core v t h) number ∙ ap (λ x. whole_at core (first + 0) x h) same ∙ ap (λ x. whole_at core (first + 0) task x) same'
+    append-nil (whole_at core first t h) ∙ ap (λ v. whole_at core v t h) number
+    ∙ ap (λ x. whole_at core (first + 0) x h) same
+    ∙ ap (λ x. whole_at core (first + 0) task x) same'
 wholes_from-take_suc core first (suc n) [] homes task home at at' = absurd (cc)
 wholes_from-take_suc core first (suc n) (t ∷ tasks) [] task home at at' = absurd (cc)
 wholes_from-take_suc core first (suc n) (t ∷ tasks) (h ∷ homes) task home at at' =
     let number : (first + 1) + n ≡ first + suc n = omega arith in
-    ap (λ ws. whole_at core first t h ++ ws) (wholes_from-take_suc core (first + 1) n tasks homes task home at at')
-    ∙ sym (append_assoc (whole_at core first t h) (wholes_from core (first + 1) (take n tasks) (take n homes)) (whole_at core ((first + 1) + n) task home))
-    ∙ ap (λ v. (whole_at core first t h ++ wholes_from core (first + 1) (take n tasks) (take n homes)) ++ whole_at core v task home) number
+    ap (λ ws. whole_at core first t h ++ ws)
+    (wholes_from-take_suc core (first + 1) n tasks homes task home at at')
+    ∙ sym (append_assoc (whole_at core first t h)
+    (wholes_from core (first + 1) (take n tasks) (take n homes))
+    (whole_at core ((first + 1) + n) task home))
+    ∙ ap (λ v. (whole_at core first t h ++ wholes_from core (first + 1) (take n tasks)
+    (take n homes)) ++ whole_at core v task home) number
 
 pub wholes_from-take_more : (core n : ℕ) (tasks : List (Option Periodic)) (homes : List (Option ℕ))
     (task : Option Periodic) (home : Option ℕ) →
     slice_get tasks n ≡ Some task → slice_get homes n ≡ Some home →
-    wholes_from core 0 (take (n + 1) tasks) (take (n + 1) homes) ≡ wholes_from core 0 (take n tasks) (take n homes) ++ whole_at core n task home
+    wholes_from core 0 (take (n + 1) tasks) (take (n + 1) homes)
+    ≡ wholes_from core 0 (take n tasks) (take n homes) ++ whole_at core n task home
 wholes_from-take_more core n tasks homes task home at at' =
     let more : n + 1 ≡ suc n = omega arith in
     let number : 0 + n ≡ n = omega arith in
-    ap (λ m. wholes_from core 0 (take m tasks) (take m homes)) more ∙ wholes_from-take_suc core 0 n tasks homes task home at at'
+    ap (λ m. wholes_from core 0 (take m tasks) (take m homes)) more
+    ∙ wholes_from-take_suc core 0 n tasks homes task home at at'
     ∙ ap (λ v. wholes_from core 0 (take n tasks) (take n homes) ++ whole_at core v task home) number
 
 pub wholes_from-none : (core : ℕ) → wholes_from core 0 [] [] ≡ []
@@ -54,7 +64,8 @@ wholes_from-none core = refl
 -- who stands there
 
 -- the subtask is all of a vCPU that stands on the core
-pub record IsWholeOn (core first : ℕ) (tasks : List (Option Periodic)) (homes : List (Option ℕ)) (s : Subtask) : Type 0 where
+pub record IsWholeOn (core first : ℕ) (tasks : List (Option Periodic)) (homes : List (Option ℕ))
+    (s : Subtask) : Type 0 where
   pub number : ℕ
   pub task : Periodic
   pub at : slice_get tasks number ≡ Some (Some task)
@@ -65,11 +76,19 @@ first_is_whole : (core first : ℕ) (t : Option Periodic) (tasks : List (Option 
     (homes : List (Option ℕ)) →
     All (IsWholeOn core first (t ∷ tasks) (h ∷ homes)) (whole_at core first t h)
 first_is_whole core first None tasks h homes = All-nil (IsWholeOn core first (None ∷ tasks) (h ∷ homes))
-first_is_whole core first (Some task) tasks None homes = All-nil (IsWholeOn core first (Some task ∷ tasks) (None ∷ homes))
+first_is_whole core first (Some task) tasks None homes =
+    All-nil (IsWholeOn core first (Some task ∷ tasks) (None ∷ homes))
 first_is_whole core first (Some task) tasks (Some home) homes = elim (cases_Bool (eqb home core)) [
   | inl same ↦ (let number : first ≡ first + 0 = omega arith in
       let P = IsWholeOn core first (Some task ∷ tasks) (Some home ∷ homes) in
-      rw same (All-cons P (whole first task) [] (record { number = 0; task = task; at = refl; home = ap (λ c. Some (Some c)) (eqb-true home core same); is = ap (λ v. whole v task) number }) (All-nil P)))
+      rw same (All-cons P (whole first task) []
+      (record {
+        number = 0;
+        task = task;
+        at = refl;
+        home = ap (λ c. Some (Some c)) (eqb-true home core same);
+        is = ap (λ v. whole v task) number;
+      }) (All-nil P)))
   | inr other ↦ rw other (All-nil (IsWholeOn core first (Some task ∷ tasks) (Some home ∷ homes)))
 ]
 
@@ -79,16 +98,26 @@ unfolding wholes_from
 all_whole_on core first [] homes = All-nil (IsWholeOn core first [] homes)
 all_whole_on core first (t ∷ tasks) [] = All-nil (IsWholeOn core first (t ∷ tasks) [])
 all_whole_on core first (t ∷ tasks) (h ∷ homes) =
-    All-append (IsWholeOn core first (t ∷ tasks) (h ∷ homes)) (whole_at core first t h) (wholes_from core (first + 1) tasks homes)
+    All-append (IsWholeOn core first (t ∷ tasks) (h ∷ homes)) (whole_at core first t h)
+    (wholes_from core (first + 1) tasks homes)
     (first_is_whole core first t tasks h homes)
     (All-weaker (IsWholeOn core (first + 1) tasks homes) (IsWholeOn core first (t ∷ tasks) (h ∷ homes))
     (λ s w. let number : (first + 1) + w.number ≡ first + suc w.number = omega arith in
-    record { number = suc w.number; task = w.task; at = w.at; home = w.home; is = w.is ∙ ap (λ v. whole v w.task) number })
+    record {
+      number = suc w.number;
+      task = w.task;
+      at = w.at;
+      home = w.home;
+      is = w.is ∙ ap (λ v. whole v w.task) number;
+    })
     (wholes_from core (first + 1) tasks homes) (all_whole_on core (first + 1) tasks homes))
 
 -- what holds of the images holds of the elements
-pub All-from_map : {X Y : Type 0} (f : X → Y) (P : Y → Type 0) (xs : List X) → All P (map f xs) → All (λ x. P (f x)) xs
-All-from_map f P xs all k d lt = subst P (get_or-map f xs k d (f d) lt) (all k (f d) (subst (λ n. k < n) (sym (length-map xs f)) lt))
+pub All-from_map : {X Y : Type 0} (f : X → Y) (P : Y → Type 0) (xs : List X) → All P (map f xs)
+    → All (λ x. P (f x)) xs
+All-from_map f P xs all k d lt =
+    subst P (get_or-map f xs k d (f d) lt)
+    (all k (f d) (subst (λ n. k < n) (sym (length-map xs f)) lt))
 
 -- their load
 
@@ -108,7 +137,8 @@ load_at core task home = cond (is_on core home) (task_demand task) 0
 load_of_whole : (core vcpu : ℕ) (task : Option Periodic) (home : Option ℕ)
     → sum_by ticks_of (whole_at core vcpu task home) ≡ load_at core task home
 load_of_whole core vcpu None None = refl
-load_of_whole core vcpu None (Some home) = elim (cases_Bool (eqb home core)) [ inl same ↦ rw same refl | inr other ↦ rw other refl ]
+load_of_whole core vcpu None (Some home) =
+    elim (cases_Bool (eqb home core)) [ inl same ↦ rw same refl | inr other ↦ rw other refl ]
 load_of_whole core vcpu (Some task) None = refl
 load_of_whole core vcpu (Some task) (Some home) = elim (cases_Bool (eqb home core)) [
   | inl same ↦ rw same (omega (arith, sum_by-cons ticks_of (whole vcpu task) []))
@@ -119,7 +149,8 @@ load_on-cons : (core : ℕ) (t : Option Periodic) (tasks : List (Option Periodic
     (homes : List (Option ℕ)) →
     load_on core (t ∷ tasks) (h ∷ homes) ≡ load_at core t h + load_on core tasks homes
 unfolding load_on
-load_on-cons core t tasks h homes = sum_by-cons (λ vcpu. cond (is_on core vcpu.1) (task_demand vcpu.0) 0) (t, h) (zip tasks homes)
+load_on-cons core t tasks h homes =
+    sum_by-cons (λ vcpu. cond (is_on core vcpu.1) (task_demand vcpu.0) 0) (t, h) (zip tasks homes)
 
 load_on-none : (core : ℕ) (homes : List (Option ℕ)) → load_on core [] homes ≡ 0
 unfolding load_on
@@ -161,17 +192,25 @@ all_whole : (ps : List Piece) → All (λ (s : Subtask). (s.from ≡ 0) × (s.to
 all_whole [] all = tt
 all_whole (p ∷ ps) all =
     let P : Subtask → Type 0 = λ s. (s.from ≡ 0) × (s.to ≡ s.period) in
-    let here = All-head P (subtask_of p) (map subtask_of ps) all in
-    (record { begins = here.0; ends = here.1 }, all_whole ps (All-tail P (subtask_of p) (map subtask_of ps) all))
+    let here = All-head P (subtask_of p) (map subtask_of ps) all in (
+      record { begins = here.0; ends = here.1 },
+      all_whole ps (All-tail P (subtask_of p) (map subtask_of ps) all),
+    )
 
 -- the whole pieces of the first vCPUs on a core fit where all of them take no more than a round
 pub wholes_fit : (core n : ℕ) (tasks : List (Option Periodic)) (homes : List (Option ℕ)) (ps : List Piece) →
-    map subtask_of ps ≡ wholes_from core 0 (take n tasks) (take n homes) → load_on core tasks homes ≤ ROUND → Fits (jobs_of ps)
+    map subtask_of ps ≡ wholes_from core 0 (take n tasks) (take n homes)
+    → load_on core tasks homes ≤ ROUND → Fits (jobs_of ps)
 wholes_fit core n tasks homes ps stand light =
     let P : Subtask → Type 0 = λ s. (s.from ≡ 0) × (s.to ≡ s.period) in
     let on = all_whole_on core 0 (take n tasks) (take n homes) in
     let shapes = All-weaker (IsWholeOn core 0 (take n tasks) (take n homes)) P
-    (λ s w. (ap (λ (x : Subtask). x.from) w.is, ap (λ (x : Subtask). x.to) w.is ∙ sym (ap (λ (x : Subtask). x.period) w.is)))
+    (λ s w. (
+      ap (λ (x : Subtask). x.from) w.is,
+      ap (λ (x : Subtask). x.to) w.is ∙ sym (ap (λ (x : Subtask). x.period) w.is),
+    ))
     (wholes_from core 0 (take n tasks) (take n homes)) on in
-    let taken = load_of_subtasks ps ∙ ap (sum_by ticks_of) stand ∙ load_of_wholes core 0 (take n tasks) (take n homes) in
-    whole_fits ps (all_whole ps (subst (All P) (sym stand) shapes)) (omega (arith, load_on-take-le core n tasks homes))
+    let taken = load_of_subtasks ps ∙ ap (sum_by ticks_of) stand
+    ∙ load_of_wholes core 0 (take n tasks) (take n homes) in
+    whole_fits ps (all_whole ps (subst (All P) (sym stand) shapes))
+    (omega (arith, load_on-take-le core n tasks homes))

@@ -31,5 +31,7 @@ pub record AreRowsOf (cores : List (List Piece)) (rows : List Row) : Type 0 wher
   pub size : length rows ≡ length cores
   pub own : (core : ℕ) → All (λ p. p.core ≡ core) (pieces_on cores core)
   pub distinct : (core : ℕ) → DistinctVcpus (pieces_on cores core)
-  pub serve : (core : ℕ) (row : Row) → slice_get rows core ≡ Some row → ServesWindows (pieces_on cores core) row
-  pub inside : (core : ℕ) (row : Row) → slice_get rows core ≡ Some row → KeepsToWindows (pieces_on cores core) row
+  pub serve : (core : ℕ) (row : Row) → slice_get rows core ≡ Some row
+      → ServesWindows (pieces_on cores core) row
+  pub inside : (core : ℕ) (row : Row) → slice_get rows core ≡ Some row
+      → KeepsToWindows (pieces_on cores core) row

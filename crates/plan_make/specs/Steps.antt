@@ -22,25 +22,30 @@ use Rattle.plan_make.specs.Planned.{IsFirstWithoutRoom, IsStart}
 abbrev pub has_piece : ℕ → List Piece → Bool
 has_piece vcpu pieces = list_any (λ p. p.vcpu == vcpu) pieces
 
--- each vCPU with a home has a piece there and its cost on the cores, in pieces of its period whose windows don't meet on
--- different cores; no other vCPU has a piece
-pub record AreAllottedTo (tasks : List (Option Periodic)) (homes : List (Option ℕ)) (cores : List (List Piece)) : Type 0 where
+-- each vCPU with a home has a piece there and its cost on the cores, in pieces of its period whose
+-- windows don't meet on different cores; no other vCPU has a piece
+pub record AreAllottedTo (tasks : List (Option Periodic)) (homes : List (Option ℕ))
+    (cores : List (List Piece)) : Type 0 where
   pub of_tasks : (core at : ℕ) (p : Piece) → slice_get (pieces_on cores core) at ≡ Some p → HasTask tasks p
   pub costs : (vcpu home : ℕ) (task : Periodic) → slice_get homes vcpu ≡ Some (Some home)
       → slice_get tasks vcpu ≡ Some (Some task) → sum_by (cost_on vcpu) cores ≡ task.cost
   pub lack : (vcpu : ℕ) → (IsPlaced homes vcpu → ⊥) → All (LackVcpu vcpu) cores
-  pub at_home : (vcpu home : ℕ) → slice_get homes vcpu ≡ Some (Some home) → has_piece vcpu (pieces_on cores home) ≡ true
+  pub at_home : (vcpu home : ℕ) → slice_get homes vcpu ≡ Some (Some home)
+      → has_piece vcpu (pieces_on cores home) ≡ true
   pub apart : (core other i j : ℕ) (p q : Piece) → slice_get (pieces_on cores core) i ≡ Some p
       → slice_get (pieces_on cores other) j ≡ Some q
       → p.vcpu ≡ q.vcpu → (core ≡ other) ⊎ WindowsApart p q
 
 -- the vCPUs stand on these cores with these homes, but for those that are still left over
-pub record AreLaidOut (tasks : List (Option Periodic)) (cores : List (List Piece)) (homes : List (Option ℕ)) (left : List ℕ) : Type 0 where
+pub record AreLaidOut (tasks : List (Option Periodic)) (cores : List (List Piece))
+    (homes : List (Option ℕ)) (left : List ℕ) : Type 0 where
   pub places : PlacesEach tasks (length cores) (record { core_of = homes; left = left })
   pub allotted : AreAllottedTo tasks homes cores
 
--- what a split gives: the pieces that splitting asks for, of the vCPU's whole cost, in windows that follow one another
-pub record AreShares (cores : List (List Piece)) (vcpu : ℕ) (task : Periodic) (pieces : List Piece) : Type 0 where
+-- what a split gives: the pieces that splitting asks for, of the vCPU's whole cost, in windows that
+-- follow one another
+pub record AreShares (cores : List (List Piece)) (vcpu : ℕ) (task : Periodic)
+    (pieces : List Piece) : Type 0 where
   pub splits : Splits cores vcpu task.period task.cost 0 (core_numbers cores) pieces
   pub are_of : AreOf vcpu task.period pieces
   pub fit : FitTheirCores cores pieces
@@ -49,7 +54,8 @@ pub record AreShares (cores : List (List Piece)) (vcpu : ℕ) (task : Periodic) 
   pub cost : sum_by (λ p. p.cost) pieces ≡ task.cost
 
 -- the vCPU is split: its pieces stand behind those of the cores, and the last of them is on its home
-pub record IsAdded (cores : List (List Piece)) (vcpu : ℕ) (task : Periodic) (end : List (List Piece)) (home : ℕ) : Type 0 where
+pub record IsAdded (cores : List (List Piece)) (vcpu : ℕ) (task : Periodic)
+    (end : List (List Piece)) (home : ℕ) : Type 0 where
   pub pieces : List Piece
   pub shares : AreShares cores vcpu task pieces
   pub end_is : end ≡ with_pieces cores pieces
@@ -65,7 +71,8 @@ pub record SplitsNext (tasks : List (Option Periodic)) (cores : List (List Piece
   pub homes_are : homes' ≡ slice_set homes vcpu (Some home)
 
 -- of the left-over vCPUs the first that can't be split beside those before it
-pub record IsFirstStuck (tasks : List (Option Periodic)) (start : List (List Piece)) (core_of : List (Option ℕ))
+pub record IsFirstStuck (tasks : List (Option Periodic)) (start : List (List Piece))
+    (core_of : List (Option ℕ))
     (left : List ℕ) (vcpu rest : ℕ) (over : List Over) : Type 0 where
   pub before : List ℕ
   pub after : List ℕ
@@ -78,12 +85,15 @@ pub record IsFirstStuck (tasks : List (Option Periodic)) (start : List (List Pie
   pub refuses : Refuses cores vcpu task.period task.cost 0 (core_numbers cores) rest over
 
 -- splitting in turn ends at that vCPU; want of memory says nothing of the cores
-abbrev pub IsStuckFault : List (Option Periodic) → List (List Piece) → List (Option ℕ) → List ℕ → SplitFault → Type 0
-IsStuckFault tasks start core_of left (NoRoom vcpu rest over) = IsFirstStuck tasks start core_of left vcpu rest over
+abbrev pub IsStuckFault : List (Option Periodic) → List (List Piece) → List (Option ℕ) → List ℕ
+    → SplitFault → Type 0
+IsStuckFault tasks start core_of left (NoRoom vcpu rest over) =
+    IsFirstStuck tasks start core_of left vcpu rest over
 IsStuckFault tasks start core_of left NoMemory = Unit {0}
 
 -- where the host's vCPUs stand once the left-over ones are split
-pub record IsLayout (host : Host) (tasks : List (Option Periodic)) (cores : List (List Piece)) (homes : List (Option ℕ)) : Type 0 where
+pub record IsLayout (host : Host) (tasks : List (Option Periodic)) (cores : List (List Piece))
+    (homes : List (Option ℕ)) : Type 0 where
   pub placed : Placed
   pub start : List (List Piece)
   pub is_start : IsStart host tasks placed start
@@ -96,4 +106,5 @@ IsLayoutFault host NoMemory = Unit {0}
 
 -- the next left-over vCPU can't be split
 abbrev pub IsRefusedNext : List (Option Periodic) → List (List Piece) → ℕ → SplitFault → Type 0
-IsRefusedNext tasks cores vcpu fault = (task : Periodic) × (slice_get tasks vcpu ≡ Some (Some task)) × IsSplitFault cores vcpu task fault
+IsRefusedNext tasks cores vcpu fault = (task : Periodic) × (slice_get tasks vcpu ≡ Some (Some task))
+    × IsSplitFault cores vcpu task fault

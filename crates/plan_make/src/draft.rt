@@ -34,7 +34,8 @@ pub(crate) fn draft_of<R: Threads + Sync>(
     ensures tasks { IfOk result (λ draft. draft.tasks ≡ tasks) }
     ensures pieces { IfOk result (λ draft. draft.pieces ≡ all_pieces layout.cores) }
     ensures homes { IfOk result (λ draft. draft.tables.homes ≡ layout.homes.items) }
-    ensures rows { IfOk result (λ draft. draft.tables.rows ≡ map (λ pieces. edf_row (jobs_of pieces)) layout.cores) }
+    ensures rows { IfOk result (λ draft. draft.tables.rows
+        ≡ map (λ pieces. edf_row (jobs_of pieces)) layout.cores) }
     ensures count { IfOk result (λ draft. length draft.tables.rows ≡ length layout.cores) }
 {
     let pieces = Pieces::of(pieces_of(alloc, &layout.cores)?);

@@ -29,16 +29,21 @@ use table_form::Plan;
 /// The rows are made side by side, each in a thread of its own where one can be started.
 pub fn plan<R: Threads + Sync>(rt: &R, alloc: Global, host: &Host) -> Result<Plan, PlanFault>
     ensures ok { IfOk result (λ plan. IsPlanned host.now (plan_view plan)) }
-    ensures only { IfOk result (λ plan. (other : PlanView) → IsPlanned host.now other → other ≡ plan_view plan) }
+    ensures only { IfOk result (λ plan. (other : PlanView) → IsPlanned host.now other
+        → other ≡ plan_view plan) }
     ensures fits_host { IfOk result (λ plan. IsPlanFor host.now (plan_view plan)) }
-    ensures no_period { (vcpu : ℕ) → IsErrOf result (PlanFault.NoPeriod vcpu) → IsFirstWithoutPeriod host.now.vcpus vcpu }
+    ensures no_period { (vcpu : ℕ) → IsErrOf result (PlanFault.NoPeriod vcpu)
+        → IsFirstWithoutPeriod host.now.vcpus vcpu }
     ensures without_period { (vcpu : ℕ) → IsFirstWithoutPeriod host.now.vcpus vcpu → IsErr result }
     ensures no_room { (vcpu rest : ℕ) (over : List Over) → IsErrOf result (PlanFault.NoRoom vcpu rest over)
         → IsFirstWithoutRoom host.now vcpu rest over }
-    ensures without_room { (vcpu rest : ℕ) (over : List Over) → IsFirstWithoutRoom host.now vcpu rest over → IsErr result }
-    ensures bound { (tasks : List (Option Periodic)) → AreTasksOf host.now.vcpus tasks → IsWithinBound tasks host.now.cores
+    ensures without_room { (vcpu rest : ℕ) (over : List Over)
+        → IsFirstWithoutRoom host.now vcpu rest over → IsErr result }
+    ensures bound { (tasks : List (Option Periodic)) → AreTasksOf host.now.vcpus tasks
+        → IsWithinBound tasks host.now.cores
         → IfErr result (λ fault. fault ≡ PlanFault.NoMemory) }
-    ensures planned { (plan : PlanView) → IsPlanned host.now plan → IfErr result (λ fault. fault ≡ PlanFault.NoMemory) }
+    ensures planned { (plan : PlanView) → IsPlanned host.now plan
+        → IfErr result (λ fault. fault ≡ PlanFault.NoMemory) }
 {
     let tasks = tasks_of(alloc, host)?;
     let layout = lay_out(alloc, host, &tasks)?;

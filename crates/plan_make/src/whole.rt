@@ -33,10 +33,13 @@ fn add_whole(
     requires known { number < length tasks.now }
     requires as_many { length core_of.now ≡ length tasks.now }
     requires few { length tasks.now ≤ MAX_VCPUS }
-    requires there { (vcpu core : ℕ) → slice_get core_of.now vcpu ≡ Some (Some core) → core < length cores.old }
+    requires there { (vcpu core : ℕ) → slice_get core_of.now vcpu ≡ Some (Some core)
+        → core < length cores.old }
     requires fits { FitsEachCore tasks.now (length cores.old) core_of.now }
-    requires before { StandWhole (take number tasks.now) (take number core_of.now) (length cores.old) cores.old }
-    ensures { OnOk result (StandWhole (take (number + 1) tasks.now) (take (number + 1) core_of.now) (length cores.old) cores.new) }
+    requires before { StandWhole (take number tasks.now) (take number core_of.now)
+        (length cores.old) cores.old }
+    ensures { OnOk result (StandWhole (take (number + 1) tasks.now) (take (number + 1) core_of.now)
+        (length cores.old) cores.new) }
 {
     if let Some(task) = &tasks[number] {
         if let Some(core) = core_of[number] {

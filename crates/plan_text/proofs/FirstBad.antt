@@ -28,12 +28,14 @@ wrong_behind : (Texts More : List Line → Type 0) (line : Line) (front back : L
     → ((rest : List Line) → Texts (line ∷ rest) → More rest) → GoesWrong More front back
     → GoesWrong Texts (line ∷ front) back
 wrong_behind Texts More line front [] goes wrong = λ text. wrong (goes front text)
-wrong_behind Texts More line front (next ∷ back) goes wrong = λ (b : IsBegun Texts ((line ∷ front) ++ next ∷ [])).
+wrong_behind Texts More line front (next ∷ back) goes wrong =
+    λ (b : IsBegun Texts ((line ∷ front) ++ next ∷ [])).
     wrong (record { rest = b.rest; text = goes ((front ++ next ∷ []) ++ b.rest) b.text })
 
 -- the first line goes well, and behind it there are these texts
 pub bad_behind : (Texts More : List Line → Type 0) (first : ℕ) (line : Line) (lines : List Line) (bad : ℕ)
-    → ((rest : List Line) → More rest → Texts (line ∷ rest)) → ((rest : List Line) → Texts (line ∷ rest) → More rest)
+    → ((rest : List Line) → More rest → Texts (line ∷ rest))
+    → ((rest : List Line) → Texts (line ∷ rest) → More rest)
     → IsFirstBad More (first + 1) lines bad → IsFirstBad Texts first (line ∷ lines) bad
 bad_behind Texts More first line lines bad back_to goes is = record {
   front = line ∷ is.front;
@@ -46,12 +48,14 @@ bad_behind Texts More first line lines bad back_to goes is = record {
 
 -- of two sorts of texts one is of the other sort, and those that go on as the lines do are of both
 wrong_of_both : (Texts Fewer : List Line → Type 0) (front back : List Line)
-    → ((line : Line) (rest more : List Line) → front ++ back ≡ line ∷ rest → Texts (line ∷ more) → Fewer (line ∷ more))
+    → ((line : Line) (rest more : List Line) → front ++ back ≡ line ∷ rest → Texts (line ∷ more)
+    → Fewer (line ∷ more))
     → (front ++ back ≡ [] → Texts [] → Fewer []) → GoesWrong Fewer front back → GoesWrong Texts front back
 wrong_of_both Texts Fewer [] [] same none wrong = λ text. wrong (none refl text)
 wrong_of_both Texts Fewer [] (line ∷ back) same none wrong = λ (b : IsBegun Texts (line ∷ [])).
     wrong (record { rest = b.rest; text = same line back b.rest refl b.text })
-wrong_of_both Texts Fewer (line ∷ front) [] same none wrong = λ text. wrong (same line (front ++ []) front refl text)
+wrong_of_both Texts Fewer (line ∷ front) [] same none wrong =
+    λ text. wrong (same line (front ++ []) front refl text)
 wrong_of_both Texts Fewer (line ∷ front) (next ∷ back) same none wrong =
     λ (b : IsBegun Texts ((line ∷ front) ++ next ∷ [])).
     wrong (record {
@@ -62,7 +66,8 @@ wrong_of_both Texts Fewer (line ∷ front) (next ∷ back) same none wrong =
 
 pub bad_of_both : (Texts Fewer : List Line → Type 0) (first : ℕ) (lines : List Line) (bad : ℕ)
     → ((some : List Line) → Fewer some → Texts some)
-    → ((line : Line) (rest more : List Line) → lines ≡ line ∷ rest → Texts (line ∷ more) → Fewer (line ∷ more))
+    → ((line : Line) (rest more : List Line) → lines ≡ line ∷ rest → Texts (line ∷ more)
+    → Fewer (line ∷ more))
     → (lines ≡ [] → Texts [] → Fewer []) → IsFirstBad Fewer first lines bad → IsFirstBad Texts first lines bad
 bad_of_both Texts Fewer first lines bad all same none is = record {
   front = is.front;
@@ -86,7 +91,8 @@ no_text Texts first lines bad is text = of_parts is.front is.back is.wrong (subs
         wrong (record { rest = back; text = subst Texts (sym (append_assoc front (line ∷ []) back)) text })
 
 -- the front before the first bad line isn't longer than another that some text begins with
-not_longer : (Texts : List Line → Type 0) (before front back longer rest : List Line) → front ++ back ≡ longer ++ rest
+not_longer : (Texts : List Line → Type 0) (before front back longer rest : List Line)
+    → front ++ back ≡ longer ++ rest
     → GoesWrong Texts (before ++ front) back → IsBegun Texts (before ++ longer) → length longer ≤ length front
 not_longer Texts before front back [] rest same wrong begun = omega arith
 not_longer Texts before [] [] (line ∷ longer) rest same wrong begun = absurd (cc)
@@ -111,7 +117,8 @@ not_longer Texts before (first ∷ front) back (line ∷ longer) rest same wrong
     omega arith
 
 -- there is one first bad line
-pub one_bad : (Texts : List Line → Type 0) (first : ℕ) (lines : List Line) (a b : ℕ) → IsFirstBad Texts first lines a
+pub one_bad : (Texts : List Line → Type 0) (first : ℕ) (lines : List Line) (a b : ℕ)
+    → IsFirstBad Texts first lines a
     → IsFirstBad Texts first lines b → a ≡ b
 one_bad Texts first lines a b of_a of_b =
     let low = not_longer Texts [] of_a.front of_a.back of_b.front of_b.back

@@ -28,13 +28,15 @@ all_none P k d low = absurd (omega arith)
 
 core_is_no_number : (n : ℕ) → n < 2 ^ 64 → codes "core" ≡ decimal n → ⊥
 core_is_no_number n low is =
-    let digits : AllDigits 10 (codes "core") = subst (AllDigits 10) (sym is) (decimal_is_IsNumeral n low).0.1 in
+    let digits : AllDigits 10 (codes "core") =
+    subst (AllDigits 10) (sym is) (decimal_is_IsNumeral n low).0.1 in
     absurd (omega (arith, digits.0))
 
 pub core_is_no_segment : (names : List (List ℕ)) (tasks : List (Option Periodic)) (core : ℕ) (s : Segment)
     → IsFineSegment tasks s
     → core_words core ≡ segment_words names s → ⊥
-core_is_no_segment names tasks core s fine is = core_is_no_number s.end (let small = fine.small in omega arith) cc
+core_is_no_segment names tasks core s fine is =
+    core_is_no_number s.end (let small = fine.small in omega arith) cc
 
 pub end_is_no_segment : (names : List (List ℕ)) (s : Segment) → end_words ≡ segment_words names s → ⊥
 end_is_no_segment names s is = absurd (cc)
@@ -58,11 +60,17 @@ pub rows_begun : (names : List (List ℕ)) (tasks : List (Option Periodic)) (cor
     → IsBegun (AreRows names tasks core count) []
 rows_begun names tasks core count = record {
   rest = core_lines names core (replicate count []) ++ end_words ∷ [];
-  text = record { rows = replicate count []; many = many_empty count; fine = empty_rows tasks count; written = refl };
+  text = record {
+    rows = replicate count [];
+    many = many_empty count;
+    fine = empty_rows tasks count;
+    written = refl;
+  };
 }
 
 pub rows_back : (names : List (List ℕ)) (tasks : List (Option Periodic)) (core count : ℕ) (lines : List Line)
-    → AreSegments names tasks (core + 1) count lines → AreRows names tasks core (count + 1) (core_words core ∷ lines)
+    → AreSegments names tasks (core + 1) count lines
+    → AreRows names tasks core (count + 1) (core_words core ∷ lines)
 rows_back names tasks core count lines are = record {
   rows = are.row ∷ are.rows.rows;
   many = let many = are.rows.many in omega arith;
@@ -82,11 +90,13 @@ pub record RowsGo (names : List (List ℕ)) (tasks : List (Option Periodic)) (co
 
 rows_go_parts : (names : List (List ℕ)) (tasks : List (Option Periodic)) (core count : ℕ) (line : Line)
     (lines : List Line) (rows : List (List Segment))
-    → length rows ≡ count + 1 → AreFineRows tasks rows → line ∷ lines ≡ core_lines names core rows ++ end_words ∷ []
+    → length rows ≡ count + 1 → AreFineRows tasks rows
+    → line ∷ lines ≡ core_lines names core rows ++ end_words ∷ []
     → RowsGo names tasks core count line lines
 rows_go_parts names tasks core count line lines [] many fine written = absurd (omega arith)
 rows_go_parts names tasks core count line lines (row ∷ rows) many fine written =
-    let rest : lines ≡ (map (segment_words names) row ++ core_lines names (core + 1) rows) ++ end_words ∷ [] = cc in
+    let rest : lines ≡ (map (segment_words names) row ++ core_lines names (core + 1) rows)
+    ++ end_words ∷ [] = cc in
     record {
       is_core = cc;
       more = record {
@@ -111,7 +121,8 @@ pub rows_go : (names : List (List ℕ)) (tasks : List (Option Periodic)) (core c
 rows_go names tasks core count line lines are =
     rows_go_parts names tasks core count line lines are.rows are.many are.fine are.written
 
-end_goes_parts : (names : List (List ℕ)) (core : ℕ) (lines : List Line) (rows : List (List Segment)) → length rows ≡ 0
+end_goes_parts : (names : List (List ℕ)) (core : ℕ) (lines : List Line) (rows : List (List Segment))
+    → length rows ≡ 0
     → lines ≡ core_lines names core rows ++ end_words ∷ [] → lines ≡ end_words ∷ []
 end_goes_parts names core lines [] many written = written
 end_goes_parts names core lines (row ∷ rows) many written = absurd (omega arith)
@@ -158,7 +169,8 @@ segments_begun names tasks core count =
 
 pub segment_back : (names : List (List ℕ)) (tasks : List (Option Periodic)) (core count : ℕ) (s : Segment)
     (lines : List Line) → IsFineSegment tasks s
-    → AreSegments names tasks core count lines → AreSegments names tasks core count (segment_words names s ∷ lines)
+    → AreSegments names tasks core count lines
+    → AreSegments names tasks core count (segment_words names s ∷ lines)
 segment_back names tasks core count s lines fine are = record {
   row = s ∷ are.row;
   fine = all_cons (IsFineSegment tasks) s are.row fine are.fine;
@@ -170,7 +182,8 @@ segment_back names tasks core count s lines fine are = record {
 segment_goes_parts : (names : List (List ℕ)) (tasks : List (Option Periodic)) (core count : ℕ) (s : Segment)
     (lines : List Line) (row : List Segment) (rest : List Line)
     → IsFineSegment tasks s → All (IsFineSegment tasks) row → AreRows names tasks core count rest
-    → segment_words names s ∷ lines ≡ map (segment_words names) row ++ rest → AreSegments names tasks core count lines
+    → segment_words names s ∷ lines ≡ map (segment_words names) row ++ rest
+    → AreSegments names tasks core count lines
 segment_goes_parts names tasks core count s lines [] rest fine all rows written =
     absurd (rows_lack names tasks core rows.rows s lines fine (written ∙ rows.written))
 segment_goes_parts names tasks core count s lines (t ∷ row) rest fine all rows written = record {
@@ -183,13 +196,15 @@ segment_goes_parts names tasks core count s lines (t ∷ row) rest fine all rows
 
 pub segment_goes : (names : List (List ℕ)) (tasks : List (Option Periodic)) (core count : ℕ) (s : Segment)
     (lines : List Line) → IsFineSegment tasks s
-    → AreSegments names tasks core count (segment_words names s ∷ lines) → AreSegments names tasks core count lines
+    → AreSegments names tasks core count (segment_words names s ∷ lines)
+    → AreSegments names tasks core count lines
 segment_goes names tasks core count s lines fine are =
     segment_goes_parts names tasks core count s lines are.row are.rest fine are.fine are.rows are.written
 
 no_more_segments : (names : List (List ℕ)) (tasks : List (Option Periodic)) (core count : ℕ) (line : Line)
     (lines : List Line) (row : List Segment) (rest : List Line)
-    → ((s : Segment) → IsFineSegment tasks s → line ≡ segment_words names s → ⊥) → All (IsFineSegment tasks) row
+    → ((s : Segment) → IsFineSegment tasks s → line ≡ segment_words names s → ⊥)
+    → All (IsFineSegment tasks) row
     → AreRows names tasks core count rest
     → line ∷ lines ≡ map (segment_words names) row ++ rest → AreRows names tasks core count (line ∷ lines)
 no_more_segments names tasks core count line lines [] rest none all rows written =
@@ -201,7 +216,8 @@ no_lines_left : (names : List (List ℕ)) (tasks : List (Option Periodic)) (core
     (rest : List Line)
     → AreRows names tasks core count rest → [] ≡ map (segment_words names) row ++ rest
     → AreRows names tasks core count []
-no_lines_left names tasks core count [] rest rows written = subst (AreRows names tasks core count) (sym written) rows
+no_lines_left names tasks core count [] rest rows written =
+    subst (AreRows names tasks core count) (sym written) rows
 no_lines_left names tasks core count (s ∷ row) rest rows written = absurd (cc)
 
 -- where the first line is no segment, there are the next cores
@@ -211,7 +227,13 @@ pub bad_behind_row : (names : List (List ℕ)) (tasks : List (Option Periodic)) 
     → IsFirstBad (AreSegments names tasks core count) first lines bad
 bad_behind_row names tasks core count first lines bad none is =
     bad_of_both (AreSegments names tasks core count) (AreRows names tasks core count) first lines bad
-    (λ some rows. record { row = []; fine = all_none (IsFineSegment tasks); rest = some; rows = rows; written = refl })
+    (λ some rows. record {
+      row = [];
+      fine = all_none (IsFineSegment tasks);
+      rest = some;
+      rows = rows;
+      written = refl;
+    })
     (λ line rest more at are. no_more_segments names tasks core count line more are.row are.rest
     (λ s fine same. none s fine rest (at ∙ ap (λ l. l ∷ rest) same)) are.fine are.rows are.written)
     (λ at are. no_lines_left names tasks core count are.row are.rest are.rows are.written)
@@ -231,17 +253,20 @@ bad_behind_segments names tasks core count first (s ∷ row) rest bad all none i
     (segment_words names s) (map (segment_words names) row ++ rest) bad
     (λ lines are. segment_back names tasks core count s lines (all 0 s (omega arith)) are)
     (λ lines are. segment_goes names tasks core count s lines (all 0 s (omega arith)) are)
-    (bad_behind_segments names tasks core count (first + 1) row rest bad (all_tail (IsFineSegment tasks) s row all) none
+    (bad_behind_segments names tasks core count (first + 1) row rest bad
+    (all_tail (IsFineSegment tasks) s row all) none
     (subst (λ n. IsFirstBad (AreRows names tasks core count) n rest bad) (omega arith) is))
 
 -- ---- cores, one after the other
 
 pub core_lines-last : (names : List (List ℕ)) (core : ℕ) (rows : List (List Segment)) (row : List Segment)
-    → core_lines names core (rows ++ row ∷ []) ≡ core_lines names core rows ++ core_words (core + length rows) ∷ map
+    → core_lines names core (rows ++ row ∷ [])
+    ≡ core_lines names core rows ++ core_words (core + length rows) ∷ map
     (segment_words names) row
 core_lines-last names core [] row =
     ap (λ ls. core_words core ∷ ls) (append-nil (map (segment_words names) row))
-    ∙ (let same : core ≡ core + 0 = omega arith in ap (λ n. core_words n ∷ map (segment_words names) row) same)
+    ∙ (let same : core ≡ core + 0 = omega arith in ap
+    (λ n. core_words n ∷ map (segment_words names) row) same)
 core_lines-last names core (first ∷ rows) row =
     let more = core_lines-last names (core + 1) rows row in
     let count : core + 1 + length rows ≡ core + length (first ∷ rows) = omega arith in
@@ -254,14 +279,17 @@ pub all_snoc : {X : Type 0} (P : X → Type 0) (xs : List X) (x : X) → All P x
 all_snoc P xs x all here = All-append P xs (x ∷ []) all (all_cons P x [] here (all_none P))
 
 -- the first bad line behind a core's line and its segments
-pub bad_behind_core : (names : List (List ℕ)) (tasks : List (Option Periodic)) (core cores first second third : ℕ)
+pub bad_behind_core : (names : List (List ℕ)) (tasks : List (Option Periodic))
+    (core cores first second third : ℕ)
     (lines behind rest : List Line) (row : List Segment) (bad : ℕ)
     → core < cores → lines ≡ core_words core ∷ behind → second ≡ first + 1
-    → All (IsFineSegment tasks) row → behind ≡ map (segment_words names) row ++ rest → third ≡ second + length row
+    → All (IsFineSegment tasks) row → behind ≡ map (segment_words names) row ++ rest
+    → third ≡ second + length row
     → IsNoSegment names tasks rest
     → IsFirstBad (AreRows names tasks (core + 1) (cores - (core + 1))) third rest bad
     → IsFirstBad (AreRows names tasks core (cores - core)) first lines bad
-bad_behind_core names tasks core cores first second third lines behind rest row bad low written next all segments
+bad_behind_core names tasks core cores first second third lines behind rest row bad low written next
+    all segments
     last none is =
     let left = cores - (core + 1) in
     let count : cores - core ≡ left + 1 = omega arith in
@@ -276,19 +304,23 @@ bad_behind_core names tasks core cores first second third lines behind rest row 
     within))
 
 -- no core's line where one is due
-pub core_is_bad : (names : List (List ℕ)) (tasks : List (Option Periodic)) (core cores first : ℕ) (lines : List Line)
+pub core_is_bad : (names : List (List ℕ)) (tasks : List (Option Periodic)) (core cores first : ℕ)
+    (lines : List Line)
     → core < cores
-    → IsOtherLine (core_words core) lines → IsFirstBad (AreRows names tasks core (cores - core)) first lines first
+    → IsOtherLine (core_words core) lines
+    → IsFirstBad (AreRows names tasks core (cores - core)) first lines first
 core_is_bad names tasks core cores first lines low other =
     let left = cores - (core + 1) in
     let count : cores - core ≡ left + 1 = omega arith in
-    rw count (first_is_bad (AreRows names tasks core (left + 1)) first lines (rows_begun names tasks core (left + 1))
+    rw count (first_is_bad (AreRows names tasks core (left + 1)) first lines
+    (rows_begun names tasks core (left + 1))
     (λ line back at rest are. other back
     (at ∙ ap (λ l. l ∷ back) (rows_go names tasks core left line rest are).is_core))
     (λ at are. no_lines_no_rows names tasks core (left + 1) are))
 
 -- no end where it is due
-pub end_is_bad : (names : List (List ℕ)) (tasks : List (Option Periodic)) (core cores first : ℕ) (lines : List Line)
+pub end_is_bad : (names : List (List ℕ)) (tasks : List (Option Periodic)) (core cores first : ℕ)
+    (lines : List Line)
     → cores ≤ core
     → IsOtherLine end_words lines → IsFirstBad (AreRows names tasks core (cores - core)) first lines first
 end_is_bad names tasks core cores first lines past other =
@@ -305,7 +337,9 @@ pub line_behind_end : (names : List (List ℕ)) (tasks : List (Option Periodic))
     → IsFirstBad (AreRows names tasks core (cores - core)) first lines second
 line_behind_end names tasks core cores first second lines behind past written next some =
     let count : cores - core ≡ 0 = omega arith in
-    rw written (rw count (bad_behind (AreRows names tasks core 0) (λ ls. ls ≡ []) first end_words behind second
+    rw written
+    (rw count (bad_behind (AreRows names tasks core 0)
+    (λ ls. ls ≡ []) first end_words behind second
     (λ rest none. rw none (record {
       rows = [];
       many = refl;
@@ -325,5 +359,6 @@ core_lines_more names core rows row all left behind rest many before first segme
     let place : core ≡ 0 + length rows = omega arith in
     before ∙ (ap (λ ls. core_lines names 0 rows ++ ls) (first ∙ ap (λ ls. core_words core ∷ ls) segments)
     ∙ (sym (append_assoc (core_lines names 0 rows) (core_words core ∷ map (segment_words names) row) rest)
-    ∙ ap (λ ls. ls ++ rest) (ap (λ n. core_lines names 0 rows ++ core_words n ∷ map (segment_words names) row) place
+    ∙ ap (λ ls. ls ++ rest)
+    (ap (λ n. core_lines names 0 rows ++ core_words n ∷ map (segment_words names) row) place
     ∙ sym (core_lines-last names 0 rows row))))

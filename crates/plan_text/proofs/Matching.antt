@@ -4,7 +4,8 @@ use Rattle.std.proofs.lemmas.List.{length-map}
 use Rattle.tab_words.specs.Pieces.{piece_text}
 use Rattle.tab_words.specs.declared.text.TextPiece.{TextPiece}
 
--- all words are these and the rest exactly where those that are left are the pieces that are left and the rest
+-- all words are these and the rest exactly where those that are left are the pieces that are left
+-- and the rest
 abbrev pub GoesOn : List (List ℕ) → List TextPiece → List (List ℕ) → ℕ → Type 0
 GoesOn all pieces left at = (rest : List (List ℕ))
     → ((all ≡ map piece_text pieces ++ rest) ↔ (left ≡ map piece_text (drop at pieces) ++ rest))

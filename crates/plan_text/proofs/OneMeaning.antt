@@ -28,7 +28,8 @@ build owner end small = record { owner = owner; end = end; owner_small = small }
 one_small : (owner : Option ℕ) (x y : ForSome owner (λ v. v < MAX_VCPUS)) → x ≡ y
 one_small owner x y = (let one : IsProp (ForSome owner (λ v. v < MAX_VCPUS)) = hlevel props in one x y)
 
-build_same : (o p : Option ℕ) (end : ℕ) (x : ForSome o (λ v. v < MAX_VCPUS)) (y : ForSome p (λ v. v < MAX_VCPUS))
+build_same : (o p : Option ℕ) (end : ℕ) (x : ForSome o (λ v. v < MAX_VCPUS))
+    (y : ForSome p (λ v. v < MAX_VCPUS))
     → o ≡ p → build o end x ≡ build p end y
 build_same o p end x y is =
     subst (λ (q : Option ℕ). (y : ForSome q (λ v. v < MAX_VCPUS)) → build o end x ≡ build q end y) is
@@ -42,7 +43,8 @@ segment_same s t owner end =
     build_same s.owner t.owner s.end s.owner_small t.owner_small owner in
     here ∙ ap (λ e. build t.owner e t.owner_small) end
 
-owner_same : (names : List (List ℕ)) (tasks : List (Option Periodic)) (o p : Option ℕ) → length names ≡ length tasks
+owner_same : (names : List (List ℕ)) (tasks : List (Option Periodic)) (o p : Option ℕ)
+    → length names ≡ length tasks
     → AreHostNames names
     → ForSome o (λ v. has_task tasks v ≡ true) → ForSome p (λ v. has_task tasks v ≡ true)
     → owner_word names o ≡ owner_word names p → o ≡ p
@@ -58,7 +60,8 @@ owner_same names tasks (Some v) (Some w) many good of_o of_p is =
     let other : w < length names = let below = task_within tasks w (of_p w refl) in omega arith in
     ap Some (good.distinct v w low other is)
 
-words_same : (names : List (List ℕ)) (tasks : List (Option Periodic)) (s t : Segment) → length names ≡ length tasks
+words_same : (names : List (List ℕ)) (tasks : List (Option Periodic)) (s t : Segment)
+    → length names ≡ length tasks
     → AreHostNames names
     → IsFineSegment tasks s → IsFineSegment tasks t → segment_words names s ≡ segment_words names t → s ≡ t
 words_same names tasks s t many good of_s of_t is =
@@ -80,7 +83,8 @@ row_same : (names : List (List ℕ)) (tasks : List (Option Periodic)) (row other
     (rest more : List Line) → length names ≡ length tasks → AreHostNames names
     → All (IsFineSegment tasks) row → All (IsFineSegment tasks) other → NoSegmentFirst names tasks rest
     → NoSegmentFirst names tasks more
-    → map (segment_words names) row ++ rest ≡ map (segment_words names) other ++ more → (row ≡ other) × (rest ≡ more)
+    → map (segment_words names) row ++ rest ≡ map (segment_words names) other ++ more
+    → (row ≡ other) × (rest ≡ more)
 row_same names tasks [] [] rest more many good all all' none none' is = (refl, is)
 row_same names tasks [] (t ∷ other) rest more many good all all' none none' is =
     absurd (none t (map (segment_words names) other ++ more) (all' 0 t (omega arith)) is)
@@ -99,10 +103,12 @@ cores_first : (names : List (List ℕ)) (tasks : List (Option Periodic)) (core :
 cores_first names tasks core [] s rest fine is = end_is_no_segment names s cc
 cores_first names tasks core (row ∷ rows) s rest fine is = core_is_no_segment names tasks core s fine cc
 
-rows_same : (names : List (List ℕ)) (tasks : List (Option Periodic)) (core : ℕ) (rows others : List (List Segment))
+rows_same : (names : List (List ℕ)) (tasks : List (Option Periodic)) (core : ℕ)
+    (rows others : List (List Segment))
     → length names ≡ length tasks → AreHostNames names
     → AreFineRows tasks rows → AreFineRows tasks others
-    → core_lines names core rows ++ end_words ∷ [] ≡ core_lines names core others ++ end_words ∷ [] → rows ≡ others
+    → core_lines names core rows ++ end_words ∷ [] ≡ core_lines names core others ++ end_words ∷ []
+    → rows ≡ others
 rows_same names tasks core [] [] many good all all' is = refl
 rows_same names tasks core [] (other ∷ others) many good all all' is = absurd (core_is_no_end core cc)
 rows_same names tasks core (row ∷ rows) [] many good all all' is = absurd (core_is_no_end core cc)
@@ -112,8 +118,10 @@ rows_same names tasks core (row ∷ rows) (other ∷ others) many good all all' 
     let parted : map (segment_words names) row ++ (core_lines names (core + 1) rows ++ end_words ∷ []) ≡ map
     (segment_words names) other ++ (core_lines names (core + 1) others ++ end_words ∷ []) =
     sym (append_assoc (map (segment_words names) row) (core_lines names (core + 1) rows) (end_words ∷ []))
-    ∙ tails ∙ append_assoc (map (segment_words names) other) (core_lines names (core + 1) others) (end_words ∷ []) in
-    let both = row_same names tasks row other _ _ many good (all 0 row (omega arith)) (all' 0 other (omega arith))
+    ∙ tails ∙ append_assoc (map (segment_words names) other) (core_lines names (core + 1) others)
+    (end_words ∷ []) in
+    let both = row_same names tasks row other _ _ many good (all 0 row (omega arith))
+    (all' 0 other (omega arith))
     (cores_first names tasks (core + 1) rows) (cores_first names tasks (core + 1) others) parted in
     let behind = rows_same names tasks (core + 1) rows others many good
     (all_tail (λ r. All (IsFineSegment tasks) r) row rows all)
@@ -122,10 +130,12 @@ rows_same names tasks core (row ∷ rows) (other ∷ others) many good all all' 
 
 -- ---- homes
 
-homes_same : (names : List (List ℕ)) (cores : ℕ) (tasks : List (Option Periodic)) (homes others : List (Option ℕ))
+homes_same : (names : List (List ℕ)) (cores : ℕ) (tasks : List (Option Periodic))
+    (homes others : List (Option ℕ))
     (rest more : List Line) → length names ≡ length tasks → cores ≤ MAX_CORES
     → are_housed cores tasks homes ≡ true → are_housed cores tasks others ≡ true
-    → vcpu_lines names tasks homes ++ rest ≡ vcpu_lines names tasks others ++ more → (homes ≡ others) × (rest ≡ more)
+    → vcpu_lines names tasks homes ++ rest ≡ vcpu_lines names tasks others ++ more
+    → (homes ≡ others) × (rest ≡ more)
 homes_same [] cores [] [] [] rest more many few all all' is = (refl, is)
 homes_same [] cores [] [] (other ∷ others) rest more many few all all' is = absurd (cc)
 homes_same [] cores [] (home ∷ homes) others rest more many few all all' is = absurd (cc)
@@ -136,11 +146,14 @@ homes_same (name ∷ names) cores (task ∷ tasks) (home ∷ homes) [] rest more
 homes_same (name ∷ names) cores (None ∷ tasks) (None ∷ homes) (None ∷ others) rest more many few all all' is =
     let behind = homes_same names cores tasks homes others rest more (omega arith) few all all' is in
     (ap (λ hs. None ∷ hs) behind.0, behind.1)
-homes_same (name ∷ names) cores (None ∷ tasks) (Some home ∷ homes) (other ∷ others) rest more many few all all' is =
+homes_same (name ∷ names) cores (None ∷ tasks) (Some home ∷ homes)
+    (other ∷ others) rest more many few all all' is =
     absurd (cc)
-homes_same (name ∷ names) cores (None ∷ tasks) (None ∷ homes) (Some other ∷ others) rest more many few all all' is =
+homes_same (name ∷ names) cores (None ∷ tasks) (None ∷ homes)
+    (Some other ∷ others) rest more many few all all' is =
     absurd (cc)
-homes_same (name ∷ names) cores (Some task ∷ tasks) (None ∷ homes) (other ∷ others) rest more many few all all' is =
+homes_same (name ∷ names) cores (Some task ∷ tasks) (None ∷ homes)
+    (other ∷ others) rest more many few all all' is =
     absurd (cc)
 homes_same (name ∷ names) cores (Some task ∷ tasks) (Some home ∷ homes)
     (None ∷ others) rest more many few all all' is = absurd (cc)
@@ -152,7 +165,8 @@ homes_same (name ∷ names) cores (Some task ∷ tasks) (Some home ∷ homes)
     let low' : other < cores = grind (arith, nat_tests, parts'.0) in
     let digits : decimal home ≡ decimal other = cc in
     let tails : vcpu_lines names tasks homes ++ rest ≡ vcpu_lines names tasks others ++ more = cc in
-    let behind = homes_same names cores tasks homes others rest more (omega arith) few parts.1 parts'.1 tails in
+    let behind = homes_same names cores tasks homes others rest more
+    (omega arith) few parts.1 parts'.1 tails in
     let first : home ≡ other = decimal_injective home other (omega arith) (omega arith) digits in
     (ap (λ h. Some h ∷ homes) first ∙ ap (λ hs. Some other ∷ hs) behind.0, behind.1)
 
@@ -162,7 +176,8 @@ tables_same : (raw other : RawTables) → raw.homes ≡ other.homes → raw.rows
 tables_same raw other homes rows =
     let first : raw ≡ record { homes = other.homes; rows = raw.rows } =
     ap (λ (h : List (Option ℕ)). let t : RawTables = record { homes = h; rows = raw.rows } in t) homes in
-    first ∙ ap (λ (r : List (List Segment)). let t : RawTables = record { homes = other.homes; rows = r } in t) rows
+    first ∙ ap
+    (λ (r : List (List Segment)). let t : RawTables = record { homes = other.homes; rows = r } in t) rows
 
 pub one_meaning : (names : List (List ℕ)) (cores : ℕ) (tasks : List (Option Periodic)) (lines : List Line)
     (raw other : RawTables) → length names ≡ length tasks → cores ≤ MAX_CORES → AreHostNames names
@@ -171,6 +186,7 @@ one_meaning names cores tasks lines raw other many few good is also =
     let same = sym is.written ∙ also.written in
     let tails : vcpu_lines names tasks raw.homes ++ (core_lines names 0 raw.rows ++ end_words ∷ [])
     ≡ vcpu_lines names tasks other.homes ++ (core_lines names 0 other.rows ++ end_words ∷ []) = cc in
-    let homes = homes_same names cores tasks raw.homes other.homes _ _ many few is.fine.housed also.fine.housed tails in
+    let homes = homes_same names cores tasks raw.homes other.homes _ _ many few is.fine.housed
+    also.fine.housed tails in
     tables_same raw other homes.0 (rows_same names tasks 0 raw.rows other.rows many good is.fine.segments
     also.fine.segments homes.1)

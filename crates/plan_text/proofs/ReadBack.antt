@@ -71,7 +71,8 @@ task_text-worded cores name (Some task) None rest few good housed = absurd (cc)
 task_text-worded cores name (Some task) (Some home) rest few good housed =
     let low : home < cores = grind (arith, nat_tests) in
     let listed = period_small task in
-    task_worded name task home rest good (omega (arith, listed)) (let within = task.within in omega (arith, listed))
+    task_worded name task home rest good (omega (arith, listed))
+    (let within = task.within in omega (arith, listed))
     (omega arith)
 
 vcpus_worded : (cores : ℕ) (names : List (List ℕ)) (tasks : List (Option Periodic)) (homes : List (Option ℕ))
@@ -97,7 +98,8 @@ vcpus_worded cores (name ∷ names) (task ∷ tasks) (home ∷ homes) rest few m
     ∙ (ap worded (append_assoc (task_text name task home) more rest)
     ∙ (task_text-worded cores name task home (more ++ rest) few (good 0 (omega arith)) parts.0
     ∙ (ap (λ ls. vcpu_part name task home ++ ls)
-    (vcpus_worded cores names tasks homes rest few (omega arith) (λ v low. good (suc v) (omega arith)) parts.1)
+    (vcpus_worded cores names tasks homes rest few (omega arith)
+    (λ v low. good (suc v) (omega arith)) parts.1)
     ∙ sym (append_assoc (vcpu_part name task home) (vcpu_lines names tasks homes) (worded rest)))))
 
 -- ---- rows
@@ -137,7 +139,8 @@ segments_of : (tasks : List (Option Periodic)) (most : ℕ) (ss : List Stretch) 
     → (segments : List Segment) × (map stretch_of segments ≡ ss)
 segments_of tasks most [] few all = ([], refl)
 segments_of tasks most (s ∷ ss) few all =
-    let small : ForSome s.owner (λ v. v < MAX_VCPUS) = λ v is. let below = task_within tasks v (all.0.owned v is) in
+    let small : ForSome s.owner (λ v. v < MAX_VCPUS) =
+    λ v is. let below = task_within tasks v (all.0.owned v is) in
     omega arith in
     let first : Segment = record { owner = s.owner; end = s.end; owner_small = small } in
     let more = segments_of tasks most ss few all.1 in
@@ -145,7 +148,8 @@ segments_of tasks most (s ∷ ss) few all =
 
 rows_of : (tasks : List (Option Periodic)) (rows : List Row) → length tasks ≤ MAX_VCPUS
     → All (λ (row : Row). length row ≡ ROUND) rows → All (λ row. All (IsOwned tasks) row) rows
-    → (raw : List (List Segment)) × (map (λ row. map stretch_of row) raw ≡ map (λ row. stretches_from 0 row) rows)
+    → (raw : List (List Segment)) × (map (λ row. map stretch_of row) raw
+    ≡ map (λ row. stretches_from 0 row) rows)
 rows_of tasks [] few rounds owned = ([], refl)
 rows_of tasks (row ∷ rows) few rounds owned =
     let size : 0 + length row ≤ ROUND = let is = rounds 0 row (omega arith) in omega arith in
@@ -167,7 +171,8 @@ same_words : (names : List (List ℕ)) (segments : List Segment)
 same_words names [] = refl
 same_words names (s ∷ segments) = ap (λ rest. segment_words names s ∷ rest) (same_words names segments)
 
-stretches_worded : (names : List (List ℕ)) (tasks : List (Option Periodic)) (ss : List Stretch) (rest : List ℕ)
+stretches_worded : (names : List (List ℕ)) (tasks : List (Option Periodic)) (ss : List Stretch)
+    (rest : List ℕ)
     → AreHostNames names → length names ≡ length tasks
     → AllByRecursion (IsGoodStretch tasks ROUND) ss
     → worded (flat_map (segment_line names) ss ++ rest) ≡ map (stretch_words names) ss ++ worded rest
@@ -179,19 +184,22 @@ stretches_worded names tasks (s ∷ ss) rest good many all =
     ∙ ap (λ ls. stretch_words names s ∷ ls) (stretches_worded names tasks ss rest good many all.1))
 
 fine_segments : (tasks : List (Option Periodic)) (segments : List Segment) (ss : List Stretch)
-    → map stretch_of segments ≡ ss → AllByRecursion (IsGoodStretch tasks ROUND) ss → All (IsFineSegment tasks) segments
+    → map stretch_of segments ≡ ss → AllByRecursion (IsGoodStretch tasks ROUND) ss
+    → All (IsFineSegment tasks) segments
 fine_segments tasks [] ss is all = all_none (IsFineSegment tasks)
 fine_segments tasks (s ∷ segments) [] is all = absurd (cc)
 fine_segments tasks (s ∷ segments) (t ∷ ss) is all =
     let first : stretch_of s ≡ t = cc in
-    let good : IsGoodStretch tasks ROUND (stretch_of s) = subst (IsGoodStretch tasks ROUND) (sym first) all.0 in
+    let good : IsGoodStretch tasks ROUND (stretch_of s) =
+    subst (IsGoodStretch tasks ROUND) (sym first) all.0 in
     all_cons (IsFineSegment tasks) s segments
     (record { small = let low = good.low in omega arith; owned = good.owned })
     (fine_segments tasks segments ss (cc) all.1)
 
 fine_rows : (tasks : List (Option Periodic)) (raw : List (List Segment)) (rows : List Row)
     → map (λ row. map stretch_of row) raw ≡ map (λ row. stretches_from 0 row) rows
-    → All (λ (row : Row). length row ≡ ROUND) rows → All (λ row. All (IsOwned tasks) row) rows → AreFineRows tasks raw
+    → All (λ (row : Row). length row ≡ ROUND) rows → All (λ row. All (IsOwned tasks) row) rows
+    → AreFineRows tasks raw
 fine_rows tasks [] rows is rounds owned = all_none (λ row. All (IsFineSegment tasks) row)
 fine_rows tasks (segments ∷ raw) [] is rounds owned = absurd (cc)
 fine_rows tasks (segments ∷ raw) (row ∷ rows) is rounds owned =
@@ -213,9 +221,11 @@ first_row names row = refl
 
 cores_worded : (names : List (List ℕ)) (tasks : List (Option Periodic)) (core : ℕ) (raw : List (List Segment))
     (rows : List Row) (rest : List ℕ) → AreHostNames names → length names ≡ length tasks
-    → core + length rows ≤ MAX_CORES → map (λ row. map stretch_of row) raw ≡ map (λ row. stretches_from 0 row) rows
+    → core + length rows ≤ MAX_CORES
+    → map (λ row. map stretch_of row) raw ≡ map (λ row. stretches_from 0 row) rows
     → All (λ (row : Row). length row ≡ ROUND) rows → All (λ row. All (IsOwned tasks) row) rows
-    → worded (texts_below (text_from names rows core) (length rows) ++ rest) ≡ core_lines names core raw ++ worded rest
+    → worded (texts_below (text_from names rows core) (length rows) ++ rest)
+    ≡ core_lines names core raw ++ worded rest
 cores_worded names tasks core [] [] rest good many few is rounds owned =
     ap (λ t. worded (t ++ rest)) (texts_below-zero (text_from names [] core))
 cores_worded names tasks core [] (row ∷ rows) rest good many few is rounds owned = absurd (cc)
@@ -229,12 +239,15 @@ cores_worded names tasks core (segments ∷ raw) (row ∷ rows) rest good many f
     let all : texts_below (text_from names (row ∷ rows) core) (suc (length rows))
     ≡ (core_line core ++ flat_map (segment_line names) ss) ++ more =
     texts_below-shift (text_from names (row ∷ rows) core) (length rows)
-    ∙ (ap (λ t. (core_line t ++ row_text names row) ++ texts_below (λ k. text_from names (row ∷ rows) core (suc k))
+    ∙ (ap (λ t. (core_line t ++ row_text names row)
+    ++ texts_below (λ k. text_from names (row ∷ rows) core (suc k))
     (length rows)) place
-    ∙ (ap (λ t. (core_line core ++ t) ++ texts_below (λ k. text_from names (row ∷ rows) core (suc k)) (length rows))
+    ∙ (ap (λ t. (core_line core ++ t)
+    ++ texts_below (λ k. text_from names (row ∷ rows) core (suc k)) (length rows))
     (first_row names row)
     ∙ ap (λ t. (core_line core ++ flat_map (segment_line names) ss) ++ t)
-    (texts_below-same (λ k. text_from names (row ∷ rows) core (suc k)) (text_from names rows (core + 1)) (length rows)
+    (texts_below-same (λ k. text_from names (row ∷ rows) core (suc k))
+    (text_from names rows (core + 1)) (length rows)
     (λ k low. ap (λ n. core_line n ++ row_text names (get_or rows k [])) (omega arith))))) in
     ap (λ t. worded (t ++ rest)) all
     ∙ (ap worded (append_assoc (core_line core ++ flat_map (segment_line names) ss) more rest
@@ -249,7 +262,8 @@ cores_worded names tasks core (segments ∷ raw) (row ∷ rows) rest good many f
     (cores_worded names tasks (core + 1) raw rows rest good many (omega arith) (cc)
     (all_tail (λ (r : Row). length r ≡ ROUND) row rows rounds)
     (all_tail (λ r. All (IsOwned tasks) r) row rows owned))
-    ∙ sym (append_assoc (map (segment_words names) segments) (core_lines names (core + 1) raw) (worded rest)))))))
+    ∙ sym (append_assoc (map (segment_words names) segments) (core_lines names (core + 1) raw)
+    (worded rest)))))))
 
 -- ---- the whole
 
@@ -292,7 +306,8 @@ read_back host plan all =
     let few_cores = host.few_cores in
     let cores : length plan.rows ≡ host.cores = all.is_for.rows in
     let many : length names ≡ length plan.tasks = let vcpus = all.is_for.vcpus in omega arith in
-    let few_tasks : length plan.tasks ≤ MAX_VCPUS = let few = all.few in let vcpus = all.is_for.vcpus in omega arith in
+    let few_tasks : length plan.tasks ≤ MAX_VCPUS =
+    let few = all.few in let vcpus = all.is_for.vcpus in omega arith in
     let few : length plan.rows ≤ MAX_CORES = omega arith in
     let owned = all_owned plan.tasks plan.rows all.keeps.owned in
     let rows = rows_of plan.tasks plan.rows few_tasks all.rounds owned in
@@ -312,6 +327,7 @@ read_back host plan all =
         written =
             text_worded names plan rows.0 all.names many few few_tasks all.keeps all.rounds rows.1
             ∙ ap (λ n. head_words n (count_by is_admitted plan.tasks) ∷
-            (vcpu_lines names plan.tasks plan.homes ++ (core_lines names 0 rows.0 ++ end_words ∷ []))) (sym same);
+            (vcpu_lines names plan.tasks plan.homes
+            ++ (core_lines names 0 rows.0 ++ end_words ∷ []))) (sym same);
       };
     }

@@ -24,25 +24,31 @@ unknown_owner names tasks owner None same other unknown owned is = absurd (other
 unknown_owner names tasks owner (Some v) same other unknown owned is =
     unknown v (let low = task_within tasks v (owned v refl) in omega arith) (sym is)
 
-pub owner_is_unknown : (names : List (List ℕ)) (tasks : List (Option Periodic)) (words : Line) (end owner : List ℕ)
+pub owner_is_unknown : (names : List (List ℕ)) (tasks : List (Option Periodic)) (words : Line)
+    (end owner : List ℕ)
     → length names ≡ length tasks
     → words ≡ end ∷ owner ∷ [] → owner ≢ codes "-" → IsUnknown names owner → IsNoSegmentLine names tasks words
 owner_is_unknown names tasks words end owner same are other unknown s fine is =
     unknown_owner names tasks owner s.owner same other unknown fine.owned cc
 
-idle_owner : (names : List (List ℕ)) (tasks : List (Option Periodic)) (owner : List ℕ) (vcpu : ℕ) (o : Option ℕ)
+idle_owner : (names : List (List ℕ)) (tasks : List (Option Periodic)) (owner : List ℕ) (vcpu : ℕ)
+    (o : Option ℕ)
     → length names ≡ length tasks
-    → AreHostNames names → IsName owner → vcpu < length names → name_at names vcpu ≡ owner → has_task tasks vcpu ≡ false
+    → AreHostNames names → IsName owner → vcpu < length names → name_at names vcpu ≡ owner
+    → has_task tasks vcpu ≡ false
     → ForSome o (λ v. has_task tasks v ≡ true) → owner ≡ owner_word names o → ⊥
-idle_owner names tasks owner vcpu None same good name low here none owned is = dash_is_no_name (subst IsName is name)
+idle_owner names tasks owner vcpu None same good name low here none owned is =
+    dash_is_no_name (subst IsName is name)
 idle_owner names tasks owner vcpu (Some v) same good name low here none owned is =
     let below : v < length names = let low = task_within tasks v (owned v refl) in omega arith in
     let one : vcpu ≡ v = good.distinct vcpu v low below (here ∙ is) in
     absurd (false≢true (sym none ∙ (ap (has_task tasks) one ∙ owned v refl)))
 
-pub owner_is_idle : (names : List (List ℕ)) (tasks : List (Option Periodic)) (words : Line) (end owner : List ℕ)
+pub owner_is_idle : (names : List (List ℕ)) (tasks : List (Option Periodic)) (words : Line)
+    (end owner : List ℕ)
     (vcpu : ℕ) → length names ≡ length tasks
-    → AreHostNames names → words ≡ end ∷ owner ∷ [] → IsName owner → vcpu < length names → name_at names vcpu ≡ owner
+    → AreHostNames names → words ≡ end ∷ owner ∷ [] → IsName owner → vcpu < length names
+    → name_at names vcpu ≡ owner
     → has_task tasks vcpu ≡ false → IsNoSegmentLine names tasks words
 owner_is_idle names tasks words end owner vcpu same good are name low here none s fine is =
     idle_owner names tasks owner vcpu s.owner same good name low here none fine.owned cc

@@ -28,7 +28,8 @@ vcpu_lines-last (name ∷ names) (task ∷ tasks) [] home d named tasked = none 
     none (next ∷ names) [] = append-nil (vcpu_part name task home)
     none (next ∷ names) (more ∷ tasks) = append-nil (vcpu_part name task home)
 vcpu_lines-last (name ∷ names) (task ∷ tasks) (first ∷ homes) home d named tasked =
-    ap (λ ls. vcpu_part name task first ++ ls) (vcpu_lines-last names tasks homes home d (omega arith) (omega arith))
+    ap (λ ls. vcpu_part name task first ++ ls)
+    (vcpu_lines-last names tasks homes home d (omega arith) (omega arith))
     ∙ sym (append_assoc (vcpu_part name task first) (vcpu_lines names tasks homes)
     (vcpu_part (name_at names (length homes)) (get_or tasks (length homes) d) home))
 
@@ -88,7 +89,8 @@ abbrev FirstIs : List (List ℕ) → List (Option Periodic) → ℕ → List ℕ
 FirstIs names tasks v name task =
     (drop v names ≡ name ∷ drop (v + 1) names) × (drop v tasks ≡ task ∷ drop (v + 1) tasks)
 
-first_is : (names : List (List ℕ)) (tasks : List (Option Periodic)) (v : ℕ) (name : List ℕ) (task : Option Periodic)
+first_is : (names : List (List ℕ)) (tasks : List (Option Periodic)) (v : ℕ) (name : List ℕ)
+    (task : Option Periodic)
     → v < length names → v < length tasks
     → name_at names v ≡ name → get_or tasks v task ≡ task → FirstIs names tasks v name task
 first_is names tasks v name task named tasked is_name is_task = (
@@ -101,7 +103,8 @@ first_is names tasks v name task named tasked is_name is_task = (
 vcpus_back : (names : List (List ℕ)) (tasks : List (Option Periodic)) (cores v : ℕ) (name : List ℕ)
     (task : Option Periodic) (home : Option ℕ) (lines : List Line)
     → FirstIs names tasks v name task → is_housed cores task home ≡ true
-    → AreVcpus names tasks cores (v + 1) lines → AreVcpus names tasks cores v (vcpu_part name task home ++ lines)
+    → AreVcpus names tasks cores (v + 1) lines
+    → AreVcpus names tasks cores v (vcpu_part name task home ++ lines)
 vcpus_back names tasks cores v name task home lines first is are = record {
   homes = home ∷ are.homes;
   housed = rw first.1 (rw is are.housed);
@@ -140,21 +143,26 @@ go_parts names tasks cores v name task lines (home ∷ homes) rest housed rows w
 
 vcpus_go : (names : List (List ℕ)) (tasks : List (Option Periodic)) (cores v : ℕ) (name : List ℕ)
     (task : Option Periodic) (lines : List Line)
-    → FirstIs names tasks v name task → AreVcpus names tasks cores v lines → VcpusGo names tasks cores v name task lines
+    → FirstIs names tasks v name task → AreVcpus names tasks cores v lines
+    → VcpusGo names tasks cores v name task lines
 vcpus_go names tasks cores v name task lines first are =
     go_parts names tasks cores v name task lines are.homes are.rest (rw (← first.1) are.housed) are.rows
     (rw (← first.0) (rw (← first.1) are.written))
 
 -- a vCPU without a task has no line
-idle_goes : (names : List (List ℕ)) (tasks : List (Option Periodic)) (cores v : ℕ) (name : List ℕ) (lines : List Line)
+idle_goes : (names : List (List ℕ)) (tasks : List (Option Periodic)) (cores v : ℕ) (name : List ℕ)
+    (lines : List Line)
     → VcpusGo names tasks cores v name None lines → AreVcpus names tasks cores (v + 1) lines
-idle_goes names tasks cores v name lines go = subst (AreVcpus names tasks cores (v + 1)) (sym go.written) go.more
+idle_goes names tasks cores v name lines go =
+    subst (AreVcpus names tasks cores (v + 1)) (sym go.written) go.more
 
-with_home : (names : List (List ℕ)) (tasks : List (Option Periodic)) (cores v : ℕ) (name : List ℕ) (task : Periodic)
+with_home : (names : List (List ℕ)) (tasks : List (Option Periodic)) (cores v : ℕ) (name : List ℕ)
+    (task : Periodic)
     (line : Line) (lines : List Line) (home : Option ℕ) (rest : List Line)
     → is_housed cores (Some task) home ≡ true → AreVcpus names tasks cores (v + 1) rest
     → line ∷ lines ≡ vcpu_part name (Some task) home ++ rest
-    → (core : ℕ) × (core < cores) × (line ≡ vcpu_words name task core) × AreVcpus names tasks cores (v + 1) lines
+    → (core : ℕ) × (core < cores) × (line ≡ vcpu_words name task core)
+    × AreVcpus names tasks cores (v + 1) lines
 with_home names tasks cores v name task line lines None rest housed more written = absurd (cc)
 with_home names tasks cores v name task line lines (Some core) rest housed more written =
     let same : rest ≡ lines = cc in
@@ -168,7 +176,8 @@ pub bad_behind_vcpu : (names : List (List ℕ)) (tasks : List (Option Periodic))
     → lines ≡ vcpu_part name task home ++ rest → number ≡ first + length (vcpu_part name task home)
     → IsFirstBad (AreVcpus names tasks cores (v + 1)) number rest bad
     → IsFirstBad (AreVcpus names tasks cores v) first lines bad
-bad_behind_vcpu names tasks cores v first number name None home lines rest bad named tasked is_name is_task housed
+bad_behind_vcpu names tasks cores v first number name None home lines rest bad named tasked is_name
+    is_task housed
     written count is =
     let parts = first_is names tasks v name None named tasked is_name is_task in
     rw written (bad_of_both (AreVcpus names tasks cores v) (AreVcpus names tasks cores (v + 1)) first rest bad
@@ -208,7 +217,8 @@ pub vcpu_is_bad : (names : List (List ℕ)) (tasks : List (Option Periodic)) (co
 vcpu_is_bad names tasks cores v first name None lines some named tasked is_name is_task none = absurd none
 vcpu_is_bad names tasks cores v first name (Some task) lines some named tasked is_name is_task none =
     let parts = first_is names tasks v name (Some task) named tasked is_name is_task in
-    let never : (more : List Line) → IsNoVcpu name (Some task) cores more → AreVcpus names tasks cores v more → ⊥ =
+    let never : (more : List Line) → IsNoVcpu name (Some task) cores more
+    → AreVcpus names tasks cores v more → ⊥ =
     λ more other are. no_such_line names tasks cores v name task more other
     (vcpus_go names tasks cores v name (Some task) more parts are) in
     first_is_bad (AreVcpus names tasks cores v) first lines (vcpus_begun names tasks cores v some)
@@ -264,7 +274,8 @@ no_vcpus_yet (name ∷ names) (task ∷ tasks) lines = refl
 
 pub lines_more : (names : List (List ℕ)) (tasks : List (Option Periodic)) (v : ℕ) (homes : List (Option ℕ))
     (home : Option ℕ) (name : List ℕ) (task : Option Periodic) (all left rest : List Line)
-    → length homes ≡ v → v < length names → v < length tasks → name_at names v ≡ name → get_or tasks v task ≡ task
+    → length homes ≡ v → v < length names → v < length tasks → name_at names v ≡ name
+    → get_or tasks v task ≡ task
     → all ≡ vcpu_lines names tasks homes ++ left → left ≡ vcpu_part name task home ++ rest
     → all ≡ vcpu_lines names tasks (homes ++ home ∷ []) ++ rest
 lines_more names tasks v homes home name task all left rest many named tasked is_name is_task before here =
@@ -276,6 +287,8 @@ lines_more names tasks v homes home name task all left rest many named tasked is
     ∙ ap (λ ls. ls ++ rest) (sym (vcpu_lines-last names tasks homes home task (omega arith) (omega arith)
     ∙ ap (λ ls. vcpu_lines names tasks homes ++ ls) part))))
 
-pub housed_whole : (cores : ℕ) (tasks : List (Option Periodic)) (v : ℕ) (homes : List (Option ℕ)) → length tasks ≤ v
+pub housed_whole : (cores : ℕ) (tasks : List (Option Periodic)) (v : ℕ) (homes : List (Option ℕ))
+    → length tasks ≤ v
     → are_housed cores (take v tasks) homes ≡ true → are_housed cores tasks homes ≡ true
-housed_whole cores tasks v homes past is = subst (λ ts. are_housed cores ts homes ≡ true) (take_all v tasks past) is
+housed_whole cores tasks v homes past is =
+    subst (λ ts. are_housed cores ts homes ≡ true) (take_all v tasks past) is

@@ -56,7 +56,8 @@ first_and_rest (byte ∷ bytes) first rest is =
         let same_size : length lines ≡ length rest = ap length same in
         omega arith
 
-    by_end : ((l : List ℕ) (ls : List (List ℕ)) → lines_of bytes ≡ l ∷ ls → length l + length ls ≤ length bytes)
+    by_end : ((l : List ℕ) (ls : List (List ℕ)) → lines_of bytes ≡ l ∷ ls
+        → length l + length ls ≤ length bytes)
         → (b : Bool) → (if b then [] ∷ lines_of bytes else onto_first byte (lines_of bytes)) ≡ first ∷ rest
         → length first + length rest ≤ length (byte ∷ bytes)
     by_end all true is =
@@ -71,7 +72,8 @@ first_and_rest (byte ∷ bytes) first rest is =
 one_byte : (byte : ℕ) (space : Bool) → (byte == 32) ≡ space → length (words_of (byte ∷ [])) ≤ 1
 one_byte byte true is =
     let blank : byte ≡ 32 = grind (arith, nat_tests) in
-    let none : words_of (byte ∷ []) ≡ [] = ap (λ b. words_of (b ∷ [])) blank ∙ words_of-space [] ∙ words_of-nil in
+    let none : words_of (byte ∷ []) ≡ [] =
+    ap (λ b. words_of (b ∷ [])) blank ∙ words_of-space [] ∙ words_of-nil in
     let size : length (words_of (byte ∷ [])) ≡ 0 = ap length none in
     omega arith
 one_byte byte false is =
@@ -90,7 +92,8 @@ long_line (byte ∷ []) many = let few = one_byte byte (byte == 32) refl in absu
 long_line (byte ∷ next ∷ line) many = omega arith
 
 -- the lines behind a first one of several words
-pub few_behind : (bytes first : List ℕ) (rest : List (List ℕ)) (cores admitted : ℕ) → lines_of bytes ≡ first ∷ rest
+pub few_behind : (bytes first : List ℕ) (rest : List (List ℕ)) (cores admitted : ℕ)
+    → lines_of bytes ≡ first ∷ rest
     → words_of first ≡ head_words cores admitted
     → length rest + 2 ≤ length bytes
 few_behind bytes first rest cores admitted is words =
@@ -124,11 +127,13 @@ record HeadGoes (names : List (List ℕ)) (tasks : List (Option Periodic)) (core
   is_head : line ≡ head_words cores (count_by is_admitted tasks)
   more : AreVcpus names tasks cores 0 lines
 
-head_goes : (names : List (List ℕ)) (tasks : List (Option Periodic)) (cores : ℕ) (line : Line) (lines : List Line)
+head_goes : (names : List (List ℕ)) (tasks : List (Option Periodic)) (cores : ℕ) (line : Line)
+    (lines : List Line)
     → IsSomePlan names cores tasks (line ∷ lines) → HeadGoes names tasks cores line lines
 head_goes names tasks cores line lines plan =
     let fine = plan.text.fine in
-    let first : line ≡ head_words (length plan.raw.rows) (count_by is_admitted tasks) = let is = plan.text.written in
+    let first : line ≡ head_words (length plan.raw.rows) (count_by is_admitted tasks) =
+    let is = plan.text.written in
     cc in
     let rest : lines ≡ vcpu_lines names tasks plan.raw.homes
     ++ (core_lines names 0 plan.raw.rows ++ end_words ∷ []) = let is = plan.text.written in cc in
@@ -153,7 +158,8 @@ plan_begun names tasks cores some =
           head_back names tasks cores begun.rest begun.text;
     }
 
-pub head_is_bad : (names : List (List ℕ)) (tasks : List (Option Periodic)) (cores : ℕ) (lines : List Line) → 0 < cores
+pub head_is_bad : (names : List (List ℕ)) (tasks : List (Option Periodic)) (cores : ℕ)
+    (lines : List Line) → 0 < cores
     → ((rest : List Line) → lines ≡ head_words cores (count_by is_admitted tasks) ∷ rest → ⊥)
     → IsFirstBad (IsSomePlan names cores tasks) 1 lines 1
 head_is_bad names tasks cores lines some other =
@@ -162,22 +168,27 @@ head_is_bad names tasks cores lines some other =
     (at ∙ ap (λ l. l ∷ back) (head_goes names tasks cores line rest plan).is_head))
     (λ at plan. let is = plan.text.written in absurd (cc))
 
-pub bad_behind_head : (names : List (List ℕ)) (tasks : List (Option Periodic)) (cores : ℕ) (lines rest : List Line)
+pub bad_behind_head : (names : List (List ℕ)) (tasks : List (Option Periodic)) (cores : ℕ)
+    (lines rest : List Line)
     (bad : ℕ)
     → lines ≡ head_words cores (count_by is_admitted tasks) ∷ rest
-    → IsFirstBad (AreVcpus names tasks cores 0) 2 rest bad → IsFirstBad (IsSomePlan names cores tasks) 1 lines bad
+    → IsFirstBad (AreVcpus names tasks cores 0) 2 rest bad
+    → IsFirstBad (IsSomePlan names cores tasks) 1 lines bad
 bad_behind_head names tasks cores lines rest bad is in_rest =
     rw is (bad_behind (IsSomePlan names cores tasks) (AreVcpus names tasks cores 0) 1
     (head_words cores (count_by is_admitted tasks)) rest bad
     (λ some are. head_back names tasks cores some are)
-    (λ some plan. (head_goes names tasks cores (head_words cores (count_by is_admitted tasks)) some plan).more)
+    (λ some plan. (head_goes names tasks cores
+    (head_words cores (count_by is_admitted tasks)) some plan).more)
     in_rest)
 
 -- ---- the whole
 
-pub whole_read : (names : List (List ℕ)) (tasks : List (Option Periodic)) (cores : ℕ) (lines rest behind : List Line)
+pub whole_read : (names : List (List ℕ)) (tasks : List (Option Periodic)) (cores : ℕ)
+    (lines rest behind : List Line)
     (homes : List (Option ℕ)) (rows : List (List Segment))
-    → lines ≡ head_words cores (count_by is_admitted tasks) ∷ rest → rest ≡ vcpu_lines names tasks homes ++ behind
+    → lines ≡ head_words cores (count_by is_admitted tasks) ∷ rest
+    → rest ≡ vcpu_lines names tasks homes ++ behind
     → behind ≡ core_lines names 0 rows ++ end_words ∷ []
     → are_housed cores tasks homes ≡ true → length rows ≡ cores → AreFineRows tasks rows
     → AreLinesOf names cores tasks lines (record { homes = homes; rows = rows })
@@ -190,7 +201,8 @@ whole_read names tasks cores lines rest behind homes rows is vcpus cores_is hous
 }
 
 -- a text with a bad line is the text of no tables
-none_with_bad : (names : List (List ℕ)) (tasks : List (Option Periodic)) (cores : ℕ) (lines : List Line) (bad : ℕ)
+none_with_bad : (names : List (List ℕ)) (tasks : List (Option Periodic)) (cores : ℕ)
+    (lines : List Line) (bad : ℕ)
     → IsFirstBad (IsSomePlan names cores tasks) 1 lines bad
     → (raw : RawTables) → AreLinesOf names cores tasks lines raw → ⊥
 none_with_bad names tasks cores lines bad is raw text =
@@ -198,7 +210,8 @@ none_with_bad names tasks cores lines bad is raw text =
 
 -- what is read is what the text stands for
 pub read_is_due : (names : List (List ℕ)) (tasks : List (Option Periodic)) (cores : ℕ) (lines : List Line)
-    (result : Result RawTables ReadPlan) → length names ≡ length tasks → cores ≤ MAX_CORES → AreHostNames names
+    (result : Result RawTables ReadPlan) → length names ≡ length tasks → cores ≤ MAX_CORES
+    → AreHostNames names
     → IfOk result (AreLinesOf names cores tasks lines)
     → ((bad : ℕ) → IsErrOf result (BadLine bad) → IsFirstBad (IsSomePlan names cores tasks) 1 lines bad)
     → (raw : RawTables) → AreLinesOf names cores tasks lines raw → (result ≡ Ok raw) ⊎ (result ≡ Err NoMemory)
@@ -218,7 +231,8 @@ pub refusal_is_due : (names : List (List ℕ)) (tasks : List (Option Periodic)) 
 refusal_is_due names tasks cores lines (Ok read) ok bad line is =
     absurd (none_with_bad names tasks cores lines line is read ok)
 refusal_is_due names tasks cores lines (Err (BadLine other)) ok bad line is =
-    inl (ap (λ n. Err (BadLine n)) (one_bad (IsSomePlan names cores tasks) 1 lines other line (bad other refl) is))
+    inl (ap (λ n. Err (BadLine n))
+    (one_bad (IsSomePlan names cores tasks) 1 lines other line (bad other refl) is))
 refusal_is_due names tasks cores lines (Err NoMemory) ok bad line is = inr refl
 
 -- a bad line behind the first one
@@ -229,7 +243,8 @@ pub bad_in_text : (names own : List (List ℕ)) (tasks these those : List (Optio
     → lines ≡ map words_of rest → number ≡ 2
     → IsFirstBad (AreVcpus own these cores 0) number lines bad
     → IsFirstBad (IsSomePlan names cores tasks) 1 (worded bytes) bad
-bad_in_text names own tasks these those cores number bytes head rest lines bad same_names same_tasks also at words
+bad_in_text names own tasks these those cores number bytes head rest lines bad same_names same_tasks
+    also at words
     left two is =
     let whole : worded bytes ≡ head_words cores (count_by is_admitted tasks) ∷ lines =
     ap (map words_of) at ∙ (ap (λ l. l ∷ map words_of rest)

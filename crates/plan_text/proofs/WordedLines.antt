@@ -62,7 +62,8 @@ all_first : (P : ℕ → Type 0) (x : ℕ) (xs : List ℕ) → P x → All P xs 
 all_first P x xs here more zero d low = here
 all_first P x xs here more (suc k) d low = more k d (omega arith)
 
-no_line_feed : (words : List (List ℕ)) → list_all is_word words ≡ true → All (λ byte. byte ≢ 10) (joined words)
+no_line_feed : (words : List (List ℕ)) → list_all is_word words ≡ true
+    → All (λ byte. byte ≢ 10) (joined words)
 no_line_feed [] all = λ k d low. absurd (omega arith)
 no_line_feed (word ∷ []) all =
     let parts = and_parts (is_word word) true all in
@@ -96,7 +97,8 @@ plain_digits (byte ∷ bytes) all = rw (plain_digit byte all.0) (plain_digits by
 
 pub decimal_word : (n : ℕ) → n < 2 ^ 64 → is_word (decimal n) ≡ true
 decimal_word n low =
-    let some : nat_lt 0 (length (decimal n)) ≡ true = let long = decimal_nonempty n low in grind (arith, nat_tests) in
+    let some : nat_lt 0 (length (decimal n)) ≡ true =
+    let long = decimal_nonempty n low in grind (arith, nat_tests) in
     rw some (plain_digits (decimal n) (decimal_is_IsNumeral n low).0.1)
 
 plain_name_byte : (byte : ℕ) → is_name_byte_lem byte ≡ true → is_plain byte ≡ true
@@ -115,9 +117,12 @@ plain_name (byte ∷ bytes) all =
 
 pub name_word : (name : List ℕ) → IsName name → is_word name ≡ true
 name_word name good =
-    let parts = and_parts ((nat_le 1 (length name) && nat_le (length name) MAX_NAME) && not (is_dash_lem name))
+    let parts =
+    and_parts ((nat_le 1 (length name) && nat_le (length name) MAX_NAME)
+    && not (is_dash_lem name))
     (list_all is_name_byte_lem name) good in
-    let sized = and_parts (nat_le 1 (length name) && nat_le (length name) MAX_NAME) (not (is_dash_lem name)) parts.0 in
+    let sized = and_parts (nat_le 1 (length name) && nat_le (length name) MAX_NAME)
+    (not (is_dash_lem name)) parts.0 in
     let long = and_parts (nat_le 1 (length name)) (nat_le (length name) MAX_NAME) sized.0 in
     let some : nat_lt 0 (length name) ≡ true = grind (arith, nat_tests, long.0) in
     rw some (plain_name name parts.1)
@@ -135,7 +140,8 @@ head_worded cores admitted rest few many =
     ap worded flat ∙ worded_line (codes "plan")
     (codes "cores" ∷ decimal cores ∷ codes "vcpus" ∷ decimal admitted ∷ []) rest good
 
-pub task_worded : (name : List ℕ) (task : Periodic) (home : ℕ) (rest : List ℕ) → IsName name → task.period < 2 ^ 64
+pub task_worded : (name : List ℕ) (task : Periodic) (home : ℕ) (rest : List ℕ) → IsName name
+    → task.period < 2 ^ 64
     → task.cost < 2 ^ 64 → home < 2 ^ 64
     → worded (task_line name task home ++ rest) ≡ vcpu_words name task home ∷ worded rest
 unfolding task_line
@@ -146,7 +152,8 @@ task_worded name task home rest good period cost low =
     rw (name_word name good) (rw (decimal_word task.period period)
     (rw (decimal_word task.cost cost) (rw (decimal_word home low) refl))) in
     ap worded flat ∙ worded_line (codes "vcpu")
-    (name ∷ codes "period" ∷ decimal task.period ∷ codes "cost" ∷ decimal task.cost ∷ codes "home" ∷ decimal home
+    (name ∷ codes "period" ∷ decimal task.period ∷ codes "cost" ∷ decimal task.cost ∷ codes
+    "home" ∷ decimal home
     ∷ []) rest all
 
 pub core_worded : (core : ℕ) (rest : List ℕ) → core < 2 ^ 64
@@ -161,7 +168,8 @@ pub end_worded : worded (codes "end\n") ≡ end_words ∷ []
 unfolding lines_of
 end_worded = worded_line (codes "end") [] [] refl
 
-owner_is_word : (names : List (List ℕ)) (owner : Option ℕ) → ((v : ℕ) → owner ≡ Some v → IsName (name_at names v))
+owner_is_word : (names : List (List ℕ)) (owner : Option ℕ)
+    → ((v : ℕ) → owner ≡ Some v → IsName (name_at names v))
     → is_word (owner_word names owner) ≡ true
 owner_is_word names None good = refl
 owner_is_word names (Some v) good = name_word (name_at names v) (good v refl)
@@ -171,7 +179,8 @@ pub segment_worded : (names : List (List ℕ)) (s : Stretch) (rest : List ℕ) �
     → worded (segment_line names s ++ rest) ≡ (decimal s.end ∷ owner_word names s.owner ∷ []) ∷ worded rest
 unfolding segment_line
 segment_worded names s rest low good =
-    let flat : segment_line names s ++ rest ≡ joined (decimal s.end ∷ owner_word names s.owner ∷ []) ++ 10 ∷ rest =
+    let flat : segment_line names s ++ rest
+    ≡ joined (decimal s.end ∷ owner_word names s.owner ∷ []) ++ 10 ∷ rest =
     simp append_assoc refl in
     let all : list_all is_word (decimal s.end ∷ owner_word names s.owner ∷ []) ≡ true =
     rw (decimal_word s.end low) (rw (owner_is_word names s.owner good) refl) in

@@ -13,7 +13,8 @@ OwnersBelow n rows = (c place v : ℕ) → owner_at rows c place ≡ Some v → 
 
 -- the same of segments
 abbrev pub AreOwnedBelow : ℕ → List Segment → Type 0
-AreOwnedBelow n segments = (k : ℕ) (s : Segment) → slice_get segments k ≡ Some s → ForSome s.owner (λ v. v < n)
+AreOwnedBelow n segments = (k : ℕ) (s : Segment) → slice_get segments k ≡ Some s
+    → ForSome s.owner (λ v. v < n)
 
 -- a segment isn't followed by one of the same owner
 abbrev pub is_last_of : Option Segment → Option Segment → Bool

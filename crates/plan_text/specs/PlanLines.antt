@@ -1,4 +1,5 @@
--- The plan text as lines of words, which are a function of what it stands for. The form is this project's own.
+-- The plan text as lines of words, which are a function of what it stands for. The form is this
+-- project's own.
 use Rattle.std.specs.Prelude.{◌≡◌, ℕ, ◌+◌, ◌<◌, ◌^◌, IsTrue, true, List, [], ◌∷◌, ◌++◌, codes, count_by, decimal, length, map, Option, Some, None}
 use Rattle.std.specs.List.{All}
 use Rattle.std.specs.Option.{ForSome}
@@ -21,12 +22,14 @@ worded bytes = map words_of (lines_of bytes)
 
 -- the first line: how many cores and admitted vCPUs there are
 abbrev pub head_words : ℕ → ℕ → Line
-head_words cores admitted = codes "plan" ∷ codes "cores" ∷ decimal cores ∷ codes "vcpus" ∷ decimal admitted ∷ []
+head_words cores admitted = codes "plan" ∷ codes "cores" ∷ decimal cores ∷ codes "vcpus" ∷ decimal
+    admitted ∷ []
 
 -- the line of an admitted vCPU
 abbrev pub vcpu_words : List ℕ → Periodic → ℕ → Line
 vcpu_words name task home =
-    codes "vcpu" ∷ name ∷ codes "period" ∷ decimal task.period ∷ codes "cost" ∷ decimal task.cost ∷ codes "home" ∷
+    codes "vcpu" ∷ name ∷ codes "period" ∷ decimal task.period ∷ codes "cost" ∷ decimal task.cost
+    ∷ codes "home" ∷
     decimal home ∷ []
 
 -- a vCPU without a task has no line
@@ -40,7 +43,8 @@ abbrev pub vcpu_lines : List (List ℕ) → List (Option Periodic) → List (Opt
 vcpu_lines [] tasks homes = []
 vcpu_lines (name ∷ names) [] homes = []
 vcpu_lines (name ∷ names) (task ∷ tasks) [] = []
-vcpu_lines (name ∷ names) (task ∷ tasks) (home ∷ homes) = vcpu_part name task home ++ vcpu_lines names tasks homes
+vcpu_lines (name ∷ names) (task ∷ tasks) (home ∷ homes) =
+    vcpu_part name task home ++ vcpu_lines names tasks homes
 
 -- the line of a segment: its end, and its owner's name or `-`
 abbrev pub segment_words : List (List ℕ) → Segment → Line
@@ -72,8 +76,8 @@ pub record IsFineSegment (tasks : List (Option Periodic)) (s : Segment) : Type 0
 abbrev pub AreFineRows : List (Option Periodic) → List (List Segment) → Type 0
 AreFineRows tasks rows = All (λ row. All (IsFineSegment tasks) row) rows
 
--- tables that a text for so many cores and these tasks may stand for: each task has one home below the count of cores,
--- and nobody else has one; there is a row for each core, of such segments
+-- tables that a text for so many cores and these tasks may stand for: each task has one home below
+-- the count of cores, and nobody else has one; there is a row for each core, of such segments
 pub record IsFine (cores : ℕ) (tasks : List (Option Periodic)) (raw : RawTables) : Type 0 where
   pub housed : IsTrue (are_housed cores tasks raw.homes)
   pub rows : length raw.rows ≡ cores

@@ -17,12 +17,16 @@ is_admitted (Some task) = true
 
 -- the first line: how many cores and admitted vCPUs there are
 unfoldable pub head_line : ℕ → ℕ → List ℕ
-head_line cores admitted = codes "plan cores " ++ (decimal cores ++ (codes " vcpus " ++ (decimal admitted ++ codes "\n")))
+head_line cores admitted = codes "plan cores "
+    ++ (decimal cores ++ (codes " vcpus " ++ (decimal admitted ++ codes "\n")))
 
 -- the line of an admitted vCPU
 unfoldable pub task_line : List ℕ → Periodic → ℕ → List ℕ
 task_line name task home =
-    codes "vcpu " ++ (name ++ (codes " period " ++ (decimal task.period ++ (codes " cost " ++ (decimal task.cost ++ (codes " home " ++ (decimal home ++ codes "\n")))))))
+    codes "vcpu "
+    ++ (name ++ (codes " period " ++ (decimal task.period
+    ++ (codes " cost " ++ (decimal task.cost
+    ++ (codes " home " ++ (decimal home ++ codes "\n")))))))
 
 -- a vCPU without a task has no line
 abbrev pub task_text : List ℕ → Option Periodic → Option ℕ → List ℕ
@@ -31,7 +35,8 @@ task_text name (Some task) None = []
 task_text name (Some task) (Some home) = task_line name task home
 
 unfoldable pub vcpu_text : List (List ℕ) → List (Option Periodic) → List (Option ℕ) → ℕ → List ℕ
-vcpu_text names tasks homes v = task_text (name_at names v) (slice_index_or tasks v None) (slice_index_or homes v None)
+vcpu_text names tasks homes v =
+    task_text (name_at names v) (slice_index_or tasks v None) (slice_index_or homes v None)
 
 -- an owner in a line: its name, or `-` for idle cells
 abbrev pub owner_word : List (List ℕ) → Option ℕ → List ℕ
@@ -55,4 +60,6 @@ core_text names rows core = core_line core ++ row_text names (slice_index_or row
 -- the plan text for vCPUs of these names
 unfoldable pub plan_text : List (List ℕ) → PlanView → List ℕ
 plan_text names plan =
-    head_line (length plan.rows) (count_by is_admitted plan.tasks) ++ (texts_below (vcpu_text names plan.tasks plan.homes) (length plan.tasks) ++ (texts_below (core_text names plan.rows) (length plan.rows) ++ codes "end\n"))
+    head_line (length plan.rows) (count_by is_admitted plan.tasks)
+    ++ (texts_below (vcpu_text names plan.tasks plan.homes) (length plan.tasks)
+    ++ (texts_below (core_text names plan.rows) (length plan.rows) ++ codes "end\n"))

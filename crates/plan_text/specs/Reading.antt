@@ -45,7 +45,8 @@ IsOtherLine words lines = (rest : List Line) → lines ≡ words ∷ rest → �
 
 -- the first of the lines is no segment's
 abbrev pub IsNoSegment : List (List ℕ) → List (Option Periodic) → List Line → Type 0
-IsNoSegment names tasks lines = (s : Segment) → IsFineSegment tasks s → IsOtherLine (segment_words names s) lines
+IsNoSegment names tasks lines = (s : Segment) → IsFineSegment tasks s
+    → IsOtherLine (segment_words names s) lines
 
 -- the line is no segment's
 abbrev pub IsNoSegmentLine : List (List ℕ) → List (Option Periodic) → Line → Type 0
@@ -62,7 +63,8 @@ pub record IsPushed (names : List (List ℕ)) (tasks : List (Option Periodic)) (
 -- the first of the lines isn't that of a vCPU with this name and task, if it has one
 abbrev pub IsNoVcpu : List ℕ → Option Periodic → ℕ → List Line → Type 0
 IsNoVcpu name None cores lines = ⊥
-IsNoVcpu name (Some task) cores lines = (home : ℕ) → home < cores → IsOtherLine (vcpu_words name task home) lines
+IsNoVcpu name (Some task) cores lines = (home : ℕ) → home < cores
+    → IsOtherLine (vcpu_words name task home) lines
 
 -- the lines from the first one on, if there is one
 abbrev pub lines_left : Option (Bor (List ℕ)) → List (List ℕ) → List Line

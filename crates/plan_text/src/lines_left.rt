@@ -47,7 +47,8 @@ impl<'a> LinesLeft<'a> {
     }
 
     pub(crate) fn first(&self) -> Option<&'a [u8]>
-        ensures { MatchOption result (self.now.lines ≡ []) (λ line. StartsWith (words_of line.now) self.now.lines) }
+        ensures { MatchOption result (self.now.lines ≡ [])
+            (λ line. StartsWith (words_of line.now) self.now.lines) }
     {
         self.line
     }
@@ -55,7 +56,8 @@ impl<'a> LinesLeft<'a> {
     // Steps over the first line.
     pub(crate) fn step(&mut self)
         requires { 0 < length self.old.lines }
-        ensures lines { (words : Line) (rest : List Line) → self.old.lines ≡ words ∷ rest → self.new.lines ≡ rest }
+        ensures lines { (words : Line) (rest : List Line) → self.old.lines ≡ words ∷ rest
+            → self.new.lines ≡ rest }
         ensures number { self.new.number ≡ self.old.number + 1 }
     {
         self.line = self.behind.next();

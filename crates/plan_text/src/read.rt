@@ -45,7 +45,8 @@ pub fn read_plan(
     ensures housed { IfOk result (λ raw. IsTrue (are_housed (length raw.rows) tasks.now raw.homes)) }
     ensures fine { IfOk result (λ raw. AreFineRows tasks.now raw.rows) }
     // The same the other way round: a text is read, and another is refused with its line.
-    ensures read { (raw : RawTables) → IsPlanText (names_of host.now.vcpus) host.now.cores tasks.now bytes.now raw
+    ensures read { (raw : RawTables) → IsPlanText
+        (names_of host.now.vcpus) host.now.cores tasks.now bytes.now raw
         → (result ≡ Ok raw) ⊎ (result ≡ Err ReadPlan.NoMemory) }
     ensures refused { (bad : ℕ)
         → IsFirstBad (IsSomePlan (names_of host.now.vcpus) host.now.cores tasks.now) 1 (worded bytes.now) bad

@@ -59,7 +59,8 @@ fn read_row(
 ) -> Result<Vec<Segment>, AllocError>
     requires good { AreHostNames names.now }
     requires named { length names.now ≡ length tasks.now }
-    ensures lines { IfOk result (λ row. left.old.lines ≡ map (segment_words names.now) row.items ++ left.new.lines) }
+    ensures lines { IfOk result (λ row. left.old.lines ≡ map (segment_words names.now) row.items
+        ++ left.new.lines) }
     ensures number { IfOk result (λ row. left.new.number ≡ left.old.number + length row.items) }
     ensures fine { IfOk result (λ row. All (IsFineSegment tasks.now) row.items) }
     ensures behind { OnOk result (IsNoSegment names.now tasks.now left.new.lines) }

@@ -58,7 +58,8 @@ fn put_vcpu<K: Sink>(
     task: &Option<Periodic>,
     home: &Option<CoreNo>,
 ) -> Result<(), WriteFault>
-    ensures { Writes (K.state sink.old) (K.state sink.new) (task_text vcpu.now.name task.now home.now) result }
+    ensures { Writes (K.state sink.old) (K.state sink.new)
+        (task_text vcpu.now.name task.now home.now) result }
 {
     let Some(task) = task else {
         return Ok(());

@@ -20,7 +20,8 @@ pub record Grew (c : ℕ) (taken : Step) (before after : CoreState) : Type 0 whe
   entries : length after.entries ≡ cond (is_decide_of c taken) 1 0 + length before.entries
   stints : length after.stints ≡ cond (is_run_of c taken) 1 0 + length before.stints
 
-grew_by : (c : ℕ) (taken : Step) (before after : CoreState) (decides run : Bool) → is_decide_of c taken ≡ decides
+grew_by : (c : ℕ) (taken : Step) (before after : CoreState) (decides run : Bool)
+    → is_decide_of c taken ≡ decides
     → is_run_of c taken ≡ run → length after.entries ≡ cond decides 1 0 + length before.entries
     → length after.stints ≡ cond run 1 0 + length before.stints → Grew c taken before after
 grew_by c taken before after decides run d r entries stints = record {
@@ -51,7 +52,8 @@ posted course old new c after p at = record {
   grew = grew_by c step.Post after after false false refl refl (omega arith) (omega arith);
 }
 
-saw : (course : CourseView) (rounds d : ℕ) (old new : State) (c : ℕ) (after : CoreState) → Sees course rounds d old new
+saw : (course : CourseView) (rounds d : ℕ) (old new : State) (c : ℕ) (after : CoreState)
+    → Sees course rounds d old new
     → slice_get new.cores c ≡ Some after → GrewFrom c (step.See d) old after
 saw course rounds d old new c after p at =
     let is = sym (ap (λ (s : State). slice_get s.cores c) p.becomes) ∙ at in
@@ -59,7 +61,8 @@ saw course rounds d old new c after p at =
       | inl here ↦ record {
         before = p.core;
         at = rw here.0 p.at;
-        grew = rw (← here.1) (grew_by c (step.See d) p.core (record p.core { seen = Some old.posted }) false false refl refl
+        grew = rw (← here.1) (grew_by c (step.See d) p.core
+            (record p.core { seen = Some old.posted }) false false refl refl
             (omega arith) (omega arith));
       }
       | inr away ↦ record {
@@ -69,7 +72,8 @@ saw course rounds d old new c after p at =
       }
     ]
 
-entered : (d : ℕ) (old new : State) (core : CoreState) (e : Entry) (c : ℕ) (after : CoreState) → IsCore old d core
+entered : (d : ℕ) (old new : State) (core : CoreState) (e : Entry) (c : ℕ) (after : CoreState)
+    → IsCore old d core
     → new.cores ≡ slice_set old.cores d (enters core e) → slice_get new.cores c ≡ Some after
     → GrewFrom c (step.Decide d) old after
 entered d old new core e c after was becomes at =
@@ -78,17 +82,20 @@ entered d old new core e c after was becomes at =
       | inl here ↦ record {
         before = core;
         at = rw here.0 was;
-        grew = rw (← here.1) (grew_by c (step.Decide d) core (enters core e) true false (same d c (sym here.0)) refl
+        grew = rw (← here.1) (grew_by c (step.Decide d) core (enters core e) true false
+            (same d c (sym here.0)) refl
             (more core.entries e) (omega arith));
       }
       | inr away ↦ record {
         before = after;
         at = away.1;
-        grew = grew_by c (step.Decide d) after after false false (other d c (λ e. away.0 (sym e))) refl (omega arith) (omega arith);
+        grew = grew_by c (step.Decide d) after after false false
+            (other d c (λ e. away.0 (sym e))) refl (omega arith) (omega arith);
       }
     ]
 
-ran : (course : CourseView) (rounds d : ℕ) (old new : State) (c : ℕ) (after : CoreState) → Runs course rounds d old new
+ran : (course : CourseView) (rounds d : ℕ) (old new : State) (c : ℕ) (after : CoreState)
+    → Runs course rounds d old new
     → slice_get new.cores c ≡ Some after → GrewFrom c (step.Run d) old after
 ran course rounds d old new c after p at =
     let is = sym (ap (λ (s : State). slice_get s.cores c) p.becomes) ∙ at in
@@ -96,13 +103,15 @@ ran course rounds d old new c after p at =
       | inl here ↦ record {
         before = p.core;
         at = rw here.0 p.at;
-        grew = rw (← here.1) (grew_by c (step.Run d) p.core (runs p.core p.stint) false true refl (same d c (sym here.0))
+        grew = rw (← here.1) (grew_by c (step.Run d) p.core (runs p.core p.stint) false true refl
+            (same d c (sym here.0))
             (omega arith) (more p.core.stints p.stint));
       }
       | inr away ↦ record {
         before = after;
         at = away.1;
-        grew = grew_by c (step.Run d) after after false false refl (other d c (λ e. away.0 (sym e))) (omega arith) (omega arith);
+        grew = grew_by c (step.Run d) after after false false refl (other d c (λ e. away.0 (sym e)))
+            (omega arith) (omega arith);
       }
     ]
 
@@ -116,7 +125,8 @@ moved course rounds old new (step.Decide d) c after (inr joins) at =
     entered d old new joins.core _ c after joins.at (ap (λ (s : State). s.cores) joins.becomes) at
 moved course rounds old new (step.Run d) c after moves at = ran course rounds d old new c after moves at
 
-pub count_first : {X : Type 0} (p : X → Bool) (x : X) (xs : List X) → count_by p (x ∷ xs) ≡ cond (p x) 1 0 + count_by p xs
+pub count_first : {X : Type 0} (p : X → Bool) (x : X) (xs : List X)
+    → count_by p (x ∷ xs) ≡ cond (p x) 1 0 + count_by p xs
 count_first p x xs = sum_by-cons (λ y. cond (p y) 1 0) x xs
 
 -- the core before the steps, and what it got

@@ -10,14 +10,16 @@ use Rattle.script_doc.specs.declared.step.Step.{Step}
 use Rattle.plan_text.specs.PlanText.{texts_below}
 use Rattle.replay_text.specs.ReplayText.{posted_line, replay_text, step_text}
 
-pub steps_broken : (s t : SinkView) (names : List (List ℕ)) (course : CourseView) (steps : List Step) (state : State)
+pub steps_broken : (s t : SinkView) (names : List (List ℕ)) (course : CourseView)
+    (steps : List Step) (state : State)
     (q : Result (Unit {0}) WriteFault) (e : WriteFault)
     → Writes s t (texts_below (step_text names course state steps) (length steps)) q → q ≡ Err e
     → Writes {U = Unit {0}} s t (replay_text names course steps state) (Err e)
 unfolding replay_text
 steps_broken s t names course steps state q e h is = writes_broken s t _ _ q e h is
 
-pub replay_ends : (s t v : SinkView) (names : List (List ℕ)) (course : CourseView) (steps : List Step) (state : State)
+pub replay_ends : (s t v : SinkView) (names : List (List ℕ)) (course : CourseView)
+    (steps : List Step) (state : State)
     (q r : Result (Unit {0}) WriteFault) (u : Unit {0})
     → Writes s t (texts_below (step_text names course state steps) (length steps)) q → q ≡ Ok u
     → Writes t v (posted_line state.posted) r → Writes s v (replay_text names course steps state) r

@@ -30,7 +30,10 @@ runs_before steps n c = count_by (is_run_of c) (take n steps)
 -- the line of an entry of core c: its round, and the count of events that the round's plan includes
 unfoldable pub entry_line : ℕ → Entry → List ℕ
 entry_line c e =
-    codes "core " ++ (decimal c ++ (codes " round " ++ (decimal e.round ++ (codes " count " ++ (decimal e.used ++ codes "\n")))))
+    codes "core "
+    ++ (decimal c
+    ++ (codes " round "
+    ++ (decimal e.round ++ (codes " count " ++ (decimal e.used ++ codes "\n")))))
 
 abbrev pub entry_text : ℕ → Option Entry → List ℕ
 entry_text c None = []
@@ -40,8 +43,8 @@ abbrev pub stint_text : List (List ℕ) → CourseView → ℕ → Option Stint 
 stint_text names course c None = []
 stint_text names course c (Some s) = stint_line names course c s
 
--- the text of a step that comes behind n steps: the k-th decide of a core made its k-th entry, and its k-th run its k-th
--- stint
+-- the text of a step that comes behind n steps: the k-th decide of a core made its k-th entry, and
+-- its k-th run its k-th stint
 abbrev pub text_behind : List (List ℕ) → CourseView → State → List Step → ℕ → Option Step → List ℕ
 text_behind names course s steps n (Some (step.Decide c)) =
     entry_text c (slice_get (core_at s c).entries (decides_before steps n c))
@@ -58,4 +61,5 @@ posted_line posted = codes "posted " ++ (decimal posted ++ codes "\n")
 
 -- the texts of the steps, which led to this state, and how many events are posted in it
 unfoldable pub replay_text : List (List ℕ) → CourseView → List Step → State → List ℕ
-replay_text names course steps s = texts_below (step_text names course s steps) (length steps) ++ posted_line s.posted
+replay_text names course steps s =
+    texts_below (step_text names course s steps) (length steps) ++ posted_line s.posted

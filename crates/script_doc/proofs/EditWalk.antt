@@ -20,7 +20,8 @@ All-one P x is = λ k d low.
     let first : k ≡ 0 = omega arith in
     rw first is
 
-pub other_word : {a b : List ℕ} (more others : List (List ℕ)) → bytes_eq a b ≡ false → a ∷ more ≡ b ∷ others → ⊥
+pub other_word : {a b : List ℕ} (more others : List (List ℕ)) → bytes_eq a b ≡ false
+    → a ∷ more ≡ b ∷ others → ⊥
 other_word {a} {b} more others other same =
     let word : a ≡ b = cc in
     absurd (cc (other, (bytes_eq-Decides a b).1 word))
@@ -29,7 +30,8 @@ other_word {a} {b} more others other same =
 abbrev NoEdits : List (List ℕ) → Type 0
 NoEdits words = (edits : List NamedEdit) → All IsGoodEdit edits → words ≡ flat_map edit_words edits → ⊥
 
-after_edit : (edit : NamedEdit) (words rest : List (List ℕ)) → words ≡ edit_words edit ++ rest → NoEdits rest → NoEdits words
+after_edit : (edit : NamedEdit) (words rest : List (List ℕ)) → words ≡ edit_words edit ++ rest
+    → NoEdits rest → NoEdits words
 after_edit (sets n s l) words rest is none [] good same = absurd (cc)
 after_edit (leaves n) words rest is none [] good same = absurd (cc)
 after_edit (sets n s l) words rest is none (sets m t k ∷ edits) good same =
@@ -42,7 +44,8 @@ after_edit (leaves n) words rest is none (sets m t k ∷ edits) good same =
     other_word _ _ refl (sym is ∙ same)
 
 -- the words before the rest are edits, all of known names or not
-pub record EditsSoFar (names : List (List ℕ)) (words rest : List (List ℕ)) (edits : List Edit) (all_known : Bool) : Type 0 where
+pub record EditsSoFar (names : List (List ℕ)) (words rest : List (List ℕ)) (edits : List Edit)
+    (all_known : Bool) : Type 0 where
   pub named : List NamedEdit
   pub written : words ≡ flat_map edit_words named ++ rest
   pub good : All IsGoodEdit named
@@ -68,7 +71,8 @@ still_unknown names [] more has = absurd has
 still_unknown names (edit ∷ edits) more has =
     elim has [ inl first ↦ inl first | inr later ↦ inr (still_unknown names edits more later) ]
 
-last_unknown : (names : List (List ℕ)) (edits : List NamedEdit) (edit : NamedEdit) → IsUnknown names (edit_name edit)
+last_unknown : (names : List (List ℕ)) (edits : List NamedEdit) (edit : NamedEdit)
+    → IsUnknown names (edit_name edit)
     → HasUnknownEdit names (edits ++ edit ∷ [])
 last_unknown names [] edit is = inl is
 last_unknown names (first ∷ edits) edit is = inr (last_unknown names edits edit is)
@@ -80,7 +84,8 @@ written_more words rest after named edit written is =
     written
     ∙ (ap (λ ws. flat_map edit_words named ++ ws) is
     ∙ (sym (append_assoc (flat_map edit_words named) (edit_words edit) after)
-    ∙ ap (λ ws. ws ++ after) (ap (λ ws. flat_map edit_words named ++ ws) (sym (append-nil (edit_words edit))) ∙ sym (flat_map-append edit_words named (edit ∷ [])))))
+    ∙ ap (λ ws. ws ++ after) (ap (λ ws. flat_map edit_words named ++ ws)
+    (sym (append-nil (edit_words edit))) ∙ sym (flat_map-append edit_words named (edit ∷ [])))))
 
 -- one more edit
 pub edit_more : (names words rest after : List (List ℕ)) (edits : List Edit) (edit : Edit) (all_known : Bool)
@@ -121,7 +126,8 @@ not_empty kind words none (edit ∷ edits) good same =
     none edit (flat_map edit_words edits) (good 0 edit (omega arith)) same
 
 -- what follows is no edit
-pub no_edit : (names words : List (List ℕ)) (kind : List ℕ) (rest : List (List ℕ)) (edits : List Edit) (all_known : Bool)
+pub no_edit : (names words : List (List ℕ)) (kind : List ℕ) (rest : List (List ℕ))
+    (edits : List Edit) (all_known : Bool)
     → EditsSoFar names words (kind ∷ rest) edits all_known → IsNoEdit (kind ∷ rest) → AreNoEdits words
 no_edit names words kind rest edits all_known so_far none =
     λ es some good same. so_far.back (not_empty kind rest none) es good same
@@ -132,17 +138,20 @@ none_of_none words is [] some good same = omega arith
 none_of_none words is (sets n s l ∷ edits) some good same = cc
 none_of_none words is (leaves n ∷ edits) some good same = cc
 
-whole : (words : List (List ℕ)) (named : List NamedEdit) → words ≡ flat_map edit_words named ++ [] → words ≡ flat_map edit_words named
+whole : (words : List (List ℕ)) (named : List NamedEdit) → words ≡ flat_map edit_words named ++ []
+    → words ≡ flat_map edit_words named
 whole words named written = written ∙ append-nil (flat_map edit_words named)
 
 pub no_edit_at_all : (names words : List (List ℕ)) (edits : List Edit) (all_known : Bool)
     → EditsSoFar names words [] edits all_known → all_known ≡ true → length edits ≡ 0 → AreNoEdits words
 no_edit_at_all names words [] all_known so_far known none =
-    none_of_none words (whole words so_far.named so_far.written ∙ ap (λ ns. flat_map edit_words ns) (so_far.known known))
+    none_of_none words (whole words so_far.named so_far.written
+    ∙ ap (λ ns. flat_map edit_words ns) (so_far.known known))
 no_edit_at_all names words (edit ∷ edits) all_known so_far known none = absurd (omega arith)
 
 pub all_edits : (names words : List (List ℕ)) (edits : List Edit) (all_known : Bool)
-    → EditsSoFar names words [] edits all_known → all_known ≡ true → 0 < length edits → AreEdits names words edits
+    → EditsSoFar names words [] edits all_known → all_known ≡ true → 0 < length edits
+    → AreEdits names words edits
 all_edits names words edits all_known so_far known some =
     let same = so_far.known known in
     record {
@@ -152,7 +161,8 @@ all_edits names words edits all_known so_far known some =
       within = so_far.within;
     }
 
-unknown_some : (names : List (List ℕ)) (edits : List NamedEdit) → HasUnknownEdit names edits → 0 < length edits
+unknown_some : (names : List (List ℕ)) (edits : List NamedEdit) → HasUnknownEdit names edits
+    → 0 < length edits
 unknown_some names [] has = absurd has
 unknown_some names (edit ∷ edits) has = omega arith
 
@@ -167,7 +177,8 @@ unknown_edits names words edits all_known so_far unknown = record {
 }
 
 -- an edit of an unknown name
-pub unknown_leave : (names : List (List ℕ)) (kind name : List ℕ) (words rest : List (List ℕ)) → kind ≡ codes "leave"
+pub unknown_leave : (names : List (List ℕ)) (kind name : List ℕ) (words rest : List (List ℕ))
+    → kind ≡ codes "leave"
     → words ≡ name ∷ rest → IsName name → IsUnknown names name → IsEdit names (kind ∷ words) rest None
 unknown_leave names kind name words rest is next good unknown = record {
   named = leaves name;
@@ -176,16 +187,18 @@ unknown_leave names kind name words rest is next good unknown = record {
   meaning = unknown;
 }
 
-pub unknown_set : (names : List (List ℕ)) (kind name share latency : List ℕ) (words after last rest : List (List ℕ)) (ppm ns : ℕ)
+pub unknown_set : (names : List (List ℕ)) (kind name share latency : List ℕ)
+    (words after last rest : List (List ℕ)) (ppm ns : ℕ)
     → kind ≡ codes "set" → words ≡ name ∷ after → after ≡ share ∷ last → last ≡ latency ∷ rest
     → share ≡ decimal ppm → latency ≡ decimal ns → 1 ≤ ppm → ppm ≤ WHOLE_PPM → ns ≤ MAX_LATENCY_NS
     → IsName name → IsUnknown names name → IsEdit names (kind ∷ words) rest None
-unknown_set names kind name share latency words after last rest ppm ns is next second third spelled_share spelled_latency some whole bounded good unknown = record {
-  named = sets name ppm ns;
-  written = cc;
-  good = (good, some, whole, bounded);
-  meaning = unknown;
-}
+unknown_set names kind name share latency words after last rest ppm ns is next second third
+    spelled_share spelled_latency some whole bounded good unknown = record {
+      named = sets name ppm ns;
+      written = cc;
+      good = (good, some, whole, bounded);
+      meaning = unknown;
+    }
 
 -- an act of an unknown name
 pub unknown_wake : (names : List (List ℕ)) (kind : List ℕ) (words rest : List (List ℕ)) → kind ≡ codes "wake"
@@ -194,20 +207,23 @@ unknown_wake names kind words rest is next has =
     let name_is = has.written in
     record { act = wakes has.name; written = cc; good = has.good; unknown = has.unknown }
 
-pub unknown_block : (names : List (List ℕ)) (kind : List ℕ) (words rest : List (List ℕ)) → kind ≡ codes "block"
+pub unknown_block : (names : List (List ℕ)) (kind : List ℕ) (words rest : List (List ℕ))
+    → kind ≡ codes "block"
     → words ≡ kind ∷ rest → IsUnknownName names rest → IsUnknownAct names words
 unknown_block names kind words rest is next has =
     let name_is = has.written in
     record { act = blocks has.name; written = cc; good = has.good; unknown = has.unknown }
 
-pub unknown_change : (names : List (List ℕ)) (kind : List ℕ) (words rest : List (List ℕ)) → kind ≡ codes "change"
+pub unknown_change : (names : List (List ℕ)) (kind : List ℕ) (words rest : List (List ℕ))
+    → kind ≡ codes "change"
     → words ≡ kind ∷ rest → AreUnknownEdits names rest → IsUnknownAct names words
 unknown_change names kind words rest is next has =
     let edits_are = has.written in
     record { act = changes has.edits; written = cc; good = (has.some, has.good); unknown = has.unknown }
 
 -- the fault that a `?` hands on
-pub handed_on : {T U : Type 0} (result : Result T LineFault) (fault other : LineFault) → IsErrAnd result (λ given. given ≡ fault)
+pub handed_on : {T U : Type 0} (result : Result T LineFault) (fault other : LineFault)
+    → IsErrAnd result (λ given. given ≡ fault)
     → result ≡ Err other → IsErrOf {T = U} (Err fault) other
 handed_on (Ok value) fault other gives is = absurd (cc)
 handed_on (Err given) fault other gives is = let same : given ≡ fault = gives in cc

@@ -16,22 +16,26 @@ All-one P step is = λ k d low.
     rw first is
 
 -- the lines before these are so many, and their rows are these steps
-pub record AreRead (cores : ℕ) (bytes : List ℕ) (number : ℕ) (steps : List Step) (numbers : List ℕ) (lines : List (List ℕ)) : Type 0 where
+pub record AreRead (cores : ℕ) (bytes : List ℕ) (number : ℕ) (steps : List Step) (numbers : List ℕ)
+    (lines : List (List ℕ)) : Type 0 where
   pub front : List Row
   pub whole : rows_of bytes ≡ front ++ rows_from (number + 1) lines
   pub are : AreSteps cores front steps numbers
   pub count : number + length lines ≡ length (lines_of bytes)
 
-pub none_read : (cores : ℕ) (bytes : List ℕ) (number : ℕ) (steps : List Step) (numbers : List ℕ) → number ≡ 0 → steps ≡ [] → numbers ≡ []
+pub none_read : (cores : ℕ) (bytes : List ℕ) (number : ℕ) (steps : List Step) (numbers : List ℕ)
+    → number ≡ 0 → steps ≡ [] → numbers ≡ []
     → AreRead cores bytes number steps numbers (lines_of bytes)
-none_read cores bytes number steps numbers zero no_steps no_numbers = rw (zero, no_steps, no_numbers) (record {
-  front = [];
-  whole = refl;
-  are = record { written = refl; placed = refl; within = λ k d low. absurd (omega arith) };
-  count = omega arith;
-})
+none_read cores bytes number steps numbers zero no_steps no_numbers =
+    rw (zero, no_steps, no_numbers) (record {
+      front = [];
+      whole = refl;
+      are = record { written = refl; placed = refl; within = λ k d low. absurd (omega arith) };
+      count = omega arith;
+    })
 
-pub skipped_read : (cores : ℕ) (bytes : List ℕ) (number : ℕ) (steps : List Step) (numbers : List ℕ) (line : List ℕ) (lines : List (List ℕ))
+pub skipped_read : (cores : ℕ) (bytes : List ℕ) (number : ℕ) (steps : List Step) (numbers : List ℕ)
+    (line : List ℕ) (lines : List (List ℕ))
     → AreRead cores bytes number steps numbers (line ∷ lines) → is_skipped line ≡ true
     → AreRead cores bytes (number + 1) steps numbers lines
 skipped_read cores bytes number steps numbers line lines read skipped = record {
@@ -58,8 +62,10 @@ step_read cores front row steps step numbers are is = record {
       (All-one (IsWithin cores) step is.within);
 }
 
-pub more_read : (cores : ℕ) (bytes : List ℕ) (number : ℕ) (steps : List Step) (numbers : List ℕ) (line : List ℕ) (lines : List (List ℕ)) (step : Step)
-    → AreRead cores bytes number steps numbers (line ∷ lines) → is_skipped line ≡ false → IsStep cores (words_of line) step
+pub more_read : (cores : ℕ) (bytes : List ℕ) (number : ℕ) (steps : List Step) (numbers : List ℕ)
+    (line : List ℕ) (lines : List (List ℕ)) (step : Step)
+    → AreRead cores bytes number steps numbers (line ∷ lines) → is_skipped line ≡ false
+    → IsStep cores (words_of line) step
     → AreRead cores bytes (number + 1) (steps ++ step ∷ []) (numbers ++ (number + 1) ∷ []) lines
 more_read cores bytes number steps numbers line lines step read kept is =
     let row : Row = record { number = number + 1; words = words_of line } in
@@ -73,8 +79,10 @@ more_read cores bytes number steps numbers line lines step read kept is =
       count = omega (arith, read.count);
     }
 
-pub bad_line : (cores : ℕ) (bytes : List ℕ) (number : ℕ) (steps : List Step) (numbers : List ℕ) (line : List ℕ) (lines : List (List ℕ))
-    → AreRead cores bytes number steps numbers (line ∷ lines) → is_skipped line ≡ false → IsNoStep cores (words_of line)
+pub bad_line : (cores : ℕ) (bytes : List ℕ) (number : ℕ) (steps : List Step) (numbers : List ℕ)
+    (line : List ℕ) (lines : List (List ℕ))
+    → AreRead cores bytes number steps numbers (line ∷ lines) → is_skipped line ≡ false
+    → IsNoStep cores (words_of line)
     → IsFirstBadLine cores (rows_of bytes) (number + 1)
 bad_line cores bytes number steps numbers line lines read kept none = record {
   front = read.front;
@@ -96,7 +104,8 @@ all_read cores bytes number steps numbers read =
     subst (λ rows. AreSteps cores rows steps numbers) (sym whole) read.are
 
 -- there is a line for each step
-pub one_line_each : (cores : ℕ) (rows : List Row) (steps : List Step) (lines : List ℕ) → AreSteps cores rows steps lines
+pub one_line_each : (cores : ℕ) (rows : List Row) (steps : List Step) (lines : List ℕ)
+    → AreSteps cores rows steps lines
     → length lines ≡ length steps
 one_line_each cores rows steps lines are =
     ap length (sym are.placed)

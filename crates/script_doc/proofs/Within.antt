@@ -9,14 +9,18 @@ use Rattle.script_doc.specs.Script.{AreEvents, AreWithin, IsScript}
 use Rattle.script_doc.specs.declared.event.Event.{Event}
 use Rattle.std.proofs.lemmas.List.Elements.{All-cons}
 
-events_within : (names : List (List ℕ)) (rows : List Row) (events : List Event) → AreEvents names rows events → AreWithin (length names) events
+events_within : (names : List (List ℕ)) (rows : List Row) (events : List Event)
+    → AreEvents names rows events → AreWithin (length names) events
 events_within names [] [] are = λ k d low. absurd (omega arith)
 events_within names (row ∷ rows) (event ∷ events) are =
-    All-cons (λ (event : Event). IsWithin (length names) event.act) event events are.0.within (events_within names rows events are.1)
+    All-cons (λ (event : Event). IsWithin (length names) event.act) event events are.0.within
+    (events_within names rows events are.1)
 events_within names [] (event ∷ events) are = absurd are
 events_within names (row ∷ rows) [] are = absurd are
 
 -- each vCPU that a script names is one of the host's
-pub script_within : (vcpus : List Vcpu) (rounds : ℕ) (rows : List Row) (events : List Event) → IsScript (names_of vcpus) rounds rows events → AreWithin (length vcpus) events
+pub script_within : (vcpus : List Vcpu) (rounds : ℕ) (rows : List Row) (events : List Event)
+    → IsScript (names_of vcpus) rounds rows events → AreWithin (length vcpus) events
 script_within vcpus rounds rows events script =
-    subst (λ count. AreWithin count events) (length-map vcpus (λ (vcpu : Vcpu). vcpu.name)) (events_within (names_of vcpus) rows events script.each)
+    subst (λ count. AreWithin count events) (length-map vcpus (λ (vcpu : Vcpu). vcpu.name))
+    (events_within (names_of vcpus) rows events script.each)

@@ -35,7 +35,8 @@ act_words (changes edits) = codes "change" ∷ flat_map edit_words edits
 
 -- the name and the numbers of an edit are in their ranges
 abbrev pub IsGoodEdit : NamedEdit → Type 0
-IsGoodEdit (sets name share latency) = IsName name × (1 ≤ share) × (share ≤ WHOLE_PPM) × (latency ≤ MAX_LATENCY_NS)
+IsGoodEdit (sets name share latency) = IsName name × (1 ≤ share) × (share ≤ WHOLE_PPM)
+    × (latency ≤ MAX_LATENCY_NS)
 IsGoodEdit (leaves name) = IsName name
 
 -- the same of what happens; a change has one edit at least
@@ -79,7 +80,8 @@ pub record IsUnknownLine (names : List (List ℕ)) (words : List (List ℕ)) : T
 
 -- an edit as it is written, and what happens as it is written
 abbrev pub named_edit : List (List ℕ) → Edit → NamedEdit
-named_edit names (Set vcpu reservation) = sets (name_at names vcpu) reservation.share_ppm reservation.latency_ns
+named_edit names (Set vcpu reservation) =
+    sets (name_at names vcpu) reservation.share_ppm reservation.latency_ns
 named_edit names (Leave vcpu) = leaves (name_at names vcpu)
 
 abbrev pub named_act : List (List ℕ) → Act → NamedAct

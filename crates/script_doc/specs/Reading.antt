@@ -35,7 +35,8 @@ pub record IsEdit (names : List (List ℕ)) (words rest : List (List ℕ)) (foun
 
 -- the words do not begin with an edit
 abbrev pub IsNoEdit : List (List ℕ) → Type 0
-IsNoEdit words = (edit : NamedEdit) (rest : List (List ℕ)) → IsGoodEdit edit → words ≡ edit_words edit ++ rest → ⊥
+IsNoEdit words = (edit : NamedEdit) (rest : List (List ℕ)) → IsGoodEdit edit
+    → words ≡ edit_words edit ++ rest → ⊥
 
 -- the words are these edits
 pub record AreEdits (names : List (List ℕ)) (words : List (List ℕ)) (edits : List Edit) : Type 0 where
@@ -46,7 +47,8 @@ pub record AreEdits (names : List (List ℕ)) (words : List (List ℕ)) (edits :
 
 -- the words are no edits, of which there is one at least
 abbrev pub AreNoEdits : List (List ℕ) → Type 0
-AreNoEdits words = (edits : List NamedEdit) → 0 < length edits → All IsGoodEdit edits → words ≡ flat_map edit_words edits → ⊥
+AreNoEdits words = (edits : List NamedEdit) → 0 < length edits → All IsGoodEdit edits
+    → words ≡ flat_map edit_words edits → ⊥
 
 -- the words are edits, and the name of one is no vCPU's
 pub record AreUnknownEdits (names : List (List ℕ)) (words : List (List ℕ)) : Type 0 where

@@ -40,7 +40,8 @@ AreEvents names [] (event ∷ events) = ⊥
 AreEvents names (row ∷ rows) [] = ⊥
 
 -- the rows are this script of a host whose vCPUs have these names, for a run of so many rounds
-pub record IsScript (names : List (List ℕ)) (rounds : ℕ) (rows : List Row) (events : List Event) : Type 0 where
+pub record IsScript (names : List (List ℕ)) (rounds : ℕ) (rows : List Row)
+    (events : List Event) : Type 0 where
   pub each : AreEvents names rows events
   pub order : NeverFall events
   pub in_time : AreInRun rounds events
@@ -76,7 +77,8 @@ pub record IsInLimits (rounds tick count changes : ℕ) (event : Event) : Type 0
   pub few_changes : IsTrue (is_change event.act) → changes < MAX_CHANGES
 
 -- the row is an event that breaks a limit behind these events
-pub record BreaksLimitAfter (names : List (List ℕ)) (rounds : ℕ) (before : List Event) (row : Row) (fault : ScriptFault) : Type 0 where
+pub record BreaksLimitAfter (names : List (List ℕ)) (rounds : ℕ) (before : List Event) (row : Row)
+    (fault : ScriptFault) : Type 0 where
   pub event : Event
   pub is : IsEvent names row.words event
   pub limit : BreaksLimit rounds (last_tick before) (length before) (changes_in before) event row.number fault
@@ -88,7 +90,8 @@ HasFault names rounds before row (UnknownName line) = (line ≡ row.number) × I
 HasFault names rounds before row fault = BreaksLimitAfter names rounds before row fault
 
 -- the rows before a row are a script, and the row has this as its first fault
-pub record IsFirstFault (names : List (List ℕ)) (rounds : ℕ) (rows : List Row) (fault : ScriptFault) : Type 0 where
+pub record IsFirstFault (names : List (List ℕ)) (rounds : ℕ) (rows : List Row)
+    (fault : ScriptFault) : Type 0 where
   pub front : List Row
   pub row : Row
   pub back : List Row

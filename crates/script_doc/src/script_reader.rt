@@ -37,7 +37,8 @@ pub fn read_script(
     ensures in_run { IfOk result (AreInRun rounds) }
     ensures fault { IfErr result (λ fault. (fault ≡ ScriptFault.NoMemory)
         ⊎ IsFirstFault (names_of host.now.vcpus) rounds (rows_of bytes.now) fault) }
-    ensures due { (fault : ScriptFault) → IsFirstFault (names_of host.now.vcpus) rounds (rows_of bytes.now) fault
+    ensures due { (fault : ScriptFault) → IsFirstFault (names_of host.now.vcpus) rounds
+        (rows_of bytes.now) fault
         → IsErr result }
 {
     let names = Names::of(alloc, host.vcpus.items())?;

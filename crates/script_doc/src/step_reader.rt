@@ -90,7 +90,8 @@ fn step_of(line: &[u8], cores: u32) -> Option<Step>
 
 // The step of one word.
 fn step_of_all(name: &[u8]) -> Option<Step>
-    ensures { (cores : ℕ) → MatchOption result (IsNoStep cores (name.now ∷ [])) (IsStep cores (name.now ∷ [])) }
+    ensures { (cores : ℕ) → MatchOption result (IsNoStep cores (name.now ∷ []))
+        (IsStep cores (name.now ∷ [])) }
 {
     if name == b"post".as_slice() {
         Some(Step::Post)
@@ -102,7 +103,8 @@ fn step_of_all(name: &[u8]) -> Option<Step>
 // The step of these two words.
 fn step_of_core(name: &[u8], word: &[u8], cores: u32) -> Option<Step>
     requires { cores ≤ MAX_CORES }
-    ensures { MatchOption result (IsNoStep cores (name.now ∷ word.now ∷ [])) (IsStep cores (name.now ∷ word.now ∷ [])) }
+    ensures { MatchOption result (IsNoStep cores (name.now ∷ word.now ∷ []))
+        (IsStep cores (name.now ∷ word.now ∷ [])) }
 {
     let core = core_of(word, cores)?;
     if name == b"see".as_slice() {

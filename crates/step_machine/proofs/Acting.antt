@@ -21,52 +21,77 @@ use Rattle.step_machine.proofs.Phases.{deciding, entered_below}
 use Rattle.step_machine.proofs.Lists.{set_split, element_at}
 use Rattle.step_machine.proofs.LogLemmas.{log_at, core_at}
 
-pub logs_count : (course : CourseView) (rounds : ℕ) (p : Progress) → Kept course rounds (state_of p) → length p.logs.items ≡ course.cores
+pub logs_count : (course : CourseView) (rounds : ℕ) (p : Progress) → Kept course rounds (state_of p)
+    → length p.logs.items ≡ course.cores
 logs_count course rounds p kept = sym (length-map p.logs.items core_of) ∙ kept.size
 
 -- the log that an index finds
-pub log_found : (course : CourseView) (rounds : ℕ) (p : Progress) (c : ℕ) (log : CoreLog) → Kept course rounds (state_of p) → c < course.cores → log ≡ slice_index_or p.logs.items c log → slice_get p.logs.items c ≡ Some log
-log_found course rounds p c log kept lt is = slice_get_read p.logs.items (length p.logs.items) c log refl (let n = logs_count course rounds p kept in omega arith) is
+pub log_found : (course : CourseView) (rounds : ℕ) (p : Progress) (c : ℕ) (log : CoreLog)
+    → Kept course rounds (state_of p) → c < course.cores → log ≡ slice_index_or p.logs.items c log
+    → slice_get p.logs.items c ≡ Some log
+log_found course rounds p c log kept lt is =
+    slice_get_read p.logs.items (length p.logs.items) c log refl
+    (let n = logs_count course rounds p kept in omega arith) is
 
-pub log_kept : (course : CourseView) (rounds : ℕ) (p : Progress) (c : ℕ) (log : CoreLog) → Kept course rounds (state_of p) → slice_get p.logs.items c ≡ Some log → CoreKept course rounds p.posted p.decided.items c (core_of log)
+pub log_kept : (course : CourseView) (rounds : ℕ) (p : Progress) (c : ℕ) (log : CoreLog)
+    → Kept course rounds (state_of p) → slice_get p.logs.items c ≡ Some log
+    → CoreKept course rounds p.posted p.decided.items c (core_of log)
 log_kept course rounds p c log kept at = kept.cores c (core_of log) (core_at p.logs.items c log at)
 
 -- a clock and a lag fit 32 bits
-pub clock_small : (course : CourseView) (rounds : ℕ) (p : Progress) (c : ℕ) (log : CoreLog) → Kept course rounds (state_of p) → IsCourse course → rounds ≤ MAX_ROUNDS → slice_get p.logs.items c ≡ Some log → log.clock + course.lag < 2 ^ 32
-clock_small course rounds p c log kept ok few at = (let k = log_kept course rounds p c log kept at in omega (arith, k.in_run, ok.form.small_lag))
+pub clock_small : (course : CourseView) (rounds : ℕ) (p : Progress) (c : ℕ) (log : CoreLog)
+    → Kept course rounds (state_of p) → IsCourse course → rounds ≤ MAX_ROUNDS
+    → slice_get p.logs.items c ≡ Some log → log.clock + course.lag < 2 ^ 32
+clock_small course rounds p c log kept ok few at =
+    (let k = log_kept course rounds p c log kept at in omega (arith, k.in_run, ok.form.small_lag))
 
-pub last_edited : (course : CourseView) (old new : List CoreLog) (c : ℕ) (before : CoreLog) (changed : CoreState) (last : Option ℕ) → Edits old new c before changed last → last ≡ last_shared course c changed.stints → KnowLast course old → KnowLast course new
-last_edited course old new c before changed last e is know = λ k log h. elim (set_split old c k e.log log (subst (λ (xs : List CoreLog). slice_get xs k ≡ Some log) e.becomes h)) [
-  | inl here ↦ (let stints = ap (λ (x : CoreState). x.stints) e.core in
-      subst (λ (x : CoreLog). x.last ≡ last_shared course k x.stints.items) here.1
-      (e.last_is ∙ is ∙ ap (λ (d : ℕ). last_shared course d changed.stints) (sym here.0) ∙ ap (λ (ss : List Stint). last_shared course k ss) (sym stints)))
-  | inr other ↦ know k log other.1
-]
+pub last_edited : (course : CourseView) (old new : List CoreLog) (c : ℕ) (before : CoreLog)
+    (changed : CoreState) (last : Option ℕ) → Edits old new c before changed last
+    → last ≡ last_shared course c changed.stints → KnowLast course old → KnowLast course new
+last_edited course old new c before changed last e is know =
+    λ k log h. elim (set_split old c k e.log log
+    (subst (λ (xs : List CoreLog). slice_get xs k ≡ Some log) e.becomes h)) [
+      | inl here ↦ (let stints = ap (λ (x : CoreState). x.stints) e.core in
+          subst (λ (x : CoreLog). x.last ≡ last_shared course k x.stints.items) here.1
+          (e.last_is ∙ is ∙ ap (λ (d : ℕ). last_shared course d changed.stints) (sym here.0)
+          ∙ ap (λ (ss : List Stint). last_shared course k ss) (sym stints)))
+      | inr other ↦ know k log other.1
+    ]
 
-pub fold_push : {A B : Type 0} (f : B → A → B) (b : B) (xs : List A) (x : A) → fold f b (xs ++ x ∷ []) ≡ f (fold f b xs) x
+pub fold_push : {A B : Type 0} (f : B → A → B) (b : B) (xs : List A) (x : A)
+    → fold f b (xs ++ x ∷ []) ≡ f (fold f b xs) x
 fold_push f b [] x = refl
 fold_push f b (y ∷ ys) x = fold_push f (f b y) ys x
 
 -- a stint more
-pub last_more : (course : CourseView) (c : ℕ) (stints : List Stint) (s : Stint) → last_shared course c (stints ++ s ∷ []) ≡ last_after course c (last_shared course c stints) s
+pub last_more : (course : CourseView) (c : ℕ) (stints : List Stint) (s : Stint)
+    → last_shared course c (stints ++ s ∷ []) ≡ last_after course c (last_shared course c stints) s
 last_more course c stints s = fold_push (last_after course c) None stints s
 
 -- the log of a core
-pub log_at_core : (course : CourseView) (rounds : ℕ) (p : Progress) (c : ℕ) → Kept course rounds (state_of p) → c < course.cores → (log : CoreLog) × (slice_get p.logs.items c ≡ Some log)
-log_at_core course rounds p c kept lt = element_at p.logs.items c (let n = logs_count course rounds p kept in omega arith)
+pub log_at_core : (course : CourseView) (rounds : ℕ) (p : Progress) (c : ℕ)
+    → Kept course rounds (state_of p) → c < course.cores
+    → (log : CoreLog) × (slice_get p.logs.items c ≡ Some log)
+log_at_core course rounds p c kept lt =
+    element_at p.logs.items c (let n = logs_count course rounds p kept in omega arith)
 
 -- a core that is to enter a round has entered those before
-entries_few : (course : CourseView) (rounds : ℕ) (p : Progress) (c : ℕ) (log : CoreLog) → Kept course rounds (state_of p) → slice_get p.logs.items c ≡ Some log → phase_of rounds (core_of log) ≡ to_decide →
+entries_few : (course : CourseView) (rounds : ℕ) (p : Progress) (c : ℕ) (log : CoreLog)
+    → Kept course rounds (state_of p) → slice_get p.logs.items c ≡ Some log
+    → phase_of rounds (core_of log) ≡ to_decide →
     length log.entries.items ≤ log.clock / ROUND
 entries_few course rounds p c log kept at due =
     let k = log_kept course rounds p c log kept at in
     elim (cases_lt (log.clock / ROUND) (length log.entries.items)) [
-      | inl more ↦ absurd (let was = entered_below log.entries.items (log.clock / ROUND) k.numbered more in let isnt = (deciding rounds (core_of log) due).not_entered in cc)
+      | inl more ↦
+          absurd (let was = entered_below log.entries.items (log.clock / ROUND) k.numbered more in let isnt = (deciding rounds (core_of log) due).not_entered in cc)
       | inr le ↦ le
     ]
 
 -- and is at the round's start
-pub starts_round : (course : CourseView) (rounds : ℕ) (p : Progress) (c : ℕ) (log : CoreLog) → Kept course rounds (state_of p) → slice_get p.logs.items c ≡ Some log → phase_of rounds (core_of log) ≡ to_decide →
+pub starts_round : (course : CourseView) (rounds : ℕ) (p : Progress) (c : ℕ) (log : CoreLog)
+    → Kept course rounds (state_of p) → slice_get p.logs.items c ≡ Some log
+    → phase_of rounds (core_of log) ≡ to_decide →
     (log.clock ≡ log.clock / ROUND * ROUND)
 starts_round course rounds p c log kept at due =
     let k = log_kept course rounds p c log kept at in
@@ -76,11 +101,17 @@ starts_round course rounds p c log kept at due =
 pub spare_some : (rounds n : ℕ) (p : Progress) → 1 ≤ n → HasSpare rounds n p → HasSpare rounds 1 p
 spare_some rounds n p some spare = record {
   decided = omega (arith, spare.decided);
-  logs = λ k log h. (let room = spare.logs k log h in record { entries = omega (arith, room.entries); stints = omega (arith, room.stints) });
+  logs = λ k log h.
+      (let room = spare.logs k log h in record {
+        entries = omega (arith, room.entries);
+        stints = omega (arith, room.stints);
+      });
 }
 
 -- a core that is to enter a round enters one of the run's, and has room for the entry
-pub round_small : (course : CourseView) (rounds : ℕ) (p : Progress) (c : ℕ) (log : CoreLog) → Kept course rounds (state_of p) → slice_get p.logs.items c ≡ Some log → phase_of rounds (core_of log) ≡ to_decide →
+pub round_small : (course : CourseView) (rounds : ℕ) (p : Progress) (c : ℕ) (log : CoreLog)
+    → Kept course rounds (state_of p) → slice_get p.logs.items c ≡ Some log
+    → phase_of rounds (core_of log) ≡ to_decide →
     log.clock / ROUND < rounds
 round_small course rounds p c log kept at due =
     let k = log_kept course rounds p c log kept at in
@@ -88,7 +119,9 @@ round_small course rounds p c log kept at due =
     let low : log.clock < rounds * ROUND = omega (arith, k.in_run) in
     omega arith
 
-pub entry_room : (course : CourseView) (rounds : ℕ) (p : Progress) (c : ℕ) (log : CoreLog) → Kept course rounds (state_of p) → HasSpare rounds 1 p → slice_get p.logs.items c ≡ Some log → phase_of rounds (core_of log) ≡ to_decide →
+pub entry_room : (course : CourseView) (rounds : ℕ) (p : Progress) (c : ℕ) (log : CoreLog)
+    → Kept course rounds (state_of p) → HasSpare rounds 1 p → slice_get p.logs.items c ≡ Some log
+    → phase_of rounds (core_of log) ≡ to_decide →
     length log.entries.items < vec_capacity log.entries
 entry_room course rounds p c log kept spare at due =
     let few = entries_few course rounds p c log kept at due in
@@ -98,11 +131,16 @@ entry_room course rounds p c log kept spare at due =
 pub spare_less : (rounds n : ℕ) (p : Progress) → HasSpare rounds (n + 1) p → HasSpare rounds n p
 spare_less rounds n p spare = record {
   decided = omega (arith, spare.decided);
-  logs = λ k log h. (let room = spare.logs k log h in record { entries = omega (arith, room.entries); stints = omega (arith, room.stints) });
+  logs = λ k log h.
+      (let room = spare.logs k log h in record {
+        entries = omega (arith, room.entries);
+        stints = omega (arith, room.stints);
+      });
 }
 
 -- the lowest of the logs is that of a core of least clock
-pub least_clock : (p : Progress) (c : ℕ) (log : CoreLog) → slice_get p.logs.items c ≡ Some log → IsLowestOf p.logs.items (length p.logs.items) c → IsLeastClock (state_of p) c (core_of log)
+pub least_clock : (p : Progress) (c : ℕ) (log : CoreLog) → slice_get p.logs.items c ≡ Some log
+    → IsLowestOf p.logs.items (length p.logs.items) c → IsLeastClock (state_of p) c (core_of log)
 least_clock p c log at lowest = record {
   at = core_at p.logs.items c log at;
   least = λ d other h. (let found = log_at p.logs.items d other h in

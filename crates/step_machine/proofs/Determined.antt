@@ -16,7 +16,8 @@ use Rattle.table_form.specs.Choice.{Follows, IsEligible, IsPick, IsLeast, IsChoi
 use Rattle.table_form.specs.Steps.{IsNextStint, round_of}
 use Rattle.step_machine.proofs.Lists.{same}
 
-no_shorter : (plan : PlanView) (c place e f : ℕ) → IsSpanEnd plan c place e → IsSpanEnd plan c place f → e < f → ⊥
+no_shorter : (plan : PlanView) (c place e f : ℕ) → IsSpanEnd plan c place e
+    → IsSpanEnd plan c place f → e < f → ⊥
 no_shorter plan c place e f a b lt = elim a.maximal [
   | inl whole ↦ (let most = b.within in absurd (omega arith))
   | inr unlike ↦ unlike (b.alike e (let after = a.after in omega arith) lt)
@@ -25,59 +26,94 @@ no_shorter plan c place e f a b lt = elim a.maximal [
 one_end : (plan : PlanView) (c place e f : ℕ) → IsSpanEnd plan c place e → IsSpanEnd plan c place f → e ≡ f
 one_end plan c place e f a b = elim (cases_lt e f) [
   | inl lt ↦ absurd (no_shorter plan c place e f a b lt)
-  | inr le ↦ elim (cases_lt f e) [ inl lt ↦ absurd (no_shorter plan c place f e b a lt) | inr le' ↦ omega arith ]
+  | inr le ↦ elim (cases_lt f e) [
+    | inl lt ↦ absurd (no_shorter plan c place f e b a lt)
+    | inr le' ↦
+        omega arith
+  ]
 ]
 
-one_least : (P Q : ℕ → Type 0) (above v w : ℕ) → ((u : ℕ) → P u → Q u) → ((u : ℕ) → Q u → P u) → IsLeast P above v → IsLeast Q above w → v ≡ w
-one_least P Q above v w to back a b = (let le = a.first w (back w b.holds) b.high in let le' = b.first v (to v a.holds) a.high in omega arith)
+one_least : (P Q : ℕ → Type 0) (above v w : ℕ) → ((u : ℕ) → P u → Q u) → ((u : ℕ) → Q u → P u)
+    → IsLeast P above v → IsLeast Q above w → v ≡ w
+one_least P Q above v w to back a b =
+    (let le = a.first w (back w b.holds) b.high in let le' = b.first v (to v a.holds) a.high in omega arith)
 
-one_pick : (P Q : ℕ → Type 0) (last x y : Option ℕ) → ((u : ℕ) → P u → Q u) → ((u : ℕ) → Q u → P u) → IsPick P last x → IsPick Q last y → x ≡ y
+one_pick : (P Q : ℕ → Type 0) (last x y : Option ℕ) → ((u : ℕ) → P u → Q u) → ((u : ℕ) → Q u → P u)
+    → IsPick P last x → IsPick Q last y → x ≡ y
 one_pick P Q last None None to back a b = refl
-one_pick P Q last None (Some w) to back a b = absurd (elim b [ inl l ↦ a w (back w l.holds) | inr r ↦ a w (back w r.1.holds) ])
-one_pick P Q last (Some v) None to back a b = absurd (elim a [ inl l ↦ b v (to v l.holds) | inr r ↦ b v (to v r.1.holds) ])
+one_pick P Q last None (Some w) to back a b =
+    absurd (elim b [ inl l ↦ a w (back w l.holds) | inr r ↦ a w (back w r.1.holds) ])
+one_pick P Q last (Some v) None to back a b =
+    absurd (elim a [ inl l ↦ b v (to v l.holds) | inr r ↦ b v (to v r.1.holds) ])
 one_pick P Q last (Some v) (Some w) to back a b = elim a [
-  | inl l ↦ elim b [ inl m ↦ ap Some (one_least P Q (after_last last) v w to back l m) | inr n ↦ absurd (n.0 v (to v l.holds) l.high) ]
-  | inr r ↦ elim b [ inl m ↦ absurd (r.0 w (back w m.holds) m.high) | inr n ↦ ap Some (one_least P Q 0 v w to back r.1 n.1) ]
+  | inl l ↦ elim b [
+    | inl m ↦ ap Some (one_least P Q (after_last last) v w to back l m)
+    | inr n ↦
+        absurd (n.0 v (to v l.holds) l.high)
+  ]
+  | inr r ↦ elim b [
+    | inl m ↦ absurd (r.0 w (back w m.holds) m.high)
+    | inr n ↦
+        ap Some (one_least P Q 0 v w to back r.1 n.1)
+  ]
 ]
 
-one_choice : (plan : PlanView) (c place : ℕ) (runnable : List Bool) (last x y : Option ℕ) → IsChoice plan c place runnable last x → IsChoice plan c place runnable last y → x ≡ y
+one_choice : (plan : PlanView) (c place : ℕ) (runnable : List Bool) (last x y : Option ℕ)
+    → IsChoice plan c place runnable last x → IsChoice plan c place runnable last y → x ≡ y
 one_choice plan c place runnable last x y f g = go (owner_runs (owner_at plan.rows c place) runnable) refl
   where
     go : (r : Bool) → owner_runs (owner_at plan.rows c place) runnable ≡ r → x ≡ y
     go true is = f.slot is ∙ sym (g.slot is)
-    go false is = one_pick (IsEligible plan c place runnable) (IsEligible plan c place runnable) last x y (λ u e. e) (λ u e. e) (f.shared is) (g.shared is)
+    go false is = one_pick (IsEligible plan c place runnable)
+        (IsEligible plan c place runnable) last x y (λ u e. e) (λ u e. e) (f.shared is)
+        (g.shared is)
 
 -- the same counts and the same begin make the same stint
-pub one_follows : (course : CourseView) (c : ℕ) (earlier : List Stint) (s t : Stint) → s.from ≡ t.from → s.seen ≡ t.seen → s.used ≡ t.used → Follows course c earlier s → Follows course c earlier t → (s.ran ≡ t.ran) × (s.end ≡ t.end)
+pub one_follows : (course : CourseView) (c : ℕ) (earlier : List Stint) (s t : Stint)
+    → s.from ≡ t.from → s.seen ≡ t.seen → s.used ≡ t.used → Follows course c earlier s
+    → Follows course c earlier t → (s.ran ≡ t.ran) × (s.end ≡ t.end)
 one_follows course c earlier s t from seen used f g =
     let plan : PlanView = plan_after course t.used in
     let place = t.from % ROUND in
-    let choice : IsChoice plan c place (runnable_after course t.seen) (last_shared course c earlier) s.ran = rw (← used, ← seen, ← from) f.choice in
-    let ran : s.ran ≡ t.ran = one_choice plan c place (runnable_after course t.seen) (last_shared course c earlier) s.ran t.ran choice g.choice in
+    let choice : IsChoice plan c place (runnable_after course t.seen)
+    (last_shared course c earlier) s.ran = rw (← used, ← seen, ← from) f.choice in
+    let ran : s.ran ≡ t.ran = one_choice plan c place (runnable_after course t.seen)
+    (last_shared course c earlier) s.ran t.ran choice g.choice in
     let span : IsSpanEnd plan c place f.span_end = rw (← used, ← from) f.span in
     let end : f.span_end ≡ g.span_end = one_end plan c place f.span_end g.span_end span g.span in
     (ran, f.end ∙ (rw (end, from, used, ran) refl ∙ sym g.end))
 
 build : ℕ → ℕ → ℕ → ℕ → (ran : Option ℕ) → ForSome ran (λ v. v < MAX_VCPUS) → Stint
-build from end seen used ran small = record { from = from; end = end; seen = seen; used = used; ran = ran; ran_small = small }
+build from end seen used ran small =
+    record { from = from; end = end; seen = seen; used = used; ran = ran; ran_small = small }
 
 one_small : (ran : Option ℕ) (x y : ForSome ran (λ v. v < MAX_VCPUS)) → x ≡ y
 one_small ran x y = (let one : IsProp (ForSome ran (λ v. v < MAX_VCPUS)) = hlevel props in one x y)
 
-build_alike : (a b c d : ℕ) (e e' : Option ℕ) (x : ForSome e (λ v. v < MAX_VCPUS)) → e ≡ e' → (y : ForSome e' (λ v. v < MAX_VCPUS)) → build a b c d e x ≡ build a b c d e' y
-build_alike a b c d e e' x is = subst (λ (o : Option ℕ). (y : ForSome o (λ v. v < MAX_VCPUS)) → build a b c d e x ≡ build a b c d o y) is (λ y. ap (λ (z : ForSome e (λ v. v < MAX_VCPUS)). build a b c d e z) (one_small e x y))
+build_alike : (a b c d : ℕ) (e e' : Option ℕ) (x : ForSome e (λ v. v < MAX_VCPUS)) → e ≡ e'
+    → (y : ForSome e' (λ v. v < MAX_VCPUS)) → build a b c d e x ≡ build a b c d e' y
+build_alike a b c d e e' x is =
+    subst (λ (o : Option ℕ). (y : ForSome o (λ v. v < MAX_VCPUS))
+    → build a b c d e x ≡ build a b c d o y) is
+    (λ y. ap (λ (z : ForSome e (λ v. v < MAX_VCPUS)). build a b c d e z) (one_small e x y))
 
-build_same : (a a' b b' c c' d d' : ℕ) (e e' : Option ℕ) (x : ForSome e (λ v. v < MAX_VCPUS)) (y : ForSome e' (λ v. v < MAX_VCPUS)) → a ≡ a' → b ≡ b' → c ≡ c' → d ≡ d' → e ≡ e' → build a b c d e x ≡ build a' b' c' d' e' y
+build_same : (a a' b b' c c' d d' : ℕ) (e e' : Option ℕ) (x : ForSome e (λ v. v < MAX_VCPUS))
+    (y : ForSome e' (λ v. v < MAX_VCPUS)) → a ≡ a' → b ≡ b' → c ≡ c' → d ≡ d' → e ≡ e'
+    → build a b c d e x ≡ build a' b' c' d' e' y
 build_same a a' b b' c c' d d' e e' x y p q r s t = rw (p, q, r, s) (build_alike a' b' c' d' e e' x t y)
 
-same_stint : (s t : Stint) → s.from ≡ t.from → s.end ≡ t.end → s.seen ≡ t.seen → s.used ≡ t.used → s.ran ≡ t.ran → s ≡ t
+same_stint : (s t : Stint) → s.from ≡ t.from → s.end ≡ t.end → s.seen ≡ t.seen → s.used ≡ t.used
+    → s.ran ≡ t.ran → s ≡ t
 unfolding build
-same_stint s t a b c d e = build_same s.from t.from s.end t.end s.seen t.seen s.used t.used s.ran t.ran s.ran_small t.ran_small a b c d e
+same_stint s t a b c d e = build_same s.from t.from s.end t.end s.seen t.seen s.used t.used s.ran
+    t.ran s.ran_small t.ran_small a b c d e
 
-pub one_next : (course : CourseView) (rounds c : ℕ) (core : CoreState) (s t : Stint) → IsNextStint course rounds c core s → IsNextStint course rounds c core t → s ≡ t
+pub one_next : (course : CourseView) (rounds c : ℕ) (core : CoreState) (s t : Stint)
+    → IsNextStint course rounds c core s → IsNextStint course rounds c core t → s ≡ t
 one_next course rounds c core s t a b =
     let seen : s.seen ≡ t.seen = same core.seen s.seen t.seen a.has_seen b.has_seen in
-    let entry : a.entry ≡ b.entry = same (slice_get core.entries (round_of core)) a.entry b.entry a.entered b.entered in
+    let entry : a.entry ≡ b.entry =
+    same (slice_get core.entries (round_of core)) a.entry b.entry a.entered b.entered in
     let used : s.used ≡ t.used = a.uses ∙ (ap (λ (e : Entry). e.used) entry ∙ sym b.uses) in
     let from : s.from ≡ t.from = a.from ∙ sym b.from in
     let rest = one_follows course c core.stints s t from seen used a.follows b.follows in

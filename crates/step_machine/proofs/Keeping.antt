@@ -19,13 +19,30 @@ use Rattle.step_machine.proofs.Pieces.{chain_push, cores_after, won_after, stint
 
 -- Post
 
-stint_posted : (course : CourseView) (posted : ℕ) (decided : List ℕ) (s : Stint) → StintKept course posted decided s → StintKept course (posted + 1) decided s
-stint_posted course posted decided s k = record { used = k.used; fresh = k.fresh; seen_posted = omega (arith, k.seen_posted); some_ticks = k.some_ticks; in_round = k.in_round }
+stint_posted : (course : CourseView) (posted : ℕ) (decided : List ℕ) (s : Stint)
+    → StintKept course posted decided s → StintKept course (posted + 1) decided s
+stint_posted course posted decided s k =
+    record {
+      used = k.used;
+      fresh = k.fresh;
+      seen_posted = omega (arith, k.seen_posted);
+      some_ticks = k.some_ticks;
+      in_round = k.in_round;
+    }
 
-sight_posted : (course : CourseView) (posted : ℕ) (decided : List ℕ) (core : CoreState) (n : ℕ) → SightKept course posted decided core n → SightKept course (posted + 1) decided core n
-sight_posted course posted decided core n k = record { fresh = k.fresh; seen_posted = omega (arith, k.seen_posted); stints = k.stints; counts = k.counts }
+sight_posted : (course : CourseView) (posted : ℕ) (decided : List ℕ) (core : CoreState) (n : ℕ)
+    → SightKept course posted decided core n → SightKept course (posted + 1) decided core n
+sight_posted course posted decided core n k =
+    record {
+      fresh = k.fresh;
+      seen_posted = omega (arith, k.seen_posted);
+      stints = k.stints;
+      counts = k.counts;
+    }
 
-core_posted : (course : CourseView) (rounds posted : ℕ) (decided : List ℕ) (c : ℕ) (core : CoreState) → CoreKept course rounds posted decided c core → tick_at course posted ≤ core.clock + course.lag →
+core_posted : (course : CourseView) (rounds posted : ℕ) (decided : List ℕ) (c : ℕ)
+    (core : CoreState) → CoreKept course rounds posted decided c core
+    → tick_at course posted ≤ core.clock + course.lag →
     CoreKept course rounds (posted + 1) decided c core
 core_posted course rounds posted decided c core k near = record {
   chain = k.chain;
@@ -39,14 +56,17 @@ core_posted course rounds posted decided c core k near = record {
   chosen = k.chosen;
   risen = k.risen;
   sight = λ n h. sight_posted course posted decided core n (k.sight n h);
-  events = λ i lt. elim (cases_lt i posted) [ inl old ↦ k.events i old | inr new ↦ (let e : i ≡ posted = omega arith in rw e near) ];
+  events = λ i lt. elim (cases_lt i posted)
+      [ inl old ↦ k.events i old | inr new ↦ (let e : i ≡ posted = omega arith in rw e near) ];
   in_run = k.in_run;
 }
 
-pub posts_keep : (course : CourseView) (rounds : ℕ) (old new : State) → Posts course old new → Kept course rounds old → Kept course rounds new
+pub posts_keep : (course : CourseView) (rounds : ℕ) (old new : State) → Posts course old new
+    → Kept course rounds old → Kept course rounds new
 posts_keep course rounds old new p k = subst (λ (s : State). Kept course rounds s) (sym p.becomes) (record {
   size = k.size;
-  cores = λ c core h. core_posted course rounds old.posted old.decided c core (k.cores c core h) (p.near c core h (λ e. absurd cc));
+  cores = λ c core h. core_posted course rounds old.posted old.decided c core (k.cores c core h)
+      (p.near c core h (λ e. absurd cc));
   one_won = k.one_won;
   rises = k.rises;
   fresh = k.fresh;
@@ -57,8 +77,10 @@ posts_keep course rounds old new p k = subst (λ (s : State). Kept course rounds
 
 -- See
 
-seen_now : (course : CourseView) (rounds posted : ℕ) (decided : List ℕ) (c : ℕ) (core : CoreState) → CoreKept course rounds posted decided c core → HasUpTo course posted core.clock →
-    ((r d : ℕ) → slice_get decided r ≡ Some d → d ≤ posted) → CoreKept course rounds posted decided c (record core { seen = Some posted })
+seen_now : (course : CourseView) (rounds posted : ℕ) (decided : List ℕ) (c : ℕ) (core : CoreState)
+    → CoreKept course rounds posted decided c core → HasUpTo course posted core.clock →
+    ((r d : ℕ) → slice_get decided r ≡ Some d → d ≤ posted)
+    → CoreKept course rounds posted decided c (record core { seen = Some posted })
 seen_now course rounds posted decided c core k has most = record {
   chain = k.chain;
   numbered = k.numbered;
@@ -81,22 +103,32 @@ seen_now course rounds posted decided c core k has most = record {
 }
 
 -- clocks stay near where no clock changes
-near_after : (course : CourseView) (s : State) (c : ℕ) (core changed : CoreState) → IsCore s c core → changed.clock ≡ core.clock →
+near_after : (course : CourseView) (s : State) (c : ℕ) (core changed : CoreState) → IsCore s c core
+    → changed.clock ≡ core.clock →
     ((d e : ℕ) (x y : CoreState) → IsCore s d x → IsCore s e y → x.clock ≤ y.clock + course.lag) →
-    (d e : ℕ) (x y : CoreState) → slice_get (slice_set s.cores c changed) d ≡ Some x → slice_get (slice_set s.cores c changed) e ≡ Some y → x.clock ≤ y.clock + course.lag
+    (d e : ℕ) (x y : CoreState) → slice_get (slice_set s.cores c changed) d ≡ Some x
+    → slice_get (slice_set s.cores c changed) e ≡ Some y → x.clock ≤ y.clock + course.lag
 near_after course s c core changed at clock near = λ d e x y h g.
     cores_after (λ (i : ℕ) (u : CoreState). u.clock ≤ y.clock + course.lag) s.cores c changed
-    (λ i u was. cores_after (λ (j : ℕ) (w : CoreState). u.clock ≤ w.clock + course.lag) s.cores c changed (λ j w is. near i j u w was is) (omega (arith, near i c u core was at, clock)) e y g)
-    (cores_after (λ (j : ℕ) (w : CoreState). changed.clock ≤ w.clock + course.lag) s.cores c changed (λ j w is. omega (arith, near c j core w at is, clock)) (omega (arith)) e y g) d x h
+    (λ i u was. cores_after (λ (j : ℕ) (w : CoreState). u.clock ≤ w.clock + course.lag) s.cores c
+    changed (λ j w is. near i j u w was is)
+    (omega (arith, near i c u core was at, clock)) e y g)
+    (cores_after (λ (j : ℕ) (w : CoreState). changed.clock ≤ w.clock + course.lag) s.cores c changed
+    (λ j w is. omega (arith, near c j core w at is, clock)) (omega (arith)) e y g) d x h
 
-pub sees_keep : (course : CourseView) (rounds c : ℕ) (old new : State) → Sees course rounds c old new → Kept course rounds old → Kept course rounds new
+pub sees_keep : (course : CourseView) (rounds c : ℕ) (old new : State)
+    → Sees course rounds c old new → Kept course rounds old → Kept course rounds new
 sees_keep course rounds c old new p k =
     let changed : CoreState = record p.core { seen = Some old.posted } in
     subst (λ (s : State). Kept course rounds s) (sym p.becomes) (record {
       size = length-set old.cores c changed ∙ k.size;
-      cores = cores_after (λ (d : ℕ) (x : CoreState). CoreKept course rounds old.posted old.decided d x) old.cores c changed k.cores
-          (seen_now course rounds old.posted old.decided c p.core (k.cores c p.core p.at) p.has k.decided_posted);
-      one_won = λ r d h. won_after old.cores c r d p.core changed p.at (λ e g. g) (λ e g w. g) (k.one_won r d h);
+      cores = cores_after
+          (λ (d : ℕ) (x : CoreState). CoreKept course rounds old.posted old.decided d x) old.cores c
+          changed k.cores
+          (seen_now course rounds old.posted old.decided c p.core
+          (k.cores c p.core p.at) p.has k.decided_posted);
+      one_won = λ r d h. won_after old.cores c r d p.core changed p.at (λ e g. g) (λ e g w. g)
+          (k.one_won r d h);
       rises = k.rises;
       fresh = k.fresh;
       decided_posted = k.decided_posted;
@@ -107,9 +139,11 @@ sees_keep course rounds c old new p k =
 -- Decide
 
 -- a core is as it was when further rounds are decided that it has not reached
-core_grown : (course : CourseView) (rounds posted : ℕ) (decided more : List ℕ) (c : ℕ) (core : CoreState) → CoreKept course rounds posted decided c core →
+core_grown : (course : CourseView) (rounds posted : ℕ) (decided more : List ℕ) (c : ℕ)
+    (core : CoreState) → CoreKept course rounds posted decided c core →
     ((r d : ℕ) → slice_get decided r ≡ Some d → slice_get more r ≡ Some d) → length decided ≤ length more →
-    ((r d : ℕ) → slice_get more r ≡ Some d → (slice_get decided r ≡ Some d) ⊎ (length decided ≤ r)) → CoreKept course rounds posted more c core
+    ((r d : ℕ) → slice_get more r ≡ Some d → (slice_get decided r ≡ Some d) ⊎ (length decided ≤ r))
+    → CoreKept course rounds posted more c core
 core_grown course rounds posted decided more c core k stays len back = record {
   chain = k.chain;
   numbered = k.numbered;
@@ -118,25 +152,39 @@ core_grown course rounds posted decided more c core k stays len back = record {
   counted = omega (arith, k.counted);
   agreed = λ i e h. stays i e.used (k.agreed i e h);
   entries_posted = k.entries_posted;
-  stints = λ i s h. (let was = k.stints i s h in record { used = stays (s.from / ROUND) s.used was.used; fresh = was.fresh; seen_posted = was.seen_posted; some_ticks = was.some_ticks; in_round = was.in_round });
+  stints = λ i s h.
+      (let was = k.stints i s h in record {
+        used = stays (s.from / ROUND) s.used was.used;
+        fresh = was.fresh;
+        seen_posted = was.seen_posted;
+        some_ticks = was.some_ticks;
+        in_round = was.in_round;
+      });
   chosen = k.chosen;
   risen = k.risen;
   sight = λ n h. (let was = k.sight n h in record {
     fresh = was.fresh;
     seen_posted = was.seen_posted;
     stints = was.stints;
-    counts = λ r d g le. elim (back r d g) [ inl old ↦ was.counts r d old le | inr new ↦ absurd (omega (arith, k.reach, k.counted)) ];
+    counts = λ r d g le. elim (back r d g) [
+      | inl old ↦ was.counts r d old le
+      | inr new ↦
+          absurd (omega (arith, k.reach, k.counted))
+    ];
   });
   events = k.events;
   in_run = k.in_run;
 }
 
 -- a core enters the next round
-core_entered : (course : CourseView) (rounds posted : ℕ) (decided : List ℕ) (c : ℕ) (core : CoreState) (e : Entry) → CoreKept course rounds posted decided c core →
-    e.round ≡ length core.entries → core.clock ≡ length core.entries * ROUND → slice_get decided (length core.entries) ≡ Some e.used → e.seen ≤ posted →
+core_entered : (course : CourseView) (rounds posted : ℕ) (decided : List ℕ) (c : ℕ)
+    (core : CoreState) (e : Entry) → CoreKept course rounds posted decided c core →
+    e.round ≡ length core.entries → core.clock ≡ length core.entries * ROUND
+    → slice_get decided (length core.entries) ≡ Some e.used → e.seen ≤ posted →
     CoreKept course rounds posted decided c (enters core e)
 core_entered course rounds posted decided c core e k round clock used posted_most =
-    let grown : length (core.entries ++ e ∷ []) ≡ length core.entries + 1 = length-append core.entries (e ∷ []) in
+    let grown : length (core.entries ++ e ∷ []) ≡ length core.entries + 1 =
+    length-append core.entries (e ∷ []) in
     record {
       chain = k.chain;
       numbered = λ i x h. elim (push_split core.entries i e x h) [
@@ -157,20 +205,31 @@ core_entered course rounds posted decided c core e k round clock used posted_mos
       stints = k.stints;
       chosen = k.chosen;
       risen = k.risen;
-      sight = λ n h. (let was = k.sight n h in record { fresh = was.fresh; seen_posted = was.seen_posted; stints = was.stints; counts = was.counts });
+      sight = λ n h.
+          (let was = k.sight n h in record {
+            fresh = was.fresh;
+            seen_posted = was.seen_posted;
+            stints = was.stints;
+            counts = was.counts;
+          });
       events = k.events;
       in_run = k.in_run;
     }
 
 -- a core that has not entered its clock's round has entered those before
-entries_so_far : (course : CourseView) (rounds posted : ℕ) (decided : List ℕ) (c : ℕ) (core : CoreState) → CoreKept course rounds posted decided c core → phase_of rounds core ≡ to_decide →
+entries_so_far : (course : CourseView) (rounds posted : ℕ) (decided : List ℕ) (c : ℕ)
+    (core : CoreState) → CoreKept course rounds posted decided c core
+    → phase_of rounds core ≡ to_decide →
     core.clock ≡ round_of core * ROUND → length core.entries ≡ round_of core
-entries_so_far course rounds posted decided c core k due start = elim (cases_lt (round_of core) (length core.entries)) [
-  | inl more ↦ absurd (let was = entered_below core.entries (round_of core) k.numbered more in let isnt = (deciding rounds core due).not_entered in cc)
-  | inr le ↦ omega (arith, k.reach)
-]
+entries_so_far course rounds posted decided c core k due start =
+    elim (cases_lt (round_of core) (length core.entries)) [
+      | inl more ↦
+          absurd (let was = entered_below core.entries (round_of core) k.numbered more in let isnt = (deciding rounds core due).not_entered in cc)
+      | inr le ↦ omega (arith, k.reach)
+    ]
 
-pub joins_keep : (course : CourseView) (rounds c : ℕ) (old new : State) → Joins rounds c old new → Kept course rounds old → Kept course rounds new
+pub joins_keep : (course : CourseView) (rounds c : ℕ) (old new : State) → Joins rounds c old new
+    → Kept course rounds old → Kept course rounds new
 joins_keep course rounds c old new p k =
     let core : CoreState = p.core in
     let kept = k.cores c core p.at in
@@ -179,10 +238,15 @@ joins_keep course rounds c old new p k =
     let changed : CoreState = enters core e in
     subst (λ (s : State). Kept course rounds s) (sym p.becomes) (record {
       size = length-set old.cores c changed ∙ k.size;
-      cores = cores_after (λ (d : ℕ) (x : CoreState). CoreKept course rounds old.posted old.decided d x) old.cores c changed k.cores
-          (core_entered course rounds old.posted old.decided c core e kept (sym len) (rw len p.start) (rw len p.count) (kept.sight p.seen p.has_seen).seen_posted);
+      cores = cores_after
+          (λ (d : ℕ) (x : CoreState). CoreKept course rounds old.posted old.decided d x) old.cores c
+          changed k.cores
+          (core_entered course rounds old.posted old.decided c core e kept (sym len)
+          (rw len p.start) (rw len p.count) (kept.sight p.seen p.has_seen).seen_posted);
       one_won = λ r d h. won_after old.cores c r d core changed p.at (λ x g. push_old core.entries r e x g)
-          (λ x g w. elim (push_split core.entries r e x g) [ inl was ↦ was | inr is ↦ absurd (let lost = ap (λ (y : Entry). y.won) is.1 in cc) ]) (k.one_won r d h);
+          (λ x g w. elim (push_split core.entries r e x g)
+          [ inl was ↦ was | inr is ↦ absurd (let lost = ap (λ (y : Entry). y.won) is.1 in cc) ])
+          (k.one_won r d h);
       rises = k.rises;
       fresh = k.fresh;
       decided_posted = k.decided_posted;
@@ -190,7 +254,8 @@ joins_keep course rounds c old new p k =
       near = near_after course old c core changed p.at refl k.near;
     })
 
-pub wins_keep : (course : CourseView) (rounds c : ℕ) (old new : State) → Wins rounds c old new → Kept course rounds old → Kept course rounds new
+pub wins_keep : (course : CourseView) (rounds c : ℕ) (old new : State) → Wins rounds c old new
+    → Kept course rounds old → Kept course rounds new
 wins_keep course rounds c old new p k =
     let core : CoreState = p.core in
     let kept = k.cores c core p.at in
@@ -199,48 +264,77 @@ wins_keep course rounds c old new p k =
     let e : Entry = record { round = round_of core; used = p.seen; seen = p.seen; won = true } in
     let changed : CoreState = enters core e in
     let more : List ℕ = old.decided ++ p.seen ∷ [] in
-    let grown = λ (d : ℕ) (x : CoreState) (was : CoreKept course rounds old.posted old.decided d x). core_grown course rounds old.posted old.decided more d x was (λ r u h. push_old old.decided r p.seen u h)
+    let grown =
+    λ (d : ℕ) (x : CoreState) (was : CoreKept course rounds old.posted old.decided d
+    x). core_grown course rounds old.posted old.decided more d x was
+    (λ r u h. push_old old.decided r p.seen u h)
     (omega (arith, length-append old.decided (p.seen ∷ [])))
-    (λ r u h. elim (push_split old.decided r p.seen u h) [ inl before ↦ inl before | inr new ↦ inr (omega (arith, new.0)) ]) in
-    let here : slice_get more (length core.entries) ≡ Some p.seen = rw (len, ← p.first) (push_new old.decided p.seen) in
+    (λ r u h. elim (push_split old.decided r p.seen u h)
+    [ inl before ↦ inl before | inr new ↦ inr (omega (arith, new.0)) ]) in
+    let here : slice_get more (length core.entries) ≡ Some p.seen =
+    rw (len, ← p.first) (push_new old.decided p.seen) in
     subst (λ (s : State). Kept course rounds s) (sym p.becomes) (record {
       size = length-set old.cores c changed ∙ k.size;
-      cores = cores_after (λ (d : ℕ) (x : CoreState). CoreKept course rounds old.posted more d x) old.cores c changed (λ d x h. grown d x (k.cores d x h))
-          (core_entered course rounds old.posted more c core e (grown c core kept) (sym len) (rw len p.start) here sight.seen_posted);
+      cores = cores_after (λ (d : ℕ) (x : CoreState). CoreKept course rounds old.posted more d x)
+          old.cores c changed (λ d x h. grown d x (k.cores d x h))
+          (core_entered course rounds old.posted more c core e (grown c core kept) (sym len)
+          (rw len p.start) here sight.seen_posted);
       one_won = λ r d h. elim (push_split old.decided r p.seen d h) [
         | inl before ↦ won_after old.cores c r d core changed p.at (λ x g. push_old core.entries r e x g)
-            (λ x g w. elim (push_split core.entries r e x g) [ inl was ↦ was | inr is ↦ absurd (let lt = within old.decided r d before in let at = is.0 in let first = p.first in omega arith) ]) (k.one_won r d before)
+            (λ x g w. elim (push_split core.entries r e x g) [
+              | inl was ↦ was
+              | inr is ↦
+                  absurd (let lt = within old.decided r d before in let at = is.0 in let first = p.first in omega arith)
+            ]) (k.one_won r d before)
         | inr new ↦ (let at : r ≡ length core.entries = new.0 ∙ p.first ∙ sym len in record {
           winner = c;
-          won_by = record { core = changed; at = set_here old.cores c changed core p.at; entry = e; entered = rw at (push_new core.entries e); won = refl; seen = new.1 };
+          won_by = record {
+            core = changed;
+            at = set_here old.cores c changed core p.at;
+            entry = e;
+            entered = rw at (push_new core.entries e);
+            won = refl;
+            seen = new.1;
+          };
           only = λ i x f g q w. elim (set_split old.cores c i changed x g) [
             | inl is ↦ is.0
-            | inr other ↦ absurd (let lt = within x.entries r f q in let most = (k.cores i x other.1).counted in let r-is = new.0 in omega arith)
+            | inr other ↦
+                absurd (let lt = within x.entries r f q in let most = (k.cores i x other.1).counted in let r-is = new.0 in omega arith)
           ];
         })
       ];
       rises = λ r a b h g. elim (push_split old.decided (suc r) p.seen b g) [
         | inl g-old ↦ elim (push_split old.decided r p.seen a h) [
           | inl h-old ↦ k.rises r a b h-old g-old
-          | inr h-new ↦ absurd (let lt = within old.decided (suc r) b g-old in let at = h-new.0 in omega arith)
+          | inr h-new ↦
+              absurd (let lt = within old.decided (suc r) b g-old in let at = h-new.0 in omega
+              arith)
         ]
         | inr g-new ↦ elim (push_split old.decided r p.seen a h) [
-          | inl h-old ↦ (let le = sight.counts r a h-old (let first = p.first in let start = p.start in let at = g-new.0 in omega arith) in let is = g-new.1 in omega arith)
+          | inl h-old ↦
+              (let le = sight.counts r a h-old (let first = p.first in let start = p.start in let at = g-new.0 in omega arith) in let is = g-new.1 in omega arith)
           | inr h-new ↦ absurd (let at = g-new.0 in let at' = h-new.0 in omega arith)
         ]
       ];
       fresh = λ r d h. elim (push_split old.decided r p.seen d h) [
         | inl before ↦ k.fresh r d before
-        | inr new ↦ (let at : core.clock ≡ r * ROUND = (let first = p.first in let start = p.start in let here-is = new.0 in omega arith) in rw (← new.1, ← at) sight.fresh)
+        | inr new ↦
+            (let at : core.clock ≡ r * ROUND = (let first = p.first in let start = p.start in let here-is = new.0 in omega arith) in rw (← new.1, ← at) sight.fresh)
       ];
-      decided_posted = λ r d h. elim (push_split old.decided r p.seen d h) [ inl before ↦ k.decided_posted r d before | inr new ↦ (let is = new.1 in let le = sight.seen_posted in omega arith) ];
+      decided_posted = λ r d h. elim (push_split old.decided r p.seen d h) [
+        | inl before ↦ k.decided_posted r d before
+        | inr new ↦
+            (let is = new.1 in let le = sight.seen_posted in omega arith)
+      ];
       posted_most = k.posted_most;
       near = near_after course old c core changed p.at refl k.near;
     })
 
 -- Run
 
-core_ran : (course : CourseView) (rounds posted : ℕ) (decided : List ℕ) (c : ℕ) (core : CoreState) (s : Stint) → IsCourse course → CoreKept course rounds posted decided c core → IsNextStint course rounds c core s →
+core_ran : (course : CourseView) (rounds posted : ℕ) (decided : List ℕ) (c : ℕ) (core : CoreState)
+    (s : Stint) → IsCourse course → CoreKept course rounds posted decided c core
+    → IsNextStint course rounds c core s →
     CoreKept course rounds posted decided c (runs core s)
 core_ran course rounds posted decided c core s ok k next =
     let bounds = stint_bounds course c core.stints s ok next.follows in
@@ -286,7 +380,8 @@ core_ran course rounds posted decided c core s ok k next =
       in_run = omega (arith, bounds.1);
     }
 
-pub runs_keep : (course : CourseView) (rounds c : ℕ) (old new : State) → IsCourse course → Runs course rounds c old new → Kept course rounds old → Kept course rounds new
+pub runs_keep : (course : CourseView) (rounds c : ℕ) (old new : State) → IsCourse course
+    → Runs course rounds c old new → Kept course rounds old → Kept course rounds new
 runs_keep course rounds c old new ok p k =
     let core : CoreState = p.core in
     let s : Stint = p.stint in
@@ -296,20 +391,27 @@ runs_keep course rounds c old new ok p k =
     let from : s.from ≡ core.clock = p.next.from in
     subst (λ (x : State). Kept course rounds x) (sym p.becomes) (record {
       size = length-set old.cores c changed ∙ k.size;
-      cores = cores_after (λ (d : ℕ) (x : CoreState). CoreKept course rounds old.posted old.decided d x) old.cores c changed k.cores
+      cores = cores_after
+          (λ (d : ℕ) (x : CoreState). CoreKept course rounds old.posted old.decided d x) old.cores c
+          changed k.cores
           (core_ran course rounds old.posted old.decided c core s ok kept p.next);
-      one_won = λ r d h. won_after old.cores c r d core changed p.at (λ x g. g) (λ x g w. g) (k.one_won r d h);
+      one_won = λ r d h. won_after old.cores c r d core changed p.at (λ x g. g) (λ x g w. g)
+          (k.one_won r d h);
       rises = k.rises;
       fresh = k.fresh;
       decided_posted = k.decided_posted;
       posted_most = k.posted_most;
       near = λ d e x y h g. elim (set_split old.cores c d changed x h) [
-        | inl x-is ↦ (let clock-x = ap (λ (z : CoreState). z.clock) x-is.1 in elim (set_split old.cores c e changed y g) [
-          | inl y-is ↦ (let clock-y = ap (λ (z : CoreState). z.clock) y-is.1 in omega arith)
-          | inr y-old ↦ (let near = p.near e y y-old.1 (λ same_core. y-old.0 (sym (some_same c e same_core))) in omega arith)
-        ])
+        | inl x-is ↦
+            (let clock-x = ap (λ (z : CoreState). z.clock) x-is.1 in elim
+            (set_split old.cores c e changed y g) [
+              | inl y-is ↦ (let clock-y = ap (λ (z : CoreState). z.clock) y-is.1 in omega arith)
+              | inr y-old ↦
+                  (let near = p.near e y y-old.1 (λ same_core. y-old.0 (sym (some_same c e same_core))) in omega arith)
+            ])
         | inr x-old ↦ elim (set_split old.cores c e changed y g) [
-          | inl y-is ↦ (let clock-y = ap (λ (z : CoreState). z.clock) y-is.1 in let near = k.near d c x core x-old.1 p.at in omega (arith, bounds.0))
+          | inl y-is ↦
+              (let clock-y = ap (λ (z : CoreState). z.clock) y-is.1 in let near = k.near d c x core x-old.1 p.at in omega (arith, bounds.0))
           | inr y-old ↦ k.near d e x y x-old.1 y-old.1
         ]
       ];
@@ -319,8 +421,15 @@ runs_keep course rounds c old new ok p k =
     some_same a b h = cc
 
 -- Any step
-pub moves_keep : (course : CourseView) (rounds : ℕ) (old : State) (step : Step) (new : State) → IsCourse course → Moves course rounds old step new → Kept course rounds old → Kept course rounds new
+pub moves_keep : (course : CourseView) (rounds : ℕ) (old : State) (step : Step) (new : State)
+    → IsCourse course → Moves course rounds old step new → Kept course rounds old
+    → Kept course rounds new
 moves_keep course rounds old steps.Post new ok m k = posts_keep course rounds old new m k
 moves_keep course rounds old (steps.See c) new ok m k = sees_keep course rounds c old new m k
-moves_keep course rounds old (steps.Decide c) new ok m k = elim m [ inl w ↦ wins_keep course rounds c old new w k | inr j ↦ joins_keep course rounds c old new j k ]
+moves_keep course rounds old (steps.Decide c) new ok m k =
+    elim m [
+      | inl w ↦ wins_keep course rounds c old new w k
+      | inr j ↦
+          joins_keep course rounds c old new j k
+    ]
 moves_keep course rounds old (steps.Run c) new ok m k = runs_keep course rounds c old new ok m k

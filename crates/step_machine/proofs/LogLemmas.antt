@@ -9,28 +9,45 @@ use Rattle.step_machine.specs.Logs.{core_of, cores_of, HasRoom, HaveRoom, Edits}
 use Rattle.step_machine.proofs.Lists.{same, set_split}
 
 -- what an index finds is the element
-pub found_at : {X : Type 0} (xs : List X) (i : ℕ) (x y : X) → slice_get xs i ≡ Some y → x ≡ slice_index_or xs i x → y ≡ x
-found_at xs i x y h is = same (slice_get xs i) y x h (slice_get_read xs (length xs) i x refl (slice_get_within xs i y h) is)
+pub found_at : {X : Type 0} (xs : List X) (i : ℕ) (x y : X) → slice_get xs i ≡ Some y
+    → x ≡ slice_index_or xs i x → y ≡ x
+found_at xs i x y h is = same (slice_get xs i) y x h
+    (slice_get_read xs (length xs) i x refl (slice_get_within xs i y h) is)
 
 -- a core stands for a log
-pub log_at : (logs : List CoreLog) (k : ℕ) (core : CoreState) → slice_get (cores_of logs) k ≡ Some core → (log : CoreLog) × (slice_get logs k ≡ Some log) × (core_of log ≡ core)
+pub log_at : (logs : List CoreLog) (k : ℕ) (core : CoreState)
+    → slice_get (cores_of logs) k ≡ Some core
+    → (log : CoreLog) × (slice_get logs k ≡ Some log) × (core_of log ≡ core)
 log_at [] k core h = absurd cc
 log_at (log ∷ logs) zero core h = (log, refl, cc)
 log_at (log ∷ logs) (suc k) core h = log_at logs k core h
 
-pub core_at : (logs : List CoreLog) (k : ℕ) (log : CoreLog) → slice_get logs k ≡ Some log → slice_get (cores_of logs) k ≡ Some (core_of log)
+pub core_at : (logs : List CoreLog) (k : ℕ) (log : CoreLog) → slice_get logs k ≡ Some log
+    → slice_get (cores_of logs) k ≡ Some (core_of log)
 core_at [] k log h = absurd cc
 core_at (x ∷ logs) zero log h = cc
 core_at (x ∷ logs) (suc k) log h = core_at logs k log h
 
-pub cores_edited : (old new : List CoreLog) (c : ℕ) (before : CoreLog) (changed : CoreState) (last : Option ℕ) → Edits old new c before changed last → cores_of new ≡ slice_set (cores_of old) c changed
-cores_edited old new c before changed last e = ap cores_of e.becomes ∙ map-set core_of old c e.log ∙ ap (λ (x : CoreState). slice_set (cores_of old) c x) e.core
+pub cores_edited : (old new : List CoreLog) (c : ℕ) (before : CoreLog) (changed : CoreState)
+    (last : Option ℕ) → Edits old new c before changed last
+    → cores_of new ≡ slice_set (cores_of old) c changed
+cores_edited old new c before changed last e = ap cores_of e.becomes ∙ map-set core_of old c e.log
+    ∙ ap (λ (x : CoreState). slice_set (cores_of old) c x) e.core
 
-pub rooms_edited : (rounds n : ℕ) (old new : List CoreLog) (c : ℕ) (before : CoreLog) (changed : CoreState) (last : Option ℕ) → slice_get old c ≡ Some before → Edits old new c before changed last → HaveRoom rounds (n + 1) old → HaveRoom rounds n new
-rooms_edited rounds n old new c before changed last at e room = λ k log h. elim (set_split old c k e.log log (subst (λ (xs : List CoreLog). slice_get xs k ≡ Some log) e.becomes h)) [
-  | inl here ↦ subst (λ (x : CoreLog). HasRoom rounds n x) here.1 (e.room rounds n (room c before at))
-  | inr other ↦ (let was = room k log other.1 in record { entries = omega (arith, was.entries); stints = omega (arith, was.stints) })
-]
+pub rooms_edited : (rounds n : ℕ) (old new : List CoreLog) (c : ℕ) (before : CoreLog)
+    (changed : CoreState) (last : Option ℕ) → slice_get old c ≡ Some before
+    → Edits old new c before changed last → HaveRoom rounds (n + 1) old → HaveRoom rounds n new
+rooms_edited rounds n old new c before changed last at e room =
+    λ k log h. elim (set_split old c k e.log log
+    (subst (λ (xs : List CoreLog). slice_get xs k ≡ Some log) e.becomes h)) [
+      | inl here ↦ subst (λ (x : CoreLog). HasRoom rounds n x) here.1 (e.room rounds n (room c before at))
+      | inr other ↦
+          (let was = room k log other.1 in record {
+            entries = omega (arith, was.entries);
+            stints = omega (arith, was.stints);
+          })
+    ]
 
-pub core_within : (logs : List CoreLog) (k : ℕ) (core : CoreState) → slice_get (cores_of logs) k ≡ Some core → k < length logs
+pub core_within : (logs : List CoreLog) (k : ℕ) (core : CoreState)
+    → slice_get (cores_of logs) k ≡ Some core → k < length logs
 core_within logs k core h = (let found = log_at logs k core h in slice_get_within logs k found.0 found.1)

@@ -11,7 +11,8 @@ use Rattle.table_form.specs.Choice.{Follows, is_shared}
 use Rattle.table_form.specs.Kept.{Chain, OneWon}
 use Rattle.step_machine.proofs.Lists.{set_split, set_here, set_other, same}
 
-pub chain_push : (from to : ℕ) (ss : List Stint) (s : Stint) → Chain from ss to → s.from ≡ to → Chain from (ss ++ s ∷ []) s.end
+pub chain_push : (from to : ℕ) (ss : List Stint) (s : Stint) → Chain from ss to → s.from ≡ to
+    → Chain from (ss ++ s ∷ []) s.end
 chain_push from to [] s chain at = (at ∙ sym chain, refl)
 chain_push from to (t ∷ ts) s chain at = (chain.0, chain_push t.end to ts s chain.1 at)
 
@@ -24,20 +25,26 @@ cores_after P cores c changed others this d core h = elim (set_split cores c d c
   | inr before ↦ others d core before.1
 ]
 
--- a round is won as it was, where the changed core keeps its entries and has no new one of the round that is won
-pub won_after : (cores : List CoreState) (c r count : ℕ) (core changed : CoreState) → slice_get cores c ≡ Some core →
+-- a round is won as it was, where the changed core keeps its entries and has no new one of the
+-- round that is won
+pub won_after : (cores : List CoreState) (c r count : ℕ) (core changed : CoreState)
+    → slice_get cores c ≡ Some core →
     ((e : Entry) → slice_get core.entries r ≡ Some e → slice_get changed.entries r ≡ Some e) →
     ((e : Entry) → slice_get changed.entries r ≡ Some e → e.won ≡ true → slice_get core.entries r ≡ Some e) →
     OneWon cores r count → OneWon (slice_set cores c changed) r count
 won_after cores c r count core changed at stays back one = record {
   winner = one.winner;
   won_by = elim (cases_eq one.winner c) [
-    | inl is ↦ (let found : one.won_by.core ≡ core = same (slice_get cores c) one.won_by.core core (subst (λ (d : ℕ). slice_get cores d ≡ Some one.won_by.core) is one.won_by.at) at in
+    | inl is ↦
+        (let found : one.won_by.core ≡ core = same (slice_get cores c) one.won_by.core core (subst (λ (d : ℕ). slice_get cores d ≡ Some one.won_by.core) is one.won_by.at) at in
         record {
           core = changed;
           at = rw is (set_here cores c changed core at);
           entry = one.won_by.entry;
-          entered = stays one.won_by.entry (subst (λ (x : CoreState). slice_get x.entries r ≡ Some one.won_by.entry) found one.won_by.entered);
+          entered =
+              stays one.won_by.entry
+              (subst (λ (x : CoreState). slice_get x.entries r ≡ Some one.won_by.entry) found
+              one.won_by.entered);
           won = one.won_by.won;
           seen = one.won_by.seen;
         })
@@ -51,18 +58,25 @@ won_after cores c r count core changed at stays back one = record {
     }
   ];
   only = λ d x e h g w. elim (set_split cores c d changed x h) [
-    | inl here ↦ (let old : slice_get core.entries r ≡ Some e = back e (subst (λ (y : CoreState). slice_get y.entries r ≡ Some e) (sym here.1) g) w in
+    | inl here ↦
+        (let old : slice_get core.entries r ≡ Some e = back e (subst (λ (y : CoreState). slice_get y.entries r ≡ Some e) (sym here.1) g) w in
         here.0 ∙ one.only c core e at old w)
     | inr before ↦ one.only d x e before.1 g w
   ];
 }
 
-end_bounds : (b : Bool) (f e span lag quantum : ℕ) → e ≡ cond b (min (min (f - f % ROUND + span) (f + lag)) (f + quantum)) (min (f - f % ROUND + span) (f + lag)) →
-    f % ROUND < span → span ≤ ROUND → 1 ≤ lag → 1 ≤ quantum → (f < e) × (e ≤ (f / ROUND + 1) * ROUND) × (e ≤ f + lag)
+end_bounds : (b : Bool) (f e span lag quantum : ℕ)
+    → e ≡ cond b (min (min (f - f % ROUND + span) (f + lag)) (f + quantum))
+    (min (f - f % ROUND + span) (f + lag)) →
+    f % ROUND < span → span ≤ ROUND → 1 ≤ lag → 1 ≤ quantum
+    → (f < e) × (e ≤ (f / ROUND + 1) * ROUND) × (e ≤ f + lag)
 end_bounds true f e span lag quantum is after within l q = (omega arith, omega arith, omega arith)
 end_bounds false f e span lag quantum is after within l q = (omega arith, omega arith, omega arith)
 
 -- a stint has at least one tick, stays in its round and is no longer than the lag
-pub stint_bounds : (course : CourseView) (c : ℕ) (earlier : List Stint) (s : Stint) → IsCourse course → Follows course c earlier s → (s.from < s.end) × (s.end ≤ (s.from / ROUND + 1) * ROUND) × (s.end ≤ s.from + course.lag)
+pub stint_bounds : (course : CourseView) (c : ℕ) (earlier : List Stint) (s : Stint)
+    → IsCourse course → Follows course c earlier s
+    → (s.from < s.end) × (s.end ≤ (s.from / ROUND + 1) * ROUND) × (s.end ≤ s.from + course.lag)
 stint_bounds course c earlier s ok f =
-    end_bounds (is_shared course c s) s.from s.end f.span_end course.lag course.quantum f.end f.span.after f.span.within ok.form.some_lag ok.form.some_quantum
+    end_bounds (is_shared course c s) s.from s.end f.span_end course.lag course.quantum f.end
+    f.span.after f.span.within ok.form.some_lag ok.form.some_quantum

@@ -19,10 +19,16 @@ use Rattle.step_machine.proofs.Pieces.{stint_bounds}
 use Rattle.step_machine.proofs.Ticks.{has_from_next}
 
 -- a core that changes changes the cores
-cores_differ : (cores : List CoreState) (c : ℕ) (core changed : CoreState) → slice_get cores c ≡ Some core → changed ≢ core → slice_set cores c changed ≢ cores
-cores_differ cores c core changed at differs e = differs (same (slice_get cores c) changed core (subst (λ (xs : List CoreState). slice_get xs c ≡ Some changed) e (set_here cores c changed core at)) at)
+cores_differ : (cores : List CoreState) (c : ℕ) (core changed : CoreState)
+    → slice_get cores c ≡ Some core → changed ≢ core → slice_set cores c changed ≢ cores
+cores_differ cores c core changed at differs e =
+    differs (same (slice_get cores c) changed core
+    (subst (λ (xs : List CoreState). slice_get xs c ≡ Some changed) e
+    (set_here cores c changed core at)) at)
 
-pub post_at_end : (course : CourseView) (rounds : ℕ) (s : State) (c : ℕ) (core : CoreState) → FitsRounds course rounds → IsLeastClock s c core → core.clock ≡ rounds * ROUND → phase_of rounds core ≡ at_end → s.posted < length course.ticks →
+pub post_at_end : (course : CourseView) (rounds : ℕ) (s : State) (c : ℕ) (core : CoreState)
+    → FitsRounds course rounds → IsLeastClock s c core → core.clock ≡ rounds * ROUND
+    → phase_of rounds core ≡ at_end → s.posted < length course.ticks →
     IsNextStep course rounds s steps.Post
 post_at_end course rounds s c core ends low clock phase due = record {
   c = c;
@@ -30,32 +36,54 @@ post_at_end course rounds s c core ends low clock phase due = record {
   lowest = low;
   next = inl (phase, due);
   new = record s { posted = s.posted + 1 };
-  moves = record { due = due; near = λ d other at ne. (let le = low.least d other at in let tick = ends.in_run s.posted due in omega arith); becomes = refl };
+  moves = record {
+    due = due;
+    near = λ d other at ne.
+        (let le = low.least d other at in let tick = ends.in_run s.posted due in omega arith);
+    becomes = refl;
+  };
   changes = λ e. (let q = ap (λ (x : State). x.posted) e in omega arith);
 }
 
-pub post_for_see : (course : CourseView) (rounds : ℕ) (s : State) (c : ℕ) (core : CoreState) → IsCourse course → IsLeastClock s c core → phase_of rounds core ≡ to_see → (HasUpTo course s.posted core.clock → ⊥) →
+pub post_for_see : (course : CourseView) (rounds : ℕ) (s : State) (c : ℕ) (core : CoreState)
+    → IsCourse course → IsLeastClock s c core → phase_of rounds core ≡ to_see
+    → (HasUpTo course s.posted core.clock → ⊥) →
     IsNextStep course rounds s steps.Post
 post_for_see course rounds s c core ok low phase lacks =
-    let due : s.posted < length course.ticks = elim (cases_lt s.posted (length course.ticks)) [ inl lt ↦ lt | inr le ↦ absurd (lacks (λ i lt d. omega arith)) ] in
-    let late : tick_at course s.posted + course.lag ≤ core.clock = elim (cases_lt core.clock (tick_at course s.posted + course.lag)) [ inl lt ↦ absurd (lacks (has_from_next course ok s.posted core.clock lt)) | inr le ↦ le ] in
+    let due : s.posted < length course.ticks =
+    elim (cases_lt s.posted (length course.ticks))
+    [ inl lt ↦ lt | inr le ↦ absurd (lacks (λ i lt d. omega arith)) ] in
+    let late : tick_at course s.posted + course.lag ≤ core.clock =
+    elim (cases_lt core.clock (tick_at course s.posted + course.lag)) [
+      | inl lt ↦ absurd (lacks (has_from_next course ok s.posted core.clock lt))
+      | inr le ↦
+          le
+    ] in
     record {
       c = c;
       core = core;
       lowest = low;
       next = inr (phase, lacks);
       new = record s { posted = s.posted + 1 };
-      moves = record { due = due; near = λ d other at ne. (let le = low.least d other at in omega arith); becomes = refl };
+      moves = record {
+        due = due;
+        near = λ d other at ne.
+            (let le = low.least d other at in omega arith);
+        becomes = refl;
+      };
       changes = λ e. (let q = ap (λ (x : State). x.posted) e in omega arith);
     }
 
-see_cases : (b : Bool) (o : Option ℕ) (e : Bool) → (if b then at_end else phase_unfinished o e) ≡ to_see → o ≡ None
+see_cases : (b : Bool) (o : Option ℕ) (e : Bool)
+    → (if b then at_end else phase_unfinished o e) ≡ to_see → o ≡ None
 see_cases true o e h = absurd cc
 see_cases false None e h = refl
 see_cases false (Some n) true h = absurd cc
 see_cases false (Some n) false h = absurd cc
 
-pub see_now : (course : CourseView) (rounds : ℕ) (s : State) (c : ℕ) (core : CoreState) → IsLeastClock s c core → phase_of rounds core ≡ to_see → HasUpTo course s.posted core.clock → IsNextStep course rounds s (steps.See c)
+pub see_now : (course : CourseView) (rounds : ℕ) (s : State) (c : ℕ) (core : CoreState)
+    → IsLeastClock s c core → phase_of rounds core ≡ to_see → HasUpTo course s.posted core.clock
+    → IsNextStep course rounds s (steps.See c)
 see_now course rounds s c core low phase has =
     let changed : CoreState = record core { seen = Some s.posted } in
     record {
@@ -65,7 +93,8 @@ see_now course rounds s c core low phase has =
       next = (refl, phase, has);
       new = record s { cores = slice_set s.cores c changed };
       moves = record { core = core; at = low.at; due = λ e. absurd (cc); has = has; becomes = refl };
-      changes = λ e. cores_differ s.cores c core changed low.at (λ q. (let seen = ap (λ (x : CoreState). x.seen) q in let none = see_cases (core.clock == rounds * ROUND) core.seen (has_entered core) phase in absurd (cc))) (ap (λ (x : State). x.cores) e);
+      changes = λ e. cores_differ s.cores c core changed low.at
+          (λ q. (let seen = ap (λ (x : CoreState). x.seen) q in let none = see_cases (core.clock == rounds * ROUND) core.seen (has_entered core) phase in absurd (cc))) (ap (λ (x : State). x.cores) e);
     }
 
 some_seen : (o : Option ℕ) → o ≢ None → (n : ℕ) × (o ≡ Some n)
@@ -73,14 +102,18 @@ some_seen None h = absurd (h refl)
 some_seen (Some n) h = (n, refl)
 
 entries_differ : (core : CoreState) (e : Entry) → enters core e ≢ core
-entries_differ core e q = (let n = ap (λ (x : CoreState). length x.entries) q in let m = length-append core.entries (e ∷ []) in omega arith)
+entries_differ core e q =
+    (let n = ap (λ (x : CoreState). length x.entries) q in let m = length-append core.entries (e ∷ []) in omega arith)
 
-pub decide_now : (course : CourseView) (rounds : ℕ) (s : State) (c : ℕ) (core : CoreState) → Kept course rounds s → IsLeastClock s c core → phase_of rounds core ≡ to_decide → IsNextStep course rounds s (steps.Decide c)
+pub decide_now : (course : CourseView) (rounds : ℕ) (s : State) (c : ℕ) (core : CoreState)
+    → Kept course rounds s → IsLeastClock s c core → phase_of rounds core ≡ to_decide
+    → IsNextStep course rounds s (steps.Decide c)
 decide_now course rounds s c core kept low due =
     let k = kept.cores c core low.at in
     let found = some_seen core.seen (has_seen rounds core (inl due)) in
     let few : length core.entries ≤ round_of core = elim (cases_lt (round_of core) (length core.entries)) [
-      | inl more ↦ absurd (let was = entered_below core.entries (round_of core) k.numbered more in let isnt = (deciding rounds core due).not_entered in cc)
+      | inl more ↦
+          absurd (let was = entered_below core.entries (round_of core) k.numbered more in let isnt = (deciding rounds core due).not_entered in cc)
       | inr le ↦ le
     ] in
     let start : core.clock ≡ round_of core * ROUND = omega (arith, k.reach) in
@@ -93,25 +126,55 @@ decide_now course rounds s c core kept low due =
             lowest = low;
             next = (refl, due);
             new = record s { cores = slice_set s.cores c (enters core e) };
-            moves = inr (record { core = core; at = low.at; seen = found.0; has_seen = found.1; due = due; start = start; used = count.0; count = count.1; becomes = refl });
-            changes = λ q. cores_differ s.cores c core (enters core e) low.at (entries_differ core e) (ap (λ (x : State). x.cores) q);
+            moves = inr
+                (record {
+                  core = core;
+                  at = low.at;
+                  seen = found.0;
+                  has_seen = found.1;
+                  due = due;
+                  start = start;
+                  used = count.0;
+                  count = count.1;
+                  becomes = refl;
+                });
+            changes = λ q. cores_differ s.cores c core (enters core e) low.at
+                (entries_differ core e) (ap (λ (x : State). x.cores) q);
           })
-      | inr le ↦ (let e : Entry = record { round = round_of core; used = found.0; seen = found.0; won = true } in
+      | inr le ↦
+          (let e : Entry = record { round = round_of core; used = found.0; seen = found.0; won = true } in
           record {
             c = c;
             core = core;
             lowest = low;
             next = (refl, due);
-            new = record s { decided = s.decided ++ found.0 ∷ []; cores = slice_set s.cores c (enters core e) };
-            moves = inl (record { core = core; at = low.at; seen = found.0; has_seen = found.1; due = due; start = start; first = omega (arith, k.reach, k.counted); becomes = refl });
-            changes = λ q. cores_differ s.cores c core (enters core e) low.at (entries_differ core e) (ap (λ (x : State). x.cores) q);
+            new = record s {
+              decided = s.decided ++ found.0 ∷ [];
+              cores = slice_set s.cores c (enters core e);
+            };
+            moves = inl
+                (record {
+                  core = core;
+                  at = low.at;
+                  seen = found.0;
+                  has_seen = found.1;
+                  due = due;
+                  start = start;
+                  first = omega (arith, k.reach, k.counted);
+                  becomes = refl;
+                });
+            changes = λ q. cores_differ s.cores c core (enters core e) low.at
+                (entries_differ core e) (ap (λ (x : State). x.cores) q);
           })
     ]
 
 stints_differ : (core : CoreState) (st : Stint) → runs core st ≢ core
-stints_differ core st q = (let n = ap (λ (x : CoreState). length x.stints) q in let m = length-append core.stints (st ∷ []) in omega arith)
+stints_differ core st q =
+    (let n = ap (λ (x : CoreState). length x.stints) q in let m = length-append core.stints (st ∷ []) in omega arith)
 
-pub run_now : (course : CourseView) (rounds : ℕ) (s : State) (c : ℕ) (core : CoreState) (st : Stint) → IsCourse course → IsLeastClock s c core → IsNextStint course rounds c core st → IsNextStep course rounds s (steps.Run c)
+pub run_now : (course : CourseView) (rounds : ℕ) (s : State) (c : ℕ) (core : CoreState) (st : Stint)
+    → IsCourse course → IsLeastClock s c core → IsNextStint course rounds c core st
+    → IsNextStep course rounds s (steps.Run c)
 run_now course rounds s c core st ok low next =
     let bounds = stint_bounds course c core.stints st ok next.follows in
     let from = next.from in
@@ -121,21 +184,35 @@ run_now course rounds s c core st ok low next =
       lowest = low;
       next = (refl, next.due);
       new = record s { cores = slice_set s.cores c (runs core st) };
-      moves = record { core = core; at = low.at; stint = st; next = next; near = λ d other at ne. (let le = low.least d other at in omega (arith, bounds.2)); becomes = refl };
-      changes = λ q. cores_differ s.cores c core (runs core st) low.at (stints_differ core st) (ap (λ (x : State). x.cores) q);
+      moves = record {
+        core = core;
+        at = low.at;
+        stint = st;
+        next = next;
+        near = λ d other at ne. (let le = low.least d other at in omega (arith, bounds.2));
+        becomes = refl;
+      };
+      changes = λ q. cores_differ s.cores c core (runs core st) low.at (stints_differ core st)
+          (ap (λ (x : State). x.cores) q);
     }
 
-pub whole_at_end : (course : CourseView) (rounds : ℕ) (s : State) (c : ℕ) (core : CoreState) → Kept course rounds s → IsLeastClock s c core → core.clock ≡ rounds * ROUND → s.posted ≡ length course.ticks → IsWhole course rounds s
+pub whole_at_end : (course : CourseView) (rounds : ℕ) (s : State) (c : ℕ) (core : CoreState)
+    → Kept course rounds s → IsLeastClock s c core → core.clock ≡ rounds * ROUND
+    → s.posted ≡ length course.ticks → IsWhole course rounds s
 whole_at_end course rounds s c core kept low clock posted = record {
-  clocks = λ d other at. (let le = low.least d other at in let most = (kept.cores d other at).in_run in omega arith);
+  clocks = λ d other at.
+      (let le = low.least d other at in let most = (kept.cores d other at).in_run in omega arith);
   posted = posted;
 }
 
-finished_cases : (b : Bool) (o : Option ℕ) (e : Bool) → (if b then at_end else phase_unfinished o e) ≡ at_end → b ≡ true
+finished_cases : (b : Bool) (o : Option ℕ) (e : Bool)
+    → (if b then at_end else phase_unfinished o e) ≡ at_end → b ≡ true
 finished_cases true o e h = refl
 finished_cases false None e h = absurd cc
 finished_cases false (Some n) true h = absurd cc
 finished_cases false (Some n) false h = absurd cc
 
-pub clock_at_end : (rounds : ℕ) (core : CoreState) → phase_of rounds core ≡ at_end → core.clock ≡ rounds * ROUND
-clock_at_end rounds core h = eqb-true _ _ (finished_cases (core.clock == rounds * ROUND) core.seen (has_entered core) h)
+pub clock_at_end : (rounds : ℕ) (core : CoreState) → phase_of rounds core ≡ at_end
+    → core.clock ≡ rounds * ROUND
+clock_at_end rounds core h = eqb-true _ _
+    (finished_cases (core.clock == rounds * ROUND) core.seen (has_entered core) h)

@@ -53,52 +53,80 @@ opening_kept course rounds = record {
   fresh = λ r d h. absurd cc;
   decided_posted = λ r d h. absurd cc;
   posted_most = omega arith;
-  near = λ c d core other h g. (let x = ap (λ (y : CoreState). y.clock) (same_core course.cores c opening_core core h) in omega arith);
+  near = λ c d core other h g.
+      (let x = ap (λ (y : CoreState). y.clock) (same_core course.cores c opening_core core h) in omega arith);
 }
 
 -- an answer keeps what is kept
-pub answers_keep : (course : CourseView) (rounds : ℕ) (old : State) (step : Step) (answer : Answer) (new : State) → IsCourse course → Answers course rounds old step answer new → Kept course rounds old → Kept course rounds new
-answers_keep course rounds old step Done new ok moves kept = moves_keep course rounds old step new ok moves kept
+pub answers_keep : (course : CourseView) (rounds : ℕ) (old : State) (step : Step) (answer : Answer)
+    (new : State) → IsCourse course → Answers course rounds old step answer new
+    → Kept course rounds old → Kept course rounds new
+answers_keep course rounds old step Done new ok moves kept =
+    moves_keep course rounds old step new ok moves kept
 answers_keep course rounds old step (Behind who tick) new ok waits kept = rw waits.1 kept
 answers_keep course rounds old step (NotNow found) new ok waits kept = rw waits.1 kept
 
-pub leads_keep : (course : CourseView) (rounds : ℕ) (old : State) (steps : List Step) (new : State) → IsCourse course → Leads course rounds old steps new → Kept course rounds old → Kept course rounds new
+pub leads_keep : (course : CourseView) (rounds : ℕ) (old : State) (steps : List Step) (new : State)
+    → IsCourse course → Leads course rounds old steps new → Kept course rounds old
+    → Kept course rounds new
 leads_keep course rounds old [] new ok leads kept = rw (← leads) kept
-leads_keep course rounds old (step ∷ steps) new ok leads kept = leads_keep course rounds leads.0 steps new ok leads.2 (moves_keep course rounds old step leads.0 ok leads.1 kept)
+leads_keep course rounds old (step ∷ steps) new ok leads kept =
+    leads_keep course rounds leads.0 steps new ok leads.2
+    (moves_keep course rounds old step leads.0 ok leads.1 kept)
 
-pub cores_new : (count rounds turns : ℕ) (logs : List CoreLog) → AreNew count rounds turns logs → cores_of logs ≡ replicate count opening_core
+pub cores_new : (count rounds turns : ℕ) (logs : List CoreLog) → AreNew count rounds turns logs
+    → cores_of logs ≡ replicate count opening_core
 cores_new zero rounds turns [] new = refl
 cores_new zero rounds turns (log ∷ logs) new = absurd (let n = new.count_is in omega arith)
 cores_new (suc count) rounds turns [] new = absurd (let n = new.count_is in omega arith)
 cores_new (suc count) rounds turns (log ∷ logs) new =
     let first = (new.new 0 log refl).core in
-    let rest = cores_new count rounds turns logs (record { count_is = (let n = new.count_is in omega arith); new = λ k x h. new.new (suc k) x h }) in
+    let rest = cores_new count rounds turns logs
+    (record {
+      count_is = (let n = new.count_is in omega arith);
+      new = λ k x h. new.new (suc k) x h;
+    }) in
     rw (first, rest) refl
 
-pub new_more : (count rounds turns : ℕ) (logs : List CoreLog) (log : CoreLog) → AreNew count rounds turns logs → IsNew rounds turns log → AreNew (length (logs ++ log ∷ [])) rounds turns (logs ++ log ∷ [])
+pub new_more : (count rounds turns : ℕ) (logs : List CoreLog) (log : CoreLog)
+    → AreNew count rounds turns logs → IsNew rounds turns log
+    → AreNew (length (logs ++ log ∷ [])) rounds turns (logs ++ log ∷ [])
 new_more count rounds turns logs log are is = record {
   count_is = refl;
-  new = λ k x h. elim (push_split logs k log x h) [ inl old ↦ are.new k x old | inr new ↦ subst (λ (y : CoreLog). IsNew rounds turns y) new.1 is ];
+  new = λ k x h. elim (push_split logs k log x h) [
+    | inl old ↦ are.new k x old
+    | inr new ↦
+        subst (λ (y : CoreLog). IsNew rounds turns y) new.1 is
+  ];
 }
 
-pub new_state : (count rounds turns : ℕ) (p : Progress) → p.posted ≡ 0 → p.decided.items ≡ [] → AreNew count rounds turns p.logs.items → state_of p ≡ opening count
-new_state count rounds turns p posted decided new = rw (posted, decided, cores_new count rounds turns p.logs.items new) refl
+pub new_state : (count rounds turns : ℕ) (p : Progress) → p.posted ≡ 0 → p.decided.items ≡ []
+    → AreNew count rounds turns p.logs.items → state_of p ≡ opening count
+new_state count rounds turns p posted decided new =
+    rw (posted, decided, cores_new count rounds turns p.logs.items new) refl
 
-pub new_know : (course : CourseView) (count rounds turns : ℕ) (logs : List CoreLog) → AreNew count rounds turns logs → KnowLast course logs
+pub new_know : (course : CourseView) (count rounds turns : ℕ) (logs : List CoreLog)
+    → AreNew count rounds turns logs → KnowLast course logs
 new_know course count rounds turns logs new = λ k log h.
     let is = new.new k log h in
     let none = ap (λ (x : CoreState). x.stints) is.core in
     is.last ∙ sym (ap (λ (ss : List Stint). last_shared course k ss) none)
 
-pub new_room : (count rounds turns : ℕ) (logs : List CoreLog) → AreNew count rounds turns logs → HaveRoom rounds turns logs
+pub new_room : (count rounds turns : ℕ) (logs : List CoreLog) → AreNew count rounds turns logs
+    → HaveRoom rounds turns logs
 new_room count rounds turns logs new = λ k log h. (new.new k log h).room
 
-pub leads_more : (course : CourseView) (rounds : ℕ) (old : State) (steps : List Step) (mid : State) (step : Step) (new : State) → Leads course rounds old steps mid → Moves course rounds mid step new → Leads course rounds old (steps ++ step ∷ []) new
+pub leads_more : (course : CourseView) (rounds : ℕ) (old : State) (steps : List Step) (mid : State)
+    (step : Step) (new : State) → Leads course rounds old steps mid
+    → Moves course rounds mid step new → Leads course rounds old (steps ++ step ∷ []) new
 leads_more course rounds old [] mid step new leads moves = (new, rw leads moves, refl)
-leads_more course rounds old (first ∷ steps) mid step new leads moves = (leads.0, leads.1, leads_more course rounds leads.0 steps mid step new leads.2 moves)
+leads_more course rounds old (first ∷ steps) mid step new leads moves =
+    (leads.0, leads.1, leads_more course rounds leads.0 steps mid step new leads.2 moves)
 
 -- a step that isn't done changes nothing
-pub refused_stays : (course : CourseView) (rounds : ℕ) (old : State) (step : Step) (answer : Answer) (new : State) → answer ≢ Done → Answers course rounds old step answer new → Answers course rounds old step answer old
+pub refused_stays : (course : CourseView) (rounds : ℕ) (old : State) (step : Step) (answer : Answer)
+    (new : State) → answer ≢ Done → Answers course rounds old step answer new
+    → Answers course rounds old step answer old
 refused_stays course rounds old step Done new isnt moves = absurd (isnt refl)
 refused_stays course rounds old step (Behind who tick) new isnt waits = (waits.0, refl)
 refused_stays course rounds old step (NotNow found) new isnt waits = (waits.0, refl)

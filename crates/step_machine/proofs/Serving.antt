@@ -12,7 +12,8 @@ use Rattle.table_form.specs.State.{State}
 use Rattle.step_machine.proofs.OneCore.{apart_after, either}
 use Rattle.step_machine.proofs.Supply.{offers_supply}
 
-serves_after : (course : CourseView) → IsCourse course → (n : ℕ) → Serves (plan_after course n).tasks (plan_after course n).rows
+serves_after : (course : CourseView) → IsCourse course → (n : ℕ)
+    → Serves (plan_after course n).tasks (plan_after course n).rows
 serves_after course ok n = elim (either course.plans (slice_index course.numbers n) no_plan) [
   | inl at ↦ (ok.plans_kept (slice_index course.numbers n) (plan_after course n) at).serves
   | inr none ↦ rw none (λ v task h k lt. absurd cc)
@@ -23,13 +24,18 @@ flat_some None x h = absurd cc
 flat_some (Some o) x h = ap Some h
 
 -- the count of a round in which the vCPU has a task
-task_found : (course : CourseView) (o : Option ℕ) (v : ℕ) (task : Periodic) → task_by course o v ≡ Some task → (count : ℕ) × (o ≡ Some count) × (slice_get (plan_after course count).tasks v ≡ Some (Some task))
+task_found : (course : CourseView) (o : Option ℕ) (v : ℕ) (task : Periodic)
+    → task_by course o v ≡ Some task
+    → (count : ℕ) × (o ≡ Some count)
+    × (slice_get (plan_after course count).tasks v ≡ Some (Some task))
 task_found course None v task h = absurd cc
-task_found course (Some count) v task h = (count, refl, flat_some (slice_get (plan_after course count).tasks v) task h)
+task_found course (Some count) v task h =
+    (count, refl, flat_some (slice_get (plan_after course count).tasks v) task h)
 
 -- whole periods fit the round
 pub period_fits : (t m k : ℕ) → t * m ≡ ROUND → k < m → k * t + t ≤ ROUND
-period_fits t m k whole lt = (let le : (suc k) * t ≤ m * t = mul-le-mul_right t (omega arith) in let more = suc-mul k t in omega arith)
+period_fits t m k whole lt =
+    (let le : (suc k) * t ≤ m * t = mul-le-mul_right t (omega arith) in let more = suc-mul k t in omega arith)
 
 pub served : (course : CourseView) (s : State) → IsCourse course → IsServed course s
 served course s ok = λ r v k task has lt.
@@ -37,7 +43,9 @@ served course s ok = λ r v k task has lt.
     let facts = period_facts task.period task.listed in
     let fits = period_fits task.period (ROUND / task.period) k facts.whole lt in
     let enough = serves_after course ok found.0 v task found.2 k lt in
-    let most = offers_supply course s.decided v r found.0 (k * task.period) task.period found.1 (apart_after course ok found.0) fits in
+    let most = offers_supply course s.decided v r found.0 (k * task.period) task.period found.1
+    (apart_after course ok found.0) fits in
     let end : (k + 1) * task.period ≡ k * task.period + task.period = grind arith in
-    let cells : task.cost ≤ supply v (plan_after course found.0).rows (k * task.period) (k * task.period + task.period) = rw (← end) enough in
+    let cells : task.cost ≤ supply v (plan_after course found.0).rows (k * task.period)
+    (k * task.period + task.period) = rw (← end) enough in
     omega arith

@@ -19,6 +19,14 @@ at_most f zero one = omega arith
 at_most f (suc n) one = omega (arith, at_most f n one, one n)
 
 -- f is at most 1, and 0 on the middle part of three
-pub total-outside : (f : ℕ → ℕ) (a m b : ℕ) → ((k : ℕ) → f k ≤ 1) → ((k : ℕ) → k < m → f (a + k) ≡ 0) → total f (a + m + b) ≤ a + b
+pub total-outside : (f : ℕ → ℕ) (a m b : ℕ) → ((k : ℕ) → f k ≤ 1)
+    → ((k : ℕ) → k < m → f (a + k) ≡ 0) → total f (a + m + b) ≤ a + b
 total-outside f a m b one zero_here =
-    omega (arith, total-split f (a + m) b, total-split f a m, total-none (λ k. f (a + k)) m zero_here, at_most f a one, at_most (λ k. f (a + m + k)) b (λ k. one (a + m + k)))
+    omega (
+      arith,
+      total-split f (a + m) b,
+      total-split f a m,
+      total-none (λ k. f (a + k)) m zero_here,
+      at_most f a one,
+      at_most (λ k. f (a + m + k)) b (λ k. one (a + m + k)),
+    )

@@ -17,19 +17,31 @@ use Rattle.step_machine.specs.declared.answer.Answer.TheVariants.{Done, Behind, 
 use Rattle.step_machine.proofs.Lists.{same, within}
 use Rattle.step_machine.proofs.Determined.{one_next}
 
-low_or_near : (lag : ℕ) (cores : List CoreState) (skip : Option ℕ) (tick d clock : ℕ) → IsNear lag cores skip tick → IsTooLow lag cores skip tick d clock → ⊥
-low_or_near lag cores skip tick d clock near low = (let le = near d low.other low.at low.not_skipped in let lt = low.low in absurd (omega arith))
+low_or_near : (lag : ℕ) (cores : List CoreState) (skip : Option ℕ) (tick d clock : ℕ)
+    → IsNear lag cores skip tick → IsTooLow lag cores skip tick d clock → ⊥
+low_or_near lag cores skip tick d clock near low =
+    (let le = near d low.other low.at low.not_skipped in let lt = low.low in absurd (omega arith))
 
-not_lower : (lag : ℕ) (cores : List CoreState) (skip : Option ℕ) (tick d clock e clock' : ℕ) → IsTooLow lag cores skip tick d clock → IsTooLow lag cores skip tick e clock' → d < e → ⊥
-not_lower lag cores skip tick d clock e clock' a b lt = (let le = b.lowest d a.other lt a.at a.not_skipped in let low = a.low in absurd (omega arith))
+not_lower : (lag : ℕ) (cores : List CoreState) (skip : Option ℕ) (tick d clock e clock' : ℕ)
+    → IsTooLow lag cores skip tick d clock → IsTooLow lag cores skip tick e clock' → d < e → ⊥
+not_lower lag cores skip tick d clock e clock' a b lt =
+    (let le = b.lowest d a.other lt a.at a.not_skipped in let low = a.low in absurd (omega arith))
 
-one_low : (lag : ℕ) (cores : List CoreState) (skip : Option ℕ) (tick d clock e clock' : ℕ) → IsTooLow lag cores skip tick d clock → IsTooLow lag cores skip tick e clock' → (d ≡ e) × (clock ≡ clock')
+one_low : (lag : ℕ) (cores : List CoreState) (skip : Option ℕ) (tick d clock e clock' : ℕ)
+    → IsTooLow lag cores skip tick d clock → IsTooLow lag cores skip tick e clock'
+    → (d ≡ e) × (clock ≡ clock')
 one_low lag cores skip tick d clock e clock' a b =
     let is : d ≡ e = elim (cases_lt d e) [
       | inl lt ↦ absurd (not_lower lag cores skip tick d clock e clock' a b lt)
-      | inr le ↦ elim (cases_lt e d) [ inl lt ↦ absurd (not_lower lag cores skip tick e clock' d clock b a lt) | inr le' ↦ omega arith ]
+      | inr le ↦ elim (cases_lt e d) [
+        | inl lt ↦
+            absurd (not_lower lag cores skip tick e clock' d clock b a lt)
+        | inr le' ↦ omega arith
+      ]
     ] in
-    let core : a.other ≡ b.other = same (slice_get cores e) a.other b.other (subst (λ (i : ℕ). slice_get cores i ≡ Some a.other) is a.at) b.at in
+    let core : a.other ≡ b.other =
+    same (slice_get cores e) a.other b.other
+    (subst (λ (i : ℕ). slice_get cores i ≡ Some a.other) is a.at) b.at in
     (is, a.clock_is ∙ (ap (λ (x : CoreState). x.clock) core ∙ sym b.clock_is))
 
 behind_same : (d e t u : ℕ) → d ≡ e → t ≡ u → Behind (Core d) t ≡ Behind (Core e) u
@@ -38,39 +50,63 @@ behind_same d e t u p q = cc
 not_now_same : (f g : Phase) → f ≡ g → NotNow f ≡ NotNow g
 not_now_same f g p = cc
 
-post_one : (course : CourseView) (rounds : ℕ) (s : State) (a b : Answer) (new new' : State) → Answers course rounds s steps.Post a new → Answers course rounds s steps.Post b new' → (a ≡ b) × (new ≡ new')
+post_one : (course : CourseView) (rounds : ℕ) (s : State) (a b : Answer) (new new' : State)
+    → Answers course rounds s steps.Post a new → Answers course rounds s steps.Post b new'
+    → (a ≡ b) × (new ≡ new')
 post_one course rounds s Done Done n m p q = (refl, p.becomes ∙ sym q.becomes)
 post_one course rounds s Done (Behind (Core d) t) n m p q = absurd (low_or_near _ _ _ _ _ _ p.near q.0.low)
 post_one course rounds s Done (Behind Controller t) n m p q = absurd q.0
 post_one course rounds s Done (NotNow f) n m p q = absurd (let due = p.due in let all = q.0.0 in omega arith)
 post_one course rounds s (Behind (Core d) t) Done n m p q = absurd (low_or_near _ _ _ _ _ _ q.near p.0.low)
-post_one course rounds s (Behind (Core d) t) (Behind (Core e) u) n m p q = (let is = one_low _ _ _ _ _ _ _ _ p.0.low q.0.low in (behind_same d e t u is.0 is.1, p.1 ∙ sym q.1))
+post_one course rounds s (Behind (Core d) t) (Behind (Core e) u) n m p q =
+    (let is = one_low _ _ _ _ _ _ _ _ p.0.low q.0.low in
+    (behind_same d e t u is.0 is.1, p.1 ∙ sym q.1))
 post_one course rounds s (Behind (Core d) t) (Behind Controller u) n m p q = absurd q.0
-post_one course rounds s (Behind (Core d) t) (NotNow f) n m p q = absurd (let due = p.0.due in let all = q.0.0 in omega arith)
+post_one course rounds s (Behind (Core d) t) (NotNow f) n m p q =
+    absurd (let due = p.0.due in let all = q.0.0 in omega arith)
 post_one course rounds s (Behind Controller t) b n m p q = absurd p.0
 post_one course rounds s (NotNow f) Done n m p q = absurd (let due = q.due in let all = p.0.0 in omega arith)
-post_one course rounds s (NotNow f) (Behind (Core d) t) n m p q = absurd (let due = q.0.due in let all = p.0.0 in omega arith)
+post_one course rounds s (NotNow f) (Behind (Core d) t) n m p q =
+    absurd (let due = q.0.due in let all = p.0.0 in omega arith)
 post_one course rounds s (NotNow f) (Behind Controller t) n m p q = absurd q.0
 post_one course rounds s (NotNow f) (NotNow g) n m p q = (not_now_same f g (p.0.1 ∙ sym q.0.1), p.1 ∙ sym q.1)
 
 -- the phase of the core that both speak of
-phases_same : (rounds c : ℕ) (s : State) (x y : CoreState) → slice_get s.cores c ≡ Some x → slice_get s.cores c ≡ Some y → phase_of rounds x ≡ phase_of rounds y
-phases_same rounds c s x y h g = ap (λ (z : CoreState). phase_of rounds z) (same (slice_get s.cores c) x y h g)
+phases_same : (rounds c : ℕ) (s : State) (x y : CoreState) → slice_get s.cores c ≡ Some x
+    → slice_get s.cores c ≡ Some y → phase_of rounds x ≡ phase_of rounds y
+phases_same rounds c s x y h g =
+    ap (λ (z : CoreState). phase_of rounds z) (same (slice_get s.cores c) x y h g)
 
-see_one : (course : CourseView) (rounds c : ℕ) (s : State) (a b : Answer) (new new' : State) → Answers course rounds s (steps.See c) a new → Answers course rounds s (steps.See c) b new' → (a ≡ b) × (new ≡ new')
-see_one course rounds c s Done Done n m p q = (let is : p.core ≡ q.core = same (slice_get s.cores c) p.core q.core p.at q.at in (refl, p.becomes ∙ (rw is refl ∙ sym q.becomes)))
+see_one : (course : CourseView) (rounds c : ℕ) (s : State) (a b : Answer) (new new' : State)
+    → Answers course rounds s (steps.See c) a new → Answers course rounds s (steps.See c) b new'
+    → (a ≡ b) × (new ≡ new')
+see_one course rounds c s Done Done n m p q =
+    (let is : p.core ≡ q.core = same (slice_get s.cores c) p.core q.core p.at q.at in
+    (refl, p.becomes ∙ (rw is refl ∙ sym q.becomes)))
 see_one course rounds c s Done (Behind (Core d) t) n m p q = absurd q.0
-see_one course rounds c s Done (Behind Controller t) n m p q = (let is : q.0.core ≡ p.core = same (slice_get s.cores c) q.0.core p.core q.0.at p.at in absurd (q.0.lacks (rw is p.has)))
-see_one course rounds c s Done (NotNow f) n m p q = absurd (p.due (phases_same rounds c s p.core q.0.core p.at q.0.at ∙ q.0.finished))
+see_one course rounds c s Done (Behind Controller t) n m p q =
+    (let is : q.0.core ≡ p.core = same (slice_get s.cores c) q.0.core p.core q.0.at p.at in absurd
+    (q.0.lacks (rw is p.has)))
+see_one course rounds c s Done (NotNow f) n m p q =
+    absurd (p.due (phases_same rounds c s p.core q.0.core p.at q.0.at ∙ q.0.finished))
 see_one course rounds c s (Behind (Core d) t) b n m p q = absurd p.0
-see_one course rounds c s (Behind Controller t) Done n m p q = (let is : p.0.core ≡ q.core = same (slice_get s.cores c) p.0.core q.core p.0.at q.at in absurd (p.0.lacks (rw is q.has)))
+see_one course rounds c s (Behind Controller t) Done n m p q =
+    (let is : p.0.core ≡ q.core = same (slice_get s.cores c) p.0.core q.core p.0.at q.at in absurd
+    (p.0.lacks (rw is q.has)))
 see_one course rounds c s (Behind Controller t) (Behind (Core d) u) n m p q = absurd q.0
-see_one course rounds c s (Behind Controller t) (Behind Controller u) n m p q = (let is : t ≡ u = p.0.tick_is ∙ sym q.0.tick_is in ap (λ (x : ℕ). Behind Controller x) is, p.1 ∙ sym q.1)
-see_one course rounds c s (Behind Controller t) (NotNow f) n m p q = absurd (p.0.due (phases_same rounds c s p.0.core q.0.core p.0.at q.0.at ∙ q.0.finished))
-see_one course rounds c s (NotNow f) Done n m p q = absurd (q.due (phases_same rounds c s q.core p.0.core q.at p.0.at ∙ p.0.finished))
+see_one course rounds c s (Behind Controller t) (Behind Controller u) n m p q = (
+  let is : t ≡ u = p.0.tick_is ∙ sym q.0.tick_is in ap (λ (x : ℕ). Behind Controller x) is,
+  p.1 ∙ sym q.1,
+)
+see_one course rounds c s (Behind Controller t) (NotNow f) n m p q =
+    absurd (p.0.due (phases_same rounds c s p.0.core q.0.core p.0.at q.0.at ∙ q.0.finished))
+see_one course rounds c s (NotNow f) Done n m p q =
+    absurd (q.due (phases_same rounds c s q.core p.0.core q.at p.0.at ∙ p.0.finished))
 see_one course rounds c s (NotNow f) (Behind (Core d) t) n m p q = absurd q.0
-see_one course rounds c s (NotNow f) (Behind Controller t) n m p q = absurd (q.0.due (phases_same rounds c s q.0.core p.0.core q.0.at p.0.at ∙ p.0.finished))
-see_one course rounds c s (NotNow f) (NotNow g) n m p q = (not_now_same f g (p.0.found_is ∙ sym q.0.found_is), p.1 ∙ sym q.1)
+see_one course rounds c s (NotNow f) (Behind Controller t) n m p q =
+    absurd (q.0.due (phases_same rounds c s q.0.core p.0.core q.0.at p.0.at ∙ p.0.finished))
+see_one course rounds c s (NotNow f) (NotNow g) n m p q =
+    (not_now_same f g (p.0.found_is ∙ sym q.0.found_is), p.1 ∙ sym q.1)
 
 win_or_join : (rounds c : ℕ) (s n m : State) → Wins rounds c s n → Joins rounds c s m → ⊥
 win_or_join rounds c s n m p q =
@@ -83,62 +119,105 @@ win_or_join rounds c s n m p q =
 one_win : (rounds c : ℕ) (s n m : State) → Wins rounds c s n → Wins rounds c s m → n ≡ m
 one_win rounds c s n m p q =
     let is : p.core ≡ q.core = same (slice_get s.cores c) p.core q.core p.at q.at in
-    let seen : p.seen ≡ q.seen = same q.core.seen p.seen q.seen (subst (λ (x : CoreState). x.seen ≡ Some p.seen) is p.has_seen) q.has_seen in
+    let seen : p.seen ≡ q.seen = same q.core.seen p.seen q.seen
+    (subst (λ (x : CoreState). x.seen ≡ Some p.seen) is p.has_seen) q.has_seen in
     p.becomes ∙ (rw (is, seen) refl ∙ sym q.becomes)
 
 one_join : (rounds c : ℕ) (s n m : State) → Joins rounds c s n → Joins rounds c s m → n ≡ m
 one_join rounds c s n m p q =
     let is : p.core ≡ q.core = same (slice_get s.cores c) p.core q.core p.at q.at in
-    let seen : p.seen ≡ q.seen = same q.core.seen p.seen q.seen (subst (λ (x : CoreState). x.seen ≡ Some p.seen) is p.has_seen) q.has_seen in
-    let used : p.used ≡ q.used = same (slice_get s.decided (round_of q.core)) p.used q.used (subst (λ (x : CoreState). slice_get s.decided (round_of x) ≡ Some p.used) is p.count) q.count in
+    let seen : p.seen ≡ q.seen = same q.core.seen p.seen q.seen
+    (subst (λ (x : CoreState). x.seen ≡ Some p.seen) is p.has_seen) q.has_seen in
+    let used : p.used ≡ q.used = same (slice_get s.decided (round_of q.core)) p.used q.used
+    (subst (λ (x : CoreState). slice_get s.decided (round_of x) ≡ Some p.used) is p.count)
+    q.count in
     p.becomes ∙ (rw (is, seen, used) refl ∙ sym q.becomes)
 
-one_entering : (rounds c : ℕ) (s n m : State) → Wins rounds c s n ⊎ Joins rounds c s n → Wins rounds c s m ⊎ Joins rounds c s m → n ≡ m
+one_entering : (rounds c : ℕ) (s n m : State) → Wins rounds c s n ⊎ Joins rounds c s n
+    → Wins rounds c s m ⊎ Joins rounds c s m → n ≡ m
 one_entering rounds c s n m p q = elim p [
   | inl w ↦ elim q [ inl v ↦ one_win rounds c s n m w v | inr j ↦ absurd (win_or_join rounds c s n m w j) ]
   | inr i ↦ elim q [ inl v ↦ absurd (win_or_join rounds c s m n v i) | inr j ↦ one_join rounds c s n m i j ]
 ]
 
 -- who enters is to decide
-entering_due : (rounds c : ℕ) (s n : State) → Wins rounds c s n ⊎ Joins rounds c s n → (core : CoreState) × (slice_get s.cores c ≡ Some core) × (phase_of rounds core ≡ to_decide)
+entering_due : (rounds c : ℕ) (s n : State) → Wins rounds c s n ⊎ Joins rounds c s n
+    → (core : CoreState) × (slice_get s.cores c ≡ Some core) × (phase_of rounds core ≡ to_decide)
 entering_due rounds c s n p = elim p [ inl w ↦ (w.core, w.at, w.due) | inr j ↦ (j.core, j.at, j.due) ]
 
-decide_one : (course : CourseView) (rounds c : ℕ) (s : State) (a b : Answer) (new new' : State) → Answers course rounds s (steps.Decide c) a new → Answers course rounds s (steps.Decide c) b new' → (a ≡ b) × (new ≡ new')
+decide_one : (course : CourseView) (rounds c : ℕ) (s : State) (a b : Answer) (new new' : State)
+    → Answers course rounds s (steps.Decide c) a new
+    → Answers course rounds s (steps.Decide c) b new' → (a ≡ b) × (new ≡ new')
 decide_one course rounds c s Done Done n m p q = (refl, one_entering rounds c s n m p q)
 decide_one course rounds c s Done (Behind w t) n m p q = absurd q.0
-decide_one course rounds c s Done (NotNow f) n m p q = (let due = entering_due rounds c s n p in absurd (q.0.differs (phases_same rounds c s q.0.core due.0 q.0.at due.1 ∙ due.2)))
+decide_one course rounds c s Done (NotNow f) n m p q =
+    (let due = entering_due rounds c s n p in absurd
+    (q.0.differs (phases_same rounds c s q.0.core due.0 q.0.at due.1 ∙ due.2)))
 decide_one course rounds c s (Behind w t) b n m p q = absurd p.0
-decide_one course rounds c s (NotNow f) Done n m p q = (let due = entering_due rounds c s m q in absurd (p.0.differs (phases_same rounds c s p.0.core due.0 p.0.at due.1 ∙ due.2)))
+decide_one course rounds c s (NotNow f) Done n m p q =
+    (let due = entering_due rounds c s m q in absurd
+    (p.0.differs (phases_same rounds c s p.0.core due.0 p.0.at due.1 ∙ due.2)))
 decide_one course rounds c s (NotNow f) (Behind w t) n m p q = absurd q.0
-decide_one course rounds c s (NotNow f) (NotNow g) n m p q = (not_now_same f g (p.0.found_is ∙ (ap shown (phases_same rounds c s p.0.core q.0.core p.0.at q.0.at) ∙ sym q.0.found_is)), p.1 ∙ sym q.1)
+decide_one course rounds c s (NotNow f) (NotNow g) n m p q = (
+  not_now_same f g
+      (p.0.found_is ∙ (ap shown (phases_same rounds c s p.0.core q.0.core p.0.at q.0.at)
+      ∙ sym q.0.found_is)),
+  p.1 ∙ sym q.1,
+)
 
 -- the stint that both speak of
-stint_same : (course : CourseView) (rounds c : ℕ) (s : State) (x y : CoreState) (st su : Stint) → slice_get s.cores c ≡ Some x → slice_get s.cores c ≡ Some y → IsNextStint course rounds c x st → IsNextStint course rounds c y su → (x ≡ y) × (st ≡ su)
+stint_same : (course : CourseView) (rounds c : ℕ) (s : State) (x y : CoreState) (st su : Stint)
+    → slice_get s.cores c ≡ Some x → slice_get s.cores c ≡ Some y → IsNextStint course rounds c x st
+    → IsNextStint course rounds c y su → (x ≡ y) × (st ≡ su)
 stint_same course rounds c s x y st su h g a b =
-    let is : x ≡ y = same (slice_get s.cores c) x y h g in
-    (is, one_next course rounds c y st su (subst (λ (z : CoreState). IsNextStint course rounds c z st) is a) b)
+    let is : x ≡ y = same (slice_get s.cores c) x y h g in (
+      is,
+      one_next course rounds c y st su
+          (subst (λ (z : CoreState). IsNextStint course rounds c z st) is a) b,
+    )
 
-run_one : (course : CourseView) (rounds c : ℕ) (s : State) (a b : Answer) (new new' : State) → Answers course rounds s (steps.Run c) a new → Answers course rounds s (steps.Run c) b new' → (a ≡ b) × (new ≡ new')
-run_one course rounds c s Done Done n m p q = (let is = stint_same course rounds c s p.core q.core p.stint q.stint p.at q.at p.next q.next in (refl, p.becomes ∙ (rw (is.0, is.1) refl ∙ sym q.becomes)))
-run_one course rounds c s Done (Behind (Core d) t) n m p q = (let is = stint_same course rounds c s p.core q.0.core p.stint q.0.stint p.at q.0.at p.next q.0.next in
-    absurd (low_or_near course.lag s.cores (Some c) q.0.stint.end d t (subst (λ (x : Stint). IsNear course.lag s.cores (Some c) x.end) is.1 p.near) q.0.low))
+run_one : (course : CourseView) (rounds c : ℕ) (s : State) (a b : Answer) (new new' : State)
+    → Answers course rounds s (steps.Run c) a new → Answers course rounds s (steps.Run c) b new'
+    → (a ≡ b) × (new ≡ new')
+run_one course rounds c s Done Done n m p q =
+    (let is = stint_same course rounds c s p.core q.core p.stint q.stint p.at q.at p.next q.next in
+    (refl, p.becomes ∙ (rw (is.0, is.1) refl ∙ sym q.becomes)))
+run_one course rounds c s Done (Behind (Core d) t) n m p q =
+    (let is = stint_same course rounds c s p.core q.0.core p.stint q.0.stint p.at q.0.at p.next q.0.next in
+    absurd (low_or_near course.lag s.cores (Some c) q.0.stint.end d t
+    (subst (λ (x : Stint). IsNear course.lag s.cores (Some c) x.end) is.1 p.near) q.0.low))
 run_one course rounds c s Done (Behind Controller t) n m p q = absurd q.0
-run_one course rounds c s Done (NotNow f) n m p q = absurd (q.0.differs (phases_same rounds c s q.0.core p.core q.0.at p.at ∙ p.next.due))
-run_one course rounds c s (Behind (Core d) t) Done n m p q = (let is = stint_same course rounds c s q.core p.0.core q.stint p.0.stint q.at p.0.at q.next p.0.next in
-    absurd (low_or_near course.lag s.cores (Some c) p.0.stint.end d t (subst (λ (x : Stint). IsNear course.lag s.cores (Some c) x.end) is.1 q.near) p.0.low))
+run_one course rounds c s Done (NotNow f) n m p q =
+    absurd (q.0.differs (phases_same rounds c s q.0.core p.core q.0.at p.at ∙ p.next.due))
+run_one course rounds c s (Behind (Core d) t) Done n m p q =
+    (let is = stint_same course rounds c s q.core p.0.core q.stint p.0.stint q.at p.0.at q.next p.0.next in
+    absurd (low_or_near course.lag s.cores (Some c) p.0.stint.end d t
+    (subst (λ (x : Stint). IsNear course.lag s.cores (Some c) x.end) is.1 q.near) p.0.low))
 run_one course rounds c s (Behind (Core d) t) (Behind (Core e) u) n m p q =
     (let is = stint_same course rounds c s p.0.core q.0.core p.0.stint q.0.stint p.0.at q.0.at p.0.next q.0.next in
-    let low = one_low course.lag s.cores (Some c) q.0.stint.end d t e u (subst (λ (x : Stint). IsTooLow course.lag s.cores (Some c) x.end d t) is.1 p.0.low) q.0.low in
+    let low = one_low course.lag s.cores (Some c) q.0.stint.end d t e u
+    (subst (λ (x : Stint). IsTooLow course.lag s.cores (Some c) x.end d t) is.1 p.0.low)
+    q.0.low in
     (behind_same d e t u low.0 low.1, p.1 ∙ sym q.1))
 run_one course rounds c s (Behind (Core d) t) (Behind Controller u) n m p q = absurd q.0
-run_one course rounds c s (Behind (Core d) t) (NotNow f) n m p q = absurd (q.0.differs (phases_same rounds c s q.0.core p.0.core q.0.at p.0.at ∙ p.0.next.due))
+run_one course rounds c s (Behind (Core d) t) (NotNow f) n m p q =
+    absurd (q.0.differs (phases_same rounds c s q.0.core p.0.core q.0.at p.0.at ∙ p.0.next.due))
 run_one course rounds c s (Behind Controller t) b n m p q = absurd p.0
-run_one course rounds c s (NotNow f) Done n m p q = absurd (p.0.differs (phases_same rounds c s p.0.core q.core p.0.at q.at ∙ q.next.due))
-run_one course rounds c s (NotNow f) (Behind (Core d) t) n m p q = absurd (p.0.differs (phases_same rounds c s p.0.core q.0.core p.0.at q.0.at ∙ q.0.next.due))
+run_one course rounds c s (NotNow f) Done n m p q =
+    absurd (p.0.differs (phases_same rounds c s p.0.core q.core p.0.at q.at ∙ q.next.due))
+run_one course rounds c s (NotNow f) (Behind (Core d) t) n m p q =
+    absurd (p.0.differs (phases_same rounds c s p.0.core q.0.core p.0.at q.0.at ∙ q.0.next.due))
 run_one course rounds c s (NotNow f) (Behind Controller t) n m p q = absurd q.0
-run_one course rounds c s (NotNow f) (NotNow g) n m p q = (not_now_same f g (p.0.found_is ∙ (ap shown (phases_same rounds c s p.0.core q.0.core p.0.at q.0.at) ∙ sym q.0.found_is)), p.1 ∙ sym q.1)
+run_one course rounds c s (NotNow f) (NotNow g) n m p q = (
+  not_now_same f g
+      (p.0.found_is ∙ (ap shown (phases_same rounds c s p.0.core q.0.core p.0.at q.0.at)
+      ∙ sym q.0.found_is)),
+  p.1 ∙ sym q.1,
+)
 
-pub one_answer : (course : CourseView) (rounds : ℕ) (s : State) (step : Step) (a b : Answer) (new new' : State) → Answers course rounds s step a new → Answers course rounds s step b new' → (a ≡ b) × (new ≡ new')
+pub one_answer : (course : CourseView) (rounds : ℕ) (s : State) (step : Step) (a b : Answer)
+    (new new' : State) → Answers course rounds s step a new → Answers course rounds s step b new'
+    → (a ≡ b) × (new ≡ new')
 one_answer course rounds s steps.Post a b n m p q = post_one course rounds s a b n m p q
 one_answer course rounds s (steps.See c) a b n m p q = see_one course rounds c s a b n m p q
 one_answer course rounds s (steps.Decide c) a b n m p q = decide_one course rounds c s a b n m p q

@@ -14,10 +14,13 @@ use Rattle.step_machine.proofs.Supply.{one, offers_total}
 use Rattle.step_machine.proofs.Totals.{total}
 
 remainder : (t p : ℕ) → 1 ≤ t → (p / t * t ≤ p) × (p < p / t * t + t)
-remainder t p some = (let le = div-mul-le_self p t in let rest = mod-eq-sub-div-mul p t in (omega arith, omega arith))
+remainder t p some =
+    (let le = div-mul-le_self p t in let rest = mod-eq-sub-div-mul p t in
+    (omega arith, omega arith))
 
 not_less : (t p q k : ℕ) → q * t ≤ p → p < k * t + t → k < q → ⊥
-not_less t p q k low high lt = (let le : suc k * t ≤ q * t = mul-le-mul_right t (omega arith) in let more = suc-mul k t in absurd (omega arith))
+not_less t p q k low high lt =
+    (let le : suc k * t ≤ q * t = mul-le-mul_right t (omega arith) in let more = suc-mul k t in absurd (omega arith))
 
 -- the number of the period that holds a place
 quotient : (t p q : ℕ) → 1 ≤ t → q * t ≤ p → p < q * t + t → p / t ≡ q
@@ -25,13 +28,18 @@ quotient t p q some low high =
     let parts = remainder t p some in
     elim (cases_lt (p / t) q) [
       | inl lt ↦ absurd (not_less t p q (p / t) low parts.1 lt)
-      | inr le ↦ elim (cases_lt q (p / t)) [ inl lt ↦ absurd (not_less t p (p / t) q parts.0 high lt) | inr le' ↦ omega arith ]
+      | inr le ↦ elim (cases_lt q (p / t)) [
+        | inl lt ↦
+            absurd (not_less t p (p / t) q parts.0 high lt)
+        | inr le' ↦ omega arith
+      ]
     ]
 
 quotient_small : (t m p : ℕ) → 1 ≤ t → t * m ≡ ROUND → p < ROUND → p / t < m
 quotient_small t m p some whole lt = elim (cases_lt (p / t) m) [
   | inl less ↦ less
-  | inr more ↦ absurd (let le : m * t ≤ p / t * t = mul-le-mul_right t more in let parts = remainder t p some in omega arith)
+  | inr more ↦
+      absurd (let le : m * t ≤ p / t * t = mul-le-mul_right t more in let parts = remainder t p some in omega arith)
 ]
 
 period_of : Option Periodic → ℕ
@@ -62,7 +70,8 @@ record AtTick (course : CourseView) (decided : List ℕ) (v x : ℕ) (task : Per
   small : x % ROUND / task.period < ROUND / task.period
   fits : x % ROUND / task.period * task.period + task.period ≤ ROUND
 
-at_tick : (course : CourseView) (decided : List ℕ) (v x : ℕ) (task : Periodic) → task_in course decided (x / ROUND) v ≡ Some task → AtTick course decided v x task
+at_tick : (course : CourseView) (decided : List ℕ) (v x : ℕ) (task : Periodic)
+    → task_in course decided (x / ROUND) v ≡ Some task → AtTick course decided v x task
 unfolding span cost base period_of cost_of
 at_tick course decided v x task is =
     let facts = period_facts task.period task.listed in
@@ -85,13 +94,18 @@ one_most : (b : Bool) → one b ≤ 1
 one_most true = omega arith
 one_most false = omega arith
 
-blocks : (course : CourseView) (s : State) (v a l : ℕ) → IsCourse course → IsGap course s.decided v a (suc l) →
-    Blocks (λ x. one (is_offered course s.decided v x)) (base course s.decided v) (span course s.decided v) (cost course s.decided v) a (suc l)
+blocks : (course : CourseView) (s : State) (v a l : ℕ) → IsCourse course
+    → IsGap course s.decided v a (suc l) →
+    Blocks (λ x. one (is_offered course s.decided v x)) (base course s.decided v)
+    (span course s.decided v) (cost course s.decided v) a (suc l)
 blocks course s v a l ok g = record {
   one = λ x. one_most (is_offered course s.decided v x);
-  within = λ x low high. (let held = g.held x low high in let at = at_tick course s.decided v x held.0 held.1 in
+  within = λ x low high.
+      (let held = g.held x low high in let at = at_tick course s.decided v x held.0 held.1 in
       (omega (arith, at.base_is, at.low), omega (arith, at.base_is, at.span_is, at.high)));
-  cost_one = λ x low high. (let held = g.held x low high in let at = at_tick course s.decided v x held.0 held.1 in let task : Periodic = held.0 in
+  cost_one =
+      λ x low high.
+      (let held = g.held x low high in let at = at_tick course s.decided v x held.0 held.1 in let task : Periodic = held.0 in
       (omega (arith, at.cost_is, task.costs), omega (arith, at.cost_is, at.span_is, task.within)));
   offered = λ x low high.
       let held = g.held x low high in
@@ -99,21 +113,36 @@ blocks course s v a l ok g = record {
       let at = at_tick course s.decided v x task held.1 in
       let from : ℕ = x / ROUND * ROUND + x % ROUND / task.period * task.period in
       let enough = served course s ok (x / ROUND) v (x % ROUND / task.period) task held.1 at.small in
-      let counted : task.cost ≤ total (λ t. one (is_offered course s.decided v (from + t))) task.period = subst (λ (n : ℕ). task.cost ≤ n) (offers_total course s.decided v from task.period) enough in
-      let based : task.cost ≤ total (λ t. one (is_offered course s.decided v (base course s.decided v x + t))) task.period =
-      subst (λ (b : ℕ). task.cost ≤ total (λ t. one (is_offered course s.decided v (b + t))) task.period) (sym at.base_is) counted in
-      let spanned : task.cost ≤ total (λ t. one (is_offered course s.decided v (base course s.decided v x + t))) (span course s.decided v x) =
-      subst (λ (n : ℕ). task.cost ≤ total (λ t. one (is_offered course s.decided v (base course s.decided v x + t))) n) (sym at.span_is) based in
-      subst (λ (n : ℕ). n ≤ total (λ t. one (is_offered course s.decided v (base course s.decided v x + t))) (span course s.decided v x)) (sym at.cost_is) spanned;
+      let counted : task.cost ≤ total (λ t. one (is_offered course s.decided v (from + t)))
+      task.period = subst (λ (n : ℕ). task.cost ≤ n)
+      (offers_total course s.decided v from task.period) enough in
+      let based : task.cost
+      ≤ total (λ t. one (is_offered course s.decided v (base course s.decided v x + t)))
+      task.period =
+      subst (λ (b : ℕ). task.cost ≤ total (λ t. one (is_offered course s.decided v (b + t)))
+      task.period) (sym at.base_is) counted in
+      let spanned : task.cost
+      ≤ total (λ t. one (is_offered course s.decided v (base course s.decided v x + t)))
+      (span course s.decided v x) =
+      subst (λ (n : ℕ). task.cost
+      ≤ total (λ t. one (is_offered course s.decided v (base course s.decided v x + t))) n)
+      (sym at.span_is) based in
+      subst (λ (n : ℕ). n
+      ≤ total (λ t. one (is_offered course s.decided v (base course s.decided v x + t)))
+      (span course s.decided v x)) (sym at.cost_is) spanned;
   same = λ x y low high begun going low_y.
       let held = g.held x low high in
       let task : Periodic = held.0 in
       let at = at_tick course s.decided v x task held.1 in
       let round : y / ROUND ≡ x / ROUND = omega (arith, at.base_is, at.span_is, at.fits) in
       let at_y = at_tick course s.decided v y task (rw round held.1) in
-      let number : y % ROUND / task.period ≡ x % ROUND / task.period = quotient task.period (y % ROUND) (x % ROUND / task.period) at.some
-      (omega (arith, at.base_is, at.span_is, at.fits)) (omega (arith, at.base_is, at.span_is, at.fits)) in
-      (at_y.base_is ∙ (rw (round, number) refl ∙ sym at.base_is), at_y.span_is ∙ sym at.span_is, at_y.cost_is ∙ sym at.cost_is);
+      let number : y % ROUND / task.period ≡ x % ROUND / task.period =
+      quotient task.period (y % ROUND) (x % ROUND / task.period) at.some
+      (omega (arith, at.base_is, at.span_is, at.fits)) (omega (arith, at.base_is, at.span_is, at.fits)) in (
+        at_y.base_is ∙ (rw (round, number) refl ∙ sym at.base_is),
+        at_y.span_is ∙ sym at.span_is,
+        at_y.cost_is ∙ sym at.cost_is,
+      );
   next = λ x y low high is top.
       let held = g.held x low high in
       let task : Periodic = held.0 in
@@ -122,9 +151,12 @@ blocks course s v a l ok g = record {
         | inl inside ↦ (let round : y / ROUND ≡ x / ROUND = omega (arith, at.base_is, at.span_is) in
             let at_y = at_tick course s.decided v y task (rw round held.1) in
             let more = suc-mul (x % ROUND / task.period) task.period in
-            let number : y % ROUND / task.period ≡ suc (x % ROUND / task.period) = quotient task.period (y % ROUND) (suc (x % ROUND / task.period)) at.some
+            let number : y % ROUND / task.period ≡ suc (x % ROUND / task.period) =
+            quotient task.period (y % ROUND) (suc (x % ROUND / task.period)) at.some
             (omega (arith, at.base_is, at.span_is)) (omega (arith, at.base_is, at.span_is, at.some)) in
-            let begin : y % ROUND / task.period * task.period ≡ suc (x % ROUND / task.period) * task.period = ap (λ (n : ℕ). n * task.period) number in
+            let begin : y % ROUND / task.period * task.period
+            ≡ suc (x % ROUND / task.period) * task.period =
+            ap (λ (n : ℕ). n * task.period) number in
             omega (arith, at_y.base_is, at.base_is, at.span_is, begin))
         | inr whole ↦ (let held_y = g.held y (omega (arith, at.base_is, at.span_is, at.high)) top in
             let at_y = at_tick course s.decided v y held_y.0 held_y.1 in
@@ -141,6 +173,8 @@ short_gaps course s ok = λ v a l first last g has_first has_last.
     let at_a = at_tick course s.decided v a first has_first in
     let at_l = at_tick course s.decided v l last has_last in
     let some = g.some_ticks in
-    let most = gap (λ x. one (is_offered course s.decided v x)) (base course s.decided v) (span course s.decided v) (cost course s.decided v) a (suc l) a l (blocks course s v a l ok g) (omega arith) (omega arith) (omega arith)
+    let most = gap (λ x. one (is_offered course s.decided v x)) (base course s.decided v)
+    (span course s.decided v) (cost course s.decided v) a (suc l) a l
+    (blocks course s v a l ok g) (omega arith) (omega arith) (omega arith)
     (λ x low high. none_offered (is_offered course s.decided v x) (g.unoffered x low high)) in
     omega (arith, most, at_a.span_is, at_a.cost_is, at_l.span_is, at_l.cost_is)

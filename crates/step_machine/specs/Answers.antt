@@ -1,4 +1,5 @@
--- The machine's answer to each step: the four kinds of step of a run, when one isn't due, and what one waits for.
+-- The machine's answer to each step: the four kinds of step of a run, when one isn't due, and what
+-- one waits for.
 -- Source: the rules of this project.
 use Rattle.std.specs.Prelude.{◌≡◌, ◌≢◌, ◌⊎◌, ℕ, ◌<◌, Some, None, length}
 use Rattle.script_doc.specs.declared.step.Step.{Step}

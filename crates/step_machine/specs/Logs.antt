@@ -6,7 +6,12 @@ use Rattle.table_form.specs.State.{CoreState, opening_core}
 use Rattle.step_machine.specs.declared.log.CoreLog.{CoreLog}
 
 abbrev pub core_of : CoreLog → CoreState
-core_of log = record { clock = log.clock; seen = log.seen; entries = log.entries.items; stints = log.stints.items }
+core_of log = record {
+  clock = log.clock;
+  seen = log.seen;
+  entries = log.entries.items;
+  stints = log.stints.items;
+}
 
 abbrev pub cores_of : List CoreLog → List CoreState
 cores_of logs = map core_of logs
@@ -21,10 +26,12 @@ HaveRoom rounds n logs = (k : ℕ) (log : CoreLog) → slice_get logs k ≡ Some
 
 -- each log knows its core's last shared pick
 abbrev pub KnowLast : CourseView → List CoreLog → Type 0
-KnowLast course logs = (k : ℕ) (log : CoreLog) → slice_get logs k ≡ Some log → log.last ≡ last_shared course k log.stints.items
+KnowLast course logs = (k : ℕ) (log : CoreLog) → slice_get logs k ≡ Some log
+    → log.last ≡ last_shared course k log.stints.items
 
 -- the log of core c stands for another state of that core, and has room for at most one less
-pub record Edits (old new : List CoreLog) (c : ℕ) (before : CoreLog) (changed : CoreState) (last : Option ℕ) : Type 0 where
+pub record Edits (old new : List CoreLog) (c : ℕ) (before : CoreLog) (changed : CoreState)
+    (last : Option ℕ) : Type 0 where
   pub log : CoreLog
   pub becomes : new ≡ slice_set old c log
   pub core : core_of log ≡ changed
@@ -43,5 +50,7 @@ pub record AreNew (count rounds turns : ℕ) (logs : List CoreLog) : Type 0 wher
 
 -- of the first n logs none has a lower clock than the best, and none before it as low a one
 pub record IsLowestOf (logs : List CoreLog) (n best : ℕ) : Type 0 where
-  pub least : (k : ℕ) (x y : CoreLog) → k < n → slice_get logs k ≡ Some x → slice_get logs best ≡ Some y → y.clock ≤ x.clock
-  pub first : (k : ℕ) (x y : CoreLog) → k < best → slice_get logs k ≡ Some x → slice_get logs best ≡ Some y → y.clock < x.clock
+  pub least : (k : ℕ) (x y : CoreLog) → k < n → slice_get logs k ≡ Some x
+      → slice_get logs best ≡ Some y → y.clock ≤ x.clock
+  pub first : (k : ℕ) (x y : CoreLog) → k < best → slice_get logs k ≡ Some x
+      → slice_get logs best ≡ Some y → y.clock < x.clock

@@ -9,13 +9,14 @@ use Rattle.table_form.specs.State.{State, CoreState}
 use Rattle.table_form.specs.Steps.{to_see, to_decide, to_run, at_end, phase_of, HasUpTo}
 use Rattle.step_machine.specs.Answers.{Moves}
 
--- for the lowest core of least clock: Post where all have finished, or where this core must see and an event that it must
--- have isn't posted; otherwise what this core has to do next
+-- for the lowest core of least clock: Post where all have finished, or where this core must see and
+-- an event that it must have isn't posted; otherwise what this core has to do next
 abbrev pub IsNextFor : CourseView → ℕ → State → ℕ → CoreState → Step → Type 0
 IsNextFor course rounds s c core steps.Post =
     ((phase_of rounds core ≡ at_end) × (s.posted < length course.ticks))
     ⊎ ((phase_of rounds core ≡ to_see) × (HasUpTo course s.posted core.clock → ⊥))
-IsNextFor course rounds s c core (steps.See d) = (d ≡ c) × (phase_of rounds core ≡ to_see) × HasUpTo course s.posted core.clock
+IsNextFor course rounds s c core (steps.See d) = (d ≡ c) × (phase_of rounds core ≡ to_see)
+    × HasUpTo course s.posted core.clock
 IsNextFor course rounds s c core (steps.Decide d) = (d ≡ c) × (phase_of rounds core ≡ to_decide)
 IsNextFor course rounds s c core (steps.Run d) = (d ≡ c) × (phase_of rounds core ≡ to_run)
 

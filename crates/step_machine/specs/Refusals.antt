@@ -11,7 +11,8 @@ use Rattle.step_machine.specs.Answers.{Answers}
 use Rattle.step_machine.specs.Runs.{Leads}
 
 -- the steps before the place are allowed, and the one there isn't done, with this answer
-pub record IsRefused (course : CourseView) (rounds : ℕ) (steps : List Step) (place : ℕ) (answer : Answer) : Type 0 where
+pub record IsRefused (course : CourseView) (rounds : ℕ) (steps : List Step) (place : ℕ)
+    (answer : Answer) : Type 0 where
   pub mid : State
   pub before : Leads course rounds (opening course.cores) (take place steps) mid
   pub step : Step

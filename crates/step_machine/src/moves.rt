@@ -9,7 +9,9 @@ use tab_core::{Entry, Stint, VcpuNo};
 // The core has seen a count.
 pub(crate) fn take_count(logs: &mut Vec<CoreLog>, c: usize, count: u32)
     requires { c < length logs.old.items }
-    ensures { (before : LogValue) → slice_get logs.old.items c ≡ Some before → Edits logs.old.items logs.new.items c before (record (core_of before) { seen = Some count }) before.last }
+    ensures { (before : LogValue) → slice_get logs.old.items c ≡ Some before
+        → Edits logs.old.items logs.new.items c before
+        (record (core_of before) { seen = Some count }) before.last }
 {
     logs[c].seen = Some(count);
 }
@@ -17,8 +19,10 @@ pub(crate) fn take_count(logs: &mut Vec<CoreLog>, c: usize, count: u32)
 // The core gets one more entry.
 pub(crate) fn push_entry(logs: &mut Vec<CoreLog>, c: usize, entry: Entry)
     requires core { c < length logs.old.items }
-    requires room { (before : LogValue) → slice_get logs.old.items c ≡ Some before → length before.entries.items < vec_capacity before.entries }
-    ensures { (before : LogValue) → slice_get logs.old.items c ≡ Some before → Edits logs.old.items logs.new.items c before (enters (core_of before) entry) before.last }
+    requires room { (before : LogValue) → slice_get logs.old.items c ≡ Some before
+        → length before.entries.items < vec_capacity before.entries }
+    ensures { (before : LogValue) → slice_get logs.old.items c ≡ Some before
+        → Edits logs.old.items logs.new.items c before (enters (core_of before) entry) before.last }
 {
     logs[c].entries.push_reserved(entry);
 }
@@ -26,8 +30,10 @@ pub(crate) fn push_entry(logs: &mut Vec<CoreLog>, c: usize, entry: Entry)
 // The core gets one more stint.
 pub(crate) fn push_stint(logs: &mut Vec<CoreLog>, c: usize, stint: Stint, last: Option<VcpuNo>)
     requires core { c < length logs.old.items }
-    requires room { (before : LogValue) → slice_get logs.old.items c ≡ Some before → length before.stints.items < vec_capacity before.stints }
-    ensures { (before : LogValue) → slice_get logs.old.items c ≡ Some before → Edits logs.old.items logs.new.items c before (runs (core_of before) stint) last }
+    requires room { (before : LogValue) → slice_get logs.old.items c ≡ Some before
+        → length before.stints.items < vec_capacity before.stints }
+    ensures { (before : LogValue) → slice_get logs.old.items c ≡ Some before
+        → Edits logs.old.items logs.new.items c before (runs (core_of before) stint) last }
 {
     let log = &mut logs[c];
     log.clock = stint.end;

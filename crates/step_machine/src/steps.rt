@@ -21,7 +21,8 @@ use table_form::Course;
 pub(crate) fn post(course: &Course, rounds: u32, progress: &mut Progress) -> Answer
     requires few { rounds ≤ MAX_ROUNDS }
     requires kept { Kept course.now rounds (state_of progress.old) }
-    ensures answer { Answers course.now rounds (state_of progress.old) Step.Post result (state_of progress.new) }
+    ensures answer { Answers course.now rounds (state_of progress.old) Step.Post result
+        (state_of progress.new) }
     ensures spare { (n : ℕ) → HasSpare rounds (n + 1) progress.old → HasSpare rounds n progress.new }
     ensures last { KnowLast course.now progress.old.logs.items → KnowLast course.now progress.new.logs.items }
 {
@@ -48,7 +49,8 @@ pub(crate) fn see(course: &Course, rounds: u32, progress: &mut Progress, c: usiz
     requires few { rounds ≤ MAX_ROUNDS }
     requires core { c < course.now.cores }
     requires kept { Kept course.now rounds (state_of progress.old) }
-    ensures answer { Answers course.now rounds (state_of progress.old) (Step.See c) result (state_of progress.new) }
+    ensures answer { Answers course.now rounds (state_of progress.old) (Step.See c) result
+        (state_of progress.new) }
     ensures spare { (n : ℕ) → HasSpare rounds (n + 1) progress.old → HasSpare rounds n progress.new }
     ensures last { KnowLast course.now progress.old.logs.items → KnowLast course.now progress.new.logs.items }
 {
@@ -74,7 +76,8 @@ pub(crate) fn decide(course: &Course, rounds: u32, progress: &mut Progress, c: u
     requires core { c < course.now.cores }
     requires kept { Kept course.now rounds (state_of progress.old) }
     requires spare { HasSpare rounds 1 progress.old }
-    ensures answer { Answers course.now rounds (state_of progress.old) (Step.Decide c) result (state_of progress.new) }
+    ensures answer { Answers course.now rounds (state_of progress.old) (Step.Decide c) result
+        (state_of progress.new) }
     ensures spare { (n : ℕ) → HasSpare rounds (n + 1) progress.old → HasSpare rounds n progress.new }
     ensures last { KnowLast course.now progress.old.logs.items → KnowLast course.now progress.new.logs.items }
 {
@@ -94,8 +97,10 @@ fn enter(course: &Course, rounds: u32, progress: &mut Progress, c: usize, round:
     requires core { c < course.now.cores }
     requires kept { Kept course.now rounds (state_of progress.old) }
     requires spare { HasSpare rounds 1 progress.old }
-    requires due { (core : CoreState) → slice_get (cores_of progress.old.logs.items) c ≡ Some core → (phase_of rounds core ≡ to_decide) × (core.seen ≡ Some seen) × (round ≡ round_of core) }
-    ensures answer { Wins rounds c (state_of progress.old) (state_of progress.new) ⊎ Joins rounds c (state_of progress.old) (state_of progress.new) }
+    requires due { (core : CoreState) → slice_get (cores_of progress.old.logs.items) c ≡ Some core
+        → (phase_of rounds core ≡ to_decide) × (core.seen ≡ Some seen) × (round ≡ round_of core) }
+    ensures answer { Wins rounds c (state_of progress.old) (state_of progress.new)
+        ⊎ Joins rounds c (state_of progress.old) (state_of progress.new) }
     ensures spare { (n : ℕ) → HasSpare rounds (n + 1) progress.old → HasSpare rounds n progress.new }
     ensures last { KnowLast course.now progress.old.logs.items → KnowLast course.now progress.new.logs.items }
 {
@@ -133,7 +138,8 @@ pub(crate) fn run(course: &Course, rounds: u32, progress: &mut Progress, c: usiz
     requires kept { Kept course.now rounds (state_of progress.old) }
     requires spare { HasSpare rounds 1 progress.old }
     requires known { KnowLast course.now progress.old.logs.items }
-    ensures answer { Answers course.now rounds (state_of progress.old) (Step.Run c) result (state_of progress.new) }
+    ensures answer { Answers course.now rounds (state_of progress.old) (Step.Run c) result
+        (state_of progress.new) }
     ensures spare { (n : ℕ) → HasSpare rounds (n + 1) progress.old → HasSpare rounds n progress.new }
     ensures last { KnowLast course.now progress.old.logs.items → KnowLast course.now progress.new.logs.items }
 {

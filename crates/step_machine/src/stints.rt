@@ -30,9 +30,12 @@ pub(crate) fn next_stint(course: &Course, rounds: u32, progress: &Progress, c: u
     requires core { c < course.now.cores }
     requires kept { Kept course.now rounds (state_of progress.now) }
     requires known { KnowLast course.now progress.now.logs.items }
-    requires due { (core : CoreState) → slice_get (cores_of progress.now.logs.items) c ≡ Some core → phase_of rounds core ≡ to_run }
-    ensures next { (core : CoreState) → slice_get (cores_of progress.now.logs.items) c ≡ Some core → IsNextStint course.now rounds c core result.stint }
-    ensures last { (log : LogValue) → slice_get progress.now.logs.items c ≡ Some log → result.last ≡ last_after course.now c log.last result.stint }
+    requires due { (core : CoreState) → slice_get (cores_of progress.now.logs.items) c ≡ Some core
+        → phase_of rounds core ≡ to_run }
+    ensures next { (core : CoreState) → slice_get (cores_of progress.now.logs.items) c ≡ Some core
+        → IsNextStint course.now rounds c core result.stint }
+    ensures last { (log : LogValue) → slice_get progress.now.logs.items c ≡ Some log
+        → result.last ≡ last_after course.now c log.last result.stint }
 {
     let (lag, quantum) = (course.lag(), course.quantum());
     let log = &progress.logs[c];
@@ -60,7 +63,8 @@ pub(crate) fn next_stint(course: &Course, rounds: u32, progress: &Progress, c: u
 
 // What a core has seen that is to enter a round or to run.
 pub(crate) fn seen_by(log: &CoreLog, rounds: u32) -> u32
-    requires { (phase_of rounds (core_of log.now) ≡ to_decide) ⊎ (phase_of rounds (core_of log.now) ≡ to_run) }
+    requires { (phase_of rounds (core_of log.now) ≡ to_decide)
+        ⊎ (phase_of rounds (core_of log.now) ≡ to_run) }
     ensures { log.now.seen ≡ Some result }
 {
     match log.seen {
@@ -72,7 +76,8 @@ pub(crate) fn seen_by(log: &CoreLog, rounds: u32) -> u32
 // The count of the core's entry of the round.
 fn used_in(log: &CoreLog, round: u32) -> u32
     requires { round < length log.now.entries.items }
-    ensures { (entry : EntryValue) → slice_get log.now.entries.items round ≡ Some entry → entry.used ≡ result }
+    ensures { (entry : EntryValue) → slice_get log.now.entries.items round ≡ Some entry
+        → entry.used ≡ result }
 {
     log.entries[round as usize].used
 }
@@ -86,7 +91,8 @@ fn choose(
     last: Option<VcpuNo>,
 ) -> Option<VcpuNo>
     ensures slot { owner_runs spot.now.owner runnable.now ≡ true → result ≡ spot.now.owner }
-    ensures shared { owner_runs spot.now.owner runnable.now ≡ false → PicksFrom plan.now.tables.homes core spot.now runnable.now last result }
+    ensures shared { owner_runs spot.now.owner runnable.now ≡ false
+        → PicksFrom plan.now.tables.homes core spot.now runnable.now last result }
 {
     if owner_can_run(spot, runnable) {
         return spot.owner;
@@ -127,7 +133,9 @@ fn end_of(spot: &Spot, from: u32, lag: u32, quantum: u32, shared: bool) -> u32
     requires spot { spot.now.end ≤ ROUND }
     requires lag { lag ≤ ROUND }
     requires quantum { quantum ≤ ROUND }
-    ensures { result ≡ (if shared then min (min (from - from % ROUND + spot.now.end) (from + lag)) (from + quantum) else min (from - from % ROUND + spot.now.end) (from + lag)) }
+    ensures { result
+        ≡ (if shared then min (min (from - from % ROUND + spot.now.end) (from + lag))
+        (from + quantum) else min (from - from % ROUND + spot.now.end) (from + lag)) }
 {
     let slot = min(from - from % ROUND + spot.end, from + lag);
     if shared {

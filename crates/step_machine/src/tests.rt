@@ -63,7 +63,8 @@ fn idle_course(alloc: Global, lag: u32, quantum: u32, tick: Option<u32>) -> Resu
     requires some_quantum { 1 ≤ quantum }
     requires quantum { quantum ≤ ROUND }
     ensures cores { IfOk result (λ course. course.cores ≡ 2) }
-    ensures ticks { IfOk result (λ course. (i : ℕ) → i < length course.ticks → tick ≡ Some (slice_index course.ticks i)) }
+    ensures ticks { IfOk result (λ course. (i : ℕ) → i < length course.ticks
+        → tick ≡ Some (slice_index course.ticks i)) }
 {
     let mut plans = Vec::new(alloc);
     plans.push(idle_plan(alloc, 2)?)?;
@@ -95,7 +96,8 @@ fn step_of(kind: u8, core: u32) -> Step
 
 fn steps_of(alloc: Global, words: &[(u8, u32)]) -> Result<Vec<Step>, NoMemory>
     ensures count { IfOk result (λ steps. length steps.items ≡ length words.now) }
-    ensures names { IfOk result (λ steps. (k : ℕ) (step : StepValue) (course : CourseView) → course.cores ≡ 2 → slice_get steps.items k ≡ Some step → NamesCore course step) }
+    ensures names { IfOk result (λ steps. (k : ℕ) (step : StepValue) (course : CourseView) → course.cores ≡ 2
+        → slice_get steps.items k ≡ Some step → NamesCore course step) }
 {
     let mut steps = Vec::new(alloc);
     for &(kind, core) in words {

@@ -54,7 +54,13 @@ impl World<'_> {
         turns: u32,
     ) -> Result<World<'_>, NoMemory>
         requires { FitsRounds course.now rounds }
-        ensures opens { IfOk result (λ w. w ≡ record { course = course.now; rounds = rounds; spare = turns; state = opening course.now.cores }) }
+        ensures opens { IfOk result
+            (λ w. w ≡ record {
+              course = course.now;
+              rounds = rounds;
+              spare = turns;
+              state = opening course.now.cores;
+            }) }
         ensures kept { IfOk result (λ w. Kept w.course w.rounds w.state) }
     {
         let decided = Vec::with_capacity(alloc, lesser(turns, rounds) as usize)?;
@@ -127,7 +133,8 @@ impl World<'_> {
     /// The core's stints, in order.
     pub fn stints(&self, c: CoreNo) -> &[Stint]
         requires { c < self.now.course.cores }
-        ensures { (core : CoreState) → slice_get self.now.state.cores c ≡ Some core → result.now ≡ core.stints }
+        ensures { (core : CoreState) → slice_get self.now.state.cores c ≡ Some core
+            → result.now ≡ core.stints }
     {
         let at = c.index();
         &self.progress.logs[at].stints
@@ -136,7 +143,8 @@ impl World<'_> {
     /// The core's entries, by round.
     pub fn entries(&self, c: CoreNo) -> &[Entry]
         requires { c < self.now.course.cores }
-        ensures { (core : CoreState) → slice_get self.now.state.cores c ≡ Some core → result.now ≡ core.entries }
+        ensures { (core : CoreState) → slice_get self.now.state.cores c ≡ Some core
+            → result.now ≡ core.entries }
     {
         let at = c.index();
         &self.progress.logs[at].entries

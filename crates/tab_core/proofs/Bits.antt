@@ -12,10 +12,12 @@ use Rattle.tab_core.specs.VcpuSets.{has_bit, bits_below, members_of}
 pub length-bits_below : (words : List ℕ) (n : ℕ) → length (bits_below words n) ≡ n
 unfolding bits_below
 length-bits_below words zero = refl
-length-bits_below words (suc n) = length-append (bits_below words n) (has_bit words n ∷ []) ∙ omega (arith, length-bits_below words n)
+length-bits_below words (suc n) = length-append (bits_below words n) (has_bit words n ∷ [])
+    ∙ omega (arith, length-bits_below words n)
 
 -- each truth value is its bit
-pub bits_below-at : (words : List ℕ) (n k : ℕ) (d : Bool) → k < n → get_or (bits_below words n) k d ≡ has_bit words k
+pub bits_below-at : (words : List ℕ) (n k : ℕ) (d : Bool) → k < n
+    → get_or (bits_below words n) k d ≡ has_bit words k
 unfolding bits_below
 bits_below-at words zero k d lt = absurd (omega arith)
 bits_below-at words (suc n) k d lt =
@@ -26,7 +28,8 @@ bits_below-at words (suc n) k d lt =
     ]
 
 -- a set is the list that has each of its bits
-members_by_bits : (words : List ℕ) (set : List Bool) → length set ≡ 256 → ((k : ℕ) (d : Bool) → k < 256 → get_or set k d ≡ has_bit words k) → members_of words ≡ set
+members_by_bits : (words : List ℕ) (set : List Bool) → length set ≡ 256
+    → ((k : ℕ) (d : Bool) → k < 256 → get_or set k d ≡ has_bit words k) → members_of words ≡ set
 members_by_bits words set size each =
     let all : length (bits_below words 256) ≡ 256 = length-bits_below words 256 in
     same_lists (members_of words) set (all ∙ sym size) (λ k d lt.
@@ -37,13 +40,15 @@ no_bit : (k : ℕ) → k < 256 → has_bit (0 ∷ 0 ∷ 0 ∷ 0 ∷ []) k ≡ fa
 no_bit k lt = grind (arith, common_steps, nat_tests, bit_at-zero (k % 64))
 
 pub empty_members : members_of (0 ∷ 0 ∷ 0 ∷ 0 ∷ []) ≡ replicate 256 false
-empty_members = members_by_bits _ _ (length-replicate 256 false) (λ k d lt. get_or-replicate 256 k false d lt ∙ sym (no_bit k lt))
+empty_members = members_by_bits _ _ (length-replicate 256 false)
+    (λ k d lt. get_or-replicate 256 k false d lt ∙ sym (no_bit k lt))
 
 -- one word was written: the bit of that number is this, and the others of its word are as before
 bit_after : (words : List ℕ) (v word : ℕ) (value : Bool) → length words ≡ 4 → v < 256
     → eqb (bit_at word (v % 64)) 1 ≡ value
     → ((i : ℕ) → i < 64 → i ≢ v % 64 → bit_at word i ≡ bit_at (get_or words (v / 64) 0) i)
-    → (k : ℕ) (d : Bool) → k < 256 → get_or (set (members_of words) v value) k d ≡ has_bit (set words (v / 64) word) k
+    → (k : ℕ) (d : Bool) → k < 256
+    → get_or (set (members_of words) v value) k d ≡ has_bit (set words (v / 64) word) k
 bit_after words v word value four lt here others k d low =
     let all : length (members_of words) ≡ 256 = length-bits_below words 256 in
     let in_words : v / 64 < length words = omega (arith, four) in
@@ -51,7 +56,8 @@ bit_after words v word value four lt here others k d low =
       | inl same ↦
           let written = get_or-set_at (members_of words) v k value d same (omega (arith, all)) in
           let read = get_or-set_at words (v / 64) (k / 64) word 0 (ap (λ n. n / 64) same) in_words in
-          written ∙ sym (ap (λ w. eqb (bit_at w (k % 64)) 1) read ∙ ap (λ n. eqb (bit_at word (n % 64)) 1) same ∙ here)
+          written ∙ sym (ap (λ w. eqb (bit_at w (k % 64)) 1) read
+          ∙ ap (λ n. eqb (bit_at word (n % 64)) 1) same ∙ here)
       | inr other ↦
           let kept = get_or-set_other (members_of words) v k value d other in
           let before = kept ∙ bits_below-at words 256 k d low in
@@ -59,7 +65,8 @@ bit_after words v word value four lt here others k d low =
             | inl near ↦
                 let read = get_or-set_at words (v / 64) (k / 64) word 0 near in_words in
                 let apart : k % 64 ≢ v % 64 = λ e. other (omega (arith, e, near)) in
-                let bit = others (k % 64) (omega arith) apart ∙ ap (λ n. bit_at (get_or words n 0) (k % 64)) (sym near) in
+                let bit = others (k % 64) (omega arith) apart
+                ∙ ap (λ n. bit_at (get_or words n 0) (k % 64)) (sym near) in
                 before ∙ sym (ap (λ w. eqb (bit_at w (k % 64)) 1) read ∙ ap (λ b. eqb b 1) bit)
             | inr far ↦
                 let read = get_or-set_other words (v / 64) (k / 64) word 0 far in
@@ -72,17 +79,27 @@ members_set : (words : List ℕ) (v word : ℕ) (value : Bool) → length words 
     → ((i : ℕ) → i < 64 → i ≢ v % 64 → bit_at word i ≡ bit_at (get_or words (v / 64) 0) i)
     → members_of (set words (v / 64) word) ≡ set (members_of words) v value
 members_set words v word value four lt here others =
-    members_by_bits _ _ (length-set (members_of words) v value ∙ length-bits_below words 256) (bit_after words v word value four lt here others)
+    members_by_bits _ _ (length-set (members_of words) v value ∙ length-bits_below words 256)
+    (bit_after words v word value four lt here others)
 
 pub members_put : (words : List ℕ) (v : ℕ) → length words ≡ 4 → v < 256
-    → members_of (set words (v / 64) (bit_or (get_or words (v / 64) 0) (1 * 2 ^ (v % 64) % 2 ^ 64))) ≡ set (members_of words) v true
+    → members_of (set words (v / 64) (bit_or (get_or words (v / 64) 0) (1 * 2 ^ (v % 64) % 2 ^ 64)))
+    ≡ set (members_of words) v true
 members_put words v four lt =
-    members_set words v _ true four lt (ap (λ b. eqb b 1) (bit_at_set_same w64 (get_or words (v / 64) 0) (v % 64) (omega arith))) (λ i low other. bit_at_set_other w64 (get_or words (v / 64) 0) (v % 64) (omega arith) i other)
+    members_set words v _ true four lt
+    (ap (λ b. eqb b 1) (bit_at_set_same w64 (get_or words (v / 64) 0) (v % 64) (omega arith)))
+    (λ i low other. bit_at_set_other w64 (get_or words (v / 64) 0) (v % 64)
+    (omega arith) i other)
 
 pub members_take : (words : List ℕ) (v : ℕ) → length words ≡ 4 → v < 256
-    → members_of (set words (v / 64) (bit_and (get_or words (v / 64) 0) (bit_not w64 (1 * 2 ^ (v % 64) % 2 ^ 64)))) ≡ set (members_of words) v false
+    → members_of
+    (set words (v / 64) (bit_and (get_or words (v / 64) 0)
+    (bit_not w64 (1 * 2 ^ (v % 64) % 2 ^ 64)))) ≡ set (members_of words) v false
 members_take words v four lt =
-    members_set words v _ false four lt (ap (λ b. eqb b 1) (bit_at_clear_same w64 (get_or words (v / 64) 0) (v % 64) (omega arith))) (λ i low other. bit_at_clear_other w64 (get_or words (v / 64) 0) (v % 64) (omega arith) i low other)
+    members_set words v _ false four lt
+    (ap (λ b. eqb b 1) (bit_at_clear_same w64 (get_or words (v / 64) 0) (v % 64) (omega arith)))
+    (λ i low other. bit_at_clear_other w64 (get_or words (v / 64) 0) (v % 64)
+    (omega arith) i low other)
 
 same_bit : (a b v : ℕ) → eqb (bit_at a v) 1 ≡ eqb (bit_at b v) 1 → bit_at a v ≡ bit_at b v
 same_bit a b v same = let lt_a = bit_at-lt a v in let lt_b = bit_at-lt b v in grind (arith, nat_tests)
@@ -94,9 +111,11 @@ pub same_members : (a b : List ℕ) → length a ≡ 4 → length b ≡ 4
 same_members a b four_a four_b fits_a fits_b same =
     same_number_lists a b (four_a ∙ sym four_b) (λ k lt.
     same_from_bits_below 64 (get_or a k 0) (get_or b k 0) (fits_a k) (fits_b k) (λ i low.
-    let v : (v : ℕ) × (v / 64 ≡ k) × (v % 64 ≡ i) × (v < 256) = (k * 64 + i, omega (arith, low), omega (arith, low), omega (arith, low, lt, four_a)) in
+    let v : (v : ℕ) × (v / 64 ≡ k) × (v % 64 ≡ i) × (v < 256) =
+    (k * 64 + i, omega (arith, low), omega (arith, low), omega (arith, low, lt, four_a)) in
     let bit_a = bits_below-at a 256 v.0 false v.3 in
     let bit_b = bits_below-at b 256 v.0 false v.3 in
     let bits : has_bit a v.0 ≡ has_bit b v.0 = sym bit_a ∙ ap (λ set. get_or set v.0 false) same ∙ bit_b in
-    let at_place = λ (words : List ℕ). ap (λ n. bit_at (get_or words n 0) (v.0 % 64)) v.1 ∙ ap (λ n. bit_at (get_or words k 0) n) v.2 in
+    let at_place = λ (words : List ℕ). ap (λ n. bit_at (get_or words n 0) (v.0 % 64)) v.1
+    ∙ ap (λ n. bit_at (get_or words k 0) n) v.2 in
     sym (at_place a) ∙ same_bit _ _ _ bits ∙ at_place b))

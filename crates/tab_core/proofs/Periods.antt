@@ -15,7 +15,8 @@ unfoldable divides_round : ℕ → Bool
 divides_round n = leb 100 n && (leb n ROUND && eqb (n * (ROUND / n)) ROUND)
 
 -- a test that each element passes is passed by each element that stands in the list
-passed_by_listed : (p : ℕ → Bool) (t : ℕ) (xs : List ℕ) → list_all p xs ≡ true → list_any (λ x. eqb x t) xs ≡ true → p t ≡ true
+passed_by_listed : (p : ℕ → Bool) (t : ℕ) (xs : List ℕ) → list_all p xs ≡ true
+    → list_any (λ x. eqb x t) xs ≡ true → p t ≡ true
 passed_by_listed p t [] all any = grind arith
 passed_by_listed p t (x ∷ xs) all any = grind (arith, common_steps, nat_tests, passed_by_listed p t xs)
 
@@ -64,7 +65,8 @@ table_rises : rises PERIODS ≡ true
 unfolding rises
 table_rises = refl
 
-first_is_least : (x : ℕ) (xs : List ℕ) (k : ℕ) → list_all (λ y. leb x y) xs ≡ true → k < length xs → x ≤ get_or xs k 0
+first_is_least : (x : ℕ) (xs : List ℕ) (k : ℕ) → list_all (λ y. leb x y) xs ≡ true → k < length xs
+    → x ≤ get_or xs k 0
 first_is_least x [] k h lt = grind arith
 first_is_least x (y ∷ ys) zero h lt = grind (arith, nat_tests, common_steps)
 first_is_least x (y ∷ ys) (suc k) h lt = grind (arith, nat_tests, common_steps, first_is_least x ys k)
@@ -89,7 +91,8 @@ period_at k lt = list_any_at (λ x. eqb x (get_or PERIODS k 0)) PERIODS k 0 lt (
 lit_positive : (n : ℕ) → 0 < suc n
 lit_positive n = omega arith
 
-place_in : (t : ℕ) (xs : List ℕ) → list_any (λ x. eqb x t) xs ≡ true → (k : ℕ) × (k < length xs) × (get_or xs k 0 ≡ t)
+place_in : (t : ℕ) (xs : List ℕ) → list_any (λ x. eqb x t) xs ≡ true
+    → (k : ℕ) × (k < length xs) × (get_or xs k 0 ≡ t)
 place_in t [] h = absurd (grind arith)
 place_in t (x ∷ xs) h = elim (cases_eq x t) [
   | inl e ↦ (0, lit_positive (length xs), e)

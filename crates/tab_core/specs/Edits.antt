@@ -1,6 +1,7 @@
 -- What edits make of a host's reservations.
--- Source: the rules of this project; the changes of reservations at run time of M. Vanga, A. Gujarati, B. B. Brandenburg,
--- "Tableau: a high-throughput and predictable VM scheduler for high-density workloads", EuroSys 2018.
+-- Source: the rules of this project; the changes of reservations at run time of M. Vanga, A.
+-- Gujarati, B. B. Brandenburg, "Tableau: a high-throughput and predictable VM scheduler for
+-- high-density workloads", EuroSys 2018.
 use Rattle.std.specs.Prelude.{◌≡◌, ℕ, ◌<◌, List, [], ◌∷◌, All, Option, None, Some, map, slice_set}
 use Rattle.tab_core.specs.declared.edit.Edit.{Edit}
 use Rattle.tab_core.specs.declared.edit.Edit.TheVariants.{Set, Leave}

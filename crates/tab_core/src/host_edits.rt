@@ -62,8 +62,10 @@ fn with_reservations(
     reservations: &[Option<Reservation>],
 ) -> Result<Vec<Vcpu>, NoMemory>
     requires { length reservations.now ≡ length vcpus.now }
-    ensures names { IfOk result (λ made. map (λ vcpu. vcpu.name) made.items ≡ map (λ vcpu. vcpu.name) vcpus.now) }
-    ensures runnable { IfOk result (λ made. map (λ vcpu. vcpu.runnable) made.items ≡ map (λ vcpu. vcpu.runnable) vcpus.now) }
+    ensures names { IfOk result (λ made. map (λ vcpu. vcpu.name) made.items
+        ≡ map (λ vcpu. vcpu.name) vcpus.now) }
+    ensures runnable { IfOk result (λ made. map (λ vcpu. vcpu.runnable) made.items
+        ≡ map (λ vcpu. vcpu.runnable) vcpus.now) }
     ensures reservations { IfOk result (λ made. reservations_of made.items ≡ reservations.now) }
 {
     let mut made = Vec::with_capacity(alloc, vcpus.len())?;

@@ -76,7 +76,8 @@ writes_stopped s t a b e f h = record {
 }
 
 -- one text came by a call's answer, and then another call
-pub writes_then : {U W : Type 0} (s t v : SinkView) (a b : List ℕ) (q : Result U WriteFault) (u : U) (r : Result W WriteFault)
+pub writes_then : {U W : Type 0} (s t v : SinkView) (a b : List ℕ) (q : Result U WriteFault) (u : U)
+    (r : Result W WriteFault)
     → Writes s t a q → q ≡ Ok u → Writes t v b r → Writes s v (a ++ b) r
 writes_then s t v a b q u r h done g = writes_more s t v a b u r (subst (λ k. Writes s t a k) done h) g
 

@@ -32,7 +32,8 @@ lines_of-last (byte ∷ []) some all =
     lines_of-byte byte [] (all 0 0 (omega arith)) ∙ ap (onto_first byte) lines_of-nil
 lines_of-last (byte ∷ next ∷ line) some all =
     lines_of-byte byte (next ∷ line) (all 0 0 (omega arith))
-    ∙ ap (onto_first byte) (lines_of-last (next ∷ line) (omega arith) (λ k d low. all (suc k) d (omega arith)))
+    ∙ ap (onto_first byte) (lines_of-last (next ∷ line) (omega arith)
+    (λ k d low. all (suc k) d (omega arith)))
 
 -- the first line ends at the first line feed
 pub first_line : (bytes rest : List ℕ) (end : ℕ) → end < length bytes → get_or bytes end 0 ≡ 10

@@ -97,7 +97,8 @@ separator_long (a ∷ []) is = absurd (grind (arith, nat_tests))
 separator_long (a ∷ b ∷ row) is = omega arith
 
 -- a separator ends the first section before it
-pub section_before : (front bytes row rest : List ℕ) (sections : List (List ℕ)) → sections ≡ extend front (sections_of bytes)
+pub section_before : (front bytes row rest : List ℕ) (sections : List (List ℕ))
+    → sections ≡ extend front (sections_of bytes)
     → rows_of bytes ≡ row ∷ rows_of rest → is_separator row ≡ true
     → sections ≡ front ∷ sections_of rest
 section_before front bytes row rest sections before rows is =

@@ -35,7 +35,11 @@ begun_by_command words command n is = record {
 no_fault : (words : List (List ℕ)) (command : Command) (place : ℕ) → IsCommand words command
     → IsFaultAt words place → ⊥
 no_fault words command place is fault =
-    elim fault.fault [ inl stops ↦ stops.1 (begun_by_command words command (place + 1) is) | inr ends ↦ ends.1 command is ]
+    elim fault.fault [
+      | inl stops ↦ stops.1 (begun_by_command words command (place + 1) is)
+      | inr ends ↦
+          ends.1 command is
+    ]
 
 fault_within : (words : List (List ℕ)) (place : ℕ) → IsFaultAt words place → place ≤ length words
 fault_within words place fault = elim fault.fault [ inl stops ↦ omega arith | inr ends ↦ omega arith ]

@@ -63,7 +63,8 @@ pub read_spelling : (bytes : List ℕ) (r : Option ℕ) → 0 < length bytes
     → IfSome r (λ n. Spells bytes n) × IfNone r ((n : ℕ) → Spells bytes n → ⊥)
 read_spelling bytes None some plain read = (tt, λ n spelled. read (spelled_digits bytes n spelled))
 read_spelling bytes (Some n) some plain read = (
-  subst (Spells bytes) (sym read.1) (spells_value bytes read.0.0 some (λ zero. grind (arith, plain)) read.0.1),
+  subst (Spells bytes) (sym read.1)
+      (spells_value bytes read.0.0 some (λ zero. grind (arith, plain)) read.0.1),
   tt,
 )
 

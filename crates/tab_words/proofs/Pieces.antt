@@ -26,7 +26,8 @@ pieces_last s t v f xs i d u w r low h g is =
 -- where a piece fails, the text is begun
 pub pieces_broken : {X : Type 0} (s t v : SinkView) (f : X → List ℕ) (xs : List X) (i : ℕ) (d : X)
     (u : Unit {0}) (r : Result (Unit {0}) WriteFault) (e : WriteFault)
-    → i < length xs → Writes s t (flat_map f (take i xs)) (Ok u) → Writes t v (f (get_or xs i d)) r → r ≡ Err e
+    → i < length xs → Writes s t (flat_map f (take i xs)) (Ok u) → Writes t v (f (get_or xs i d)) r
+    → r ≡ Err e
     → Writes {U = Unit {0}} s v (flat_map f xs) (Err e)
 pieces_broken s t v f xs i d u r e low h g is =
     let step : flat_map f xs ≡ flat_map f (take i xs) ++ (f (get_or xs i d) ++ flat_map f (drop (i + 1) xs)) =

@@ -6,14 +6,18 @@ use Rattle.std.specs.Prelude.{slice_index_or}
 use Rattle.tab_words.specs.Sections.{is_separator, rows_of, sections_of}
 use Rattle.tab_words.proofs.FirstSection.{extend, map_concat-onto_first}
 
-onto_first_size : (byte : ℕ) (rows : List (List ℕ)) → length (concat (onto_first byte rows)) ≡ 1 + length (concat rows)
+onto_first_size : (byte : ℕ) (rows : List (List ℕ))
+    → length (concat (onto_first byte rows)) ≡ 1 + length (concat rows)
 onto_first_size byte [] = refl
-onto_first_size byte (row ∷ rows) = omega (arith, length-append row (concat rows), length-append (byte ∷ row) (concat rows))
+onto_first_size byte (row ∷ rows) =
+    omega (arith, length-append row (concat rows), length-append (byte ∷ row) (concat rows))
 
-rows_more : (byte : ℕ) (bytes : List ℕ) (feed : Bool) → (byte == 10) ≡ feed → length (concat (rows_of bytes)) ≡ length bytes
+rows_more : (byte : ℕ) (bytes : List ℕ) (feed : Bool) → (byte == 10) ≡ feed
+    → length (concat (rows_of bytes)) ≡ length bytes
     → length (concat (rows_of (byte ∷ bytes))) ≡ length (byte ∷ bytes)
 unfolding rows_of
-rows_more byte bytes true is rest = rw is (omega (arith, rest, length-append (byte ∷ []) (concat (rows_of bytes))))
+rows_more byte bytes true is rest =
+    rw is (omega (arith, rest, length-append (byte ∷ []) (concat (rows_of bytes))))
 rows_more byte bytes false is rest = rw is (omega (arith, rest, onto_first_size byte (rows_of bytes)))
 
 rows_size : (bytes : List ℕ) → length (concat (rows_of bytes)) ≡ length bytes
@@ -30,7 +34,8 @@ extended row (part ∷ parts) n zero short = omega (arith, length-append row par
 extended row (part ∷ parts) n (suc k) short = omega (arith, short (suc k))
 
 pieces_more : (row : List ℕ) (rows : List (List ℕ)) (ends : Bool) → is_separator row ≡ ends
-    → ((j : ℕ) → length (get_or (map concat (slice_split is_separator rows)) j []) ≤ length (concat rows)) → (k : ℕ)
+    → ((j : ℕ) → length (get_or (map concat (slice_split is_separator rows)) j [])
+    ≤ length (concat rows)) → (k : ℕ)
     → length (get_or (map concat (slice_split is_separator (row ∷ rows))) k []) ≤ length (concat (row ∷ rows))
 pieces_more row rows true is short zero = rw is (omega arith)
 pieces_more row rows true is short (suc k) = rw is (omega (arith, short k, length-append row (concat rows)))
@@ -43,7 +48,8 @@ pieces_more row rows false is short k =
     ))
 
 -- each section of rows is at most as long as they are
-piece_size : (rows : List (List ℕ)) (i : ℕ) → length (get_or (map concat (slice_split is_separator rows)) i []) ≤ length (concat rows)
+piece_size : (rows : List (List ℕ)) (i : ℕ)
+    → length (get_or (map concat (slice_split is_separator rows)) i []) ≤ length (concat rows)
 piece_size [] zero = omega arith
 piece_size [] (suc i) = omega arith
 piece_size (row ∷ rows) i = pieces_more row rows (is_separator row) refl (piece_size rows) i

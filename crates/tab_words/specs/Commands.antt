@@ -20,7 +20,8 @@ pub record IsRounds (word : List ℕ) (rounds : ℕ) : Type 0 where
 abbrev pub IsCommand : List (List ℕ) → Command → Type 0
 IsCommand words Plan = words ≡ codes "plan" ∷ []
 IsCommand words Check = words ≡ codes "check" ∷ []
-IsCommand words (Replay rounds) = (words ≡ codes "replay" ∷ decimal rounds ∷ []) × (1 ≤ rounds) × (rounds ≤ MOST_ROUNDS)
+IsCommand words (Replay rounds) = (words ≡ codes "replay" ∷ decimal rounds ∷ []) × (1 ≤ rounds)
+    × (rounds ≤ MOST_ROUNDS)
 IsCommand words Help = words ≡ codes "--help" ∷ []
 IsCommand words Version = words ≡ codes "--version" ∷ []
 

@@ -13,10 +13,13 @@ use Rattle.table_check.proofs.Periods.{HoldsTick, few_periods, holds_tick, share
 -- a run gives its owner what it shares, and others nothing
 pub given_own : (vcpu from to v begin over : ℕ) → v ≡ vcpu
     → ticks_given (Some vcpu) from to v begin over ≡ ticks_shared from to begin over
-given_own vcpu from to v begin over own = ap (λ b. cond b (ticks_shared from to begin over) 0) (eq-eqb v vcpu own)
+given_own vcpu from to v begin over own =
+    ap (λ b. cond b (ticks_shared from to begin over) 0) (eq-eqb v vcpu own)
 
-pub given_other : (vcpu from to v begin over : ℕ) → v ≢ vcpu → ticks_given (Some vcpu) from to v begin over ≡ 0
-given_other vcpu from to v begin over other = ap (λ b. cond b (ticks_shared from to begin over) 0) (ne_eqb v vcpu other)
+pub given_other : (vcpu from to v begin over : ℕ) → v ≢ vcpu
+    → ticks_given (Some vcpu) from to v begin over ≡ 0
+given_other vcpu from to v begin over other =
+    ap (λ b. cond b (ticks_shared from to begin over) 0) (ne_eqb v vcpu other)
 
 -- a period of a vCPU's task has the task's length
 pub one_task : (tasks : List (Option Periodic)) (v k period vcpu : ℕ) (task : Periodic)
@@ -42,28 +45,34 @@ block_of tasks v k period of =
 -- the place of a counter is in the list
 pub place_in_list : (tasks : List (Option Periodic)) (counters : List ℕ) (vcpu k : ℕ) (task : Periodic)
     → slice_get tasks vcpu ≡ Some (Some task)
-    → length counters ≡ length tasks * MAX_PERIODS → k < MAX_PERIODS → vcpu * MAX_PERIODS + k < length counters
+    → length counters ≡ length tasks * MAX_PERIODS → k < MAX_PERIODS
+    → vcpu * MAX_PERIODS + k < length counters
 place_in_list tasks counters vcpu k task at size few =
     (let within = slice_get_within tasks vcpu (Some task) at in omega arith)
 
 -- what is read at the place of a counter
-pub read_count : (tasks : List (Option Periodic)) (counters : List ℕ) (vcpu k number value d : ℕ) (task : Periodic)
+pub read_count : (tasks : List (Option Periodic)) (counters : List ℕ) (vcpu k number value d : ℕ)
+    (task : Periodic)
     → slice_get tasks vcpu ≡ Some (Some task)
     → length counters ≡ length tasks * MAX_PERIODS → k < MAX_PERIODS → number ≡ vcpu
     → value ≡ get_or counters (number * MAX_PERIODS + k) d → value ≡ count_at counters vcpu k
 read_count tasks counters vcpu k number value d task at size few is read =
     read ∙ ap (λ n. get_or counters (n * MAX_PERIODS + k) d) is
-    ∙ get_or_default_zero counters (vcpu * MAX_PERIODS + k) d (place_in_list tasks counters vcpu k task at size few)
+    ∙ get_or_default_zero counters (vcpu * MAX_PERIODS + k) d
+    (place_in_list tasks counters vcpu k task at size few)
 
 -- the counters with the next cut of a run
 pub one_more_cut : (tasks : List (Option Periodic)) (old counters : List ℕ) (vcpu from tick end value : ℕ)
     (task : Periodic)
     → slice_get tasks vcpu ≡ Some (Some task) → length counters ≡ length tasks * MAX_PERIODS → from ≤ tick
     → tick ≤ end → tick < ROUND
-    → end ≤ (tick / task.period + 1) * task.period → GrowBy tasks (ticks_given (Some vcpu) from tick) old counters
+    → end ≤ (tick / task.period + 1) * task.period
+    → GrowBy tasks (ticks_given (Some vcpu) from tick) old counters
     → value ≡ count_at counters vcpu (tick / task.period) + (end - tick)
-    → GrowBy tasks (ticks_given (Some vcpu) from end) old (set counters (vcpu * MAX_PERIODS + tick / task.period) value)
-one_more_cut tasks old counters vcpu from tick end value task at size low rises lt within grown is v k period of =
+    → GrowBy tasks (ticks_given (Some vcpu) from end) old
+    (set counters (vcpu * MAX_PERIODS + tick / task.period) value)
+one_more_cut tasks old counters vcpu from tick end value task at size low rises lt within grown is v
+    k period of =
     let p = tick / task.period in
     let holds : HoldsTick task.period p tick = holds_tick task tick lt in
     let place = vcpu * MAX_PERIODS + p in
@@ -99,12 +108,15 @@ one_more_cut tasks old counters vcpu from tick end value task at size low rises 
                 omega (arith, was, same, now, before, as_before)
             | inl here ↦
                 let new = get_or-set_at counters place (v * MAX_PERIODS + k) value 0 (omega arith) place_lt in
-                let old_count : count_at counters v k ≡ count_at counters vcpu p = ap (λ n. get_or counters n 0)
+                let old_count : count_at counters v k ≡ count_at counters vcpu p =
+                ap (λ n. get_or counters n 0)
                 (omega arith) in
-                let begin_is : begin ≡ p * task.period = ap (λ n. n * period) here ∙ ap (λ t. p * t) period_is in
+                let begin_is : begin ≡ p * task.period =
+                ap (λ n. n * period) here ∙ ap (λ t. p * t) period_is in
                 let over_is : over ≡ (p + 1) * task.period = ap (λ n. (n + 1) * period) here
                 ∙ ap (λ t. (p + 1) * t) period_is in
-                let more = shared_here from tick end begin over low rises (omega (arith, holds.low)) (omega arith) in
+                let more = shared_here from tick end begin over low rises (omega (arith, holds.low))
+                (omega arith) in
                 omega (arith, was, new, old_count, now, before, more, is)
           ]
     ]
@@ -124,7 +136,8 @@ no_cut_yet tasks counters (Some vcpu) from v k period of = elim (cases_eq v vcpu
 ]
 
 -- what a run has added so far leaves room for the rest
-pub room_for_cut : (tasks : List (Option Periodic)) (old counters : List ℕ) (vcpu from tick end : ℕ) (task : Periodic)
+pub room_for_cut : (tasks : List (Option Periodic)) (old counters : List ℕ) (vcpu from tick end : ℕ)
+    (task : Periodic)
     → slice_get tasks vcpu ≡ Some (Some task) → tick < ROUND → from ≤ tick → tick ≤ end → end ≤ ROUND
     → AreAtMost tasks (2 ^ 32 - 1 - ROUND) old
     → GrowBy tasks (ticks_given (Some vcpu) from tick) old counters
@@ -137,4 +150,10 @@ room_for_cut tasks old counters vcpu from tick end task at lt low rises within r
     let most = room vcpu p task.period of in
     let begin = p * task.period in
     let over = (p + 1) * task.period in
-    omega (arith, was, most, given_own vcpu from tick vcpu begin over refl, shared_within from tick begin over)
+    omega (
+      arith,
+      was,
+      most,
+      given_own vcpu from tick vcpu begin over refl,
+      shared_within from tick begin over,
+    )

@@ -10,7 +10,8 @@ use Rattle.table_check.specs.Meetings.{MeetsAt, MeetNoneBefore}
 use Rattle.table_check.proofs.Sweep.{GoesOnFrom, next_parts, owner_now}
 
 -- the rows meet where both segments have one owner
-pub meets_now : (a b : List Segment) (tick i j v : ℕ) (s t : Segment) → GoesOnFrom a tick i → GoesOnFrom b tick j
+pub meets_now : (a b : List Segment) (tick i j v : ℕ) (s t : Segment) → GoesOnFrom a tick i
+    → GoesOnFrom b tick j
     → i < length a → j < length b
     → s ≡ get_or a i s → t ≡ get_or b j t → s.owner ≡ Some v → t.owner ≡ Some v
     → MeetsAt (cells_from 0 a) (cells_from 0 b) v tick
@@ -24,8 +25,10 @@ meets_now a b tick i j v s t on_a on_b lt_a lt_b at_a at_b own_a own_b = record 
 -- where the segments have no owner in common, the rows don't meet before both their ends
 pub none_in_segments : (a b : List Segment) (tick i j y : ℕ) (s t : Segment) → GoesOnFrom a tick i
     → GoesOnFrom b tick j → i < length a → j < length b
-    → s ≡ get_or a i s → t ≡ get_or b j t → ((v : ℕ) → s.owner ≡ Some v → t.owner ≡ Some v → ⊥) → y ≤ s.end → y ≤ t.end
-    → MeetNoneBefore (cells_from 0 a) (cells_from 0 b) tick → MeetNoneBefore (cells_from 0 a) (cells_from 0 b) y
+    → s ≡ get_or a i s → t ≡ get_or b j t → ((v : ℕ) → s.owner ≡ Some v → t.owner ≡ Some v → ⊥)
+    → y ≤ s.end → y ≤ t.end
+    → MeetNoneBefore (cells_from 0 a) (cells_from 0 b) tick
+    → MeetNoneBefore (cells_from 0 a) (cells_from 0 b) y
 none_in_segments a b tick i j y s t on_a on_b lt_a lt_b at_a at_b apart end_a end_b none v x meets = elim
     (cases_lt x y) [
       | inr later ↦ later

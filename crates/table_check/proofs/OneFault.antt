@@ -17,7 +17,8 @@ use Rattle.table_check.specs.declared.fault.CheckFault.TheVariants.{BadShape, Tw
 both_low : (a b : ℕ) → a ≤ b → b ≤ a → a ≡ b
 both_low a b le ge = omega arith
 
-bad_not_good : (raw : List (List Segment)) (core place : ℕ) → IsFirstBad raw core place → HaveGoodShapes raw → ⊥
+bad_not_good : (raw : List (List Segment)) (core place : ℕ) → IsFirstBad raw core place
+    → HaveGoodShapes raw → ⊥
 bad_not_good raw core place bad good = none-some place (sym (good core) ∙ bad.bad)
 
 clash_not_apart : (rows : List Row) (v x c d : ℕ) → IsFirstClash rows v x c d → Apart rows → ⊥
@@ -53,7 +54,8 @@ one_clash rows v x c d w y e f a b =
     cc
 
 -- of one vCPU's one period the numbers are the same
-short_numbers : (tasks : List (Option Periodic)) (rows : List Row) (v k g c g' c' : ℕ) → IsShort tasks rows v k g c
+short_numbers : (tasks : List (Option Periodic)) (rows : List Row) (v k g c g' c' : ℕ)
+    → IsShort tasks rows v k g c
     → IsShort tasks rows v k g' c' → (g ≡ g') × (c ≡ c')
 short_numbers tasks rows v k g c g' c' a b =
     let task : a.task ≡ b.task = same_Some {A = Periodic} a.task b.task
@@ -85,29 +87,37 @@ one_fault tasks raw (BadShape c p) (Short w j g k) a b = absurd (bad_not_good ra
 one_fault tasks raw (BadShape c p) NoMemory a b = absurd b
 one_fault tasks raw (Twice v x c d) (BadShape e q) a b = absurd (bad_not_good raw e q b a.0)
 one_fault tasks raw (Twice v x c d) (Twice w y e f) a b = one_clash (rows_of raw) v x c d w y e f a.1 b.1
-one_fault tasks raw (Twice v x c d) (Short w j g k) a b = absurd (clash_not_apart (rows_of raw) v x c d a.1 b.1)
+one_fault tasks raw (Twice v x c d) (Short w j g k) a b =
+    absurd (clash_not_apart (rows_of raw) v x c d a.1 b.1)
 one_fault tasks raw (Twice v x c d) NoMemory a b = absurd b
 one_fault tasks raw (Short v k g c) (BadShape e q) a b = absurd (bad_not_good raw e q b a.0)
-one_fault tasks raw (Short v k g c) (Twice w y e f) a b = absurd (clash_not_apart (rows_of raw) w y e f b.1 a.1)
-one_fault tasks raw (Short v k g c) (Short w j g' c') a b = one_short tasks (rows_of raw) v k g c w j g' c' a.2 b.2
+one_fault tasks raw (Short v k g c) (Twice w y e f) a b =
+    absurd (clash_not_apart (rows_of raw) w y e f b.1 a.1)
+one_fault tasks raw (Short v k g c) (Short w j g' c') a b =
+    one_short tasks (rows_of raw) v k g c w j g' c' a.2 b.2
 one_fault tasks raw (Short v k g c) NoMemory a b = absurd b
 one_fault tasks raw NoMemory other a b = absurd a
 
 -- the first shortage of apart rows of good shapes is the first fault
-pub is_short_fault : (tasks given : List (Option Periodic)) (raw : List (List Segment)) (rows rows' : List Row)
+pub is_short_fault : (tasks given : List (Option Periodic)) (raw : List (List Segment))
+    (rows rows' : List Row)
     (found : Option Shortage) (shortage : Shortage) (fault : CheckFault)
     → given ≡ tasks → rows ≡ rows_of raw → rows' ≡ rows → HaveGoodShapes raw → Apart rows
     → IsShortageOf given rows' found → found ≡ Some shortage
-    → fault ≡ Short shortage.vcpu shortage.period_no shortage.got shortage.cost → HasCheckFault tasks raw fault
-is_short_fault tasks given raw rows rows' found shortage fault of_tasks of_raw same good apart short is fault_is =
+    → fault ≡ Short shortage.vcpu shortage.period_no shortage.got shortage.cost
+    → HasCheckFault tasks raw fault
+is_short_fault tasks given raw rows rows' found shortage fault of_tasks of_raw same good apart short
+    is fault_is =
     let first : IsFirstShort given rows' shortage.vcpu shortage.period_no shortage.got shortage.cost =
     subst (IsShortageOf given rows') is short in
     let of_given : IsFirstShort tasks rows' shortage.vcpu shortage.period_no shortage.got shortage.cost
-    = subst (λ (ts : List (Option Periodic)). IsFirstShort ts rows' shortage.vcpu shortage.period_no shortage.got
+    = subst (λ (ts : List (Option Periodic)). IsFirstShort ts rows' shortage.vcpu shortage.period_no
+    shortage.got
     shortage.cost) of_tasks first in
     subst (HasCheckFault tasks raw) (sym fault_is) (
       good,
       subst Apart of_raw apart,
-      subst (λ (rs : List Row). IsFirstShort tasks rs shortage.vcpu shortage.period_no shortage.got shortage.cost)
+      subst (λ (rs : List Row). IsFirstShort tasks rs shortage.vcpu shortage.period_no shortage.got
+          shortage.cost)
           (same ∙ of_raw) of_given,
     )

@@ -23,7 +23,8 @@ OwnedByTask : List (Option Periodic) → Segment → Type 0
 OwnedByTask tasks s = ForSome s.owner (λ v. has_task tasks v ≡ true)
 
 -- an owner of a cell that segments stand for owns one of them
-cell_has_task : (tasks : List (Option Periodic)) (start x v : ℕ) (ss : List Segment) → All (OwnedByTask tasks) ss
+cell_has_task : (tasks : List (Option Periodic)) (start x v : ℕ) (ss : List Segment)
+    → All (OwnedByTask tasks) ss
     → slice_get (cells_from start ss) x ≡ Some (Some v) → has_task tasks v ≡ true
 unfolding OwnedByTask
 cell_has_task tasks start x v [] owned at =
@@ -34,7 +35,8 @@ cell_has_task tasks start x v (s ∷ ss) owned at =
       | inl here ↦ All-head (OwnedByTask tasks) s ss owned v
           (same_Some {A = Option ℕ} s.owner (Some v)
           (sym (get_front (s.end - start) x s.owner (cells_from s.end ss) here) ∙ cell))
-      | inr later ↦ cell_has_task tasks s.end (x - (s.end - start)) v ss (All-tail (OwnedByTask tasks) s ss owned)
+      | inr later ↦ cell_has_task tasks s.end (x - (s.end - start)) v ss
+          (All-tail (OwnedByTask tasks) s ss owned)
           (sym (get_back (s.end - start) x s.owner (cells_from s.end ss) later) ∙ cell)
     ]
 
@@ -52,7 +54,8 @@ all_at P [] c ss all at = absurd (none-some ss at)
 all_at P (x ∷ xs) zero ss all at = subst P (same_Some {A = List Segment} x ss at) (All-head P x xs all)
 all_at P (x ∷ xs) (suc c) ss all at = all_at P xs c ss (All-tail P x xs all) at
 
-pub owners_have_tasks : (tasks : List (Option Periodic)) (raw : List (List Segment)) → AreOwnedByTasks tasks raw
+pub owners_have_tasks : (tasks : List (Option Periodic)) (raw : List (List Segment))
+    → AreOwnedByTasks tasks raw
     → OwnersHaveTasks tasks (rows_of raw)
 owners_have_tasks tasks raw owned v place c at =
     row_has_tasks tasks place v (slice_get raw c) (λ ss here. all_at (AreOfTasks tasks) raw c ss owned here)

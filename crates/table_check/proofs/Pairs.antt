@@ -65,12 +65,17 @@ clash_here rows core other v x c d e f clash = subst (λ k. IsClash rows v x cor
     (subst (λ k. IsClash rows v x k d) e clash)
 
 -- the first clash stays where the new pair has none before its tick
-pub stays_first : (rows : List Row) (core other : ℕ) (first : Clash) → IsFirstBefore rows core other (Some first)
-    → ((v x : ℕ) → IsClash rows v x core other → first.tick ≤ x) → IsFirstBefore rows core (other + 1) (Some first)
+pub stays_first : (rows : List Row) (core other : ℕ) (first : Clash)
+    → IsFirstBefore rows core other (Some first)
+    → ((v x : ℕ) → IsClash rows v x core other → first.tick ≤ x)
+    → IsFirstBefore rows core (other + 1) (Some first)
 stays_first rows core other first before later =
     let earlier = before.among.earlier in
     record {
-      among = record { clash = before.among.clash; earlier = more_pairs core other first.core first.other earlier };
+      among = record {
+        clash = before.among.clash;
+        earlier = more_pairs core other first.core first.other earlier;
+      };
       least_tick = λ w x c d h. elim (split_pair core other c d h.earlier) [
         | inl old ↦ before.least_tick w x c d (record { clash = h.clash; earlier = old })
         | inr new ↦ later w x (clash_here rows core other w x c d new.0 new.1 h.clash)
@@ -81,17 +86,22 @@ stays_first rows core other first before later =
       ];
       least_other = λ w d h. elim (split_pair core other first.core d h.earlier) [
         | inl old ↦ before.least_other w d (record { clash = h.clash; earlier = old })
-        | inr new ↦ (let low = low_other core other first.core first.other earlier new.0 in omega (arith, new.1))
+        | inr new ↦
+            (let low = low_other core other first.core first.other earlier new.0 in omega
+            (arith, new.1))
       ];
     }
 
-pub stays_sooner : (rows : List Row) (core other tick : ℕ) (best : Option Clash) → IsFirstBefore rows core other best
+pub stays_sooner : (rows : List Row) (core other tick : ℕ) (best : Option Clash)
+    → IsFirstBefore rows core other best
     → IsSomeAnd best (λ first. first.tick ≤ tick) → ((v x : ℕ) → IsClash rows v x core other → tick ≤ x)
     → IsFirstBefore rows core (other + 1) best
 stays_sooner rows core other tick None before low later = absurd low
 stays_sooner rows core other tick (Some first) before low later =
     stays_first rows core other first before
-    (λ v x clash. (let le : tick ≤ x = later v x clash in let first_low : first.tick ≤ tick = low in omega arith))
+    (λ v x clash.
+    (let le : tick ≤ x = later v x clash in let first_low : first.tick ≤ tick = low in omega
+    arith))
 
 -- what is known of the earlier pairs is known of these where the new pair has no clash
 pub none_here : (rows : List Row) (core other : ℕ) (best : Option Clash) → IsFirstBefore rows core other best
@@ -104,8 +114,10 @@ none_here rows core other (Some first) before none = stays_first rows core other
     (λ v x clash. absurd (none v x clash))
 
 -- no earlier pair clashes at or before a tick that is below that of their first clash
-none_so_early : (rows : List Row) (core other x : ℕ) (best : Option Clash) → IsFirstBefore rows core other best
-    → ((first : Clash) → best ≡ Some first → x < first.tick) → (w y c d : ℕ) → IsClashBefore rows core other w y c d
+none_so_early : (rows : List Row) (core other x : ℕ) (best : Option Clash)
+    → IsFirstBefore rows core other best
+    → ((first : Clash) → best ≡ Some first → x < first.tick) → (w y c d : ℕ)
+    → IsClashBefore rows core other w y c d
     → x < y
 none_so_early rows core other x None before sooner w y c d h = absurd (before w y c d h)
 none_so_early rows core other x (Some first) before sooner w y c d h =
@@ -114,7 +126,8 @@ none_so_early rows core other x (Some first) before sooner w y c d h =
     omega arith
 
 -- the new pair's first clash is the first of all where it is sooner
-pub becomes_first : (rows : List Row) (core other v x : ℕ) (best : Option Clash) → IsFirstBefore rows core other best
+pub becomes_first : (rows : List Row) (core other v x : ℕ) (best : Option Clash)
+    → IsFirstBefore rows core other best
     → ((first : Clash) → best ≡ Some first → x < first.tick) → IsClash rows v x core other
     → ((w y : ℕ) → IsClash rows w y core other → x ≤ y)
     → IsLeastClash (IsClashBefore rows core (other + 1)) v x core other
@@ -163,7 +176,8 @@ pub first_others : (rows : List Row) (core : ℕ) (best : Option Clash) → IsFi
     → IsFirstBefore rows core (core + 1) best
 first_others rows core best before = same_pairs rows core 0 core (core + 1) best there back before
   where
-    there : (v x c d : ℕ) → IsClash rows v x c d → IsEarlierPair core 0 c d → IsEarlierPair core (core + 1) c d
+    there : (v x c d : ℕ) → IsClash rows v x c d → IsEarlierPair core 0 c d
+        → IsEarlierPair core (core + 1) c d
     there v x c d clash (inl lt) = inl lt
     there v x c d clash (inr both) = absurd (omega (arith, both.1))
 
@@ -176,11 +190,13 @@ pub next_core : (rows : List Row) (core other : ℕ) (best : Option Clash) → l
     → IsFirstBefore rows core other best → IsFirstBefore rows (core + 1) 0 best
 next_core rows core other best past before = same_pairs rows core other (core + 1) 0 best there back before
   where
-    there : (v x c d : ℕ) → IsClash rows v x c d → IsEarlierPair core other c d → IsEarlierPair (core + 1) 0 c d
+    there : (v x c d : ℕ) → IsClash rows v x c d → IsEarlierPair core other c d
+        → IsEarlierPair (core + 1) 0 c d
     there v x c d clash (inl lt) = inl (omega arith)
     there v x c d clash (inr both) = inl (omega (arith, both.0))
 
-    back : (v x c d : ℕ) → IsClash rows v x c d → IsEarlierPair (core + 1) 0 c d → IsEarlierPair core other c d
+    back : (v x c d : ℕ) → IsClash rows v x c d → IsEarlierPair (core + 1) 0 c d
+        → IsEarlierPair core other c d
     back v x c d clash (inl lt) = elim (cases_lt c core) [
       | inl less ↦ inl less
       | inr le ↦ inr (omega arith, (let within = owner_within rows d x v clash.there in omega arith))
@@ -202,7 +218,8 @@ before_all rows count v x c d all clash = record {
   earlier = inl (let within = owner_within rows c x v clash.here in omega arith);
 }
 
-pub apart_if_none : (rows : List Row) (count : ℕ) → length rows ≤ count → IsFirstBefore rows count 0 None → Apart rows
+pub apart_if_none : (rows : List Row) (count : ℕ) → length rows ≤ count
+    → IsFirstBefore rows count 0 None → Apart rows
 apart_if_none rows count all none v place c d here there = elim (cases_eq c d) [
   | inl same ↦ same
   | inr ne ↦ elim (cases_lt c d) [
@@ -220,7 +237,8 @@ first_of_all rows count first all before = record {
   among = before.among.clash;
   least_tick = λ w x c d clash. before.least_tick w x c d (before_all rows count w x c d all clash);
   least_core = λ w c d clash. before.least_core w c d (before_all rows count w first.tick c d all clash);
-  least_other = λ w d clash. before.least_other w d (before_all rows count w first.tick first.core d all clash);
+  least_other = λ w d clash. before.least_other w d
+      (before_all rows count w first.tick first.core d all clash);
 }
 
 -- the two rows that the sweep of a pair is given
@@ -250,7 +268,8 @@ pub first_clash : (rows : List Row) (core other tick : ℕ) (a b : Row) → AreP
 first_clash rows core other tick a b pair none v x clash = none v x
     (meets_from_clash rows core other v x a b pair.here pair.there clash)
 
-pub is_clash : (rows : List Row) (core other v x : ℕ) (a b : Row) → ArePair rows core other a b → MeetsAt a b v x
+pub is_clash : (rows : List Row) (core other v x : ℕ) (a b : Row) → ArePair rows core other a b
+    → MeetsAt a b v x
     → IsClash rows v x core other
 is_clash rows core other v x a b pair meets = clash_from_meeting rows core other v x a b pair.here pair.there
     pair.lower meets

@@ -14,7 +14,8 @@ few_periods task = elim (cases_lt MAX_PERIODS (ROUND / task.period)) [
   | inr le ↦ le
   | inl many ↦ absurd (
       let facts = period_facts task.period task.listed in
-      let product = mul-le-mul {n₁ = 100} {m₁ = 1027} {n₂ = task.period} {m₂ = ROUND / task.period} facts.at_least
+      let product = mul-le-mul {n₁ = 100} {m₁ = 1027} {n₂ = task.period} {m₂ = ROUND / task.period}
+      facts.at_least
       (omega arith) in
       omega (arith, facts.whole, product))
 ]
@@ -49,7 +50,8 @@ shared_here from tick end begin over low rises begun within = omega arith
 
 pub shared_elsewhere : (from tick end period p k : ℕ) → tick ≤ end → HoldsTick period p tick
     → end ≤ (p + 1) * period → k ≢ p
-    → ticks_shared from end (k * period) ((k + 1) * period) ≡ ticks_shared from tick (k * period) ((k + 1) * period)
+    → ticks_shared from end (k * period) ((k + 1) * period)
+    ≡ ticks_shared from tick (k * period) ((k + 1) * period)
 shared_elsewhere from tick end period p k rises holds within other = elim (cases_lt k p) [
   | inl before ↦
       let over : (k + 1) * period ≤ p * period = mul-le-mul_right {m = k + 1} {n = p} period (omega arith) in

@@ -10,7 +10,8 @@ use Rattle.table_check.specs.Shapes.{HaveGoodShapes, bad_at, bad_in, rows_of}
 -- the first core's shapes are good, and so is that of the next one
 pub good_more : (raw : List (List Segment)) (core : ℕ) (segments : List Segment)
     → slice_get raw core ≡ Some segments → bad_place 0 segments ≡ None
-    → ((lower : ℕ) → lower < core → bad_at raw lower ≡ None) → (lower : ℕ) → lower < core + 1 → bad_at raw lower ≡ None
+    → ((lower : ℕ) → lower < core → bad_at raw lower ≡ None) → (lower : ℕ) → lower < core + 1
+    → bad_at raw lower ≡ None
 good_more raw core segments at good before lower lt = elim (cases_eq lower core) [
   | inl same ↦ ap (bad_at raw) same ∙ ap bad_in at ∙ good
   | inr other ↦ before lower (omega arith)

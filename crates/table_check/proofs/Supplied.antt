@@ -50,9 +50,11 @@ room_for_row tasks rows i counters few so_far v k period of =
     {m₂ = ROUND} (omega arith) (omega (arith, of.period_is)) in
     omega (arith, so_far v k period of, most, product)
 
-pub supplied_all : (tasks : List (Option Periodic)) (rows : List Row) (i : ℕ) (counters : List ℕ) → length rows ≤ i
+pub supplied_all : (tasks : List (Option Periodic)) (rows : List Row) (i : ℕ) (counters : List ℕ)
+    → length rows ≤ i
     → CountSupply tasks (take i rows) counters → CountSupply tasks rows counters
-supplied_all tasks rows i counters past so_far = subst (λ (first : List Row). CountSupply tasks first counters)
+supplied_all tasks rows i counters past so_far =
+    subst (λ (first : List Row). CountSupply tasks first counters)
     (take_all i rows past) so_far
 
 -- each period of the vCPU's task has its cost by the counters
@@ -70,7 +72,8 @@ served_if_none_low tasks counters v task at none other other_at k lt =
     subst (λ (t : Periodic). t.cost ≤ count_at counters v k) same
     (none k (subst (λ (t : Periodic). k < ROUND / t.period) (sym same) lt))
 
-pub served_if_no_task : (tasks : List (Option Periodic)) (counters : List ℕ) (v : ℕ) → slice_get tasks v ≡ Some None
+pub served_if_no_task : (tasks : List (Option Periodic)) (counters : List ℕ) (v : ℕ)
+    → slice_get tasks v ≡ Some None
     → IsServedBy tasks counters v
 unfolding IsServedBy
 served_if_no_task tasks counters v at task task_at k lt =
@@ -99,7 +102,8 @@ first_short_if_low tasks rows counters v k got task at counted served low got_is
     task = task;
     at = at;
     in_round = low.0;
-    got_is = got_is ∙ counted v k task.period (record { task = task; at = at; period_is = refl; in_round = low.0 });
+    got_is = got_is ∙ counted v k task.period
+        (record { task = task; at = at; period_is = refl; in_round = low.0 });
     cost_is = refl;
     less = omega (arith, low.1, got_is);
   };

@@ -41,7 +41,8 @@ before_more v row n to o = elim (cases_lt to (length row)) [
   | inl short ↦
       let none : min (to - length row) n ≡ 0 = omega arith in
       let product = ap (λ k. k * cond (is_cell_of v o) 1 0) none in
-      let same = ap (count_by (λ cell. is_cell_of v cell)) (take-append-le to row (replicate n o) (omega arith)) in
+      let same = ap (count_by (λ cell. is_cell_of v cell))
+      (take-append-le to row (replicate n o) (omega arith)) in
       omega (arith, product, same)
   | inr long ↦
       let at = to - length row in
@@ -58,14 +59,16 @@ before_more v row n to o = elim (cases_lt to (length row)) [
   where
     take_some : (m k : ℕ) (c : Option ℕ) → take m (replicate k c) ≡ replicate (min m k) c
     take_some m k c = elim (cases_lt m k) [
-      | inl less ↦ take-replicate m k c (omega arith) ∙ (let e : m ≡ min m k = omega arith in ap (λ j. replicate j c) e)
+      | inl less ↦ take-replicate m k c (omega arith)
+          ∙ (let e : m ≡ min m k = omega arith in ap (λ j. replicate j c) e)
       | inr more ↦ take_all m (replicate k c) (omega (arith, length-replicate k c))
           ∙ (let e : k ≡ min m k = omega arith in ap (λ j. replicate j c) e)
     ]
 
 -- with them the vCPU has in an interval as many more as they give it there
 more_within : (v : ℕ) (row : Row) (n begin over : ℕ) (o : Option ℕ) → begin ≤ over
-    → cells_within v (row ++ replicate n o) begin over ≡ cells_within v row begin over + ticks_given o (length row)
+    → cells_within v (row ++ replicate n o) begin over
+    ≡ cells_within v row begin over + ticks_given o (length row)
     (length row + n) v begin over
 more_within v row n begin over o le =
     let all = row ++ replicate n o in
@@ -79,12 +82,15 @@ more_within v row n begin over o le =
     L = length row
 
     by_owner : (own : Bool) → is_cell_of v o ≡ own
-        → cells_before v (row ++ replicate n o) over ≡ cells_before v (row ++ replicate n o) begin + cells_within v
+        → cells_before v (row ++ replicate n o) over
+        ≡ cells_before v (row ++ replicate n o) begin + cells_within v
         (row ++ replicate n o) begin over
         → cells_before v row over ≡ cells_before v row begin + cells_within v row begin over
-        → cells_before v (row ++ replicate n o) begin ≡ cells_before v row begin + min (begin - length row) n * cond
+        → cells_before v (row ++ replicate n o) begin
+        ≡ cells_before v row begin + min (begin - length row) n * cond
         (is_cell_of v o) 1 0
-        → cells_before v (row ++ replicate n o) over ≡ cells_before v row over + min (over - length row) n * cond
+        → cells_before v (row ++ replicate n o) over
+        ≡ cells_before v row over + min (over - length row) n * cond
         (is_cell_of v o) 1 0
         → cells_within v (row ++ replicate n o) begin over ≡ cells_within v row begin over + ticks_given o
         (length row) (length row + n) v begin over
@@ -100,7 +106,8 @@ more_within v row n begin over o le =
         omega (arith, a, b, c, d, c', d', given)
 
 -- the row's cells up to the end of a segment
-cells_to_end : (ss : List Segment) (from place : ℕ) (s : Segment) → GoesOnFrom ss from place → place < length ss
+cells_to_end : (ss : List Segment) (from place : ℕ) (s : Segment) → GoesOnFrom ss from place
+    → place < length ss
     → s ≡ get_or ss place s
     → take s.end (cells_from 0 ss) ≡ take from (cells_from 0 ss) ++ replicate (s.end - from) s.owner
 cells_to_end ss from place s on lt at =
@@ -114,7 +121,8 @@ cells_to_end ss from place s on lt at =
   where
     take_front : (k : ℕ) (o : Option ℕ) (cells : Row) → take k (replicate k o ++ cells) ≡ replicate k o
     take_front k o cells = (let e = length-replicate k o
-        in subst (λ j. take j (replicate k o ++ cells) ≡ replicate k o) e (take-append_seam (replicate k o) cells))
+        in subst (λ j. take j (replicate k o ++ cells) ≡ replicate k o) e
+        (take-append_seam (replicate k o) cells))
 
 -- the counters have the row's cells up to the tick
 pub CountsTo : List (Option Periodic) → List Segment → ℕ → List ℕ → List ℕ → Type 0
@@ -127,7 +135,8 @@ pub counts_none : (tasks : List (Option Periodic)) (ss : List Segment) (counters
     → CountsTo tasks ss 0 counters counters
 unfolding cells_within CountsTo
 counts_none tasks ss counters v k period of =
-    let none : take ((k + 1) * period - k * period) (drop (k * period) (take 0 (cells_from 0 ss))) ≡ [] = none_of
+    let none : take ((k + 1) * period - k * period) (drop (k * period) (take 0 (cells_from 0 ss)))
+    ≡ [] = none_of
     ((k + 1) * period - k * period) (k * period) in
     let zero_count = ap (count_by (λ cell. is_cell_of v cell)) none in
     omega (arith, zero_count)
@@ -153,7 +162,8 @@ counts_more tasks ss from place s old mid new on lt at whole so_far grown v k pe
     let run : ticks_given s.owner (length (take from cells)) (length (take from cells) + (s.end - from)) v
     begin over ≡ ticks_given s.owner from s.end v begin over
     = ap (λ n. ticks_given s.owner n (n + (s.end - from)) v begin over) size
-    ∙ (let e : from + (s.end - from) ≡ s.end = omega arith in ap (λ n. ticks_given s.owner from n v begin over)
+    ∙ (let e : from + (s.end - from) ≡ s.end = omega arith in ap
+    (λ n. ticks_given s.owner from n v begin over)
     e) in
     let to_end = ap (λ row. cells_within v row begin over) (cells_to_end ss from place s on lt at) in
     omega (arith, so_far v k period of, grown v k period of, more, run, to_end)

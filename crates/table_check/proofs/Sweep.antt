@@ -42,7 +42,8 @@ pub goes_on-start : (ss : List Segment) → RisesTo 0 ss ROUND → GoesOnFrom ss
 goes_on-start ss rises = record { rises = rises; cells = refl }
 
 -- before the round's end there is a segment
-pub some_left : (ss : List Segment) (tick place : ℕ) → GoesOnFrom ss tick place → tick < ROUND → place < length ss
+pub some_left : (ss : List Segment) (tick place : ℕ) → GoesOnFrom ss tick place → tick < ROUND
+    → place < length ss
 some_left ss tick place on lt = elim (cases_lt place (length ss)) [
   | inl less ↦ less
   | inr past ↦ absurd (
@@ -52,7 +53,8 @@ some_left ss tick place on lt = elim (cases_lt place (length ss)) [
 ]
 
 -- behind the last segment is the round's end
-pub at_end : (ss : List Segment) (tick place : ℕ) → GoesOnFrom ss tick place → length ss ≤ place → ROUND ≤ tick
+pub at_end : (ss : List Segment) (tick place : ℕ) → GoesOnFrom ss tick place → length ss ≤ place
+    → ROUND ≤ tick
 at_end ss tick place on past = elim (cases_lt tick ROUND) [
   | inl lt ↦ absurd (let less = some_left ss tick place on lt in omega arith)
   | inr le ↦ le
@@ -68,14 +70,16 @@ place_within ss place y s lt =
     ]
 
 -- the segment's end is after the tick, and the others go on from there
-pub next_parts : (ss : List Segment) (tick place : ℕ) (s : Segment) → GoesOnFrom ss tick place → place < length ss
+pub next_parts : (ss : List Segment) (tick place : ℕ) (s : Segment) → GoesOnFrom ss tick place
+    → place < length ss
     → s ≡ get_or ss place s
     → (tick < s.end) × RisesTo s.end (drop (place + 1) ss) ROUND
 next_parts ss tick place s on lt at =
     rises_parts tick s (drop (place + 1) ss) ROUND
     (subst (λ xs. RisesTo tick xs ROUND) (left_at ss place s lt at) on.rises)
 
-pub end_in_round : (ss : List Segment) (tick place : ℕ) (s : Segment) → GoesOnFrom ss tick place → place < length ss
+pub end_in_round : (ss : List Segment) (tick place : ℕ) (s : Segment) → GoesOnFrom ss tick place
+    → place < length ss
     → s ≡ get_or ss place s → s.end ≤ ROUND
 end_in_round ss tick place s on lt at =
     let parts = next_parts ss tick place s on lt at in
@@ -83,14 +87,16 @@ end_in_round ss tick place s on lt at =
     omega arith
 
 -- up to the segment's end the cells are its owner's
-pub cells_now : (ss : List Segment) (tick place : ℕ) (s : Segment) → GoesOnFrom ss tick place → place < length ss
+pub cells_now : (ss : List Segment) (tick place : ℕ) (s : Segment) → GoesOnFrom ss tick place
+    → place < length ss
     → s ≡ get_or ss place s
     → drop tick (cells_from 0 ss) ≡ replicate (s.end - tick) s.owner ++ cells_from s.end (drop (place + 1) ss)
 cells_now ss tick place s on lt at =
     on.cells ∙ ap (cells_from tick) (left_at ss place s lt at) ∙ cells-cons tick s (drop (place + 1) ss)
 
 -- up to its end each cell is the segment's owner's
-pub owner_now : (ss : List Segment) (tick place x : ℕ) (s : Segment) → GoesOnFrom ss tick place → place < length ss
+pub owner_now : (ss : List Segment) (tick place x : ℕ) (s : Segment) → GoesOnFrom ss tick place
+    → place < length ss
     → s ≡ get_or ss place s
     → tick ≤ x → x < s.end → slice_get (cells_from 0 ss) x ≡ Some s.owner
 owner_now ss tick place x s on lt at low high =
@@ -99,7 +105,8 @@ owner_now ss tick place x s on lt at low high =
     ∙ get_front (s.end - tick) (x - tick) s.owner (cells_from s.end (drop (place + 1) ss)) (omega arith)
 
 -- the row goes on from a later tick in the segment, or at its end with the next one
-pub goes_on : (ss : List Segment) (tick place y : ℕ) (s : Segment) → GoesOnFrom ss tick place → place < length ss
+pub goes_on : (ss : List Segment) (tick place y : ℕ) (s : Segment) → GoesOnFrom ss tick place
+    → place < length ss
     → s ≡ get_or ss place s
     → tick ≤ y → y ≤ s.end → GoesOnFrom ss y (if s.end == y then place + 1 else place)
 goes_on ss tick place y s on lt at low high =
@@ -119,13 +126,15 @@ goes_on ss tick place y s on lt at low high =
         cells = cells ∙ (let none : s.end - y ≡ 0 = omega arith in rw none (ap (λ n. cells_from n rest) is));
       })
       | inr ne ↦ rw (ne_eqb s.end y ne) (record {
-        rises = subst (λ xs. RisesTo y xs ROUND) (sym left) (rises_from_parts y s rest ROUND (omega arith) parts.1);
+        rises = subst (λ xs. RisesTo y xs ROUND) (sym left)
+            (rises_from_parts y s rest ROUND (omega arith) parts.1);
         cells = cells ∙ sym (cells-cons y s rest) ∙ ap (cells_from y) (sym left);
       })
     ]
 
 -- at its end the row goes on with the next segment
-pub next_on : (ss : List Segment) (tick place : ℕ) (s : Segment) → GoesOnFrom ss tick place → place < length ss
+pub next_on : (ss : List Segment) (tick place : ℕ) (s : Segment) → GoesOnFrom ss tick place
+    → place < length ss
     → s ≡ get_or ss place s
     → GoesOnFrom ss s.end (place + 1)
 next_on ss tick place s on lt at =

@@ -10,7 +10,8 @@ pub record IsClash (rows : List Row) (v tick core other : ℕ) : Type 0 where
   pub there : owner_at rows other tick ≡ Some v
   pub lower : core < other
 
--- of these clashes the one of least tick, of those the one of least core, and of those the one of least other core
+-- of these clashes the one of least tick, of those the one of least core, and of those the one of
+-- least other core
 pub record IsLeastClash (AmongThese : ℕ → ℕ → ℕ → ℕ → Type 0) (v tick core other : ℕ) : Type 0 where
   pub among : AmongThese v tick core other
   pub least_tick : (w x c d : ℕ) → AmongThese w x c d → tick ≤ x
@@ -21,7 +22,8 @@ pub record IsLeastClash (AmongThese : ℕ → ℕ → ℕ → ℕ → Type 0) (v
 abbrev pub IsFirstClash : List Row → ℕ → ℕ → ℕ → ℕ → Type 0
 IsFirstClash rows = IsLeastClash (IsClash rows)
 
--- the pair of cores (c, d) comes before (core, other): its first core is lower, or the same and its second is lower
+-- the pair of cores (c, d) comes before (core, other): its first core is lower, or the same and its
+-- second is lower
 abbrev pub IsEarlierPair : ℕ → ℕ → ℕ → ℕ → Type 0
 IsEarlierPair core other c d = (c < core) ⊎ ((c ≡ core) × (d < other))
 

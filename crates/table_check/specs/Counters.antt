@@ -1,4 +1,5 @@
--- Counters of what each vCPU gets in each of its periods: for each vCPU as many as a round has periods at most.
+-- Counters of what each vCPU gets in each of its periods: for each vCPU as many as a round has
+-- periods at most.
 use Rattle.std.specs.Prelude.{◌≡◌, ℕ, ◌+◌, ◌-◌, ◌*◌, ◌/◌, ◌<◌, ◌≤◌, min, max, List, Option, Some, None, slice_get, slice_index, if◌then◌else◌}
 use Rattle.tab_core.specs.declared.TheConstants.{ROUND}
 use Rattle.tab_core.specs.declared.periodic.Periodic.{Periodic}

@@ -1,4 +1,5 @@
--- Which tables are good, and the first fault of those that aren't: shapes come first, then clashes, then shortages.
+-- Which tables are good, and the first fault of those that aren't: shapes come first, then clashes,
+-- then shortages.
 use Rattle.std.specs.Prelude.{◌≡◌, ℕ, List, Option, Some}
 use Rattle.tab_core.specs.declared.periodic.Periodic.{Periodic}
 use Rattle.table_form.specs.Rows.{bad_place}
@@ -10,7 +11,8 @@ use Rattle.table_check.specs.Shortages.{IsFirstShort}
 use Rattle.table_check.specs.declared.fault.CheckFault.{CheckFault}
 use Rattle.table_check.specs.declared.fault.CheckFault.TheVariants.{BadShape, Twice, Short, NoMemory}
 
--- the segments make rows that give each task its cost in each of its periods and have each vCPU on one core at a time
+-- the segments make rows that give each task its cost in each of its periods and have each vCPU on
+-- one core at a time
 pub record AreGood (tasks : List (Option Periodic)) (raw : List (List Segment)) : Type 0 where
   pub shapes : HaveGoodShapes raw
   pub apart : Apart (rows_of raw)
@@ -19,14 +21,16 @@ pub record AreGood (tasks : List (Option Periodic)) (raw : List (List Segment)) 
 -- the first fault of the tables
 abbrev pub HasCheckFault : List (Option Periodic) → List (List Segment) → CheckFault → Type 0
 HasCheckFault tasks raw (BadShape core place) = IsFirstBad raw core place
-HasCheckFault tasks raw (Twice v tick core other) = HaveGoodShapes raw × IsFirstClash (rows_of raw) v tick core other
+HasCheckFault tasks raw (Twice v tick core other) = HaveGoodShapes raw
+    × IsFirstClash (rows_of raw) v tick core other
 HasCheckFault tasks raw (Short v period_no got cost) =
     HaveGoodShapes raw × Apart (rows_of raw) × IsFirstShort tasks (rows_of raw) v period_no got cost
 HasCheckFault tasks raw NoMemory = ⊥
 
 -- the fault is that the core's segments make no row
 abbrev pub IsRowFault : ℕ → List Segment → CheckFault → Type 0
-IsRowFault core segments fault = (place : ℕ) × (fault ≡ BadShape core place) × (bad_place 0 segments ≡ Some place)
+IsRowFault core segments fault = (place : ℕ) × (fault ≡ BadShape core place)
+    × (bad_place 0 segments ≡ Some place)
 
 -- the fault is that the segments of some core make no row, and tells the lowest such core
 abbrev pub IsShapeFault : List (List Segment) → CheckFault → Type 0

@@ -7,7 +7,8 @@ use Rattle.table_form.specs.Serves.{Serves, supply}
 use Rattle.table_check.specs.declared.shortage.Shortage.{Shortage}
 
 -- in its period of this number the rows give the vCPU `got` ticks, less than the `cost` of its task
-pub record IsShort (tasks : List (Option Periodic)) (rows : List Row) (v period_no got cost : ℕ) : Type 0 where
+pub record IsShort (tasks : List (Option Periodic)) (rows : List Row)
+    (v period_no got cost : ℕ) : Type 0 where
   pub task : Periodic
   pub at : slice_get tasks v ≡ Some (Some task)
   pub in_round : period_no < ROUND / task.period
@@ -16,7 +17,8 @@ pub record IsShort (tasks : List (Option Periodic)) (rows : List Row) (v period_
   pub less : got < cost
 
 -- the lowest vCPU that falls short, and its first such period
-pub record IsFirstShort (tasks : List (Option Periodic)) (rows : List Row) (v period_no got cost : ℕ) : Type 0 where
+pub record IsFirstShort (tasks : List (Option Periodic)) (rows : List Row)
+    (v period_no got cost : ℕ) : Type 0 where
   pub short : IsShort tasks rows v period_no got cost
   pub least_vcpu : (w k g c : ℕ) → IsShort tasks rows w k g c → v ≤ w
   pub least_period : (k g c : ℕ) → IsShort tasks rows v k g c → period_no ≤ k

@@ -29,7 +29,8 @@ pub fn check(alloc: Global, tasks: &Tasks, raw: &RawTables) -> Result<Plan, Chec
     ensures plan { IfOk result (λ plan. plan_view plan
         ≡ record { tasks = tasks.now; homes = raw.now.homes; rows = rows_of raw.now.rows }) }
     ensures good { IfOk result (λ _. AreGood tasks.now raw.now.rows) }
-    ensures fault { IfErr result (λ fault. (fault ≡ CheckFault.NoMemory) ⊎ HasCheckFault tasks.now raw.now.rows fault) }
+    ensures fault { IfErr result (λ fault. (fault ≡ CheckFault.NoMemory)
+        ⊎ HasCheckFault tasks.now raw.now.rows fault) }
     ensures accepted { AreGood tasks.now raw.now.rows → IfErr result (λ fault. fault ≡ CheckFault.NoMemory) }
     ensures refused { (fault : CheckFault) → HasCheckFault tasks.now raw.now.rows fault → IsErr result }
     ensures one_fault { (fault other : CheckFault) → HasCheckFault tasks.now raw.now.rows fault

@@ -83,7 +83,8 @@ fn take_core(rows: &[CoreTable], core: usize, best: Option<Clash>) -> Option<Cla
 pub(crate) fn find_clash(rows: &[CoreTable]) -> Option<Clash>
     requires few { length rows.now ≤ MAX_CORES }
     ensures none { IfNone result (Apart rows.now) }
-    ensures some { IfSome result (λ clash. IsFirstClash rows.now clash.vcpu clash.tick clash.core clash.other) }
+    ensures some { IfSome result
+        (λ clash. IsFirstClash rows.now clash.vcpu clash.tick clash.core clash.other) }
 {
     let mut best = None;
     for core in 0..rows.len() {

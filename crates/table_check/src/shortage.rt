@@ -50,7 +50,8 @@ fn first_low(counters: &[u32], vcpu: usize, task: &Periodic) -> Option<u32>
 fn first_shortage(counters: &[u32], tasks: &[Option<Periodic>]) -> Option<Shortage>
     requires size { length counters.now ≡ length tasks.now * MAX_PERIODS }
     requires few { length tasks.now ≤ MAX_VCPUS }
-    ensures { (rows : List Row) → CountSupply tasks.now rows counters.now → IsShortageOf tasks.now rows result }
+    ensures { (rows : List Row) → CountSupply tasks.now rows counters.now
+        → IsShortageOf tasks.now rows result }
 {
     for vcpu in 0..tasks.len() {
         if let Some(task) = &tasks[vcpu] {

@@ -1,4 +1,5 @@
--- What the facts of a draft say of each core: its pieces are of distinct vCPUs, and its row keeps to their windows.
+-- What the facts of a draft say of each core: its pieces are of distinct vCPUs, and its row keeps
+-- to their windows.
 use Rattle.std.proofs.Common.{◌≡◌, ℕ, zero, suc, ◌+◌, ◌*◌, ◌/◌, ◌%◌, ◌<◌, ◌≤◌, ◌&&◌, Bool, true, eqb, leb, ltb, List, [], ◌∷◌, length, get_or, slice_get, Option, Some, refl, ap, subst, sym, ◌∙◌, inl, inr, arith}
 use Rattle.std.proofs.Math.Nat.{div-add-mod, mod-add-div', mul-le-mul_left}
 use Rattle.std.proofs.lemmas.Bool.{and_parts, cases_Bool, cases_lt, eqb-true, leb-true, ltb-true}
@@ -51,10 +52,12 @@ window_of vcpu tick p h =
 period_in_round : (t tick : ℕ) → t * (ROUND / t) ≡ ROUND → tick < ROUND → tick / t < ROUND / t
 period_in_round t tick whole lt = elim (cases_lt (tick / t) (ROUND / t)) [
   | inl before ↦ before
-  | inr past ↦ (let more = mul-le-mul_left {m = ROUND / t} {n = tick / t} t past in let parts = div-add-mod tick t in absurd (omega arith))
+  | inr past ↦
+      (let more = mul-le-mul_left {m = ROUND / t} {n = tick / t} t past in let parts = div-add-mod tick t in absurd (omega arith))
 ]
 
-pub in_window : (pieces : List Piece) (vcpu tick : ℕ) → tick < ROUND → list_any (has_in_window vcpu tick) pieces ≡ true
+pub in_window : (pieces : List Piece) (vcpu tick : ℕ) → tick < ROUND
+    → list_any (has_in_window vcpu tick) pieces ≡ true
     → IsInWindow pieces vcpu tick
 in_window pieces vcpu tick lt any =
     let found = found_in (has_in_window vcpu tick) pieces any in
@@ -75,7 +78,8 @@ in_window pieces vcpu tick lt any =
     }
 
 -- the row of a core keeps to the windows of the core's pieces
-pub keeps_to_windows : (pieces : List Piece) (rows : List Row) (core : ℕ) (row : Row) → KeepInWindows pieces rows
+pub keeps_to_windows : (pieces : List Piece) (rows : List Row) (core : ℕ) (row : Row)
+    → KeepInWindows pieces rows
     → slice_get rows core ≡ Some row → length row ≡ ROUND → KeepsToWindows (pieces_at pieces core) row
 keeps_to_windows pieces rows core row inside at whole vcpu tick cell =
     let owner = ap (λ r. cell_of r tick) at ∙ ap flat cell in
@@ -89,10 +93,12 @@ on_core pieces core i p at = eqb-true p.core core
     (slice_get-filter (λ (q : Piece). eqb q.core core) pieces i p at).passes
 
 own_cores_later : (p : Piece) (ps : List Piece) → HaveOwnCores (p ∷ ps) → HaveOwnCores ps
-own_cores_later p ps own i j a b at at' vcpu core = (let same = own (suc i) (suc j) a b at at' vcpu core in omega arith)
+own_cores_later p ps own i j a b at at' vcpu core =
+    (let same = own (suc i) (suc j) a b at at' vcpu core in omega arith)
 
 -- no piece after the first is of its vCPU and core
-first_is_alone : (p : Piece) (ps : List Piece) (core i : ℕ) (q : Piece) → HaveOwnCores (p ∷ ps) → p.core ≡ core
+first_is_alone : (p : Piece) (ps : List Piece) (core i : ℕ) (q : Piece) → HaveOwnCores (p ∷ ps)
+    → p.core ≡ core
     → slice_get (pieces_at ps core) i ≡ Some q → p.vcpu ≡ q.vcpu → ⊥
 first_is_alone p ps core i q own on at same =
     let kept = slice_get-filter (λ (r : Piece). eqb r.core core) ps i q at in
@@ -109,7 +115,8 @@ distinct_cons p ps distinct alone (suc i) zero a b at at' same =
 distinct_cons p ps distinct alone (suc i) (suc j) a b at at' same = ap suc (distinct i j a b at at' same)
 
 -- the pieces of one core are of distinct vCPUs
-pub distinct_at : (pieces : List Piece) (core : ℕ) → HaveOwnCores pieces → DistinctVcpus (pieces_at pieces core)
+pub distinct_at : (pieces : List Piece) (core : ℕ) → HaveOwnCores pieces
+    → DistinctVcpus (pieces_at pieces core)
 distinct_at [] core own = λ i j a b at at' same. absurd (cc)
 distinct_at (p ∷ ps) core own = elim (cases_Bool (eqb p.core core)) [
   | inl here ↦ rw here (distinct_cons p (pieces_at ps core) (distinct_at ps core (own_cores_later p ps own))

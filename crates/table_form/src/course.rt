@@ -45,8 +45,10 @@ impl Course {
         numbers: Vec<u32>,
         runnable: Vec<VcpuSet>,
     ) -> Course
-        requires { IsCourseForm (course_view cores lag quantum ticks.items plans.items numbers.items runnable.items) }
-        ensures { result ≡ course_view cores lag quantum ticks.items plans.items numbers.items runnable.items }
+        requires { IsCourseForm
+            (course_view cores lag quantum ticks.items plans.items numbers.items runnable.items) }
+        ensures { result ≡ course_view cores lag quantum ticks.items plans.items numbers.items
+            runnable.items }
     {
         Course {
             cores,

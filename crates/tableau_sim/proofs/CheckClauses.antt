@@ -63,18 +63,21 @@ bad_line words old new input called.Check line text are read consumed h =
     (of_check words old new input are read consumed h.0, h.1.0)
 bad_line words old new input (called.Replay rounds) line text are read consumed h = absurd h.1
 
-pub plan_line_told : (words : List (List ℕ)) (source source' : SourceView) (sink sink' : SinkView) (told : Status)
+pub plan_line_told : (words : List (List ℕ)) (source source' : SourceView) (sink sink' : SinkView)
+    (told : Status)
     (line : ℕ) → Answers words source source' sink sink' told
     → told ≡ status.BadPlanLine line → PlanLineIsBad words source source' line
 plan_line_told words source source' sink sink' told line a is =
     let t = told_due words source source' sink sink' told (status.BadPlanLine line) a is (λ e. absurd cc) in
-    let says = bad_line words source source' t.input t.is_due.command line t.text t.is_due.words_are t.is_due.read
+    let says = bad_line words source source' t.input t.is_due.command line t.text t.is_due.words_are
+    t.is_due.read
     t.consumed t.is_due.replies in
     record { input = t.input; read = says.0; bad = says.1 }
 
 faulty_tables : (words : List (List ℕ)) (old new : SourceView) (input : List ℕ) (command : Command)
     (off : CheckFault) (text : List ℕ) → IsCommand words command
-    → HasRead command new input → Consumes old.rest new.rest input → Replies command input (status.CheckNo off) text
+    → HasRead command new input → Consumes old.rest new.rest input
+    → Replies command input (status.CheckNo off) text
     → ReadsCheck words old new input × HasTableFault (sections_of input) off text
 faulty_tables words old new input called.Help off text are read consumed h = cc
 faulty_tables words old new input called.Version off text are read consumed h = cc
@@ -83,7 +86,8 @@ faulty_tables words old new input called.Check off text are read consumed h =
     (of_check words old new input are read consumed h.0, h.1)
 faulty_tables words old new input (called.Replay rounds) off text are read consumed h = absurd h.1
 
-pub check_no_told : (words : List (List ℕ)) (source source' : SourceView) (sink sink' : SinkView) (told : Status)
+pub check_no_told : (words : List (List ℕ)) (source source' : SourceView) (sink sink' : SinkView)
+    (told : Status)
     (off : CheckFault) → Answers words source source' sink sink' told
     → told ≡ status.CheckNo off → TablesAreOff words source source' sink sink' off
 check_no_told words source source' sink sink' told off a is =
@@ -97,7 +101,8 @@ check_no_told words source source' sink sink' told off a is =
 -- good tables have no fault
 no_table_fault : (tasks : List (Option Periodic)) (rows : List (List Segment)) (off : CheckFault)
     → AreGood tasks rows → HasCheckFault tasks rows off → ⊥
-no_table_fault tasks rows (fault.BadShape core place) good h = none-some place (sym (good.shapes core) ∙ h.bad)
+no_table_fault tasks rows (fault.BadShape core place) good h =
+    none-some place (sym (good.shapes core) ∙ h.bad)
 no_table_fault tasks rows (fault.Twice vcpu tick core other) good h =
     let lower = h.1.among.lower in
     let same : core ≡ other = good.apart vcpu tick core other h.1.among.here h.1.among.there in
@@ -119,7 +124,8 @@ checked_reply input (status.Usage place) text two fine h = absurd h.1
 checked_reply input status.ReadFault text two fine h = absurd h.1
 checked_reply input status.TooLong text two fine h = absurd h.1
 checked_reply input (status.BadSections found wanted) text two fine h = absurd (h.2 (h.0 ∙ two))
-checked_reply input (status.Host bad) text two fine h = absurd (no_host_fault _ bad fine.host h.1.0 fine.is_host)
+checked_reply input (status.Host bad) text two fine h =
+    absurd (no_host_fault _ bad fine.host h.1.0 fine.is_host)
 checked_reply input (status.Script bad) text two fine h = absurd h.1
 checked_reply input (status.BadStep line) text two fine h = absurd h.1
 checked_reply input (status.NoPeriod vcpu) text two fine h =
@@ -134,7 +140,8 @@ checked_reply input (status.StepRefused line answer) text two fine h = absurd h.
 checked_reply input status.WriteFault text two fine h = absurd h.1
 checked_reply input status.NoMemory text two fine h = inr refl
 
-check_answered : (words : List (List ℕ)) (old new : SourceView) (input given : List ℕ) (due : Status) (text : List ℕ)
+check_answered : (words : List (List ℕ)) (old new : SourceView) (input given : List ℕ)
+    (due : Status) (text : List ℕ)
     → IsCommand words called.Check
     → Consumes old.rest new.rest input → IsCheckInput old given → IsCheckable (sections_of given)
     → Answered words new input due text → (due ≡ status.Ok) ⊎ (due ≡ status.NoMemory)
@@ -146,16 +153,21 @@ check_answered words old new input given due text are consumed is fine h =
     checked_reply input due text (ap (λ i. length (sections_of i)) whole ∙ is.two)
     (subst (λ i. IsCheckable (sections_of i)) (sym whole) fine) reply
 
-pub check_complete : (words : List (List ℕ)) (source source' : SourceView) (sink sink' : SinkView) (told : Status)
+pub check_complete : (words : List (List ℕ)) (source source' : SourceView) (sink sink' : SinkView)
+    (told : Status)
     (given : List ℕ) → Answers words source source' sink sink' told
     → IsCommand words called.Check → IsCheckInput source given → IsCheckable (sections_of given)
     → NoFaults source source' sink sink'
     → (told ≡ status.Ok) ⊎ (told ≡ status.NoMemory)
 check_complete words source source' sink sink' told given a are is fine works = elim a.tells.whole [
-  | inl came ↦ elim (due_answered words source source' a.input given a.due a.text called.Check are a.consumed is.told
+  | inl came ↦
+      elim (due_answered words source source' a.input given a.due a.text called.Check are a.consumed
+      is.told
       is.within works.source_works a.is_due) [
         | inl lacks ↦ inr (came.0 ∙ lacks)
-        | inr answered ↦ elim (check_answered words source source' a.input given a.due a.text are a.consumed is fine
+        | inr answered ↦
+            elim (check_answered words source source' a.input given a.due a.text are a.consumed is
+            fine
             answered) [
               | inl ok ↦ inl (came.0 ∙ ok)
               | inr lacks ↦ inr (came.0 ∙ lacks)

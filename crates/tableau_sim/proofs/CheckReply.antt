@@ -22,7 +22,8 @@ use Rattle.tableau_sim.specs.declared.reply.Reply.TheVariants as reply
 use Rattle.tableau_sim.specs.declared.status.Status.TheVariants as status
 
 -- a host whose vCPUs can't all be given a period
-pub tasks_refused : (sections : List (List ℕ)) (host : Host) (f : TaskFault) → IsHostText (host_section sections) host
+pub tasks_refused : (sections : List (List ℕ)) (host : Host) (f : TaskFault)
+    → IsHostText (host_section sections) host
     → ((vcpu : ℕ) → f ≡ lacks.NoPeriod vcpu → IsFirstWithoutPeriod host.vcpus vcpu)
     → CheckedSections sections (reply.Refused (tasks_status f) (Some host))
 tasks_refused sections host (lacks.NoPeriod vcpu) is lacking = record {
@@ -61,7 +62,8 @@ faulty_tables sections host tasks raw f tables faulty = record {
 }
 
 -- a fault of tables that were read
-pub tables_refused : (sections : List (List ℕ)) (host : Host) (tasks : List (Option Periodic)) (raw : RawTables)
+pub tables_refused : (sections : List (List ℕ)) (host : Host) (tasks : List (Option Periodic))
+    (raw : RawTables)
     (f : CheckFault) → HasTables sections host tasks raw
     → (f ≡ fault.NoMemory) ⊎ HasCheckFault tasks raw.rows f
     → CheckedSections sections (reply.Refused (check_status f) (Some host))

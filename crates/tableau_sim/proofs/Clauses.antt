@@ -17,14 +17,16 @@ use Rattle.tableau_sim.specs.PlanReplies.{LacksPeriods, LacksRooms, host_section
 use Rattle.tableau_sim.specs.Replies.{Replies, sections_wanted}
 
 -- a status was due with a text, which is out
-pub record IsTold (words : List (List ℕ)) (source source' : SourceView) (sink sink' : SinkView) (told : Status) : Type 0 where
+pub record IsTold (words : List (List ℕ)) (source source' : SourceView) (sink sink' : SinkView)
+    (told : Status) : Type 0 where
   pub input : List ℕ
   pub consumed : Consumes source.rest source'.rest input
   pub text : List ℕ
   pub is_due : IsDue words source source' input told text
   pub out : IsOut sink sink' text
 
-pub told_due : (words : List (List ℕ)) (source source' : SourceView) (sink sink' : SinkView) (told due : Status) → Answers words source source' sink sink' told
+pub told_due : (words : List (List ℕ)) (source source' : SourceView) (sink sink' : SinkView)
+    (told due : Status) → Answers words source source' sink sink' told
     → told ≡ due → due ≢ status.WriteFault → IsTold words source source' sink sink' due
 told_due words source source' sink sink' told due a is works = elim a.tells.whole [
   | inl came ↦ record {
@@ -38,18 +40,24 @@ told_due words source source' sink sink' told due a is works = elim a.tells.whol
 ]
 
 -- the whole input was read where a reply isn't that of a command without input
-read_whole : (command : Command) (new : SourceView) (input : List ℕ) (due : Status) (text : List ℕ) → due ≢ status.Ok → HasRead command new input → Replies command input due text → IsAtEnd new.rest
+read_whole : (command : Command) (new : SourceView) (input : List ℕ) (due : Status) (text : List ℕ)
+    → due ≢ status.Ok → HasRead command new input → Replies command input due text
+    → IsAtEnd new.rest
 read_whole called.Help new input due text not_ok read h = absurd (not_ok h.0)
 read_whole called.Version new input due text not_ok read h = absurd (not_ok h.0)
 read_whole called.Plan new input due text not_ok read h = read.ended
 read_whole called.Check new input due text not_ok read h = read.ended
 read_whole (called.Replay rounds) new input due text not_ok read h = read.ended
 
-pub reads_for : (words : List (List ℕ)) (old new : SourceView) (input : List ℕ) (due : Status) (text : List ℕ) (h : Answered words new input due text) → due ≢ status.Ok
+pub reads_for : (words : List (List ℕ)) (old new : SourceView) (input : List ℕ) (due : Status)
+    (text : List ℕ) (h : Answered words new input due text) → due ≢ status.Ok
     → Consumes old.rest new.rest input → ReadsFor words old new input h.command
 reads_for words old new input due text h not_ok consumed = record {
   words_are = h.words_are;
-  whole = record { consumed = consumed; ended = read_whole h.command new input due text not_ok h.read h.replies };
+  whole = record {
+    consumed = consumed;
+    ended = read_whole h.command new input due text not_ok h.read h.replies;
+  };
 }
 
 -- ---- another number of sections
@@ -59,17 +67,24 @@ pub record AreOff (command : Command) (input : List ℕ) (found wanted : ℕ) : 
   pub wanted_is : wanted ≡ sections_wanted command
   pub off : found ≢ wanted
 
-off_sections : (command : Command) (input : List ℕ) (found wanted : ℕ) (text : List ℕ) → Replies command input (status.BadSections found wanted) text → AreOff command input found wanted
+off_sections : (command : Command) (input : List ℕ) (found wanted : ℕ) (text : List ℕ)
+    → Replies command input (status.BadSections found wanted) text
+    → AreOff command input found wanted
 off_sections called.Help input found wanted text h = cc
 off_sections called.Version input found wanted text h = cc
-off_sections called.Plan input found wanted text h = record { found_is = h.0; wanted_is = h.1; off = λ same. h.2 (same ∙ h.1) }
-off_sections called.Check input found wanted text h = record { found_is = h.0; wanted_is = h.1; off = λ same. h.2 (same ∙ h.1) }
-off_sections (called.Replay rounds) input found wanted text h = record { found_is = h.0; wanted_is = h.1; off = λ same. h.2 (same ∙ h.1) }
+off_sections called.Plan input found wanted text h =
+    record { found_is = h.0; wanted_is = h.1; off = λ same. h.2 (same ∙ h.1) }
+off_sections called.Check input found wanted text h =
+    record { found_is = h.0; wanted_is = h.1; off = λ same. h.2 (same ∙ h.1) }
+off_sections (called.Replay rounds) input found wanted text h =
+    record { found_is = h.0; wanted_is = h.1; off = λ same. h.2 (same ∙ h.1) }
 
-pub sections_told : (words : List (List ℕ)) (source source' : SourceView) (sink sink' : SinkView) (told : Status) (found wanted : ℕ) → Answers words source source' sink sink' told
+pub sections_told : (words : List (List ℕ)) (source source' : SourceView) (sink sink' : SinkView)
+    (told : Status) (found wanted : ℕ) → Answers words source source' sink sink' told
     → told ≡ status.BadSections found wanted → SectionsAreOff words source source' found wanted
 sections_told words source source' sink sink' told found wanted a is =
-    let t = told_due words source source' sink sink' told (status.BadSections found wanted) a is (λ e. absurd cc) in
+    let t = told_due words source source' sink sink' told (status.BadSections found wanted) a is
+    (λ e. absurd cc) in
     let off = off_sections t.is_due.command t.input found wanted t.text t.is_due.replies in
     record {
       input = t.input;
@@ -87,15 +102,18 @@ pub record Says (command : Command) (input : List ℕ) (what : Type 0) : Type 0 
   pub count : length (sections_of input) ≡ sections_wanted command
   pub holds : what
 
-sectioned : (words : List (List ℕ)) (old new : SourceView) (input : List ℕ) (due : Status) (text : List ℕ) (h : Answered words new input due text) → due ≢ status.Ok
-    → Consumes old.rest new.rest input → length (sections_of input) ≡ sections_wanted h.command → IsSectioned words old new input
+sectioned : (words : List (List ℕ)) (old new : SourceView) (input : List ℕ) (due : Status)
+    (text : List ℕ) (h : Answered words new input due text) → due ≢ status.Ok
+    → Consumes old.rest new.rest input → length (sections_of input) ≡ sections_wanted h.command
+    → IsSectioned words old new input
 sectioned words old new input due text h not_ok consumed count = record {
   command = h.command;
   read = reads_for words old new input due text h not_ok consumed;
   count = count;
 }
 
-faulty_host : (command : Command) (input : List ℕ) (fault : HostFault) (text : List ℕ) → Replies command input (status.Host fault) text
+faulty_host : (command : Command) (input : List ℕ) (fault : HostFault) (text : List ℕ)
+    → Replies command input (status.Host fault) text
     → Says command input (IsHostFault (host_section (sections_of input)) fault)
 faulty_host called.Help input fault text h = cc
 faulty_host called.Version input fault text h = cc
@@ -103,7 +121,8 @@ faulty_host called.Plan input fault text h = record { count = h.0; holds = h.1.0
 faulty_host called.Check input fault text h = record { count = h.0; holds = h.1.0 }
 faulty_host (called.Replay rounds) input fault text h = record { count = h.0; holds = h.1.0 }
 
-pub host_told : (words : List (List ℕ)) (source source' : SourceView) (sink sink' : SinkView) (told : Status) (fault : HostFault) → Answers words source source' sink sink' told
+pub host_told : (words : List (List ℕ)) (source source' : SourceView) (sink sink' : SinkView)
+    (told : Status) (fault : HostFault) → Answers words source source' sink sink' told
     → told ≡ status.Host fault → HostIsFaulty words source source' fault
 host_told words source source' sink sink' told fault a is =
     let t = told_due words source source' sink sink' told (status.Host fault) a is (λ e. absurd cc) in
@@ -114,7 +133,8 @@ host_told words source source' sink sink' told fault a is =
       faulty = says.holds;
     }
 
-lacking_period : (command : Command) (input : List ℕ) (vcpu : ℕ) (text : List ℕ) → Replies command input (status.NoPeriod vcpu) text
+lacking_period : (command : Command) (input : List ℕ) (vcpu : ℕ) (text : List ℕ)
+    → Replies command input (status.NoPeriod vcpu) text
     → Says command input (LacksPeriods (host_section (sections_of input)) vcpu text)
 lacking_period called.Help input vcpu text h = cc
 lacking_period called.Version input vcpu text h = cc
@@ -122,10 +142,16 @@ lacking_period called.Plan input vcpu text h = record { count = h.0; holds = h.1
 lacking_period called.Check input vcpu text h = record { count = h.0; holds = h.1 }
 lacking_period (called.Replay rounds) input vcpu text h = record {
   count = h.0;
-  holds = record { host = h.1.parts.host; is_host = h.1.read.script.is_host; lacks = h.1.lacks; says = h.1.says };
+  holds = record {
+    host = h.1.parts.host;
+    is_host = h.1.read.script.is_host;
+    lacks = h.1.lacks;
+    says = h.1.says;
+  };
 }
 
-pub no_period_told : (words : List (List ℕ)) (source source' : SourceView) (sink sink' : SinkView) (told : Status) (vcpu : ℕ) → Answers words source source' sink sink' told
+pub no_period_told : (words : List (List ℕ)) (source source' : SourceView) (sink sink' : SinkView)
+    (told : Status) (vcpu : ℕ) → Answers words source source' sink sink' told
     → told ≡ status.NoPeriod vcpu → NoPeriodIsOut words source source' sink sink' vcpu
 no_period_told words source source' sink sink' told vcpu a is =
     let t = told_due words source source' sink sink' told (status.NoPeriod vcpu) a is (λ e. absurd cc) in
@@ -138,7 +164,8 @@ no_period_told words source source' sink sink' told vcpu a is =
       out = t.out;
     }
 
-lacking_room : (command : Command) (input : List ℕ) (vcpu rest : ℕ) (over : List Over) (text : List ℕ) → Replies command input (status.NoRoom vcpu rest over) text
+lacking_room : (command : Command) (input : List ℕ) (vcpu rest : ℕ) (over : List Over)
+    (text : List ℕ) → Replies command input (status.NoRoom vcpu rest over) text
     → Says command input (LacksRooms (host_section (sections_of input)) vcpu rest over text)
 lacking_room called.Help input vcpu rest over text h = cc
 lacking_room called.Version input vcpu rest over text h = cc
@@ -146,13 +173,21 @@ lacking_room called.Plan input vcpu rest over text h = record { count = h.0; hol
 lacking_room called.Check input vcpu rest over text h = absurd h.1
 lacking_room (called.Replay rounds) input vcpu rest over text h = record {
   count = h.0;
-  holds = record { host = h.1.parts.host; is_host = h.1.read.script.is_host; lacks = h.1.lacks; says = h.1.says };
+  holds = record {
+    host = h.1.parts.host;
+    is_host = h.1.read.script.is_host;
+    lacks = h.1.lacks;
+    says = h.1.says;
+  };
 }
 
-pub no_room_told : (words : List (List ℕ)) (source source' : SourceView) (sink sink' : SinkView) (told : Status) (vcpu rest : ℕ) (over : List Over)
-    → Answers words source source' sink sink' told → told ≡ status.NoRoom vcpu rest over → NoRoomIsOut words source source' sink sink' vcpu rest over
+pub no_room_told : (words : List (List ℕ)) (source source' : SourceView) (sink sink' : SinkView)
+    (told : Status) (vcpu rest : ℕ) (over : List Over)
+    → Answers words source source' sink sink' told → told ≡ status.NoRoom vcpu rest over
+    → NoRoomIsOut words source source' sink sink' vcpu rest over
 no_room_told words source source' sink sink' told vcpu rest over a is =
-    let t = told_due words source source' sink sink' told (status.NoRoom vcpu rest over) a is (λ e. absurd cc) in
+    let t = told_due words source source' sink sink' told (status.NoRoom vcpu rest over) a is
+    (λ e. absurd cc) in
     let says = lacking_room t.is_due.command t.input vcpu rest over t.text t.is_due.replies in
     record {
       input = t.input;

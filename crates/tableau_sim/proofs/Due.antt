@@ -20,66 +20,159 @@ use Rattle.tableau_sim.specs.Answers.{HasRead, IsDue, IsWholeInput}
 use Rattle.tableau_sim.specs.Found.{Found, FoundInInput, IsDueFor, RepliedToHost, plan_status, status_of, text_of}
 use Rattle.tableau_sim.specs.Replies.{Replies}
 
-no_usage : (command : Command) (input : List ℕ) (place : ℕ) (text : List ℕ) → Replies command input (status.Usage place) text → ⊥
+no_usage : (command : Command) (input : List ℕ) (place : ℕ) (text : List ℕ)
+    → Replies command input (status.Usage place) text → ⊥
 no_usage called.Plan input place text h = h.1
 no_usage called.Check input place text h = h.1
 no_usage (called.Replay rounds) input place text h = h.1
 no_usage called.Help input place text h = cc
 no_usage called.Version input place text h = cc
 
-no_write_fault : (command : Command) (input : List ℕ) (text : List ℕ) → Replies command input status.WriteFault text → ⊥
+no_write_fault : (command : Command) (input : List ℕ) (text : List ℕ)
+    → Replies command input status.WriteFault text → ⊥
 no_write_fault called.Plan input text h = h.1
 no_write_fault called.Check input text h = h.1
 no_write_fault (called.Replay rounds) input text h = h.1
 no_write_fault called.Help input text h = cc
 no_write_fault called.Version input text h = cc
 
-reads_all : (command : Command) (new : SourceView) (input : List ℕ) → command ≢ called.Help → command ≢ called.Version → IsWholeInput new input → HasRead command new input
+reads_all : (command : Command) (new : SourceView) (input : List ℕ) → command ≢ called.Help
+    → command ≢ called.Version → IsWholeInput new input → HasRead command new input
 reads_all called.Plan new input no_help no_version h = h
 reads_all called.Check new input no_help no_version h = h
 reads_all (called.Replay rounds) new input no_help no_version h = h
 reads_all called.Help new input no_help no_version h = absurd (no_help refl)
 reads_all called.Version new input no_help no_version h = absurd (no_version refl)
 
-due_for : (words : List (List ℕ)) (command : Command) (old new : SourceView) (input : List ℕ) (due : Status) (text : List ℕ)
-    → IsCommand words command → command ≢ called.Help → command ≢ called.Version → IsDueFor command old new input due text → IsDue words old new input due text
-due_for words command old new input (status.Usage place) text are no_help no_version h = absurd (no_usage command input place text h.1)
-due_for words command old new input status.ReadFault text are no_help no_version h = record { command = command; words_are = are; says = h.0; because = (h.1, h.2) }
-due_for words command old new input status.TooLong text are no_help no_version h = record { command = command; words_are = are; says = h.0; because = h.1 }
-due_for words command old new input status.NoMemory text are no_help no_version h = record { command = command; words_are = are; says = h; because = tt {0} }
-due_for words command old new input status.WriteFault text are no_help no_version h = absurd (no_write_fault command input text h.1)
-due_for words command old new input status.Ok text are no_help no_version h = record { command = command; words_are = are; read = reads_all command new input no_help no_version h.0; replies = h.1 }
-due_for words command old new input (status.BadSections found wanted) text are no_help no_version h = record { command = command; words_are = are; read = reads_all command new input no_help no_version h.0; replies = h.1 }
-due_for words command old new input (status.Host f) text are no_help no_version h = record { command = command; words_are = are; read = reads_all command new input no_help no_version h.0; replies = h.1 }
-due_for words command old new input (status.Script f) text are no_help no_version h = record { command = command; words_are = are; read = reads_all command new input no_help no_version h.0; replies = h.1 }
-due_for words command old new input (status.BadStep line) text are no_help no_version h = record { command = command; words_are = are; read = reads_all command new input no_help no_version h.0; replies = h.1 }
-due_for words command old new input (status.BadPlanLine line) text are no_help no_version h = record { command = command; words_are = are; read = reads_all command new input no_help no_version h.0; replies = h.1 }
-due_for words command old new input (status.CheckNo off) text are no_help no_version h = record { command = command; words_are = are; read = reads_all command new input no_help no_version h.0; replies = h.1 }
-due_for words command old new input (status.StepRefused line answer) text are no_help no_version h = record { command = command; words_are = are; read = reads_all command new input no_help no_version h.0; replies = h.1 }
-due_for words command old new input (status.NoPeriod vcpu) text are no_help no_version h = record { command = command; words_are = are; read = reads_all command new input no_help no_version h.0; replies = h.1 }
-due_for words command old new input (status.NoRoom vcpu rest over) text are no_help no_version h = record { command = command; words_are = are; read = reads_all command new input no_help no_version h.0; replies = h.1 }
+due_for : (words : List (List ℕ)) (command : Command) (old new : SourceView) (input : List ℕ)
+    (due : Status) (text : List ℕ)
+    → IsCommand words command → command ≢ called.Help → command ≢ called.Version
+    → IsDueFor command old new input due text → IsDue words old new input due text
+due_for words command old new input (status.Usage place) text are no_help no_version h =
+    absurd (no_usage command input place text h.1)
+due_for words command old new input status.ReadFault text are no_help no_version h =
+    record { command = command; words_are = are; says = h.0; because = (h.1, h.2) }
+due_for words command old new input status.TooLong text are no_help no_version h =
+    record { command = command; words_are = are; says = h.0; because = h.1 }
+due_for words command old new input status.NoMemory text are no_help no_version h =
+    record { command = command; words_are = are; says = h; because = tt {0} }
+due_for words command old new input status.WriteFault text are no_help no_version h =
+    absurd (no_write_fault command input text h.1)
+due_for words command old new input status.Ok text are no_help no_version h =
+    record {
+      command = command;
+      words_are = are;
+      read = reads_all command new input no_help no_version h.0;
+      replies = h.1;
+    }
+due_for words command old new input
+    (status.BadSections found wanted) text are no_help no_version h =
+    record {
+      command = command;
+      words_are = are;
+      read = reads_all command new input no_help no_version h.0;
+      replies = h.1;
+    }
+due_for words command old new input (status.Host f) text are no_help no_version h =
+    record {
+      command = command;
+      words_are = are;
+      read = reads_all command new input no_help no_version h.0;
+      replies = h.1;
+    }
+due_for words command old new input (status.Script f) text are no_help no_version h =
+    record {
+      command = command;
+      words_are = are;
+      read = reads_all command new input no_help no_version h.0;
+      replies = h.1;
+    }
+due_for words command old new input (status.BadStep line) text are no_help no_version h =
+    record {
+      command = command;
+      words_are = are;
+      read = reads_all command new input no_help no_version h.0;
+      replies = h.1;
+    }
+due_for words command old new input (status.BadPlanLine line) text are no_help no_version h =
+    record {
+      command = command;
+      words_are = are;
+      read = reads_all command new input no_help no_version h.0;
+      replies = h.1;
+    }
+due_for words command old new input (status.CheckNo off) text are no_help no_version h =
+    record {
+      command = command;
+      words_are = are;
+      read = reads_all command new input no_help no_version h.0;
+      replies = h.1;
+    }
+due_for words command old new input (status.StepRefused line answer) text are no_help no_version h =
+    record {
+      command = command;
+      words_are = are;
+      read = reads_all command new input no_help no_version h.0;
+      replies = h.1;
+    }
+due_for words command old new input (status.NoPeriod vcpu) text are no_help no_version h =
+    record {
+      command = command;
+      words_are = are;
+      read = reads_all command new input no_help no_version h.0;
+      replies = h.1;
+    }
+due_for words command old new input (status.NoRoom vcpu rest over) text are no_help no_version h =
+    record {
+      command = command;
+      words_are = are;
+      read = reads_all command new input no_help no_version h.0;
+      replies = h.1;
+    }
 
 pub found_for : (words : List (List ℕ)) (command : Command) (old new : SourceView) (found : Reply)
-    → IsCommand words command → command ≢ called.Help → command ≢ called.Version → FoundInInput command old new found → Found words old new found
+    → IsCommand words command → command ≢ called.Help → command ≢ called.Version
+    → FoundInInput command old new found → Found words old new found
 found_for words command old new found are no_help no_version h = record {
   input = h.input;
   consumed = h.consumed;
   later = h.later;
-  is_due = due_for words command old new h.input (status_of found) (text_of found) are no_help no_version h.is_due;
+  is_due = due_for words command old new h.input (status_of found)
+      (text_of found) are no_help no_version h.is_due;
   writable = h.writable;
 }
 
 -- a fault of the planner for a host that was read
 pub host_refused : (section : List ℕ) (host : Host) (f : PlanFault) → IsHostText section host
     → ((vcpu : ℕ) → f ≡ fault.NoPeriod vcpu → IsFirstWithoutPeriod host.vcpus vcpu)
-    → ((vcpu rest : ℕ) (over : List Over) → f ≡ fault.NoRoom vcpu rest over → IsFirstWithoutRoom host vcpu rest over)
+    → ((vcpu rest : ℕ) (over : List Over) → f ≡ fault.NoRoom vcpu rest over
+    → IsFirstWithoutRoom host vcpu rest over)
     → RepliedToHost section (reply.Refused (plan_status f) (Some host))
-host_refused section host (fault.NoPeriod vcpu) is no_period no_room = record { replies = record { host = host; is_host = is; lacks = no_period vcpu refl; says = refl }; writable = tt {0} }
-host_refused section host (fault.NoRoom vcpu rest over) is no_period no_room = record { replies = record { host = host; is_host = is; lacks = no_room vcpu rest over refl; says = refl }; writable = tt {0} }
+host_refused section host (fault.NoPeriod vcpu) is no_period no_room =
+    record {
+      replies = record {
+        host = host;
+        is_host = is;
+        lacks = no_period vcpu refl;
+        says = refl;
+      };
+      writable = tt {0};
+    }
+host_refused section host (fault.NoRoom vcpu rest over) is no_period no_room =
+    record {
+      replies = record {
+        host = host;
+        is_host = is;
+        lacks = no_room vcpu rest over refl;
+        says = refl;
+      };
+      writable = tt {0};
+    }
 host_refused section host fault.NoMemory is no_period no_room = record { replies = refl; writable = tt {0} }
 
 -- words that are no command: nothing is read
-pub usage_found : (words : List (List ℕ)) (source : SourceView) (place : ℕ) → IsFaultAt words place → Found words source source (reply.Refused (status.Usage place) None)
+pub usage_found : (words : List (List ℕ)) (source : SourceView) (place : ℕ) → IsFaultAt words place
+    → Found words source source (reply.Refused (status.Usage place) None)
 usage_found words source place fault = record {
   input = [];
   consumed = Consumes-nil source.rest;

@@ -40,7 +40,8 @@ use Rattle.tableau_sim.specs.ReplayParts.{HasParts, HasScript, ReplayParts, scri
 
 -- ---- how many steps there are
 
-lines_more : (byte : ℕ) (bytes : List ℕ) (feed : Bool) → (byte == 10) ≡ feed → length (lines_of bytes) ≤ length bytes
+lines_more : (byte : ℕ) (bytes : List ℕ) (feed : Bool) → (byte == 10) ≡ feed
+    → length (lines_of bytes) ≤ length bytes
     → length (lines_of (byte ∷ bytes)) ≤ length (byte ∷ bytes)
 unfolding lines_of
 lines_more byte bytes true is few = rw is (omega (arith, few))
@@ -56,7 +57,8 @@ few_lines [] = omega arith
 few_lines (byte ∷ bytes) = lines_more byte bytes (byte == 10) refl (few_lines bytes)
 
 rows_more : (number : ℕ) (line : List ℕ) (lines : List (List ℕ)) (skipped : Bool) → is_skipped line ≡ skipped
-    → length (rows_from (number + 1) lines) ≤ length lines → length (rows_from number (line ∷ lines)) ≤ length (line ∷ lines)
+    → length (rows_from (number + 1) lines) ≤ length lines
+    → length (rows_from number (line ∷ lines)) ≤ length (line ∷ lines)
 unfolding rows_from
 rows_more number line lines true is few = rw is (omega (arith, few))
 rows_more number line lines false is few = rw is (omega (arith, few))
@@ -64,82 +66,114 @@ rows_more number line lines false is few = rw is (omega (arith, few))
 few_rows : (number : ℕ) (lines : List (List ℕ)) → length (rows_from number lines) ≤ length lines
 unfolding rows_from
 few_rows number [] = omega arith
-few_rows number (line ∷ lines) = rows_more number line lines (is_skipped line) refl (few_rows (number + 1) lines)
+few_rows number (line ∷ lines) =
+    rows_more number line lines (is_skipped line) refl (few_rows (number + 1) lines)
 
-pub few_steps : (cores : ℕ) (bytes : List ℕ) (taken : List Step) (lines : List ℕ) → AreSteps cores (rows_of bytes) taken lines → length taken ≤ length bytes
+pub few_steps : (cores : ℕ) (bytes : List ℕ) (taken : List Step) (lines : List ℕ)
+    → AreSteps cores (rows_of bytes) taken lines → length taken ≤ length bytes
 few_steps cores bytes taken lines are =
-    let count : length (map (λ (row : Row). row.words) (rows_of bytes)) ≡ length (map step_words taken) = ap length are.written in
-    omega (arith, count, length-map (rows_of bytes) (λ (row : Row). row.words), length-map taken step_words, few_rows 1 (lines_of bytes), few_lines bytes)
+    let count : length (map (λ (row : Row). row.words) (rows_of bytes))
+    ≡ length (map step_words taken) = ap length are.written in
+    omega (
+      arith,
+      count,
+      length-map (rows_of bytes) (λ (row : Row). row.words),
+      length-map taken step_words,
+      few_rows 1 (lines_of bytes),
+      few_lines bytes,
+    )
 
 -- ---- what the machine is given
 
-names_core : (course : CourseView) (cores : ℕ) (taken : Step) → course.cores ≡ cores → IsWithin cores taken → NamesCore course taken
+names_core : (course : CourseView) (cores : ℕ) (taken : Step) → course.cores ≡ cores
+    → IsWithin cores taken → NamesCore course taken
 names_core course cores step.Post same within = tt {0}
 names_core course cores (step.See c) same within = omega (arith, same, within)
 names_core course cores (step.Decide c) same within = omega (arith, same, within)
 names_core course cores (step.Run c) same within = omega (arith, same, within)
 
-pub each_names_core : (course : CourseView) (cores : ℕ) (all : List Step) → course.cores ≡ cores → All (IsWithin cores) all
+pub each_names_core : (course : CourseView) (cores : ℕ) (all : List Step) → course.cores ≡ cores
+    → All (IsWithin cores) all
     → (k : ℕ) (taken : Step) → slice_get all k ≡ Some taken → NamesCore course taken
 each_names_core course cores all same within k taken at =
     names_core course cores taken same (subst (IsWithin cores) (get_or_from_slice_get all k taken taken at)
     (All-get_or (IsWithin cores) all k taken (slice_get_within all k taken at) within))
 
 pub course_of : (host : Host) (events : List Event) (made : BookView) → IsBookOf host events made
-    → ((n : ℕ) → n ≤ length events → (known : Known) × IsKnownAfter host events n known) → IsCourseOf host events made.course
+    → ((n : ℕ) → n ≤ length events → (known : Known) × IsKnownAfter host events n known)
+    → IsCourseOf host events made.course
 course_of host events made is known = record {
   cores = is.cores;
   lag = is.lag;
   quantum = is.quantum;
   ticks = is.ticks;
-  after = λ n within. (let k = known n within in record { known = k.0; is = k.1; shows = is.after n k.0 k.1 });
+  after = λ n within.
+      (let k = known n within in record { known = k.0; is = k.1; shows = is.after n k.0 k.1 });
 }
 
 -- ---- refusals
 
-script_faulty : (rounds : ℕ) (sections : List (List ℕ)) (host : Host) (fault : ScriptFault) → IsHostText (host_section sections) host
-    → IsFirstFault (names_of host.vcpus) rounds (rows_of (script_section sections)) fault → RepliedToSections rounds sections (reply.Refused (status.Script fault) None)
+script_faulty : (rounds : ℕ) (sections : List (List ℕ)) (host : Host) (fault : ScriptFault)
+    → IsHostText (host_section sections) host
+    → IsFirstFault (names_of host.vcpus) rounds (rows_of (script_section sections)) fault
+    → RepliedToSections rounds sections (reply.Refused (status.Script fault) None)
 script_faulty rounds sections host fault is faulty = record {
   replies = (record { host = host; is_host = is; faulty = faulty }, refl);
   writable = tt {0};
 }
 
-pub script_refused : (rounds : ℕ) (sections : List (List ℕ)) (host : Host) (fault : ScriptFault) → IsHostText (host_section sections) host
-    → (fault ≡ script.NoMemory) ⊎ IsFirstFault (names_of host.vcpus) rounds (rows_of (script_section sections)) fault
+pub script_refused : (rounds : ℕ) (sections : List (List ℕ)) (host : Host) (fault : ScriptFault)
+    → IsHostText (host_section sections) host
+    → (fault ≡ script.NoMemory) ⊎ IsFirstFault (names_of host.vcpus) rounds
+    (rows_of (script_section sections)) fault
     → RepliedToSections rounds sections (reply.Refused (script_status fault) None)
 script_refused rounds sections host script.NoMemory is h = record { replies = refl; writable = tt {0} }
 script_refused rounds sections host (script.BadLine line) is (inl lacks) = absurd cc
-script_refused rounds sections host (script.BadLine line) is (inr faulty) = script_faulty rounds sections host _ is faulty
+script_refused rounds sections host (script.BadLine line) is (inr faulty) =
+    script_faulty rounds sections host _ is faulty
 script_refused rounds sections host (script.UnknownName line) is (inl lacks) = absurd cc
-script_refused rounds sections host (script.UnknownName line) is (inr faulty) = script_faulty rounds sections host _ is faulty
+script_refused rounds sections host (script.UnknownName line) is (inr faulty) =
+    script_faulty rounds sections host _ is faulty
 script_refused rounds sections host (script.OutOfOrder line) is (inl lacks) = absurd cc
-script_refused rounds sections host (script.OutOfOrder line) is (inr faulty) = script_faulty rounds sections host _ is faulty
+script_refused rounds sections host (script.OutOfOrder line) is (inr faulty) =
+    script_faulty rounds sections host _ is faulty
 script_refused rounds sections host (script.LateEvent line) is (inl lacks) = absurd cc
-script_refused rounds sections host (script.LateEvent line) is (inr faulty) = script_faulty rounds sections host _ is faulty
+script_refused rounds sections host (script.LateEvent line) is (inr faulty) =
+    script_faulty rounds sections host _ is faulty
 script_refused rounds sections host (script.TooManyEvents line) is (inl lacks) = absurd cc
-script_refused rounds sections host (script.TooManyEvents line) is (inr faulty) = script_faulty rounds sections host _ is faulty
+script_refused rounds sections host (script.TooManyEvents line) is (inr faulty) =
+    script_faulty rounds sections host _ is faulty
 script_refused rounds sections host (script.TooManyChanges line) is (inl lacks) = absurd cc
-script_refused rounds sections host (script.TooManyChanges line) is (inr faulty) = script_faulty rounds sections host _ is faulty
+script_refused rounds sections host (script.TooManyChanges line) is (inr faulty) =
+    script_faulty rounds sections host _ is faulty
 
-pub steps_refused : (rounds : ℕ) (sections : List (List ℕ)) (host : Host) (events : List Event) (fault : StepsFault) → HasScript rounds sections host events
-    → ((line : ℕ) → fault ≡ steps.BadLine line → IsFirstBadLine host.cores (rows_of (steps_section sections)) line)
+pub steps_refused : (rounds : ℕ) (sections : List (List ℕ)) (host : Host) (events : List Event)
+    (fault : StepsFault) → HasScript rounds sections host events
+    → ((line : ℕ) → fault ≡ steps.BadLine line
+    → IsFirstBadLine host.cores (rows_of (steps_section sections)) line)
     → RepliedToSections rounds sections (reply.Refused (steps_status fault) None)
 steps_refused rounds sections host events (steps.BadLine line) script faulty = record {
   replies = (record { host = host; events = events; script = script; faulty = faulty line refl }, refl);
   writable = tt {0};
 }
-steps_refused rounds sections host events steps.NoMemory script faulty = record { replies = refl; writable = tt {0} }
+steps_refused rounds sections host events steps.NoMemory script faulty =
+    record { replies = refl; writable = tt {0} }
 
-pub place_in : (course : CourseView) (rounds : ℕ) (taken : List Step) (lines : List ℕ) (fault : ReplayFault) → length lines ≡ length taken
+pub place_in : (course : CourseView) (rounds : ℕ) (taken : List Step) (lines : List ℕ)
+    (fault : ReplayFault) → length lines ≡ length taken
     → IsFaultOf course rounds taken fault → IsPlaceIn (length lines) fault
-place_in course rounds taken lines (replay.Refused place answer) same refused = omega (arith, same, slice_get_within taken place refused.step refused.at)
+place_in course rounds taken lines (replay.Refused place answer) same refused =
+    omega (arith, same, slice_get_within taken place refused.step refused.at)
 place_in course rounds taken lines replay.NoMemory same refused = tt {0}
 
-pub step_refused : (rounds : ℕ) (sections : List (List ℕ)) (parts : ReplayParts) (course : CourseView) (fault : ReplayFault) → HasParts rounds sections parts
-    → IsCourseOf parts.host parts.events course → length parts.lines ≡ length parts.steps → IsFaultOf course rounds parts.steps fault
+pub step_refused : (rounds : ℕ) (sections : List (List ℕ)) (parts : ReplayParts)
+    (course : CourseView) (fault : ReplayFault) → HasParts rounds sections parts
+    → IsCourseOf parts.host parts.events course → length parts.lines ≡ length parts.steps
+    → IsFaultOf course rounds parts.steps fault
     → RepliedToSections rounds sections (reply.Refused (replay_status parts.lines fault) None)
 step_refused rounds sections parts course (replay.Refused place answer) read is same refused =
-    let low : place < length parts.lines = omega (arith, same, slice_get_within parts.steps place refused.step refused.at) in
+    let low : place < length parts.lines =
+    omega (arith, same, slice_get_within parts.steps place refused.step refused.at) in
     record {
       replies = (
         record {
@@ -155,11 +189,14 @@ step_refused rounds sections parts course (replay.Refused place answer) read is 
       );
       writable = tt {0};
     }
-step_refused rounds sections parts course replay.NoMemory read is same refused = record { replies = refl; writable = tt {0} }
+step_refused rounds sections parts course replay.NoMemory read is same refused =
+    record { replies = refl; writable = tt {0} }
 
-pub book_refused : (rounds : ℕ) (sections : List (List ℕ)) (parts : ReplayParts) (f : BookFault) → HasParts rounds sections parts
+pub book_refused : (rounds : ℕ) (sections : List (List ℕ)) (parts : ReplayParts) (f : BookFault)
+    → HasParts rounds sections parts
     → ((vcpu : ℕ) → f ≡ book.NoPeriod vcpu → IsFirstWithoutPeriod parts.host.vcpus vcpu)
-    → ((vcpu rest : ℕ) (over : List Over) → f ≡ book.NoRoom vcpu rest over → IsFirstWithoutRoom parts.host vcpu rest over)
+    → ((vcpu rest : ℕ) (over : List Over) → f ≡ book.NoRoom vcpu rest over
+    → IsFirstWithoutRoom parts.host vcpu rest over)
     → RepliedToSections rounds sections (reply.Refused (book_status f) (Some parts.host))
 book_refused rounds sections parts (book.NoPeriod vcpu) read no_period no_room = record {
   replies = record { parts = parts; read = read; lacks = no_period vcpu refl; says = refl };
@@ -169,4 +206,5 @@ book_refused rounds sections parts (book.NoRoom vcpu rest over) read no_period n
   replies = record { parts = parts; read = read; lacks = no_room vcpu rest over refl; says = refl };
   writable = tt {0};
 }
-book_refused rounds sections parts book.NoMemory read no_period no_room = record { replies = refl; writable = tt {0} }
+book_refused rounds sections parts book.NoMemory read no_period no_room =
+    record { replies = refl; writable = tt {0} }

@@ -24,7 +24,8 @@ HasRead command.Version new input = input ≡ []
 HasRead command new input = IsWholeInput new input
 
 -- the words are a command, its input was read, and this is the command's reply to it
-pub record Answered (words : List (List ℕ)) (new : SourceView) (input : List ℕ) (due : Status) (text : List ℕ) : Type 0 where
+pub record Answered (words : List (List ℕ)) (new : SourceView) (input : List ℕ) (due : Status)
+    (text : List ℕ) : Type 0 where
   pub command : Command
   pub words_are : IsCommand words command
   pub read : HasRead command new input
@@ -37,22 +38,30 @@ pub record Stopped (words : List (List ℕ)) (due : Status) (text : List ℕ) (c
   pub says : text ≡ line_of [] due
   pub because : cause
 
--- before the first byte is written this status was due with this text, by its cause, after these bytes were read
+-- before the first byte is written this status was due with this text, by its cause, after these
+-- bytes were read
 abbrev pub IsDue : List (List ℕ) → SourceView → SourceView → List ℕ → Status → List ℕ → Type 0
-IsDue words old new input (status.Usage place) text = IsFaultAt words place × (input ≡ []) × (text ≡ line_of [] (status.Usage place))
-IsDue words old new input status.ReadFault text = Stopped words status.ReadFault text (Rose old.faults new.faults × (old.sound ≡ true → ⊥))
-IsDue words old new input status.TooLong text = Stopped words status.TooLong text (length input ≡ INPUT_LIMIT + 1)
+IsDue words old new input (status.Usage place) text = IsFaultAt words place × (input ≡ [])
+    × (text ≡ line_of [] (status.Usage place))
+IsDue words old new input status.ReadFault text =
+    Stopped words status.ReadFault text (Rose old.faults new.faults × (old.sound ≡ true → ⊥))
+IsDue words old new input status.TooLong text =
+    Stopped words status.TooLong text (length input ≡ INPUT_LIMIT + 1)
 IsDue words old new input status.NoMemory text = Stopped words status.NoMemory text (Unit {0})
 IsDue words old new input status.WriteFault text = ⊥
 IsDue words old new input due text = Answered words new input due text
 
--- the text came whole and settled, and the status is the one that was due; or the sink failed after a front of it
+-- the text came whole and settled, and the status is the one that was due; or the sink failed after
+-- a front of it
 pub record Tells (old new : SinkView) (due : Status) (text : List ℕ) (told : Status) : Type 0 where
   pub later : old.faults ≤ new.faults
-  pub whole : ((told ≡ due) × Appends old.taken new.taken text × AllSettled new) ⊎ ((told ≡ status.WriteFault) × Begun old.taken new.taken text × Rose old.faults new.faults × LacksRoom old text)
+  pub whole : ((told ≡ due) × Appends old.taken new.taken text × AllSettled new)
+      ⊎ ((told ≡ status.WriteFault) × Begun old.taken new.taken text × Rose old.faults new.faults
+      × LacksRoom old text)
 
 -- the whole call
-pub record Answers (words : List (List ℕ)) (source source' : SourceView) (sink sink' : SinkView) (told : Status) : Type 0 where
+pub record Answers (words : List (List ℕ)) (source source' : SourceView) (sink sink' : SinkView)
+    (told : Status) : Type 0 where
   pub input : List ℕ
   pub consumed : Consumes source.rest source'.rest input
   pub later : source.faults ≤ source'.faults

@@ -19,7 +19,8 @@ pub record ReadsWhole (source source' : SourceView) (input : List ℕ) : Type 0 
 
 -- one byte more than the limit was read
 abbrev pub ReadTooMuch : SourceView → SourceView → Type 0
-ReadTooMuch source source' = (input : List ℕ) × Consumes source.rest source'.rest input × (length input ≡ INPUT_LIMIT + 1)
+ReadTooMuch source source' = (input : List ℕ) × Consumes source.rest source'.rest input
+    × (length input ≡ INPUT_LIMIT + 1)
 
 -- this text is out and settled, and nothing else
 pub record IsOut (sink sink' : SinkView) (text : List ℕ) : Type 0 where
@@ -31,7 +32,8 @@ abbrev pub LineIsOut : SinkView → SinkView → Status → Type 0
 LineIsOut sink sink' refusal = (names : List (List ℕ)) × IsOut sink sink' (line_of names refusal)
 
 -- the sink failed after a front of the text that was due
-pub record FrontIsOut (words : List (List ℕ)) (source source' : SourceView) (sink sink' : SinkView) : Type 0 where
+pub record FrontIsOut (words : List (List ℕ)) (source source' : SourceView)
+    (sink sink' : SinkView) : Type 0 where
   pub failed : Rose sink.faults sink'.faults
   pub input : List ℕ
   pub consumed : Consumes source.rest source'.rest input

@@ -57,8 +57,8 @@ pub record IsCheckInput (source : SourceView) (input : List ℕ) : Type 0 where
   pub within : length input ≤ INPUT_LIMIT
   pub two : length (sections_of input) ≡ 2
 
--- the sections are a host whose vCPUs have periods, and a plan text for it; its tables have good shapes, are apart and
--- serve the tasks
+-- the sections are a host whose vCPUs have periods, and a plan text for it; its tables have good
+-- shapes, are apart and serve the tasks
 pub record IsCheckable (sections : List (List ℕ)) : Type 0 where
   pub host : Host
   pub is_host : IsHostText (host_section sections) host

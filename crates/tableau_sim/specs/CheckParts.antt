@@ -30,4 +30,5 @@ pub record HasBadLine (sections : List (List ℕ)) (line : ℕ) : Type 0 where
   pub host : Host
   pub tasks : List (Option Periodic)
   pub tasked : HasTasks sections host tasks
-  pub bad : IsFirstBad (IsSomePlan (names_of host.vcpus) host.cores tasks) 1 (worded (plan_section sections)) line
+  pub bad : IsFirstBad (IsSomePlan (names_of host.vcpus) host.cores tasks) 1
+      (worded (plan_section sections)) line

@@ -46,7 +46,8 @@ text_of (reply.Replay host made steps state) = replay_text (names_of host.vcpus)
 text_of reply.Checked = codes "ok\n"
 text_of (reply.Refused refusal host) = line_of (names_in host) refusal
 
--- a plan in a reply is one for its host, and a state is that to which its steps lead, so that they can be written
+-- a plan in a reply is one for its host, and a state is that to which its steps lead, so that they
+-- can be written
 abbrev pub IsWritable : Reply → Type 0
 IsWritable (reply.Plan host plan) = IsPlanFor host (plan_view plan)
 IsWritable (reply.Replay host made steps state) = IsRunOf made.course steps state
@@ -87,8 +88,10 @@ pub record RepliedToHost (section : List ℕ) (found : Reply) : Type 0 where
 
 -- what is due for a command after these bytes were read
 abbrev pub IsDueFor : Command → SourceView → SourceView → List ℕ → Status → List ℕ → Type 0
-IsDueFor command old new input status.ReadFault text = (text ≡ line_of [] status.ReadFault) × Rose old.faults new.faults × (old.sound ≡ true → ⊥)
-IsDueFor command old new input status.TooLong text = (text ≡ line_of [] status.TooLong) × (length input ≡ INPUT_LIMIT + 1)
+IsDueFor command old new input status.ReadFault text = (text ≡ line_of [] status.ReadFault)
+    × Rose old.faults new.faults × (old.sound ≡ true → ⊥)
+IsDueFor command old new input status.TooLong text = (text ≡ line_of [] status.TooLong)
+    × (length input ≡ INPUT_LIMIT + 1)
 IsDueFor command old new input status.NoMemory text = text ≡ line_of [] status.NoMemory
 IsDueFor command old new input due text = IsWholeInput new input × Replies command input due text
 

@@ -32,12 +32,14 @@ pub record PlanIsOut (source source' : SourceView) (sink sink' : SinkView) : Typ
   pub out : IsOut sink sink' text
 
 -- the words are this command, and the whole input was read
-pub record ReadsFor (words : List (List ℕ)) (source source' : SourceView) (input : List ℕ) (command : Command) : Type 0 where
+pub record ReadsFor (words : List (List ℕ)) (source source' : SourceView) (input : List ℕ)
+    (command : Command) : Type 0 where
   pub words_are : IsCommand words command
   pub whole : ReadsWhole source source' input
 
 -- the input has so many sections, which aren't as many as the command wants
-pub record SectionsAreOff (words : List (List ℕ)) (source source' : SourceView) (found wanted : ℕ) : Type 0 where
+pub record SectionsAreOff (words : List (List ℕ)) (source source' : SourceView)
+    (found wanted : ℕ) : Type 0 where
   pub input : List ℕ
   pub command : Command
   pub read : ReadsFor words source source' input command
@@ -52,21 +54,26 @@ pub record IsSectioned (words : List (List ℕ)) (source source' : SourceView) (
   pub count : length (sections_of input) ≡ sections_wanted command
 
 -- the first section is no host, for this first fault
-pub record HostIsFaulty (words : List (List ℕ)) (source source' : SourceView) (fault : HostFault) : Type 0 where
+pub record HostIsFaulty (words : List (List ℕ)) (source source' : SourceView)
+    (fault : HostFault) : Type 0 where
   pub input : List ℕ
   pub read : IsSectioned words source source' input
   pub faulty : IsHostFault (host_section (sections_of input)) fault
 
--- the first section is a host without a period for this vCPU, the lowest such, and what is out is the line that names it
-pub record NoPeriodIsOut (words : List (List ℕ)) (source source' : SourceView) (sink sink' : SinkView) (vcpu : ℕ) : Type 0 where
+-- the first section is a host without a period for this vCPU, the lowest such, and what is out is
+-- the line that names it
+pub record NoPeriodIsOut (words : List (List ℕ)) (source source' : SourceView)
+    (sink sink' : SinkView) (vcpu : ℕ) : Type 0 where
   pub input : List ℕ
   pub read : IsSectioned words source source' input
   pub text : List ℕ
   pub lacks : LacksPeriods (host_section (sections_of input)) vcpu text
   pub out : IsOut sink sink' text
 
--- the first section is a host in which this vCPU is the first without room, and what is out is the line that names it
-pub record NoRoomIsOut (words : List (List ℕ)) (source source' : SourceView) (sink sink' : SinkView) (vcpu rest : ℕ) (over : List Over) : Type 0 where
+-- the first section is a host in which this vCPU is the first without room, and what is out is the
+-- line that names it
+pub record NoRoomIsOut (words : List (List ℕ)) (source source' : SourceView) (sink sink' : SinkView)
+    (vcpu rest : ℕ) (over : List Over) : Type 0 where
   pub input : List ℕ
   pub read : IsSectioned words source source' input
   pub text : List ℕ
@@ -83,8 +90,10 @@ pub record IsHostInput (source : SourceView) (input : List ℕ) : Type 0 where
 pub record IsPlannable (section : List ℕ) : Type 0 where
   pub host : Host
   pub is_host : IsHostText section host
-  pub has_periods : (other : Host) (vcpu : ℕ) → IsHostText section other → IsFirstWithoutPeriod other.vcpus vcpu → ⊥
-  pub has_room : (other : Host) (vcpu rest : ℕ) (over : List Over) → IsHostText section other → IsFirstWithoutRoom other vcpu rest over → ⊥
+  pub has_periods : (other : Host) (vcpu : ℕ) → IsHostText section other
+      → IsFirstWithoutPeriod other.vcpus vcpu → ⊥
+  pub has_room : (other : Host) (vcpu rest : ℕ) (over : List Over) → IsHostText section other
+      → IsFirstWithoutRoom other vcpu rest over → ⊥
 
 -- the host's vCPUs have periods, and together demand so little that worst fit leaves none over
 pub record HasBoundedTasks (host : Host) : Type 0 where

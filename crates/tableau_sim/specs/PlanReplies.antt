@@ -36,7 +36,8 @@ pub record LacksRooms (section : List ℕ) (vcpu rest : ℕ) (over : List Over) 
 
 abbrev pub PlanRepliesHost : List ℕ → Status → List ℕ → Type 0
 PlanRepliesHost section status.Ok text = Plans section text
-PlanRepliesHost section (status.Host fault) text = IsHostFault section fault × (text ≡ line_of [] (status.Host fault))
+PlanRepliesHost section (status.Host fault) text = IsHostFault section fault
+    × (text ≡ line_of [] (status.Host fault))
 PlanRepliesHost section (status.NoPeriod vcpu) text = LacksPeriods section vcpu text
 PlanRepliesHost section (status.NoRoom vcpu rest over) text = LacksRooms section vcpu rest over text
 PlanRepliesHost section due text = ⊥

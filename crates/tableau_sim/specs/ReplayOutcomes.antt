@@ -27,12 +27,14 @@ pub record ReplayIsOut (rounds : ℕ) (source source' : SourceView) (sink sink' 
   pub out : IsOut sink sink' text
 
 -- the words are `replay` and this count of rounds, and the input is three sections
-pub record ReadsReplay (words : List (List ℕ)) (source source' : SourceView) (input : List ℕ) (rounds : ℕ) : Type 0 where
+pub record ReadsReplay (words : List (List ℕ)) (source source' : SourceView) (input : List ℕ)
+    (rounds : ℕ) : Type 0 where
   pub words_are : IsCommand words (command.Replay rounds)
   pub read : ThreeSections source source' input
 
 -- the second section is no script of the host, for this first fault
-pub record ScriptIsFaulty (words : List (List ℕ)) (source source' : SourceView) (fault : ScriptFault) : Type 0 where
+pub record ScriptIsFaulty (words : List (List ℕ)) (source source' : SourceView)
+    (fault : ScriptFault) : Type 0 where
   pub input : List ℕ
   pub rounds : ℕ
   pub read : ReadsReplay words source source' input rounds
@@ -46,7 +48,8 @@ pub record StepIsBad (words : List (List ℕ)) (source source' : SourceView) (li
   pub faulty : HasBadStep rounds (sections_of input) line
 
 -- the step on this line is the first that isn't done, with this answer
-pub record StepIsRefused (words : List (List ℕ)) (source source' : SourceView) (line : ℕ) (answer : Answer) : Type 0 where
+pub record StepIsRefused (words : List (List ℕ)) (source source' : SourceView) (line : ℕ)
+    (answer : Answer) : Type 0 where
   pub input : List ℕ
   pub rounds : ℕ
   pub read : ReadsReplay words source source' input rounds

@@ -25,7 +25,8 @@ pub record ReplayParts : Type 0 where
   pub lines : List ℕ
 
 -- the first two sections are this host and this script of it, for a run of so many rounds
-pub record HasScript (rounds : ℕ) (sections : List (List ℕ)) (host : Host) (events : List Event) : Type 0 where
+pub record HasScript (rounds : ℕ) (sections : List (List ℕ)) (host : Host)
+    (events : List Event) : Type 0 where
   pub is_host : IsHostText (host_section sections) host
   pub is_script : IsScript (names_of host.vcpus) rounds (rows_of (script_section sections)) events
 

@@ -20,9 +20,9 @@ use Rattle.tableau_sim.specs.ReplayParts.{HasBadStep, HasParts, HasScriptFault, 
 use Rattle.tableau_sim.specs.declared.status.Status.{Status}
 use Rattle.tableau_sim.specs.declared.status.Status.TheVariants as status
 
--- all steps are allowed, one after the other, from the opening of the course that the script makes of the host, and the
--- text is that of the run to which they lead, with a line for each decide and each run; the state keeps what every run
--- keeps
+-- all steps are allowed, one after the other, from the opening of the course that the script makes
+-- of the host, and the text is that of the run to which they lead, with a line for each decide and
+-- each run; the state keeps what every run keeps
 pub record Replays (rounds : ℕ) (sections : List (List ℕ)) (text : List ℕ) : Type 0 where
   pub parts : ReplayParts
   pub read : HasParts rounds sections parts
@@ -35,21 +35,23 @@ pub record Replays (rounds : ℕ) (sections : List (List ℕ)) (text : List ℕ)
   pub says : text ≡ replay_text (names_of parts.host.vcpus) course parts.steps state
 
 -- all is read, and the host's vCPU of this number is the lowest without a period
-pub record ReadsWithoutPeriod (rounds : ℕ) (sections : List (List ℕ)) (vcpu : ℕ) (text : List ℕ) : Type 0 where
+pub record ReadsWithoutPeriod (rounds : ℕ) (sections : List (List ℕ)) (vcpu : ℕ)
+    (text : List ℕ) : Type 0 where
   pub parts : ReplayParts
   pub read : HasParts rounds sections parts
   pub lacks : IsFirstWithoutPeriod parts.host.vcpus vcpu
   pub says : text ≡ line_of (names_of parts.host.vcpus) (status.NoPeriod vcpu)
 
 -- all is read, and in the host this vCPU is the first without room
-pub record ReadsWithoutRoom (rounds : ℕ) (sections : List (List ℕ)) (vcpu rest : ℕ) (over : List Over) (text : List ℕ) : Type 0 where
+pub record ReadsWithoutRoom (rounds : ℕ) (sections : List (List ℕ)) (vcpu rest : ℕ)
+    (over : List Over) (text : List ℕ) : Type 0 where
   pub parts : ReplayParts
   pub read : HasParts rounds sections parts
   pub lacks : IsFirstWithoutRoom parts.host vcpu rest over
   pub says : text ≡ line_of (names_of parts.host.vcpus) (status.NoRoom vcpu rest over)
 
--- all is read, and the step on this line is the first that isn't done, with this answer, in a run of the course that the
--- script makes of the host
+-- all is read, and the step on this line is the first that isn't done, with this answer, in a run
+-- of the course that the script makes of the host
 pub record HasRefusedStep (rounds : ℕ) (sections : List (List ℕ)) (line : ℕ) (answer : Answer) : Type 0 where
   pub parts : ReplayParts
   pub read : HasParts rounds sections parts
@@ -61,10 +63,16 @@ pub record HasRefusedStep (rounds : ℕ) (sections : List (List ℕ)) (line : �
 
 abbrev pub ReplayReplies : ℕ → List (List ℕ) → Status → List ℕ → Type 0
 ReplayReplies rounds sections status.Ok text = Replays rounds sections text
-ReplayReplies rounds sections (status.Host fault) text = IsHostFault (host_section sections) fault × (text ≡ line_of [] (status.Host fault))
-ReplayReplies rounds sections (status.Script fault) text = HasScriptFault rounds sections fault × (text ≡ line_of [] (status.Script fault))
-ReplayReplies rounds sections (status.BadStep line) text = HasBadStep rounds sections line × (text ≡ line_of [] (status.BadStep line))
+ReplayReplies rounds sections (status.Host fault) text = IsHostFault (host_section sections) fault
+    × (text ≡ line_of [] (status.Host fault))
+ReplayReplies rounds sections (status.Script fault) text = HasScriptFault rounds sections fault
+    × (text ≡ line_of [] (status.Script fault))
+ReplayReplies rounds sections (status.BadStep line) text = HasBadStep rounds sections line
+    × (text ≡ line_of [] (status.BadStep line))
 ReplayReplies rounds sections (status.NoPeriod vcpu) text = ReadsWithoutPeriod rounds sections vcpu text
-ReplayReplies rounds sections (status.NoRoom vcpu rest over) text = ReadsWithoutRoom rounds sections vcpu rest over text
-ReplayReplies rounds sections (status.StepRefused line answer) text = HasRefusedStep rounds sections line answer × (text ≡ line_of [] (status.StepRefused line answer))
+ReplayReplies rounds sections (status.NoRoom vcpu rest over) text =
+    ReadsWithoutRoom rounds sections vcpu rest over text
+ReplayReplies rounds sections (status.StepRefused line answer) text =
+    HasRefusedStep rounds sections line answer
+    × (text ≡ line_of [] (status.StepRefused line answer))
 ReplayReplies rounds sections due text = ⊥

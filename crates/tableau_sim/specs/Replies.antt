@@ -22,8 +22,10 @@ sections_wanted (command.Replay rounds) = 3
 -- a reply to so many sections, or the refusal of another number of them
 abbrev pub ToSections : ℕ → (List (List ℕ) → Status → List ℕ → Type 0) → List ℕ → Status → List ℕ → Type 0
 ToSections wanted replies input (status.BadSections found want) text =
-    (found ≡ length (sections_of input)) × (want ≡ wanted) × (found ≢ wanted) × (text ≡ line_of [] (status.BadSections found want))
-ToSections wanted replies input due text = (length (sections_of input) ≡ wanted) × replies (sections_of input) due text
+    (found ≡ length (sections_of input)) × (want ≡ wanted) × (found ≢ wanted)
+    × (text ≡ line_of [] (status.BadSections found want))
+ToSections wanted replies input due text = (length (sections_of input) ≡ wanted)
+    × replies (sections_of input) due text
 
 -- one line for each command
 abbrev pub Replies : Command → List ℕ → Status → List ℕ → Type 0

@@ -87,12 +87,14 @@ pub fn tableau<R: Threads + Sync, S: Source, K: Sink>(
         → LineIsOut (K.state output.old) (K.state output.new) result }
 
     // Where no cause stands and neither end failed, the plan is out or memory was wanting.
-    ensures complete { (host : List ℕ) → IsCommand (texts words.now) Command.Plan → IsHostInput (S.state input.old) host
+    ensures complete { (host : List ℕ) → IsCommand (texts words.now) Command.Plan
+        → IsHostInput (S.state input.old) host
         → IsPlannable (host_section (sections_of host))
         → NoFaults (S.state input.old) (S.state input.new) (K.state output.old) (K.state output.new)
         → (result ≡ Status.Ok) ⊎ (result ≡ Status.NoMemory) }
     // The same of a replay.
-    ensures complete_replay { (rounds : ℕ) (given : List ℕ) → IsCommand (texts words.now) (Command.Replay rounds)
+    ensures complete_replay { (rounds : ℕ) (given : List ℕ)
+        → IsCommand (texts words.now) (Command.Replay rounds)
         → IsReplayInput (S.state input.old) given → IsReplayable rounds (sections_of given)
         → NoFaults (S.state input.old) (S.state input.new) (K.state output.old) (K.state output.new)
         → (result ≡ Status.Ok) ⊎ (result ≡ Status.NoMemory) }
@@ -102,7 +104,8 @@ pub fn tableau<R: Threads + Sync, S: Source, K: Sink>(
         → NoFaults (S.state input.old) (S.state input.new) (K.state output.old) (K.state output.new)
         → (result ≡ Status.Ok) ⊎ (result ≡ Status.NoMemory) }
     // A host within the bound of worst fit is planned so.
-    ensures within_bound { (host : List ℕ) → IsCommand (texts words.now) Command.Plan → IsHostInput (S.state input.old) host
+    ensures within_bound { (host : List ℕ) → IsCommand (texts words.now) Command.Plan
+        → IsHostInput (S.state input.old) host
         → IsBounded (host_section (sections_of host))
         → NoFaults (S.state input.old) (S.state input.new) (K.state output.old) (K.state output.new)
         → (result ≡ Status.Ok) ⊎ (result ≡ Status.NoMemory) }

@@ -28,7 +28,8 @@ pub(crate) fn put_table_line<K: Sink>(
     fault: &CheckFault,
     vcpus: &[Vcpu],
 ) -> Result<(), WriteFault>
-    ensures { Writes (K.state sink.old) (K.state sink.new) (table_line (names_of vcpus.now) fault.now) result }
+    ensures { Writes (K.state sink.old) (K.state sink.new)
+        (table_line (names_of vcpus.now) fault.now) result }
 {
     match fault {
         CheckFault::BadShape { core, place } => put_shape_line(sink, core.0, *place),

@@ -38,7 +38,8 @@ fn find_for<R: Threads + Sync, S: Source>(
     input: &mut S,
 ) -> Reply
     requires { HasGoodRounds command }
-    ensures { (words : List (List ℕ)) → IsCommand words command → Found words (S.state input.old) (S.state input.new) result }
+    ensures { (words : List (List ℕ)) → IsCommand words command
+        → Found words (S.state input.old) (S.state input.new) result }
 {
     match command {
         Command::Help => Reply::Help,

@@ -165,7 +165,8 @@ fn put_host_line<K: Sink>(sink: &mut K, fault: &HostFault) -> Result<(), WriteFa
 
 // Writes a line that ends with the path of a key.
 fn put_path_line<K: Sink>(sink: &mut K, begin: &[u8], path: &Path) -> Result<(), WriteFault>
-    ensures { Writes (K.state sink.old) (K.state sink.new) (begin.now ++ (path_text path.now ++ codes "\n")) result }
+    ensures { Writes (K.state sink.old) (K.state sink.new)
+        (begin.now ++ (path_text path.now ++ codes "\n")) result }
 {
     match path.vcpu {
         None => put_pieces(

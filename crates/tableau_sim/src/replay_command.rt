@@ -91,7 +91,9 @@ fn replay_of_parts<R: Threads + Sync>(
     requires in_run { AreInRun rounds script }
     requires names { All (IsWithin host.cores) list.steps }
     requires short { length list.steps < 2 ^ 32 }
-    ensures { (sections : List (List ℕ)) → HasParts rounds sections (record { host = host; events = script; steps = list.steps; lines = list.lines })
+    ensures { (sections : List (List ℕ))
+        → HasParts rounds sections
+        (record { host = host; events = script; steps = list.steps; lines = list.lines })
         → RepliedToSections rounds sections result }
 {
     let book = match make_book(rt, alloc, &host, &script) {
@@ -119,7 +121,8 @@ fn state_after(
 ) -> Result<MachineState, ReplayFault>
     requires fits { FitsRounds course.now rounds }
     requires short { length steps.now < 2 ^ 32 }
-    requires names { (k : ℕ) (step : StepValue) → slice_get steps.now k ≡ Some step → NamesCore course.now step }
+    requires names { (k : ℕ) (step : StepValue) → slice_get steps.now k ≡ Some step
+        → NamesCore course.now step }
     ensures ok { IfOk result (λ state. IsRunOf course.now steps.now state) }
     ensures leads { IfOk result (λ state. Leads course.now rounds (opening course.now.cores) steps.now state) }
     ensures kept { IfOk result (λ state. Kept course.now rounds state) }

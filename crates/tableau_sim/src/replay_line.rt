@@ -63,7 +63,8 @@ pub(crate) fn put_step_line<K: Sink>(
 
 // The same of a step that waits.
 fn put_behind<K: Sink>(sink: &mut K, line: u32, who: &Actor, tick: u32) -> Result<(), WriteFault>
-    ensures { Writes (K.state sink.old) (K.state sink.new) (step_line line (Answer.Behind who.now tick)) result }
+    ensures { Writes (K.state sink.old) (K.state sink.new)
+        (step_line line (Answer.Behind who.now tick)) result }
 {
     match who {
         Actor::Core(core) => put_pieces(
@@ -98,7 +99,8 @@ fn put_numbered<'a, K: Sink>(
     number: u32,
     behind: &'a [u8],
 ) -> Result<(), WriteFault>
-    ensures { Writes (K.state sink.old) (K.state sink.new) (before.now ++ (decimal number ++ behind.now)) result }
+    ensures { Writes (K.state sink.old) (K.state sink.new)
+        (before.now ++ (decimal number ++ behind.now)) result }
 {
     put_pieces(
         sink,

@@ -12,8 +12,10 @@ use Rattle.vcpu_names.specs.Names.{AreNames, HasNumbers, IsUnknown, name_at, nam
 
 number_at-added : (numbers more : BTreeMap (Bor (List ℕ)) ℕ) (key : Bor (List ℕ)) (vcpu : ℕ)
     → Updates (λ a b. slice_cmp nat_cmp a.now b.now) numbers more key (Some vcpu)
-    → (name : List ℕ) → number_at more name ≡ cond (bytes_eq key.now name) (Some vcpu) (number_at numbers name)
-number_at-added numbers more key vcpu updates name = btree_map_updates_str key.now numbers more (Some vcpu) updates name
+    → (name : List ℕ) → number_at more name ≡ cond (bytes_eq key.now name) (Some vcpu)
+    (number_at numbers name)
+number_at-added numbers more key vcpu updates name =
+    btree_map_updates_str key.now numbers more (Some vcpu) updates name
 
 at_last : (names : List (List ℕ)) (name : List ℕ) → get_or (names ++ name ∷ []) (length names) [] ≡ name
 at_last names name = grind (arith, common_steps)
@@ -26,7 +28,8 @@ longer : (names : List (List ℕ)) (name : List ℕ) → length (names ++ name �
 longer names name = grind (arith, common_steps)
 
 known_more : (names : List (List ℕ)) (name other : List ℕ) (vcpu : ℕ) (before : Option ℕ) (same : Bool)
-    → ((v : ℕ) → before ≡ Some v → (v < length names) × (name_at names v ≡ other) × IsName other) → IsName name
+    → ((v : ℕ) → before ≡ Some v → (v < length names) × (name_at names v ≡ other) × IsName other)
+    → IsName name
     → bytes_eq name other ≡ same → cond same (Some (length names)) before ≡ Some vcpu
     → (vcpu < length (names ++ name ∷ [])) × (name_at (names ++ name ∷ []) vcpu ≡ other) × IsName other
 known_more names name other vcpu before true known good is at =
@@ -48,30 +51,39 @@ unknown_more names name other before false every is at = λ vcpu low text.
     let size = longer names name in
     let differs : name ≢ other = λ same. cc (is, (bytes_eq-Decides name other).1 same) in
     let last = at_last names name in
-    let here : vcpu ≡ length names → ⊥ = λ same. differs (sym last ∙ (ap (λ (v : ℕ). get_or (names ++ name ∷ []) v []) (sym same) ∙ text)) in
+    let here : vcpu ≡ length names → ⊥ =
+    λ same. differs
+    (sym last ∙ (ap (λ (v : ℕ). get_or (names ++ name ∷ []) v []) (sym same) ∙ text)) in
     let below : vcpu < length names = omega arith in
     every at vcpu below (sym (at_before names name vcpu below) ∙ text)
 
 -- the map with one name more
-pub has_more : (names : List (List ℕ)) (numbers more : BTreeMap (Bor (List ℕ)) ℕ) (key : Bor (List ℕ)) (vcpu : ℕ)
+pub has_more : (names : List (List ℕ)) (numbers more : BTreeMap (Bor (List ℕ)) ℕ)
+    (key : Bor (List ℕ)) (vcpu : ℕ)
     → HasNumbers names numbers → IsName key.now → vcpu ≡ length names
     → Updates (λ a b. slice_cmp nat_cmp a.now b.now) numbers more key (Some vcpu)
     → HasNumbers (names ++ key.now ∷ []) more
 has_more names numbers more key vcpu has good next updates =
-    let added : (name : List ℕ) → number_at more name ≡ cond (bytes_eq key.now name) (Some (length names)) (number_at numbers name) =
-    λ name. number_at-added numbers more key vcpu updates name ∙ ap (λ (v : ℕ). cond (bytes_eq key.now name) (Some v) (number_at numbers name)) next in
+    let added : (name : List ℕ) → number_at more name
+    ≡ cond (bytes_eq key.now name) (Some (length names)) (number_at numbers name) =
+    λ name. number_at-added numbers more key vcpu updates name
+    ∙ ap (λ (v : ℕ). cond (bytes_eq key.now name) (Some v) (number_at numbers name)) next in
     record {
-      known = λ name v at. known_more names key.now name v (number_at numbers name) (bytes_eq key.now name) (has.known name) good refl (sym (added name) ∙ at);
-      every = λ name at. unknown_more names key.now name (number_at numbers name) (bytes_eq key.now name) (has.every name) refl (sym (added name) ∙ at);
+      known = λ name v at. known_more names key.now name v (number_at numbers name)
+          (bytes_eq key.now name) (has.known name) good refl (sym (added name) ∙ at);
+      every = λ name at. unknown_more names key.now name (number_at numbers name)
+          (bytes_eq key.now name) (has.every name) refl (sym (added name) ∙ at);
     }
 
 -- a look-up that finds nothing
-pub unknown_if : (names : List (List ℕ)) (numbers : BTreeMap (Bor (List ℕ)) ℕ) (name : List ℕ) (found : Option ℕ)
+pub unknown_if : (names : List (List ℕ)) (numbers : BTreeMap (Bor (List ℕ)) ℕ) (name : List ℕ)
+    (found : Option ℕ)
     → HasNumbers names numbers → found ≡ number_at numbers name → IfNone found (IsUnknown names name)
 unknown_if names numbers name None has is = has.every name (sym is)
 unknown_if names numbers name (Some vcpu) has is = tt
 
-name_of_one : (vcpus : List Vcpu) (i : ℕ) (d : Vcpu) → i < length vcpus → get_or (names_of vcpus) i [] ≡ (get_or vcpus i d).name
+name_of_one : (vcpus : List Vcpu) (i : ℕ) (d : Vcpu) → i < length vcpus
+    → get_or (names_of vcpus) i [] ≡ (get_or vcpus i d).name
 name_of_one [] i d low = absurd (omega arith)
 name_of_one (vcpu ∷ vcpus) zero d low = refl
 name_of_one (vcpu ∷ vcpus) (suc i) d low = name_of_one vcpus i d (omega arith)
@@ -85,7 +97,8 @@ pub names_more : (vcpus : List Vcpu) (i : ℕ) (vcpu : Vcpu) → i < length vcpu
 names_more vcpus i vcpu low is =
     let size = length-names_of vcpus in
     take_more (names_of vcpus) i [] (omega arith)
-    ∙ ap (λ (name : List ℕ). take i (names_of vcpus) ++ name ∷ []) (name_of_one vcpus i vcpu low ∙ ap (λ (v : Vcpu). v.name) (sym is))
+    ∙ ap (λ (name : List ℕ). take i (names_of vcpus) ++ name ∷ [])
+    (name_of_one vcpus i vcpu low ∙ ap (λ (v : Vcpu). v.name) (sym is))
 
 pub length_names : (vcpus : List Vcpu) (i : ℕ) → i < length vcpus → i ≡ length (take i (names_of vcpus))
 length_names vcpus i low =
@@ -93,13 +106,16 @@ length_names vcpus i low =
     grind (arith, common_steps)
 
 good_if : (names : List (List ℕ)) (numbers : BTreeMap (Bor (List ℕ)) ℕ) (vcpu : ℕ) (found : Option ℕ)
-    → HasNumbers names numbers → vcpu < length names → number_at numbers (name_at names vcpu) ≡ found → IsName (name_at names vcpu)
+    → HasNumbers names numbers → vcpu < length names
+    → number_at numbers (name_at names vcpu) ≡ found → IsName (name_at names vcpu)
 good_if names numbers vcpu None has low is = absurd (has.every (name_at names vcpu) is vcpu low refl)
 good_if names numbers vcpu (Some other) has low is = (has.known (name_at names vcpu) other is).2
 
 -- names that a map has are good
-all_good : (names : List (List ℕ)) (numbers : BTreeMap (Bor (List ℕ)) ℕ) → HasNumbers names numbers → AreNames names
-all_good names numbers has vcpu low = good_if names numbers vcpu (number_at numbers (name_at names vcpu)) has low refl
+all_good : (names : List (List ℕ)) (numbers : BTreeMap (Bor (List ℕ)) ℕ) → HasNumbers names numbers
+    → AreNames names
+all_good names numbers has vcpu low =
+    good_if names numbers vcpu (number_at numbers (name_at names vcpu)) has low refl
 
 -- names that a map of the first ones has, which are all
 pub good_in_whole : (vcpus : List Vcpu) (end : ℕ) (numbers : BTreeMap (Bor (List ℕ)) ℕ) → length vcpus ≤ end

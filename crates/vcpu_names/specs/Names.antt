@@ -29,5 +29,6 @@ number_at numbers name = get_by (λ held. slice_cmp nat_cmp name held.now) numbe
 
 -- the map has the numbers of these names and no other
 pub record HasNumbers (names : List (List ℕ)) (numbers : BTreeMap (Bor (List ℕ)) ℕ) : Type 0 where
-  pub known : (name : List ℕ) (vcpu : ℕ) → number_at numbers name ≡ Some vcpu → (vcpu < length names) × (name_at names vcpu ≡ name) × IsName name
+  pub known : (name : List ℕ) (vcpu : ℕ) → number_at numbers name ≡ Some vcpu
+      → (vcpu < length names) × (name_at names vcpu ≡ name) × IsName name
   pub every : (name : List ℕ) → number_at numbers name ≡ None → IsUnknown names name

@@ -46,7 +46,8 @@ impl<'a> Names<'a> {
 
     /// The number of the vCPU of this name, if there is one.
     pub fn number_of(&self, name: &[u8]) -> Option<VcpuNo>
-        ensures known { IfSome result (λ vcpu. (vcpu < length self.now) × (name_at self.now vcpu ≡ name.now) × IsName name.now) }
+        ensures known { IfSome result (λ vcpu. (vcpu < length self.now) × (name_at self.now vcpu ≡ name.now)
+            × IsName name.now) }
         ensures unknown { IfNone result (IsUnknown self.now name.now) }
     {
         self.numbers.get(name).copied()

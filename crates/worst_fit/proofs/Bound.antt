@@ -35,17 +35,21 @@ least_times : (loads : List ℕ) → length loads * least_load loads ≤ total l
 least_times [] = omega arith
 least_times (load ∷ []) = omega arith
 least_times (load ∷ next ∷ loads) =
-    let rest : length (next ∷ loads) * least_load (next ∷ loads) ≤ total (next ∷ loads) = least_times (next ∷ loads) in
+    let rest : length (next ∷ loads) * least_load (next ∷ loads) ≤ total (next ∷ loads) =
+    least_times (next ∷ loads) in
     let low : min load (least_load (next ∷ loads)) ≤ least_load (next ∷ loads) = omega arith in
-    let more = mul-le-mul_left {m = min load (least_load (next ∷ loads))} {n = least_load (next ∷ loads)} (length (next ∷ loads)) low in
+    let more = mul-le-mul_left {m = min load (least_load (next ∷ loads))}
+    {n = least_load (next ∷ loads)} (length (next ∷ loads)) low in
     omega arith
 
 -- what is put on the least core is added to the total
-total_set : (loads : List ℕ) (takes : ℕ) → 1 ≤ length loads → total (set loads (least_core loads) (least_load loads + takes)) ≡ total loads + takes
+total_set : (loads : List ℕ) (takes : ℕ) → 1 ≤ length loads
+    → total (set loads (least_core loads) (least_load loads + takes)) ≡ total loads + takes
 total_set [] takes some = absurd (omega arith)
 total_set (load ∷ []) takes some = omega arith
 total_set (load ∷ next ∷ loads) takes some = elim (cases_Bool (leb load (least_load (next ∷ loads)))) [
-  | inl here ↦ (let le = leb-true _ _ here in let least : min load (least_load (next ∷ loads)) ≡ load = omega arith in rw here (rw least (omega arith)))
+  | inl here ↦
+      (let le = leb-true _ _ here in let least : min load (least_load (next ∷ loads)) ≡ load = omega arith in rw here (rw least (omega arith)))
   | inr there ↦ (let lt = leb-false _ _ there in
       let least : min load (least_load (next ∷ loads)) ≡ least_load (next ∷ loads) = omega arith in
       let rest = total_set (next ∷ loads) takes (omega arith) in
@@ -53,7 +57,8 @@ total_set (load ∷ next ∷ loads) takes some = elim (cases_Bool (leb load (lea
 ]
 
 -- a vCPU that finds no room on n + 1 cores takes the demands past the bound
-room : (n least takes most rest all : ℕ) → (n + 1) * least ≤ all → takes ≤ most → all + (takes + rest) + n * most ≤ (n + 1) * ROUND → least + takes ≤ ROUND
+room : (n least takes most rest all : ℕ) → (n + 1) * least ≤ all → takes ≤ most
+    → all + (takes + rest) + n * most ≤ (n + 1) * ROUND → least + takes ≤ ROUND
 room n least takes most rest all low small bound = elim (cases_lt ROUND (least + takes)) [
   | inr fits ↦ fits
   | inl over ↦ (let each = mul-le-mul_left {m = takes} {n = most} n small in
@@ -61,17 +66,22 @@ room n least takes most rest all low small bound = elim (cases_lt ROUND (least +
       absurd (omega arith))
 ]
 
-keeps_none : (n most : ℕ) (p : Placing) (order : List Rank) → length p.loads ≡ n + 1 → p.left ≡ [] → All (λ rank. rank.demand ≤ most) order
+keeps_none : (n most : ℕ) (p : Placing) (order : List Rank) → length p.loads ≡ n + 1 → p.left ≡ []
+    → All (λ rank. rank.demand ≤ most) order
     → total p.loads + wanted order + n * most ≤ (n + 1) * ROUND → (place_all p order).left ≡ []
 unfolding wanted
 keeps_none n most p [] cores none each bound = rw (place_all-nil p) none
 keeps_none n most p (rank ∷ order) cores none each bound =
     let small : rank.demand ≤ most = All-head (λ (r : Rank). r.demand ≤ most) rank order each in
-    let low : (n + 1) * least_load p.loads ≤ total p.loads = subst (λ m. m * least_load p.loads ≤ total p.loads) cores (least_times p.loads) in
-    let fits = room n (least_load p.loads) rank.demand most (wanted order) (total p.loads) low small (omega arith) in
+    let low : (n + 1) * least_load p.loads ≤ total p.loads =
+    subst (λ m. m * least_load p.loads ≤ total p.loads) cores (least_times p.loads) in
+    let fits = room n (least_load p.loads) rank.demand most (wanted order) (total p.loads) low small
+    (omega arith) in
     let grown = total_set p.loads rank.demand (omega arith) in
     rw (place_all-cons p rank order) (rw (place_next-fits p rank fits)
-    (keeps_none n most (on_core p rank (least_core p.loads) (least_load p.loads + rank.demand)) order (length-set p.loads (least_core p.loads) (least_load p.loads + rank.demand) ∙ cores) none
+    (keeps_none n most (on_core p rank (least_core p.loads) (least_load p.loads + rank.demand))
+    order (length-set p.loads (least_core p.loads) (least_load p.loads + rank.demand) ∙ cores)
+    none
     (All-tail (λ (r : Rank). r.demand ≤ most) rank order each) (omega arith)))
 
 total_empty : (n : ℕ) → total (replicate n 0) ≡ 0
@@ -81,10 +91,12 @@ total_empty (suc n) = let rest = total_empty n in omega arith
 wanted_is : (ranks : List Rank) → wanted ranks ≡ sum_by (λ rank. rank.demand) ranks
 unfolding wanted
 wanted_is [] = refl
-wanted_is (rank ∷ ranks) = let rest = wanted_is ranks in omega (arith, sum_by-cons (λ (r : Rank). r.demand) rank ranks)
+wanted_is (rank ∷ ranks) = let rest = wanted_is ranks in omega
+    (arith, sum_by-cons (λ (r : Rank). r.demand) rank ranks)
 
 -- the ranks of tasks take together what the tasks do
-wanted_from : (number : ℕ) (tasks : List (Option Periodic)) → wanted (ranks_from number tasks) ≡ total_demand tasks
+wanted_from : (number : ℕ) (tasks : List (Option Periodic))
+    → wanted (ranks_from number tasks) ≡ total_demand tasks
 unfolding wanted
 wanted_from number [] = rw (ranks_from-nil number) refl
 wanted_from number (None ∷ tasks) =
@@ -96,28 +108,35 @@ wanted_from number (Some task ∷ tasks) =
     let first = sum_by-cons task_demand (Some task) tasks in
     rw (ranks_from-some number task tasks) (omega arith)
 
-wanted_order : (tasks : List (Option Periodic)) (order : List Rank) → IsFallingOrder tasks order → wanted order ≡ total_demand tasks
+wanted_order : (tasks : List (Option Periodic)) (order : List Rank) → IsFallingOrder tasks order
+    → wanted order ≡ total_demand tasks
 wanted_order tasks order falling_order =
-    wanted_is order ∙ sum_by-IsPermutation (λ (r : Rank). r.demand) (ranks_from 0 tasks) order falling_order.admitted ∙ sym (wanted_is (ranks_from 0 tasks)) ∙ wanted_from 0 tasks
+    wanted_is order ∙ sum_by-IsPermutation (λ (r : Rank). r.demand)
+    (ranks_from 0 tasks) order falling_order.admitted ∙ sym (wanted_is (ranks_from 0 tasks))
+    ∙ wanted_from 0 tasks
 
-at_most_largest : (tasks : List (Option Periodic)) (vcpu : ℕ) → task_demand (get_or tasks vcpu None) ≤ largest_demand tasks
+at_most_largest : (tasks : List (Option Periodic)) (vcpu : ℕ)
+    → task_demand (get_or tasks vcpu None) ≤ largest_demand tasks
 at_most_largest [] vcpu = omega arith
 at_most_largest (task ∷ tasks) zero = omega arith
 at_most_largest (task ∷ tasks) (suc vcpu) = let rest = at_most_largest tasks vcpu in omega arith
 
-each_small : (tasks : List (Option Periodic)) (order : List Rank) → IsFallingOrder tasks order → All (λ rank. rank.demand ≤ largest_demand tasks) order
+each_small : (tasks : List (Option Periodic)) (order : List Rank) → IsFallingOrder tasks order
+    → All (λ rank. rank.demand ≤ largest_demand tasks) order
 each_small tasks order falling_order = λ k d lt.
     let ranked = all_ranked tasks order falling_order k d lt in
     let takes = ranked.takes in
     let most = at_most_largest tasks (get_or order k d).vcpu in
     omega arith
 
-pub none_left : (tasks : List (Option Periodic)) (cores : ℕ) (order : List Rank) → 1 ≤ cores → IsFallingOrder tasks order → IsWithinBound tasks cores
+pub none_left : (tasks : List (Option Periodic)) (cores : ℕ) (order : List Rank) → 1 ≤ cores
+    → IsFallingOrder tasks order → IsWithinBound tasks cores
     → (place_all (nothing_placed cores (length tasks)) order).left ≡ []
 none_left tasks cores order some falling_order bound =
     let n = cores - 1 in
     let e : cores ≡ n + 1 = omega arith in
-    keeps_none n (largest_demand tasks) (nothing_placed cores (length tasks)) order (length-replicate cores 0 ∙ e) refl (each_small tasks order falling_order)
+    keeps_none n (largest_demand tasks) (nothing_placed cores (length tasks)) order
+    (length-replicate cores 0 ∙ e) refl (each_small tasks order falling_order)
     (let none = total_empty cores in
     let same = wanted_order tasks order falling_order in
     let all = subst (λ m. total_demand tasks + n * largest_demand tasks ≤ m * ROUND) e bound in

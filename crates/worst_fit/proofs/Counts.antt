@@ -40,7 +40,8 @@ same-zero a b ne = elim (eqb_tells a b) [
   | inr (is, other) ↦ rw is refl
 ]
 
-pub turns-cons : (vcpu : ℕ) (rank : Rank) (ranks : List Rank) → turns vcpu (rank ∷ ranks) ≡ same rank.vcpu vcpu + turns vcpu ranks
+pub turns-cons : (vcpu : ℕ) (rank : Rank) (ranks : List Rank)
+    → turns vcpu (rank ∷ ranks) ≡ same rank.vcpu vcpu + turns vcpu ranks
 unfolding turns
 turns-cons vcpu rank ranks = refl
 
@@ -55,16 +56,22 @@ lefts-nil vcpu = refl
 turns_is : (vcpu : ℕ) (ranks : List Rank) → turns vcpu ranks ≡ sum_by (λ rank. same rank.vcpu vcpu) ranks
 unfolding turns
 turns_is vcpu [] = refl
-turns_is vcpu (rank ∷ ranks) = ap (λ n. same rank.vcpu vcpu + n) (turns_is vcpu ranks) ∙ sym (sum_by-cons (λ (r : Rank). same r.vcpu vcpu) rank ranks)
+turns_is vcpu (rank ∷ ranks) = ap (λ n. same rank.vcpu vcpu + n) (turns_is vcpu ranks)
+    ∙ sym (sum_by-cons (λ (r : Rank). same r.vcpu vcpu) rank ranks)
 
 -- another order has the same ranks
-pub turns-permutation : (vcpu : ℕ) (ranks order : List Rank) → IsPermutation ranks order → turns vcpu order ≡ turns vcpu ranks
-turns-permutation vcpu ranks order p = turns_is vcpu order ∙ sum_by-IsPermutation (λ (r : Rank). same r.vcpu vcpu) ranks order p ∙ sym (turns_is vcpu ranks)
+pub turns-permutation : (vcpu : ℕ) (ranks order : List Rank) → IsPermutation ranks order
+    → turns vcpu order ≡ turns vcpu ranks
+turns-permutation vcpu ranks order p = turns_is vcpu order
+    ∙ sum_by-IsPermutation (λ (r : Rank). same r.vcpu vcpu) ranks order p
+    ∙ sym (turns_is vcpu ranks)
 
 -- the ranks from a number on have no vCPU of a lower number
-turns_below : (vcpu number : ℕ) (tasks : List (Option Periodic)) → vcpu < number → turns vcpu (ranks_from number tasks) ≡ 0
+turns_below : (vcpu number : ℕ) (tasks : List (Option Periodic)) → vcpu < number
+    → turns vcpu (ranks_from number tasks) ≡ 0
 turns_below vcpu number [] lt = rw (ranks_from-nil number) (turns-nil vcpu)
-turns_below vcpu number (None ∷ tasks) lt = rw (ranks_from-none number tasks) (turns_below vcpu (number + 1) tasks (omega arith))
+turns_below vcpu number (None ∷ tasks) lt =
+    rw (ranks_from-none number tasks) (turns_below vcpu (number + 1) tasks (omega arith))
 turns_below vcpu number (Some task ∷ tasks) lt =
     let rest = turns_below vcpu (number + 1) tasks (omega arith) in
     let other = same-zero number vcpu (omega arith) in
@@ -72,10 +79,13 @@ turns_below vcpu number (Some task ∷ tasks) lt =
     rw (ranks_from-some number task tasks) (omega arith)
 
 -- and each admitted one once
-pub turns_from : (vcpu number k : ℕ) (tasks : List (Option Periodic)) → vcpu ≡ number + k → turns vcpu (ranks_from number tasks) ≡ has k tasks
+pub turns_from : (vcpu number k : ℕ) (tasks : List (Option Periodic)) → vcpu ≡ number + k
+    → turns vcpu (ranks_from number tasks) ≡ has k tasks
 turns_from vcpu number k [] e = rw (ranks_from-nil number) (turns-nil vcpu)
-turns_from vcpu number zero (None ∷ tasks) e = rw (ranks_from-none number tasks) (turns_below vcpu (number + 1) tasks (omega arith))
-turns_from vcpu number (suc k) (None ∷ tasks) e = rw (ranks_from-none number tasks) (turns_from vcpu (number + 1) k tasks (omega arith))
+turns_from vcpu number zero (None ∷ tasks) e =
+    rw (ranks_from-none number tasks) (turns_below vcpu (number + 1) tasks (omega arith))
+turns_from vcpu number (suc k) (None ∷ tasks) e =
+    rw (ranks_from-none number tasks) (turns_from vcpu (number + 1) k tasks (omega arith))
 turns_from vcpu number zero (Some task ∷ tasks) e =
     let rest = turns_below vcpu (number + 1) tasks (omega arith) in
     let here = same-one number vcpu (omega arith) in
@@ -87,7 +97,8 @@ turns_from vcpu number (suc k) (Some task ∷ tasks) e =
     let split = turns-cons vcpu (rank_of number task) (ranks_from (number + 1) tasks) in
     rw (ranks_from-some number task tasks) (omega arith)
 
-pub lefts-more : (vcpu other : ℕ) (left : List ℕ) → lefts vcpu (left ++ other ∷ []) ≡ lefts vcpu left + same other vcpu
+pub lefts-more : (vcpu other : ℕ) (left : List ℕ)
+    → lefts vcpu (left ++ other ∷ []) ≡ lefts vcpu left + same other vcpu
 unfolding lefts
 lefts-more vcpu other [] = omega arith
 lefts-more vcpu other (first ∷ left) = let rest = lefts-more vcpu other left in omega arith
@@ -104,25 +115,32 @@ contains_counted vcpu (other ∷ left) some = elim (cases_eq other vcpu) [
 ]
 
 -- who stands in the list is counted
-pub counts_at : (vcpu k d : ℕ) (left : List ℕ) → k < length left → get_or left k d ≡ vcpu → 1 ≤ lefts vcpu left
+pub counts_at : (vcpu k d : ℕ) (left : List ℕ) → k < length left → get_or left k d ≡ vcpu
+    → 1 ≤ lefts vcpu left
 unfolding lefts
 counts_at vcpu k d [] lt at = absurd (omega arith)
 counts_at vcpu zero d (other ∷ left) lt at = let one = same-one other vcpu at in omega arith
-counts_at vcpu (suc k) d (other ∷ left) lt at = let rest = counts_at vcpu k d left (omega arith) at in omega arith
+counts_at vcpu (suc k) d (other ∷ left) lt at =
+    let rest = counts_at vcpu k d left (omega arith) at in omega arith
 
 counts_got : (vcpu k : ℕ) (left : List ℕ) → slice_get left k ≡ Some vcpu → 1 ≤ lefts vcpu left
 unfolding lefts
 counts_got vcpu k [] at = absurd cc
-counts_got vcpu zero (other ∷ left) at = let e : other ≡ vcpu = cc in let one = same-one other vcpu e in omega arith
+counts_got vcpu zero (other ∷ left) at =
+    let e : other ≡ vcpu = cc in let one = same-one other vcpu e in omega arith
 counts_got vcpu (suc k) (other ∷ left) at = let rest = counts_got vcpu k left at in omega arith
 
 -- who is counted once stands at one place
-pub one_place : (vcpu j k : ℕ) (left : List ℕ) → lefts vcpu left ≤ 1 → slice_get left j ≡ Some vcpu → slice_get left k ≡ Some vcpu → j ≡ k
+pub one_place : (vcpu j k : ℕ) (left : List ℕ) → lefts vcpu left ≤ 1 → slice_get left j ≡ Some vcpu
+    → slice_get left k ≡ Some vcpu → j ≡ k
 unfolding lefts
 one_place vcpu j k [] once at_j at_k = absurd cc
 one_place vcpu zero zero (other ∷ left) once at_j at_k = refl
 one_place vcpu zero (suc k) (other ∷ left) once at_j at_k =
-    let e : other ≡ vcpu = cc in let one = same-one other vcpu e in let more = counts_got vcpu k left at_k in absurd (omega arith)
+    let e : other ≡ vcpu =
+    cc in let one = same-one other vcpu e in let more = counts_got vcpu k left at_k in absurd (omega arith)
 one_place vcpu (suc j) zero (other ∷ left) once at_j at_k =
-    let e : other ≡ vcpu = cc in let one = same-one other vcpu e in let more = counts_got vcpu j left at_j in absurd (omega arith)
-one_place vcpu (suc j) (suc k) (other ∷ left) once at_j at_k = ap suc (one_place vcpu j k left (omega arith) at_j at_k)
+    let e : other ≡ vcpu =
+    cc in let one = same-one other vcpu e in let more = counts_got vcpu j left at_j in absurd (omega arith)
+one_place vcpu (suc j) (suc k) (other ∷ left) once at_j at_k =
+    ap suc (one_place vcpu j k left (omega arith) at_j at_k)

@@ -34,7 +34,8 @@ pub record IsKept (tasks : List (Option Periodic)) (cores : ℕ) (rest : List Ra
   pub balance : (vcpu : ℕ) → turns vcpu rest + has vcpu p.core_of + lefts vcpu p.left ≡ has vcpu tasks
 
 -- the least core of at least one
-pub least_core_in : (loads : List ℕ) → 1 ≤ length loads → (least_core loads < length loads) × (get_or loads (least_core loads) 0 ≡ least_load loads)
+pub least_core_in : (loads : List ℕ) → 1 ≤ length loads
+    → (least_core loads < length loads) × (get_or loads (least_core loads) 0 ≡ least_load loads)
 least_core_in [] some = absurd (omega arith)
 least_core_in (load ∷ loads) some = least_core_has load loads
 
@@ -48,14 +49,16 @@ at_most_one None = omega arith
 at_most_one (Some x) = omega arith
 
 -- the next vCPU isn't placed yet, and isn't left over
-fresh : (tasks : List (Option Periodic)) (cores : ℕ) (rank : Rank) (rest : List Rank) (p : Placing) → IsKept tasks cores (rank ∷ rest) p → get_or p.core_of rank.vcpu None ≡ None
+fresh : (tasks : List (Option Periodic)) (cores : ℕ) (rank : Rank) (rest : List Rank) (p : Placing)
+    → IsKept tasks cores (rank ∷ rest) p → get_or p.core_of rank.vcpu None ≡ None
 fresh tasks cores rank rest p kept =
     let turn = turns-cons rank.vcpu rank rest in
     let here = same-one rank.vcpu rank.vcpu refl in
     let most = at_most_one (get_or tasks rank.vcpu None) in
     none_if_zero (get_or p.core_of rank.vcpu None) (omega (arith, kept.balance rank.vcpu))
 
-share_here : (core home : ℕ) (task : Option Periodic) → home ≡ core → share_on core task (Some home) ≡ task_demand task
+share_here : (core home : ℕ) (task : Option Periodic) → home ≡ core
+    → share_on core task (Some home) ≡ task_demand task
 share_here core home task e = rw (eq-eqb home core e) refl
 
 share_elsewhere : (core home : ℕ) (task : Option Periodic) → home ≢ core → share_on core task (Some home) ≡ 0
@@ -64,15 +67,22 @@ share_elsewhere core home task ne = elim (eqb_tells home core) [
   | inr (is, other) ↦ rw is refl
 ]
 
-has_set : (vcpu other home : ℕ) (core_of : List (Option ℕ)) → other < length core_of → vcpu ≡ other → has vcpu (set core_of other (Some home)) ≡ 1
-has_set vcpu other home core_of lt e = ap (λ o. one_if (is_some o)) (get_or-set_at core_of other vcpu (Some home) None e lt)
+has_set : (vcpu other home : ℕ) (core_of : List (Option ℕ)) → other < length core_of → vcpu ≡ other
+    → has vcpu (set core_of other (Some home)) ≡ 1
+has_set vcpu other home core_of lt e =
+    ap (λ o. one_if (is_some o)) (get_or-set_at core_of other vcpu (Some home) None e lt)
 
-has_other : (vcpu other home : ℕ) (core_of : List (Option ℕ)) → vcpu ≢ other → has vcpu (set core_of other (Some home)) ≡ has vcpu core_of
-has_other vcpu other home core_of ne = ap (λ o. one_if (is_some o)) (get_or-set_other core_of other vcpu (Some home) None ne)
+has_other : (vcpu other home : ℕ) (core_of : List (Option ℕ)) → vcpu ≢ other
+    → has vcpu (set core_of other (Some home)) ≡ has vcpu core_of
+has_other vcpu other home core_of ne =
+    ap (λ o. one_if (is_some o)) (get_or-set_other core_of other vcpu (Some home) None ne)
 
 -- a vCPU came to stand on the least core
-keeps_on : (tasks : List (Option Periodic)) (cores : ℕ) (rank : Rank) (rest : List Rank) (p : Placing) → 1 ≤ cores → IsRankIn tasks rank
-    → least_load p.loads + rank.demand ≤ ROUND → IsKept tasks cores (rank ∷ rest) p → IsKept tasks cores rest (on_core p rank (least_core p.loads) (least_load p.loads + rank.demand))
+keeps_on : (tasks : List (Option Periodic)) (cores : ℕ) (rank : Rank) (rest : List Rank)
+    (p : Placing) → 1 ≤ cores → IsRankIn tasks rank
+    → least_load p.loads + rank.demand ≤ ROUND → IsKept tasks cores (rank ∷ rest) p
+    → IsKept tasks cores rest (on_core p rank (least_core p.loads)
+    (least_load p.loads + rank.demand))
 keeps_on tasks cores rank rest p some ranked room kept =
     let home = least_core p.loads in
     let load = least_load p.loads + rank.demand in
@@ -103,19 +113,23 @@ keeps_on tasks cores rank rest p some ranked room kept =
       ];
       fit = λ core lt. elim (cases_eq core home) [
         | inl e ↦ (let new = get_or-set_at p.loads home core load 0 e in_loads in omega arith)
-        | inr ne ↦ (let new = get_or-set_other p.loads home core load 0 ne in let old = kept.fit core lt in omega arith)
+        | inr ne ↦
+            (let new = get_or-set_other p.loads home core load 0 ne in let old = kept.fit core lt in omega arith)
       ];
       on_cores = λ vcpu core at. elim (cases_eq vcpu rank.vcpu) [
         | inl e ↦ (let new = get_or-set_at p.core_of rank.vcpu vcpu (Some home) None e (omega arith) in
             let here : home ≡ core = cc in omega arith)
-        | inr ne ↦ kept.on_cores vcpu core (sym (get_or-set_other p.core_of rank.vcpu vcpu (Some home) None ne) ∙ at)
+        | inr ne ↦
+            kept.on_cores vcpu core
+            (sym (get_or-set_other p.core_of rank.vcpu vcpu (Some home) None ne) ∙ at)
       ];
       balance = λ vcpu. (let turn = turns-cons vcpu rank rest in
           let before = kept.balance vcpu in
           elim (cases_eq vcpu rank.vcpu) [
             | inl e ↦ (let here = same-one rank.vcpu vcpu (sym e) in
                 let placed = has_set vcpu rank.vcpu home p.core_of (omega arith) e in
-                let absent : has vcpu p.core_of ≡ 0 = ap (λ o. one_if (is_some o)) (ap (λ v. get_or p.core_of v None) e ∙ none) in
+                let absent : has vcpu p.core_of ≡ 0 =
+                ap (λ o. one_if (is_some o)) (ap (λ v. get_or p.core_of v None) e ∙ none) in
                 omega arith)
             | inr ne ↦ (let other = same-zero rank.vcpu vcpu (λ e. ne (sym e)) in
                 let placed = has_other vcpu rank.vcpu home p.core_of ne in
@@ -124,7 +138,8 @@ keeps_on tasks cores rank rest p some ranked room kept =
     }
 
 -- a vCPU was left over
-keeps_left : (tasks : List (Option Periodic)) (cores : ℕ) (rank : Rank) (rest : List Rank) (p : Placing) → IsKept tasks cores (rank ∷ rest) p → IsKept tasks cores rest (left_over p rank)
+keeps_left : (tasks : List (Option Periodic)) (cores : ℕ) (rank : Rank) (rest : List Rank)
+    (p : Placing) → IsKept tasks cores (rank ∷ rest) p → IsKept tasks cores rest (left_over p rank)
 keeps_left tasks cores rank rest p kept = record {
   cores_are = kept.cores_are;
   as_many = kept.as_many;
@@ -137,36 +152,54 @@ keeps_left tasks cores rank rest p kept = record {
       omega arith);
 }
 
-keeps_next : (tasks : List (Option Periodic)) (cores : ℕ) (rank : Rank) (rest : List Rank) (p : Placing) → 1 ≤ cores → IsRankIn tasks rank → IsKept tasks cores (rank ∷ rest) p → IsKept tasks cores rest (place_next p rank)
-keeps_next tasks cores rank rest p some ranked kept = elim (cases_lt ROUND (least_load p.loads + rank.demand)) [
-  | inl over ↦ subst (IsKept tasks cores rest) (sym (place_next-left p rank over)) (keeps_left tasks cores rank rest p kept)
-  | inr room ↦ subst (IsKept tasks cores rest) (sym (place_next-fits p rank room)) (keeps_on tasks cores rank rest p some ranked room kept)
-]
+keeps_next : (tasks : List (Option Periodic)) (cores : ℕ) (rank : Rank) (rest : List Rank)
+    (p : Placing) → 1 ≤ cores → IsRankIn tasks rank → IsKept tasks cores (rank ∷ rest) p
+    → IsKept tasks cores rest (place_next p rank)
+keeps_next tasks cores rank rest p some ranked kept =
+    elim (cases_lt ROUND (least_load p.loads + rank.demand)) [
+      | inl over ↦ subst (IsKept tasks cores rest) (sym (place_next-left p rank over))
+          (keeps_left tasks cores rank rest p kept)
+      | inr room ↦ subst (IsKept tasks cores rest) (sym (place_next-fits p rank room))
+          (keeps_on tasks cores rank rest p some ranked room kept)
+    ]
 
-keeps_all : (tasks : List (Option Periodic)) (cores : ℕ) (order : List Rank) (p : Placing) → 1 ≤ cores → All (IsRankIn tasks) order → IsKept tasks cores order p → IsKept tasks cores [] (place_all p order)
+keeps_all : (tasks : List (Option Periodic)) (cores : ℕ) (order : List Rank) (p : Placing)
+    → 1 ≤ cores → All (IsRankIn tasks) order → IsKept tasks cores order p
+    → IsKept tasks cores [] (place_all p order)
 keeps_all tasks cores [] p some ranked kept = rw (place_all-nil p) kept
 keeps_all tasks cores (rank ∷ order) p some ranked kept =
     rw (place_all-cons p rank order)
     (keeps_all tasks cores order (place_next p rank) some (All-tail (IsRankIn tasks) rank order ranked)
     (keeps_next tasks cores rank order p some (All-head (IsRankIn tasks) rank order ranked) kept))
 
-ranked_task : (all : List (Option Periodic)) (number : ℕ) (task : Option Periodic) (tasks : List (Option Periodic)) → get_or all number None ≡ task → number < length all → All (IsRankIn all) (ranks_from (number + 1) tasks) → All (IsRankIn all) (ranks_from number (task ∷ tasks))
+ranked_task : (all : List (Option Periodic)) (number : ℕ) (task : Option Periodic)
+    (tasks : List (Option Periodic)) → get_or all number None ≡ task → number < length all
+    → All (IsRankIn all) (ranks_from (number + 1) tasks)
+    → All (IsRankIn all) (ranks_from number (task ∷ tasks))
 ranked_task all number None tasks here lt rest = rw (ranks_from-none number tasks) rest
 ranked_task all number (Some task) tasks here lt rest =
     rw (ranks_from-some number task tasks)
-    (All-cons (IsRankIn all) (rank_of number task) (ranks_from (number + 1) tasks) (record { known = lt; takes = sym (ap task_demand here) }) rest)
+    (All-cons (IsRankIn all) (rank_of number task) (ranks_from (number + 1) tasks)
+    (record { known = lt; takes = sym (ap task_demand here) }) rest)
 
 -- every rank of the tasks from a number on is that of a vCPU of theirs
-ranked_from : (all : List (Option Periodic)) (number : ℕ) (tasks : List (Option Periodic)) → drop number all ≡ tasks → number + length tasks ≡ length all → All (IsRankIn all) (ranks_from number tasks)
+ranked_from : (all : List (Option Periodic)) (number : ℕ) (tasks : List (Option Periodic))
+    → drop number all ≡ tasks → number + length tasks ≡ length all
+    → All (IsRankIn all) (ranks_from number tasks)
 ranked_from all number [] from long = rw (ranks_from-nil number) (All-nil (IsRankIn all))
 ranked_from all number (task ∷ tasks) from long =
-    let here : get_or all number None ≡ task = ap (λ n. get_or all n None) (omega arith) ∙ sym (get_or-drop number all 0 None) ∙ ap (λ t. get_or t 0 None) from in
+    let here : get_or all number None ≡ task =
+    ap (λ n. get_or all n None) (omega arith) ∙ sym (get_or-drop number all 0 None)
+    ∙ ap (λ t. get_or t 0 None) from in
     let next : drop (number + 1) all ≡ tasks = sym (drop-drop 1 number all) ∙ ap (drop 1) from in
     let rest = ranked_from all (number + 1) tasks next (omega arith) in
     ranked_task all number task tasks here (omega arith) rest
 
-pub all_ranked : (tasks : List (Option Periodic)) (order : List Rank) → IsFallingOrder tasks order → All (IsRankIn tasks) order
-all_ranked tasks order falling_order = All-permutation (IsRankIn tasks) (ranks_from 0 tasks) order falling_order.admitted (ranked_from tasks 0 tasks refl (omega arith))
+pub all_ranked : (tasks : List (Option Periodic)) (order : List Rank) → IsFallingOrder tasks order
+    → All (IsRankIn tasks) order
+all_ranked tasks order falling_order =
+    All-permutation (IsRankIn tasks) (ranks_from 0 tasks) order falling_order.admitted
+    (ranked_from tasks 0 tasks refl (omega arith))
 
 nobody : (vcpu n : ℕ) → get_or (replicate {A = Option ℕ} n None) vcpu None ≡ None
 nobody vcpu zero = refl
@@ -174,9 +207,12 @@ nobody zero (suc n) = refl
 nobody (suc vcpu) (suc n) = nobody vcpu n
 
 no_load : (cores core : ℕ) → core < cores → get_or (replicate {A = ℕ} cores 0) core 0 ≤ ROUND
-no_load cores core lt = let none : get_or (replicate {A = ℕ} cores 0) core 0 ≡ 0 = get_or-replicate {A = ℕ} cores core 0 0 lt in omega arith
+no_load cores core lt =
+    let none : get_or (replicate {A = ℕ} cores 0) core 0
+    ≡ 0 = get_or-replicate {A = ℕ} cores core 0 0 lt in omega arith
 
-starts : (tasks : List (Option Periodic)) (cores : ℕ) (order : List Rank) → IsFallingOrder tasks order → IsKept tasks cores order (nothing_placed cores (length tasks))
+starts : (tasks : List (Option Periodic)) (cores : ℕ) (order : List Rank)
+    → IsFallingOrder tasks order → IsKept tasks cores order (nothing_placed cores (length tasks))
 starts tasks cores order falling_order = record {
   cores_are = length-replicate cores 0;
   as_many = length-replicate (length tasks) None;
@@ -186,11 +222,16 @@ starts tasks cores order falling_order = record {
   balance = λ vcpu.
       (let turn = turns-permutation vcpu (ranks_from 0 tasks) order falling_order.admitted in
       let once = turns_from vcpu 0 vcpu tasks (omega arith) in
-      let none : has vcpu (replicate {A = Option ℕ} (length tasks) None) ≡ 0 = ap (λ o. one_if (is_some o)) (nobody vcpu (length tasks)) in
+      let none : has vcpu (replicate {A = Option ℕ} (length tasks) None)
+      ≡ 0 = ap (λ o. one_if (is_some o)) (nobody vcpu (length tasks)) in
       let left = lefts-nil vcpu in
       omega arith);
 }
 
 -- what holds when all were tried
-pub kept_all : (tasks : List (Option Periodic)) (cores : ℕ) (order : List Rank) → 1 ≤ cores → IsFallingOrder tasks order → IsKept tasks cores [] (place_all (nothing_placed cores (length tasks)) order)
-kept_all tasks cores order some falling_order = keeps_all tasks cores order (nothing_placed cores (length tasks)) some (all_ranked tasks order falling_order) (starts tasks cores order falling_order)
+pub kept_all : (tasks : List (Option Periodic)) (cores : ℕ) (order : List Rank) → 1 ≤ cores
+    → IsFallingOrder tasks order → IsKept tasks cores []
+    (place_all (nothing_placed cores (length tasks)) order)
+kept_all tasks cores order some falling_order =
+    keeps_all tasks cores order (nothing_placed cores (length tasks)) some
+    (all_ranked tasks order falling_order) (starts tasks cores order falling_order)

@@ -16,26 +16,32 @@ use Rattle.worst_fit.proofs.Kept.{IsKept, at_most_one, kept_all}
 abbrev IsDone : List (Option Periodic) → ℕ → Placing → Type 0
 IsDone tasks cores p = IsKept tasks cores [] p
 
-balanced : (tasks : List (Option Periodic)) (cores : ℕ) (p : Placing) → IsDone tasks cores p → (vcpu : ℕ) → has vcpu p.core_of + lefts vcpu p.left ≡ has vcpu tasks
+balanced : (tasks : List (Option Periodic)) (cores : ℕ) (p : Placing) → IsDone tasks cores p
+    → (vcpu : ℕ) → has vcpu p.core_of + lefts vcpu p.left ≡ has vcpu tasks
 balanced tasks cores p done vcpu = let all = done.balance vcpu in let none = turns-nil vcpu in omega arith
 
 -- a list by number has something for a number that is counted
-something : {X : Type 0} (xs : List (Option X)) (vcpu : ℕ) → 1 ≤ has vcpu xs → (x : X) × (slice_get xs vcpu ≡ Some (Some x))
+something : {X : Type 0} (xs : List (Option X)) (vcpu : ℕ) → 1 ≤ has vcpu xs
+    → (x : X) × (slice_get xs vcpu ≡ Some (Some x))
 something [] vcpu some = absurd (omega arith)
 something (None ∷ xs) zero some = absurd (omega arith)
 something (Some x ∷ xs) zero some = (x, refl)
 something (o ∷ xs) (suc vcpu) some = something xs vcpu some
 
-counted_some : {X : Type 0} (xs : List (Option X)) (vcpu : ℕ) (x : X) → slice_get xs vcpu ≡ Some (Some x) → has vcpu xs ≡ 1
+counted_some : {X : Type 0} (xs : List (Option X)) (vcpu : ℕ) (x : X)
+    → slice_get xs vcpu ≡ Some (Some x) → has vcpu xs ≡ 1
 counted_some xs vcpu x at = ap (λ o. one_if (is_some o)) (get_or_from_slice_get xs vcpu (Some x) None at)
 
-fits_each : (tasks : List (Option Periodic)) (cores : ℕ) (p : Placing) → IsDone tasks cores p → FitsEachCore tasks cores p.core_of
+fits_each : (tasks : List (Option Periodic)) (cores : ℕ) (p : Placing) → IsDone tasks cores p
+    → FitsEachCore tasks cores p.core_of
 fits_each tasks cores p done = λ core lt.
     let load = done.loads_are core lt in
     let fits = done.fit core lt in
     omega arith
 
-places_each : (tasks : List (Option Periodic)) (cores : ℕ) (p : Placing) (placed : Placed) → placed.core_of ≡ p.core_of → placed.left ≡ p.left → IsDone tasks cores p → PlacesEach tasks cores placed
+places_each : (tasks : List (Option Periodic)) (cores : ℕ) (p : Placing) (placed : Placed)
+    → placed.core_of ≡ p.core_of → placed.left ≡ p.left → IsDone tasks cores p
+    → PlacesEach tasks cores placed
 places_each tasks cores p placed core_of left done =
     let balance = λ (vcpu : ℕ). balanced tasks cores p done vcpu in
     let homes = λ (vcpu : ℕ). ap (λ (l : List (Option ℕ)). has vcpu l) core_of in
@@ -58,9 +64,15 @@ places_each tasks cores p placed core_of left done =
           let home = homes vcpu in
           let over = overs vcpu in
           let limit = most vcpu in
-          let stands : get_or p.core_of vcpu None ≡ Some core = ap (λ (l : List (Option ℕ)). get_or l vcpu None) (sym core_of) ∙ get_or_from_slice_get placed.core_of vcpu (Some core) None at in
-          let admitted : IsAdmitted tasks vcpu = something tasks vcpu (omega arith) in
-          (done.on_cores vcpu core stands, admitted, λ is. absurd (let counted = counts_at vcpu is.0 vcpu placed.left is.1 is.2 in omega arith)));
+          let stands : get_or p.core_of vcpu None ≡ Some core =
+          ap (λ (l : List (Option ℕ)). get_or l vcpu None) (sym core_of)
+          ∙ get_or_from_slice_get placed.core_of vcpu (Some core) None at in
+          let admitted : IsAdmitted tasks vcpu = something tasks vcpu (omega arith) in (
+            done.on_cores vcpu core stands,
+            admitted,
+            λ is. absurd
+                (let counted = counts_at vcpu is.0 vcpu placed.left is.1 is.2 in omega arith),
+          ));
       left_over = λ vcpu is.
           (let counted = counts_at vcpu is.0 vcpu placed.left is.1 is.2 in
           let all = balance vcpu in
@@ -75,14 +87,25 @@ places_each tasks cores p placed core_of left done =
     }
 
 -- where a placement leaves off
-done_all : (tasks : List (Option Periodic)) (cores : ℕ) (placed : Placed) → 1 ≤ cores → (is : IsPlacement tasks cores placed) → IsDone tasks cores (place_all (nothing_placed cores (length tasks)) is.order)
+done_all : (tasks : List (Option Periodic)) (cores : ℕ) (placed : Placed) → 1 ≤ cores
+    → (is : IsPlacement tasks cores placed)
+    → IsDone tasks cores (place_all (nothing_placed cores (length tasks)) is.order)
 done_all tasks cores placed some is = kept_all tasks cores is.order some is.falling_order
 
-pub placement_places_each : (tasks : List (Option Periodic)) (cores : ℕ) (placed : Placed) → 1 ≤ cores → IsPlacement tasks cores placed → PlacesEach tasks cores placed
-placement_places_each tasks cores placed some is = places_each tasks cores (place_all (nothing_placed cores (length tasks)) is.order) placed is.core_of is.left (done_all tasks cores placed some is)
+pub placement_places_each : (tasks : List (Option Periodic)) (cores : ℕ) (placed : Placed)
+    → 1 ≤ cores → IsPlacement tasks cores placed → PlacesEach tasks cores placed
+placement_places_each tasks cores placed some is =
+    places_each tasks cores (place_all (nothing_placed cores (length tasks)) is.order) placed
+    is.core_of is.left (done_all tasks cores placed some is)
 
-pub placement_fits : (tasks : List (Option Periodic)) (cores : ℕ) (placed : Placed) → 1 ≤ cores → IsPlacement tasks cores placed → FitsEachCore tasks cores placed.core_of
-placement_fits tasks cores placed some is = subst (FitsEachCore tasks cores) (sym is.core_of) (fits_each tasks cores (place_all (nothing_placed cores (length tasks)) is.order) (done_all tasks cores placed some is))
+pub placement_fits : (tasks : List (Option Periodic)) (cores : ℕ) (placed : Placed) → 1 ≤ cores
+    → IsPlacement tasks cores placed → FitsEachCore tasks cores placed.core_of
+placement_fits tasks cores placed some is =
+    subst (FitsEachCore tasks cores) (sym is.core_of)
+    (fits_each tasks cores (place_all (nothing_placed cores (length tasks)) is.order)
+    (done_all tasks cores placed some is))
 
-pub placement_within_bound : (tasks : List (Option Periodic)) (cores : ℕ) (placed : Placed) → 1 ≤ cores → IsPlacement tasks cores placed → IsWithinBound tasks cores → placed.left ≡ []
-placement_within_bound tasks cores placed some is bound = is.left ∙ none_left tasks cores is.order some is.falling_order bound
+pub placement_within_bound : (tasks : List (Option Periodic)) (cores : ℕ) (placed : Placed)
+    → 1 ≤ cores → IsPlacement tasks cores placed → IsWithinBound tasks cores → placed.left ≡ []
+placement_within_bound tasks cores placed some is bound = is.left
+    ∙ none_left tasks cores is.order some is.falling_order bound

@@ -21,16 +21,21 @@ falling_total : IsTotalOrder falling
 falling_total = search (comparing, rules)
 
 -- no rank of a list in falling order comes before its first
-first_leads : (first : Rank) (order : List Rank) (k : ℕ) → IsSorted falling (first ∷ order) → k < length (first ∷ order) → is_lt (falling (get_or (first ∷ order) k first) first) ≡ false
-first_leads first order k sorted lt = sorted_far _ (ranks_by falling_total (λ (r : Rank). r)) (first ∷ order) sorted 0 k first (omega arith) lt
+first_leads : (first : Rank) (order : List Rank) (k : ℕ) → IsSorted falling (first ∷ order)
+    → k < length (first ∷ order) → is_lt (falling (get_or (first ∷ order) k first) first) ≡ false
+first_leads first order k sorted lt =
+    sorted_far _ (ranks_by falling_total (λ (r : Rank). r)) (first ∷ order) sorted 0 k first
+    (omega arith) lt
 
 falls_behind : (first : Rank) (order : List Rank) → IsSorted falling (first ∷ order) → IsSorted falling order
 falls_behind first order sorted = λ k d low lt.
     let e : suc k + 1 ≡ suc (k + 1) = omega arith in
-    subst (λ n. is_lt (falling (get_or (first ∷ order) n d) (get_or (first ∷ order) (suc k) d)) ≡ false) e (sorted (suc k) d (omega arith) (omega arith))
+    subst (λ n. is_lt (falling (get_or (first ∷ order) n d) (get_or (first ∷ order) (suc k) d))
+    ≡ false) e (sorted (suc k) d (omega arith) (omega arith))
 
 -- a vCPU that has a turn has a place
-place_of_turn : (vcpu : ℕ) (order : List Rank) (d : Rank) → 1 ≤ turns vcpu order → (k : ℕ) × (k < length order) × ((get_or order k d).vcpu ≡ vcpu)
+place_of_turn : (vcpu : ℕ) (order : List Rank) (d : Rank) → 1 ≤ turns vcpu order
+    → (k : ℕ) × (k < length order) × ((get_or order k d).vcpu ≡ vcpu)
 place_of_turn vcpu [] d some = absurd (let none = turns-nil vcpu in omega arith)
 place_of_turn vcpu (rank ∷ order) d some = elim (cases_eq rank.vcpu vcpu) [
   | inl e ↦ (0, omega arith, e)
@@ -40,7 +45,8 @@ place_of_turn vcpu (rank ∷ order) d some = elim (cases_eq rank.vcpu vcpu) [
       (suc rest.0, omega (arith, rest.1), rest.2))
 ]
 
-same_numbers : (d e v w : ℕ) → is_lt (ordering_then (nat_cmp e d) (nat_cmp v w)) ≡ false → is_lt (ordering_then (nat_cmp d e) (nat_cmp w v)) ≡ false → (d ≡ e) × (v ≡ w)
+same_numbers : (d e v w : ℕ) → is_lt (ordering_then (nat_cmp e d) (nat_cmp v w)) ≡ false
+    → is_lt (ordering_then (nat_cmp d e) (nat_cmp w v)) ≡ false → (d ≡ e) × (v ≡ w)
 same_numbers d e v w one other =
     let demand : d ≡ e = grind (arith, nat_tests) in
     (demand, grind (arith, nat_tests))
@@ -61,30 +67,42 @@ has_turn rank order h =
     omega arith
 
 -- ranks of one vCPU take what its task does, so they are one
-same_rank : (tasks : List (Option Periodic)) (a b : Rank) → IsRankIn tasks a → IsRankIn tasks b → a.vcpu ≡ b.vcpu → a ≡ b
+same_rank : (tasks : List (Option Periodic)) (a b : Rank) → IsRankIn tasks a → IsRankIn tasks b
+    → a.vcpu ≡ b.vcpu → a ≡ b
 same_rank tasks a b in_a in_b e =
-    let demand : a.demand ≡ b.demand = in_a.takes ∙ ap (λ v. task_demand (get_or tasks v None)) e ∙ sym in_b.takes in
+    let demand : a.demand ≡ b.demand =
+    in_a.takes ∙ ap (λ v. task_demand (get_or tasks v None)) e ∙ sym in_b.takes in
     let with_demand = λ (n : ℕ). let r : Rank = record { demand = n; vcpu = a.vcpu } in r in
     let with_vcpu = λ (n : ℕ). let r : Rank = record { demand = b.demand; vcpu = n } in r in
     ap with_demand demand ∙ ap with_vcpu e
 
 -- the first of one list doesn't come behind that of the other, which has a place in the first
-not_before : (tasks : List (Option Periodic)) (a b : Rank) (behind_a behind_b : List Rank) → ((vcpu : ℕ) → turns vcpu (a ∷ behind_a) ≡ turns vcpu (b ∷ behind_b))
-    → All (IsRankIn tasks) (a ∷ behind_a) → All (IsRankIn tasks) (b ∷ behind_b) → IsSorted falling (a ∷ behind_a) → is_lt (falling b a) ≡ false
+not_before : (tasks : List (Option Periodic)) (a b : Rank) (behind_a behind_b : List Rank)
+    → ((vcpu : ℕ) → turns vcpu (a ∷ behind_a) ≡ turns vcpu (b ∷ behind_b))
+    → All (IsRankIn tasks) (a ∷ behind_a) → All (IsRankIn tasks) (b ∷ behind_b)
+    → IsSorted falling (a ∷ behind_a) → is_lt (falling b a) ≡ false
 not_before tasks a b behind_a behind_b turn in_a in_b falls_a =
     let split = turns-cons b.vcpu b behind_b in
     let one = same-one b.vcpu b.vcpu refl in
     let here = turn b.vcpu in
     let place = place_of_turn b.vcpu (a ∷ behind_a) a (omega arith) in
-    let found : get_or (a ∷ behind_a) place.0 a ≡ b = same_rank tasks (get_or (a ∷ behind_a) place.0 a) b (in_a place.0 a place.1) (All-head (IsRankIn tasks) b behind_b in_b) place.2 in
+    let found : get_or (a ∷ behind_a) place.0 a ≡ b =
+    same_rank tasks (get_or (a ∷ behind_a) place.0 a) b (in_a place.0 a place.1)
+    (All-head (IsRankIn tasks) b behind_b in_b) place.2 in
     subst (λ r. is_lt (falling r a) ≡ false) found (first_leads a behind_a place.0 falls_a place.1)
 
-same_head : (tasks : List (Option Periodic)) (a b : Rank) (behind_a behind_b : List Rank) → ((vcpu : ℕ) → turns vcpu (a ∷ behind_a) ≡ turns vcpu (b ∷ behind_b))
-    → All (IsRankIn tasks) (a ∷ behind_a) → All (IsRankIn tasks) (b ∷ behind_b) → IsSorted falling (a ∷ behind_a) → IsSorted falling (b ∷ behind_b) → a ≡ b
-same_head tasks a b behind_a behind_b turn in_a in_b falls_a falls_b = neither_before a b (not_before tasks b a behind_b behind_a (λ v. sym (turn v)) in_b in_a falls_b) (not_before tasks a b behind_a behind_b turn in_a in_b falls_a)
+same_head : (tasks : List (Option Periodic)) (a b : Rank) (behind_a behind_b : List Rank)
+    → ((vcpu : ℕ) → turns vcpu (a ∷ behind_a) ≡ turns vcpu (b ∷ behind_b))
+    → All (IsRankIn tasks) (a ∷ behind_a) → All (IsRankIn tasks) (b ∷ behind_b)
+    → IsSorted falling (a ∷ behind_a) → IsSorted falling (b ∷ behind_b) → a ≡ b
+same_head tasks a b behind_a behind_b turn in_a in_b falls_a falls_b =
+    neither_before a b (not_before tasks b a behind_b behind_a
+    (λ v. sym (turn v)) in_b in_a falls_b)
+    (not_before tasks a b behind_a behind_b turn in_a in_b falls_a)
 
 -- lists in falling order with the same turns are one
-same_order : (tasks : List (Option Periodic)) (xs ys : List Rank) → ((vcpu : ℕ) → turns vcpu xs ≡ turns vcpu ys)
+same_order : (tasks : List (Option Periodic)) (xs ys : List Rank)
+    → ((vcpu : ℕ) → turns vcpu xs ≡ turns vcpu ys)
     → All (IsRankIn tasks) xs → All (IsRankIn tasks) ys → IsSorted falling xs → IsSorted falling ys → xs ≡ ys
 same_order tasks [] [] turn in_x in_y falls_x falls_y = refl
 same_order tasks [] (y ∷ ys) turn in_x in_y falls_x falls_y = absurd (has_turn y ys (sym (turn y.vcpu)))
@@ -95,21 +113,32 @@ same_order tasks (x ∷ xs) (y ∷ ys) turn in_x in_y falls_x falls_y =
     (let one = turns-cons vcpu x xs in let other = turns-cons vcpu y ys in let all = turn vcpu in
     let first = ap (λ (r : Rank). same r.vcpu vcpu) e in
     let both : turns vcpu xs ≡ turns vcpu ys = omega arith in both) in
-    let rest = same_order tasks xs ys behind (All-tail (IsRankIn tasks) x xs in_x) (All-tail (IsRankIn tasks) y ys in_y) (falls_behind x xs falls_x) (falls_behind y ys falls_y) in
+    let rest = same_order tasks xs ys behind (All-tail (IsRankIn tasks) x xs in_x)
+    (All-tail (IsRankIn tasks) y ys in_y) (falls_behind x xs falls_x)
+    (falls_behind y ys falls_y) in
     ap (λ r. r ∷ xs) e ∙ ap (λ l. y ∷ l) rest
 
-pub falling_order_unique : (tasks : List (Option Periodic)) (one other : List Rank) → IsFallingOrder tasks one → IsFallingOrder tasks other → one ≡ other
+pub falling_order_unique : (tasks : List (Option Periodic)) (one other : List Rank)
+    → IsFallingOrder tasks one → IsFallingOrder tasks other → one ≡ other
 falling_order_unique tasks one other of_one of_other =
-    same_order tasks one other (λ vcpu. turns-permutation vcpu (ranks_from 0 tasks) one of_one.admitted ∙ sym (turns-permutation vcpu (ranks_from 0 tasks) other of_other.admitted))
+    same_order tasks one other (λ vcpu. turns-permutation vcpu
+    (ranks_from 0 tasks) one of_one.admitted
+    ∙ sym (turns-permutation vcpu (ranks_from 0 tasks) other of_other.admitted))
     (all_ranked tasks one of_one) (all_ranked tasks other of_other) of_one.falls of_other.falls
 
 -- so the tasks have one placement
-pub placement_unique : (tasks : List (Option Periodic)) (cores : ℕ) (one other : Placed) → IsPlacement tasks cores one → IsPlacement tasks cores other → one ≡ other
+pub placement_unique : (tasks : List (Option Periodic)) (cores : ℕ) (one other : Placed)
+    → IsPlacement tasks cores one → IsPlacement tasks cores other → one ≡ other
 placement_unique tasks cores one other of_one of_other =
-    let order = falling_order_unique tasks of_one.order of_other.order of_one.falling_order of_other.falling_order in
+    let order = falling_order_unique tasks of_one.order of_other.order of_one.falling_order
+    of_other.falling_order in
     let outcome = ap (place_all (nothing_placed cores (length tasks))) order in
-    let core_of : one.core_of ≡ other.core_of = of_one.core_of ∙ ap (λ (p : Placing). p.core_of) outcome ∙ sym of_other.core_of in
-    let left : one.left ≡ other.left = of_one.left ∙ ap (λ (p : Placing). p.left) outcome ∙ sym of_other.left in
-    let with_core_of = λ (l : List (Option ℕ)). let p : Placed = record { core_of = l; left = one.left } in p in
+    let core_of : one.core_of ≡ other.core_of =
+    of_one.core_of ∙ ap (λ (p : Placing). p.core_of) outcome ∙ sym of_other.core_of in
+    let left : one.left ≡ other.left =
+    of_one.left ∙ ap (λ (p : Placing). p.left) outcome ∙ sym of_other.left in
+    let with_core_of =
+    λ (l : List (Option ℕ)). let p : Placed = record { core_of = l; left = one.left } in p
+    in
     let with_left = λ (l : List ℕ). let p : Placed = record { core_of = other.core_of; left = l } in p in
     ap with_core_of core_of ∙ ap with_left left

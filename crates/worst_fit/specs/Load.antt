@@ -16,7 +16,8 @@ is_on core (Some home) = home == core
 
 -- the load of a core: what the vCPUs that stand there take of a round together
 unfoldable pub load_on : ℕ → List (Option Periodic) → List (Option ℕ) → ℕ
-load_on core tasks core_of = sum_by (λ vcpu. if is_on core vcpu.1 then task_demand vcpu.0 else 0) (zip tasks core_of)
+load_on core tasks core_of = sum_by (λ vcpu. if is_on core vcpu.1 then task_demand vcpu.0 else 0)
+    (zip tasks core_of)
 
 -- no core's load is more than a round
 abbrev pub FitsEachCore : List (Option Periodic) → ℕ → List (Option ℕ) → Type 0

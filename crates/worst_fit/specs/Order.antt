@@ -10,7 +10,8 @@ use Rattle.worst_fit.specs.declared.rank.Rank.{Rank}
 unfoldable pub ranks_from : ℕ → List (Option Periodic) → List Rank
 ranks_from number [] = []
 ranks_from number (None ∷ tasks) = ranks_from (number + 1) tasks
-ranks_from number (Some task ∷ tasks) = record { demand = demand task.cost task.period; vcpu = number } ∷ ranks_from (number + 1) tasks
+ranks_from number (Some task ∷ tasks) =
+    record { demand = demand task.cost task.period; vcpu = number } ∷ ranks_from (number + 1) tasks
 
 -- more demand comes first, and at ties the lower number
 abbrev pub falling : Rank → Rank → Ordering

@@ -18,7 +18,8 @@ least_load (load ∷ next ∷ loads) = min load (least_load (next ∷ loads))
 abbrev pub least_core : List ℕ → ℕ
 least_core [] = 0
 least_core (load ∷ []) = 0
-least_core (load ∷ next ∷ loads) = if nat_le load (least_load (next ∷ loads)) then 0 else suc (least_core (next ∷ loads))
+least_core (load ∷ next ∷ loads) = if nat_le load (least_load (next ∷ loads)) then 0
+    else suc (least_core (next ∷ loads))
 
 -- what was placed so far: the load of each core, the core of each vCPU, and who is left over
 pub record Placing : Type 0 where
@@ -65,6 +66,8 @@ IsPlaced core_of vcpu = (core : ℕ) × (slice_get core_of vcpu ≡ Some (Some c
 pub record PlacesEach (tasks : List (Option Periodic)) (cores : ℕ) (placed : Placed) : Type 0 where
   pub as_many : length placed.core_of ≡ length tasks
   pub each : (vcpu : ℕ) → IsAdmitted tasks vcpu → IsPlaced placed.core_of vcpu ⊎ Contains placed.left vcpu
-  pub on_core : (vcpu core : ℕ) → slice_get placed.core_of vcpu ≡ Some (Some core) → (core < cores) × IsAdmitted tasks vcpu × ¬ (Contains placed.left vcpu)
+  pub on_core : (vcpu core : ℕ) → slice_get placed.core_of vcpu ≡ Some (Some core)
+      → (core < cores) × IsAdmitted tasks vcpu × ¬ (Contains placed.left vcpu)
   pub left_over : (vcpu : ℕ) → Contains placed.left vcpu → IsAdmitted tasks vcpu
-  pub once : (j k vcpu : ℕ) → slice_get placed.left j ≡ Some vcpu → slice_get placed.left k ≡ Some vcpu → j ≡ k
+  pub once : (j k vcpu : ℕ) → slice_get placed.left j ≡ Some vcpu
+      → slice_get placed.left k ≡ Some vcpu → j ≡ k

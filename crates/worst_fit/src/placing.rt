@@ -18,7 +18,8 @@ pub fn place(alloc: Global, tasks: &Tasks, cores: u32) -> Result<Placed, NoMemor
     requires some_core { 1 ≤ cores }
     requires few_cores { cores ≤ MAX_CORES }
     ensures placement { IfOk result (IsPlacement tasks.now cores) }
-    ensures only { IfOk result (λ placed. (other : Placed) → IsPlacement tasks.now cores other → other ≡ placed) }
+    ensures only { IfOk result (λ placed. (other : Placed) → IsPlacement tasks.now cores other
+        → other ≡ placed) }
     ensures each { IfOk result (PlacesEach tasks.now cores) }
     ensures fits { IfOk result (λ placed. FitsEachCore tasks.now cores placed.core_of) }
     ensures bound { IfOk result (λ placed. IsWithinBound tasks.now cores → placed.left ≡ []) }
@@ -44,7 +45,10 @@ fn place_in_order(
     requires some_core { 1 ≤ length loads.old }
     requires few_cores { length loads.old ≤ MAX_CORES }
     requires known { All (λ rank. rank.vcpu < length core_of.old) order.now }
-    ensures { OnOk result (record { loads = loads.new; core_of = core_of.new; left = left.new.items } ≡ place_all (record { loads = loads.old; core_of = core_of.old; left = left.old.items }) order.now) }
+    ensures { OnOk result
+        (record { loads = loads.new; core_of = core_of.new; left = left.new.items }
+        ≡ place_all (record { loads = loads.old; core_of = core_of.old; left = left.old.items })
+        order.now) }
 {
     for rank in order {
         place_rank(*rank, loads, core_of, left)?;
@@ -62,7 +66,10 @@ fn place_rank(
     requires some_core { 1 ≤ length loads.old }
     requires few_cores { length loads.old ≤ MAX_CORES }
     requires known { rank.vcpu < length core_of.old }
-    ensures { OnOk result (record { loads = loads.new; core_of = core_of.new; left = left.new.items } ≡ place_next (record { loads = loads.old; core_of = core_of.old; left = left.old.items }) rank) }
+    ensures { OnOk result
+        (record { loads = loads.new; core_of = core_of.new; left = left.new.items }
+        ≡ place_next (record { loads = loads.old; core_of = core_of.old; left = left.old.items })
+        rank) }
 {
     let core = least_loaded(loads);
     let load = u64::from(loads[core]) + u64::from(rank.demand);
@@ -79,7 +86,8 @@ fn place_rank(
 fn least_loaded(loads: &[u32]) -> usize
     requires { 1 ≤ length loads.now }
     ensures is_core { result < length loads.now }
-    ensures least { (core : ℕ) → core < length loads.now → slice_index loads.now result ≤ slice_index loads.now core }
+    ensures least { (core : ℕ) → core < length loads.now
+        → slice_index loads.now result ≤ slice_index loads.now core }
     ensures lowest { (core : ℕ) → core < result → slice_index loads.now result < slice_index loads.now core }
 {
     let mut best = 0;

@@ -13,11 +13,17 @@ loop-low-init c = record {
   fits = λ enough. absurd (omega arith);
   too_much = λ more high below fits. (
       let left = c.args.left.now in
-      let light = fits_with_load c.args.pieces.now (tight left.vcpu more left.from left.period) (omega arith) left.listed fits in
+      let light = fits_with_load c.args.pieces.now (tight left.vcpu more left.from left.period)
+      (omega arith) left.listed fits in
       let few = (c.most_by_load.ensures.most more).1 in
       omega arith);
   within = omega arith;
 }
 
 pub overflow_add-low : goal.overflow_add-low
-overflow_add-low c = let facts = period_facts c.args.left.now.period c.args.left.now.listed in elim (cases_lt c.loop-low.low LEAST_CUT) [ inl few ↦ omega arith | inr enough ↦ (let below = c.loop-low.invariant.below enough in omega (arith, facts.at_most)) ]
+overflow_add-low c = let facts = period_facts c.args.left.now.period c.args.left.now.listed in elim
+    (cases_lt c.loop-low.low LEAST_CUT) [
+      | inl few ↦ omega arith
+      | inr enough ↦
+          (let below = c.loop-low.invariant.below enough in omega (arith, facts.at_most))
+    ]

@@ -7,5 +7,8 @@ returns-clause-still c = λ jobs vcpu from less over near le.
     let o = c.args.overload.now in
     let cost = c.args.cost in
     let period = c.args.period in
-    let bound : c.saturating_sub-2.result ≡ cost - (o.demand - (o.to - o.from) - 1) / ((o.to - o.from - cost) / period + 1) = cc in
-    still_over jobs vcpu cost less from period o.from o.to o.demand c.requires.some over c.requires.demand (subst (λ n. n ≤ less) bound near) le
+    let bound : c.saturating_sub-2.result
+    ≡ cost - (o.demand - (o.to - o.from) - 1) / ((o.to - o.from - cost) / period + 1) = cc
+    in
+    still_over jobs vcpu cost less from period o.from o.to o.demand c.requires.some over
+    c.requires.demand (subst (λ n. n ≤ less) bound near) le

@@ -13,7 +13,8 @@ overflow_add-sum c =
 
 pub loop-piece-preserved : goal.loop-piece-preserved
 loop-piece-preserved c =
-    let more = load_more c.args.pieces.now c.loop-piece.piece-index c.piece-item.result (omega arith) c.piece-item.is in
+    let more = load_more c.args.pieces.now c.loop-piece.piece-index c.piece-item.result
+    (omega arith) c.piece-item.is in
     omega arith
 
 pub returns-clause-small : goal.returns-clause-small

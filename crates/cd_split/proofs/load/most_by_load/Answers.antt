@@ -5,7 +5,8 @@ use Rattle.tab_core.proofs.Periods.{period_facts}
 use Rattle.cd_split.proofs.load.most_by_load.Goals as goal
 
 pub nonzero_div-result : goal.nonzero_div-result
-nonzero_div-result c = let facts = period_facts c.args.period c.requires.listed in omega (arith, facts.at_least)
+nonzero_div-result c = let facts = period_facts c.args.period c.requires.listed in omega
+    (arith, facts.at_least)
 
 pub nonzero_div-result-2 : goal.nonzero_div-result-2
 nonzero_div-result-2 c =
@@ -21,7 +22,8 @@ nonzero_div-result-2 c =
 pub returns-clause-most : goal.returns-clause-most
 returns-clause-most c = λ cost.
     let windows = ROUND / c.args.period in
-    let both = le-div_iff_mul-le {k = windows} {x = cost} {y = ROUND - c.args.load} (nonzero_div-result-2 c) in (
+    let both = le-div_iff_mul-le {k = windows} {x = cost} {y = ROUND - c.args.load}
+    (nonzero_div-result-2 c) in (
       (λ le. let room = both.0 le in omega arith),
       (λ room. both.1 (omega arith)),
     )

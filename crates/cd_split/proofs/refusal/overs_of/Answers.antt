@@ -18,7 +18,12 @@ loop-core-preserved c =
     let beside = remainder left.vcpu left.rest left.from left.period in
     record {
       as_many = ap length pushed ∙ length-push c.loop-core.overs.items over ∙ ap (λ n. n + 1) before.as_many;
-      overloads = subst (λ cores. AllZip (IsOverOn c.args.cores.now beside) cores c.push.new.self.items) (sym (take_more unused i core (omega arith) ∙ ap (λ n. take i unused ++ n ∷ []) (sym c.core-item.is)))
+      overloads =
+          subst (λ cores. AllZip (IsOverOn c.args.cores.now beside) cores c.push.new.self.items)
+          (sym (take_more unused i core (omega arith)
+          ∙ ap (λ n. take i unused ++ n ∷ []) (sym c.core-item.is)))
           (subst (AllZip (IsOverOn c.args.cores.now beside) (take i unused ++ core ∷ [])) (sym pushed)
-          (zip_push (IsOverOn c.args.cores.now beside) (take i unused) c.loop-core.overs.items core over before.overloads c.in_ok-over_of.ensures));
+          (zip_push (IsOverOn c.args.cores.now beside)
+          (take i unused) c.loop-core.overs.items core over before.overloads
+          c.in_ok-over_of.ensures));
     }

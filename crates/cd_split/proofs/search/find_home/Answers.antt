@@ -11,8 +11,11 @@ returns-then-branch c =
     let unused = c.args.unused.now in
     let takes = IsHomeFor cores c.args.left.now in
     let rank = c.rank-item.result in
-    let first = first_found cores c.args.order.now unused takes rank c.loop-rank.rank-index rank.core c.requires.order c.requires.there (omega arith)
-    (ap (λ (r : Rank). r.core) (sym c.rank-item.is)) c.loop-rank.invariant (c.is_unused.ensures.0 c.if-is_unused.true) (c.in_ok-takes_rest.ensures.0 c.if-branch.true) in
+    let first = first_found cores c.args.order.now unused takes rank c.loop-rank.rank-index
+    rank.core c.requires.order c.requires.there (omega arith)
+    (ap (λ (r : Rank). r.core) (sym c.rank-item.is)) c.loop-rank.invariant
+    (c.is_unused.ensures.0 c.if-is_unused.true) (c.in_ok-takes_rest.ensures.0 c.if-branch.true)
+    in
     record {
       first = subst (IsFirstCore cores unused takes) (sym c.rest_on.ensures.0) first;
       shape = c.rest_on.ensures.1;
@@ -20,4 +23,6 @@ returns-then-branch c =
 
 pub returns : goal.returns
 returns c =
-    none_found c.args.cores.now c.args.order.now c.args.unused.now (IsHomeFor c.args.cores.now c.args.left.now) c.loop-rank.rank-index c.requires.order c.requires.there c.loop-rank-test.false c.loop-rank.invariant
+    none_found c.args.cores.now c.args.order.now c.args.unused.now
+    (IsHomeFor c.args.cores.now c.args.left.now) c.loop-rank.rank-index c.requires.order
+    c.requires.there c.loop-rank-test.false c.loop-rank.invariant

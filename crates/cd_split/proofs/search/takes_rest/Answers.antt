@@ -9,7 +9,9 @@ returns-then-most_by_load-left c = (
   (λ is. absurd (cc)),
   (λ takes.
       (let left = c.args.left.now in
-      let light = fits_with_load (pieces_on c.args.cores.now c.args.rank.now.core) (remainder left.vcpu left.rest left.from left.period) (omega arith) left.listed takes in
+      let light = fits_with_load (pieces_on c.args.cores.now c.args.rank.now.core)
+      (remainder left.vcpu left.rest left.from left.period) (omega arith) left.listed takes
+      in
       let few = (c.most_by_load.ensures.most left.rest).1 (omega arith) in
       absurd (omega arith))),
 )

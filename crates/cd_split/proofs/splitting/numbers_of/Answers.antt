@@ -5,4 +5,5 @@ use Rattle.cd_split.proofs.splitting.numbers_of.Goals as goal
 pub loop-number-preserved : goal.loop-number-preserved
 loop-number-preserved c =
     let n = c.loop-number.number in
-    c.in_ok-push.ensures.items ∙ ap (λ numbers. numbers ++ n ∷ []) c.loop-number.invariant ∙ sym (range_next n)
+    c.in_ok-push.ensures.items ∙ ap (λ numbers. numbers ++ n ∷ []) c.loop-number.invariant
+    ∙ sym (range_next n)

@@ -24,5 +24,8 @@ whole_alone p whole =
 pub add-requires-clause-room : goal.add-requires-clause-room
 add-requires-clause-room c =
     let piece = c.whole_piece.result in
-    let none : pieces_on c.loop-number.cores piece.core ≡ [] = c.loop-number.invariant.empty piece.core (omega (arith, c.whole_piece.ensures.core)) in
-    subst (λ ps. Fits (jobs_of (ps ++ piece ∷ []))) (sym none) (whole_alone piece (record { begins = c.whole_piece.ensures.from; ends = c.whole_piece.ensures.to }))
+    let none : pieces_on c.loop-number.cores piece.core ≡ [] =
+    c.loop-number.invariant.empty piece.core (omega (arith, c.whole_piece.ensures.core)) in
+    subst (λ ps. Fits (jobs_of (ps ++ piece ∷ []))) (sym none)
+    (whole_alone piece
+    (record { begins = c.whole_piece.ensures.from; ends = c.whole_piece.ensures.to }))

@@ -10,7 +10,8 @@ loop-segment-preserved c =
     subst (HasFilled (has_vcpu c.args.may_grow.now) c.args.sliver c.args.segments.now _ _)
     (sym (c.in_ok-append.ensures ∙ ap (λ s. put_before (map stretch_of c.loop-segment.out.items)
     (s ∷ [])) c.given.ensures))
-    (one_filled (has_vcpu c.args.may_grow.now) c.args.sliver c.args.segments.now c.loop-segment.segment-index _
+    (one_filled (has_vcpu c.args.may_grow.now) c.args.sliver c.args.segments.now
+    c.loop-segment.segment-index _
     (map stretch_of c.loop-segment.out.items) c.segment-item.result
     c.loop-segment-test.true c.segment-item.is c.loop-segment.invariant).1
 

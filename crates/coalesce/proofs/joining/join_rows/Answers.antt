@@ -12,12 +12,14 @@ loop-core-preserved c =
     let pieces = c.args.pieces.now in
     let core = c.loop-core.core in
     let row = c.index-rows-core.result in
-    let at = slice_get-get_or c.args.rows.now core row c.loop-core-test.true ∙ ap Some (sym c.index-rows-core.is) in
+    let at = slice_get-get_or c.args.rows.now core row c.loop-core-test.true
+    ∙ ap Some (sym c.index-rows-core.is) in
     let of = subst (IsTableOf (pieces_at pieces core)) (sym c.deref.ensures.value) c.in_ok-table.ensures in
     let made = joined_by (pieces_at pieces core) (has_vcpu c.single_vcpus-may_grow.result)
     (has_single_piece pieces) c.args.sliver row c.in_ok-join_row.field-0 c.single_vcpus-may_grow.ensures
     (subst (λ r. IsJoined (pieces_at pieces core)
-    (has_vcpu c.single_vcpus-may_grow.result) c.args.sliver r c.in_ok-join_row.field-0) c.segments.ensures.cells
+    (has_vcpu c.single_vcpus-may_grow.result) c.args.sliver r c.in_ok-join_row.field-0)
+    c.segments.ensures.cells
     (c.in_ok-join_row.ensures (pieces_at pieces core) of)) in
     subst (JoinedSoFar pieces c.args.sliver c.args.rows.now (core + 1)) (sym c.in_ok-push.ensures.items)
     (one_joined pieces c.args.sliver c.args.rows.now core c.loop-core.joined.items row

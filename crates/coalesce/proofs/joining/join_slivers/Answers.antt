@@ -17,7 +17,8 @@ invariant_of-result c =
     let are = joined_as draft.pieces c.items-2.result.now c.args.sliver draft.tables.rows c.items.result.now
     c.of-3.result c.in_ok-joined.joined.items c.items-2.ensures c.items.ensures.same c.of-3.ensures
     c.in_ok-joined.ensures in
-    let plan = joined_is_plan c.of.result draft.pieces c.of-2.result c.args.sliver draft.tables.rows c.of-3.result
+    let plan = joined_is_plan c.of.result draft.pieces c.of-2.result c.args.sliver draft.tables.rows
+    c.of-3.result
     facts are in
     record { serves = plan.serves; apart = plan.apart; housed = plan.housed; owned = plan.owned }
 
@@ -25,7 +26,8 @@ pub returns-clause-only : goal.returns-clause-only
 returns-clause-only c rows are =
     let draft = c.args.draft.now in
     rows_unique draft.pieces c.args.sliver draft.tables.rows rows c.of-3.result are
-    (joined_as draft.pieces c.items-2.result.now c.args.sliver draft.tables.rows c.items.result.now c.of-3.result
+    (joined_as draft.pieces c.items-2.result.now c.args.sliver draft.tables.rows c.items.result.now
+    c.of-3.result
     c.in_ok-joined.joined.items c.items-2.ensures c.items.ensures.same c.of-3.ensures c.in_ok-joined.ensures)
 
 pub returns-clause-jobs : goal.returns-clause-jobs
@@ -34,7 +36,8 @@ returns-clause-jobs c core i k row p at listed lt =
     let are = joined_as draft.pieces c.items-2.result.now c.args.sliver draft.tables.rows c.items.result.now
     c.of-3.result c.in_ok-joined.joined.items c.items-2.ensures c.items.ensures.same c.of-3.ensures
     c.in_ok-joined.ensures in
-    let grown = grown_rows draft.tasks draft.pieces draft.tables.homes c.args.sliver draft.tables.rows c.of-3.result
+    let grown = grown_rows draft.tasks draft.pieces draft.tables.homes c.args.sliver
+    draft.tables.rows c.of-3.result
     (draft_facts draft) are core row at in
     jobs_served draft.pieces core row grown i k p listed lt
 

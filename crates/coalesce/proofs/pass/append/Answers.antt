@@ -9,12 +9,22 @@ use Rattle.coalesce.proofs.pass.append.Goals as goal
 pub overflow_sub-count : goal.overflow_sub-count
 overflow_sub-count c =
     let with = c.is_last_owner.ensures.0 c.if-is_last_owner.true in
-    omega (arith, some_end c.deref.result.now c.args.next.owner with, c.deref.ensures.len, c.len-count.ensures)
+    omega (
+      arith,
+      some_end c.deref.result.now c.args.next.owner with,
+      c.deref.ensures.len,
+      c.len-count.ensures,
+    )
 
 pub index_mut-requires : goal.index_mut-requires
 index_mut-requires c =
     let with = c.is_last_owner.ensures.0 c.if-is_last_owner.true in
-    omega (arith, some_end c.deref.result.now c.args.next.owner with, c.deref.ensures.len, c.len-count.ensures)
+    omega (
+      arith,
+      some_end c.deref.result.now c.args.next.owner with,
+      c.deref.ensures.len,
+      c.len-count.ensures,
+    )
 
 pub returns-then-is_last_owner : goal.returns-then-is_last_owner
 returns-then-is_last_owner c =
@@ -30,5 +40,6 @@ returns c =
     let other : EndsWith (map stretch_of c.args.out.now.items) c.args.next.owner → _
     = λ with. false≢true (sym c.if-is_last_owner.false ∙ c.is_last_owner.ensures.1
     (subst (λ ss. EndsWith (map stretch_of ss) c.args.next.owner) (sym c.deref.ensures.value) with)) in
-    ap (map stretch_of) c.in_ok-push.ensures.items ∙ map-append stretch_of c.args.out.now.items (c.args.next ∷ [])
+    ap (map stretch_of) c.in_ok-push.ensures.items
+    ∙ map-append stretch_of c.args.out.now.items (c.args.next ∷ [])
     ∙ appends (map stretch_of c.args.out.now.items) (stretch_of c.args.next) other

@@ -4,5 +4,6 @@ use Rattle.coalesce.proofs.pass.ends_stretch.Goals as goal
 
 pub returns : goal.returns
 returns c s is =
-    ends_by_next c.args.segments.now c.args.at s c.index-segments-at.result c.index-segments-at-2.result c.ne.result
+    ends_by_next c.args.segments.now c.args.at s c.index-segments-at.result
+    c.index-segments-at-2.result c.ne.result
     is (omega (arith, c.if-at-segments.false, c.requires)) c.ne.ensures

@@ -40,7 +40,8 @@ loop-at-preserved c = elim c.if-ends_stretch.branch [
       (map stretch_of c.loop-at.out.items) s at
       ((c.ends_stretch.ensures s at).0 w.if-ends_stretch.true) c.loop-at.invariant in
       let next = w.in_ok-take_next.ensures in
-      rw w.out-is (comes.after (map stretch_of w.take_next.new.out.items) (next.stands comes.rest comes.stands)
+      rw w.out-is (comes.after (map stretch_of w.take_next.new.out.items)
+      (next.stands comes.rest comes.stands)
       (λ pieces of. next.passed pieces _ comes.rest of comes.stands (comes.passed pieces of)))
   | else-ends_stretch w ↦
       let some = some_segment c.args.segments.now c.loop-at.at c.loop-at-test.true in

@@ -10,7 +10,9 @@ use Rattle.coalesce.proofs.pass.take_next.Goals as goal
 
 pub returns-then-can_swap_last-clause-stands : goal.returns-then-can_swap_last-clause-stands
 returns-then-can_swap_last-clause-stands c rest stand =
-    let two = two_ends c.args.out.now.items (subst (λ (ss : List Segment). 2 ≤ length ss) c.deref.ensures.value
+    let two =
+    two_ends c.args.out.now.items
+    (subst (λ (ss : List Segment). 2 ≤ length ss) c.deref.ensures.value
     (c.can_swap_last.ensures.two c.if-can_swap_last.true)) in
     subst (λ out. StandInRow out rest) (sym (c.swap_last.ensures two.0 two.1 two.2 two.3))
     (stands_after_swap two.0 two.1 two.2 (stretch_of c.args.next) rest
@@ -21,7 +23,8 @@ returns-then-can_swap_last-clause-passed c pieces row rest is stand passed =
     let can = subst (λ ss. CanSwapLast pieces c.args.sliver (map stretch_of ss)
     (stretch_of c.args.next)) c.deref.ensures.value
     ((c.can_swap_last.ensures.swap pieces is).0 c.if-can_swap_last.true) in
-    subst (λ out. IsPassed pieces c.args.sliver row out rest) (sym (c.swap_last.ensures can.before can.x can.y can.is))
+    subst (λ out. IsPassed pieces c.args.sliver row out rest)
+    (sym (c.swap_last.ensures can.before can.x can.y can.is))
     (passed_after_swap pieces c.args.sliver row can.before can.x can.y (stretch_of c.args.next) rest
     (subst (λ out. StandInRow out (stretch_of c.args.next ∷ rest)) can.is stand) can.can
     (subst (λ out. IsPassed pieces c.args.sliver row out (stretch_of c.args.next ∷ rest)) can.is passed))

@@ -20,5 +20,6 @@ loop-piece-preserved c = elim c.if-has.branch [
 
 pub returns : goal.returns
 returns c vcpu =
-    all_seen c.args.pieces.now c.loop-piece.piece-index c.loop-piece.seen c.loop-piece.single c.loop-piece-test.false
+    all_seen c.args.pieces.now c.loop-piece.piece-index c.loop-piece.seen c.loop-piece.single
+    c.loop-piece-test.false
     c.loop-piece.invariant vcpu

@@ -17,5 +17,6 @@ loop-piece-preserved c = elim c.if-eq.branch [
   | else-eq w ↦ rw w.table-is
       (next_elsewhere c.args.pieces.now c.args.core c.loop-piece.piece-index c.piece-item.result
       c.loop-piece.table.items c.loop-piece-test.true c.piece-item.is
-      (λ same. false≢true (w.if-eq.ensures ∙ eq-eqb c.piece-item.result.core c.args.core same)) c.loop-piece.invariant)
+      (λ same. false≢true (w.if-eq.ensures ∙ eq-eqb c.piece-item.result.core c.args.core same))
+      c.loop-piece.invariant)
 ]

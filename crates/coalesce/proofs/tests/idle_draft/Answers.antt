@@ -9,7 +9,8 @@ use Rattle.coalesce.proofs.Planned.{owner_in_row}
 use Rattle.coalesce.proofs.tests.idle_draft.Goals as goal
 
 -- a row of idle cells has no owner
-no_owner : (n tick v : ℕ) → slice_get (replicate n (let idle : Option ℕ = None in idle)) tick ≡ Some (Some v) → ⊥
+no_owner : (n tick v : ℕ) → slice_get (replicate n (let idle : Option ℕ = None in idle)) tick
+    ≡ Some (Some v) → ⊥
 no_owner zero tick v at = absurd cc
 no_owner (suc n) zero v at = absurd cc
 no_owner (suc n) (suc tick) v at = no_owner n tick v at
@@ -19,16 +20,20 @@ idle_row s idle =
     cells-cons 0 s [] ∙ ap (λ cells. replicate (s.end - 0) s.owner ++ cells) (cells-nil s.end)
     ∙ append-nil (replicate (s.end - 0) s.owner) ∙ ap (λ o. replicate (s.end - 0) o) idle
 
-idle_segments : (ss : List Segment) (s : Segment) → ss ≡ [] → s.owner ≡ None → cells_from 0 (ss ++ s ∷ []) ≡ replicate (s.end - 0) None
+idle_segments : (ss : List Segment) (s : Segment) → ss ≡ [] → s.owner ≡ None
+    → cells_from 0 (ss ++ s ∷ []) ≡ replicate (s.end - 0) None
 idle_segments ss s none idle = ap (λ xs. cells_from 0 (xs ++ s ∷ [])) none ∙ idle_row s idle
 
-nobody_in : (n v tick core : ℕ) → owner_at (replicate n (let idle : Option ℕ = None in idle) ∷ []) core tick ≡ Some v → ⊥
+nobody_in : (n v tick core : ℕ)
+    → owner_at (replicate n (let idle : Option ℕ = None in idle) ∷ []) core tick ≡ Some v → ⊥
 nobody_in n v tick core owned =
     let found = owner_in_row (replicate n None ∷ []) core tick v owned in
     in_row core found.0 found.1 found.2
   where
-    in_row : (c : ℕ) (row : Row) → slice_get (replicate n None ∷ []) c ≡ Some row → slice_get row tick ≡ Some (Some v) → ⊥
-    in_row zero row is at = no_owner n tick v (subst (λ r. slice_get r tick ≡ Some (Some v)) (inside (sym is)) at)
+    in_row : (c : ℕ) (row : Row) → slice_get (replicate n None ∷ []) c ≡ Some row
+        → slice_get row tick ≡ Some (Some v) → ⊥
+    in_row zero row is at = no_owner n tick v
+        (subst (λ r. slice_get r tick ≡ Some (Some v)) (inside (sym is)) at)
       where
         inside : Some row ≡ Some (replicate n None) → row ≡ replicate n None
         inside e = cc
@@ -50,16 +55,20 @@ idle_is_draft n = record {
 pub invariant_of-result : goal.invariant_of-result
 invariant_of-result c =
     let n = 102600 - 0 in
-    let row : c.in-Ok.row ≡ replicate n None = c.in-Ok.ensures.row ∙ ap (cells_from 0) c.in_ok-push.ensures.items ∙ idle_segments _ _ c.new-segments.ensures.items refl in
+    let row : c.in-Ok.row ≡ replicate n None =
+    c.in-Ok.ensures.row ∙ ap (cells_from 0) c.in_ok-push.ensures.items
+    ∙ idle_segments _ _ c.new-segments.ensures.items refl in
     let rows : c.of-5.result ≡ replicate n None ∷ []
-    = c.of-5.ensures ∙ c.in_ok-push-in-Ok.ensures.items ∙ ap (λ rs. rs ++ c.in-Ok.row ∷ []) c.new-rows.ensures.items
+    = c.of-5.ensures ∙ c.in_ok-push-in-Ok.ensures.items
+    ∙ ap (λ rs. rs ++ c.in-Ok.row ∷ []) c.new-rows.ensures.items
     ∙ ap (λ r. r ∷ []) row in
     let tasks : c.of-2.result ≡ [] = c.of-2.ensures ∙ c.new.ensures.items in
     let pieces : c.of-3.result ≡ [] = c.of-3.ensures ∙ c.new-2.ensures.items in
     let homes : c.of-4.result ≡ [] = c.of-4.ensures ∙ c.new-3.ensures.items in
     let draft = subst (λ ts. IsDraft ts c.of-3.result c.of-4.result c.of-5.result) (sym tasks)
     (subst (λ ps. IsDraft [] ps c.of-4.result c.of-5.result) (sym pieces)
-    (subst (λ hs. IsDraft [] [] hs c.of-5.result) (sym homes) (subst (IsDraft [] [] []) (sym rows) (idle_is_draft n)))) in
+    (subst (λ hs. IsDraft [] [] hs c.of-5.result) (sym homes)
+    (subst (IsDraft [] [] []) (sym rows) (idle_is_draft n)))) in
     record {
       serves = draft.serves;
       inside = draft.inside;

@@ -17,7 +17,8 @@ loop-piece-preserved c =
     let Takes : Piece → ℕ = λ q. q.cost * (ROUND / q.period) in
     record {
       whole = all_whole_more ps i p lt c.loop-piece.invariant.whole (subst IsWhole read here);
-      value = (let more = load_more ps i p lt in let same = ap Takes read in rw (c.from.ensures, c.from-in-loop-piece.ensures) (omega arith));
+      value = (let more = load_more ps i p lt in let same = ap Takes read in rw
+          (c.from.ensures, c.from-in-loop-piece.ensures) (omega arith));
       light = omega arith;
     }
 
@@ -25,4 +26,5 @@ pub returns : goal.returns
 returns c told =
     let ps = c.args.pieces.now in
     let all = take_all c.loop-piece.piece-index ps (omega arith) in
-    whole_fits ps (subst AllWhole all c.loop-piece.invariant.whole) (subst (λ qs. load qs ≤ ROUND) all (omega arith))
+    whole_fits ps (subst AllWhole all c.loop-piece.invariant.whole)
+    (subst (λ qs. load qs ≤ ROUND) all (omega arith))

@@ -12,7 +12,9 @@ loop-piece-init c = record { value = sym (demand_from_nothing c.args.start c.arg
 
 pub loop-piece-preserved : goal.loop-piece-preserved
 loop-piece-preserved c =
-    let more = demand_from_more c.args.pieces.now c.loop-piece.piece-index c.piece-item.result c.args.start c.args.end c.loop-piece-test.true in
-    let P : Piece → ℕ = λ p. demand_from (first_jobs (subtask_of p) (ROUND / p.period)) c.args.start c.args.end in
+    let more = demand_from_more c.args.pieces.now c.loop-piece.piece-index c.piece-item.result
+    c.args.start c.args.end c.loop-piece-test.true in
+    let P : Piece → ℕ = λ p. demand_from (first_jobs (subtask_of p) (ROUND / p.period)) c.args.start
+    c.args.end in
     let here = ap P c.piece-item.is in
     record { value = omega (arith, more, here, c.cost_from.ensures); small = omega arith }

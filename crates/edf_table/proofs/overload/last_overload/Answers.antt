@@ -16,13 +16,21 @@ loop-from-init c = record {
 
 pub returns-then-demand-from : goal.returns-then-demand-from
 returns-then-demand-from c =
-    let value = demand_back c.args.pieces.now c.last_begin-from.result c.loop-from.from c.args.end c.loop-from.demand c.demand_of_starts-demand.result
-    c.last_begin-from.ensures.none c.last_begin-from.ensures.earlier c.loop-from.invariant.value c.demand_of_starts-demand.ensures.value in
-    let later = fits_later c.args.pieces.now c.last_begin-from.result c.loop-from.from c.args.end c.last_begin-from.ensures.none c.loop-from.invariant.within
-    (omega (arith, c.loop-from.invariant.value, c.loop-from.invariant.small)) c.loop-from.invariant.fits_after in
+    let value = demand_back c.args.pieces.now c.last_begin-from.result c.loop-from.from c.args.end
+    c.loop-from.demand c.demand_of_starts-demand.result
+    c.last_begin-from.ensures.none c.last_begin-from.ensures.earlier c.loop-from.invariant.value
+    c.demand_of_starts-demand.ensures.value in
+    let later = fits_later c.args.pieces.now c.last_begin-from.result c.loop-from.from c.args.end
+    c.last_begin-from.ensures.none c.loop-from.invariant.within
+    (omega (arith, c.loop-from.invariant.value, c.loop-from.invariant.small))
+    c.loop-from.invariant.fits_after in
     record {
       first = record {
-        overloaded = record { some_ticks = omega arith; within = c.requires.end.within; too_much = omega arith };
+        overloaded = record {
+          some_ticks = omega arith;
+          within = c.requires.end.within;
+          too_much = omega arith;
+        };
         least_end = c.requires.end.least;
         greatest_begin = λ s over. elim (cases_lt c.last_begin-from.result s) [
           | inl after ↦ absurd (later s after over)
@@ -34,10 +42,14 @@ returns-then-demand-from c =
 
 pub loop-from-preserved : goal.loop-from-preserved
 loop-from-preserved c =
-    let value = demand_back c.args.pieces.now c.last_begin-from.result c.loop-from.from c.args.end c.loop-from.demand c.demand_of_starts-demand.result
-    c.last_begin-from.ensures.none c.last_begin-from.ensures.earlier c.loop-from.invariant.value c.demand_of_starts-demand.ensures.value in
-    let later = fits_later c.args.pieces.now c.last_begin-from.result c.loop-from.from c.args.end c.last_begin-from.ensures.none c.loop-from.invariant.within
-    (omega (arith, c.loop-from.invariant.value, c.loop-from.invariant.small)) c.loop-from.invariant.fits_after in
+    let value = demand_back c.args.pieces.now c.last_begin-from.result c.loop-from.from c.args.end
+    c.loop-from.demand c.demand_of_starts-demand.result
+    c.last_begin-from.ensures.none c.last_begin-from.ensures.earlier c.loop-from.invariant.value
+    c.demand_of_starts-demand.ensures.value in
+    let later = fits_later c.args.pieces.now c.last_begin-from.result c.loop-from.from c.args.end
+    c.last_begin-from.ensures.none c.loop-from.invariant.within
+    (omega (arith, c.loop-from.invariant.value, c.loop-from.invariant.small))
+    c.loop-from.invariant.fits_after in
     record {
       within = omega (arith, c.last_begin-from.ensures.earlier, c.loop-from.invariant.within);
       value = value;
@@ -45,7 +57,9 @@ loop-from-preserved c =
       fits_after = λ s le over. elim (cases_lt c.last_begin-from.result s) [
         | inl after ↦ later s after over
         | inr here ↦ (let at : s ≡ c.last_begin-from.result = omega arith in
-            let much = subst (λ n. c.args.end - n < demand_in (jobs_of c.args.pieces.now) n c.args.end) at over.too_much in omega arith)
+            let much =
+            subst (λ n. c.args.end - n < demand_in (jobs_of c.args.pieces.now) n c.args.end)
+            at over.too_much in omega arith)
       ];
     }
 

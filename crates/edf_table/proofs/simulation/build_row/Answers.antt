@@ -23,10 +23,17 @@ loop-tick-init c = record {
 
 pub run_turn-turn-requires-clause-met : goal.run_turn-turn-requires-clause-met
 run_turn-turn-requires-clause-met c =
-    fits_met c.args.pieces.now c.loop-tick.given c.loop-tick.tick c.requires.distinct c.loop-tick.invariant.counted c.loop-tick.invariant.met c.requires.fits (omega arith)
+    fits_met c.args.pieces.now c.loop-tick.given c.loop-tick.tick c.requires.distinct
+    c.loop-tick.invariant.counted c.loop-tick.invariant.met c.requires.fits (omega arith)
 
 pub push_cells-requires : goal.push_cells-requires
-push_cells-requires c = let len = row_length (jobs_of c.args.pieces.now) c.loop-tick.row c.loop-tick.tick c.loop-tick.invariant.row_is in omega (arith, c.run_turn-turn.ensures.later, c.run_turn-turn.ensures.in_round)
+push_cells-requires c =
+    let len = row_length (jobs_of c.args.pieces.now) c.loop-tick.row c.loop-tick.tick
+    c.loop-tick.invariant.row_is in omega (
+      arith,
+      c.run_turn-turn.ensures.later,
+      c.run_turn-turn.ensures.in_round,
+    )
 
 pub loop-tick-preserved : goal.loop-tick-preserved
 loop-tick-preserved c =
@@ -40,33 +47,48 @@ loop-tick-preserved c =
       counted = c.run_turn-turn.ensures.counted;
       met = c.run_turn-turn.ensures.met;
       row_is = subst (λ e. c.push_cells.new.row ≡ map owner_of (edf_cells js e)) at
-          (row_along js c.loop-tick.row c.push_cells.new.row c.loop-tick.tick n owner c.loop-tick.invariant.row_is
-          (subst (λ e. GoesTo js c.loop-tick.tick e owner) (sym at) c.run_turn-turn.ensures.goes) c.in_ok-push_cells.ensures);
+          (row_along js c.loop-tick.row c.push_cells.new.row c.loop-tick.tick n owner
+          c.loop-tick.invariant.row_is
+          (subst (λ e. GoesTo js c.loop-tick.tick e owner) (sym at) c.run_turn-turn.ensures.goes)
+          c.in_ok-push_cells.ensures);
     }
 
 pub finish-requires : goal.finish-requires
-finish-requires c = row_length (jobs_of c.args.pieces.now) c.loop-tick.row c.loop-tick.tick c.loop-tick.invariant.row_is ∙ omega arith
+finish-requires c = row_length (jobs_of c.args.pieces.now) c.loop-tick.row c.loop-tick.tick
+    c.loop-tick.invariant.row_is ∙ omega arith
 
 pub returns-clause-row : goal.returns-clause-row
-returns-clause-row c = c.finish.ensures ∙ row_at_end (jobs_of c.args.pieces.now) c.loop-tick.row c.loop-tick.tick c.loop-tick.invariant.row_is (omega arith)
+returns-clause-row c = c.finish.ensures
+    ∙ row_at_end (jobs_of c.args.pieces.now) c.loop-tick.row c.loop-tick.tick
+    c.loop-tick.invariant.row_is (omega arith)
 
 -- all is met to the end of the round
 met_at_end : (c : goal.After-finish) → MetBefore (jobs_of c.args.pieces.now) (ROUND + 1)
 met_at_end c =
     let end : c.loop-tick.tick ≡ ROUND = omega arith in
-    fits_met c.args.pieces.now c.loop-tick.given ROUND c.requires.distinct (subst (IsCounted c.args.pieces.now c.loop-tick.given) end c.loop-tick.invariant.counted)
-    (subst (MetBefore (jobs_of c.args.pieces.now)) end c.loop-tick.invariant.met) c.requires.fits (omega arith)
+    fits_met c.args.pieces.now c.loop-tick.given ROUND c.requires.distinct
+    (subst (IsCounted c.args.pieces.now c.loop-tick.given) end c.loop-tick.invariant.counted)
+    (subst (MetBefore (jobs_of c.args.pieces.now)) end c.loop-tick.invariant.met) c.requires.fits
+    (omega arith)
 
 pub returns-clause-windows : goal.returns-clause-windows
 returns-clause-windows c i k p at k-lt =
     let js = jobs_of c.args.pieces.now in
     let met : MetBefore js (ROUND + 1) = met_at_end c in
-    let whole = c.finish.ensures ∙ row_at_end js c.loop-tick.row c.loop-tick.tick c.loop-tick.invariant.row_is (omega arith) in
+    let whole = c.finish.ensures ∙ row_at_end js c.loop-tick.row c.loop-tick.tick
+    c.loop-tick.invariant.row_is (omega arith) in
     subst (λ row. cells_within p.vcpu row (k * p.period + p.from) (k * p.period + p.to) ≡ p.cost) (sym whole)
     (window_of_piece c.args.pieces.now i k p c.requires.distinct at met k-lt)
 
 pub returns-clause-inside : goal.returns-clause-inside
 returns-clause-inside c v x at =
-    let whole = c.finish.ensures ∙ row_at_end (jobs_of c.args.pieces.now) c.loop-tick.row c.loop-tick.tick c.loop-tick.invariant.row_is (omega arith) in
+    let whole = c.finish.ensures ∙ row_at_end
+    (jobs_of c.args.pieces.now) c.loop-tick.row c.loop-tick.tick
+    c.loop-tick.invariant.row_is (omega arith) in
     let here = subst (λ row. slice_get row x ≡ Some (Some v)) whole at in
-    row_in_windows c.args.pieces.now v x (met_at_end c) (omega (arith, slice_get_within _ x (Some v) here, length-edf_row (jobs_of c.args.pieces.now))) here
+    row_in_windows c.args.pieces.now v x (met_at_end c)
+    (omega (
+      arith,
+      slice_get_within _ x (Some v) here,
+      length-edf_row (jobs_of c.args.pieces.now),
+    )) here

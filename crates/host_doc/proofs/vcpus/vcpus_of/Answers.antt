@@ -12,22 +12,30 @@ use Rattle.host_doc.proofs.vcpus.vcpus_of.Goals as goal
 
 pub returns-in_default-clause-fault : goal.returns-in_default-clause-fault
 returns-in_default-clause-fault c =
-    let here = fault_from c.args.values.now (names c.loop-index.vcpus.items) c.loop-index.index c.index-values-index.result c.loop-index-test.true c.index-values-index.is c.loop-index.invariant.rest in
+    let here = fault_from c.args.values.now (names c.loop-index.vcpus.items) c.loop-index.index
+    c.index-values-index.result c.loop-index-test.true c.index-values-index.is
+    c.loop-index.invariant.rest in
     grind (arith, common_steps)
 
 pub returns-in_err-text-clause-fault : goal.returns-in_err-text-clause-fault
 returns-in_err-text-clause-fault c =
-    let here = fault_from c.args.values.now (names c.loop-index.vcpus.items) c.loop-index.index c.index-values-index.result c.loop-index-test.true c.index-values-index.is c.loop-index.invariant.rest in
+    let here = fault_from c.args.values.now (names c.loop-index.vcpus.items) c.loop-index.index
+    c.index-values-index.result c.loop-index-test.true c.index-values-index.is
+    c.loop-index.invariant.rest in
     grind (arith, common_steps)
 
 pub returns-in_err-name-clause-fault : goal.returns-in_err-name-clause-fault
 returns-in_err-name-clause-fault c =
-    let here = fault_from c.args.values.now (names c.loop-index.vcpus.items) c.loop-index.index c.index-values-index.result c.loop-index-test.true c.index-values-index.is c.loop-index.invariant.rest in
+    let here = fault_from c.args.values.now (names c.loop-index.vcpus.items) c.loop-index.index
+    c.index-values-index.result c.loop-index-test.true c.index-values-index.is
+    c.loop-index.invariant.rest in
     grind (arith, common_steps)
 
 pub returns-then-not-branch-clause-fault : goal.returns-then-not-branch-clause-fault
 returns-then-not-branch-clause-fault c =
-    let here = fault_from c.args.values.now (names c.loop-index.vcpus.items) c.loop-index.index c.index-values-index.result c.loop-index-test.true c.index-values-index.is c.loop-index.invariant.rest in
+    let here = fault_from c.args.values.now (names c.loop-index.vcpus.items) c.loop-index.index
+    c.index-values-index.result c.loop-index-test.true c.index-values-index.is
+    c.loop-index.invariant.rest in
     grind (arith, common_steps)
 
 pub returns-in_err-vcpu-clause-fault : goal.returns-in_err-vcpu-clause-fault
@@ -38,10 +46,16 @@ returns-in_err-vcpu-clause-fault c =
     let value = c.index-values-index.result in
     let table_is : as_table (view value) ≡ Some found = grind (arith, common_steps) in
     let named : name_of number found ≡ Ok c.in_ok-name.name = grind (arith, common_steps) in
-    let absent : has_text c.loop-index.names c.in_ok-name.name ≡ false = rw c.in_ok-name.ensures.same (absent_if_new c.in_ok-add_text.field-0 c.loop-index.names c.in_ok-text.text.now c.if-not-branch.false c.in_ok-add_text.ensures.added) in
-    let new : list_any (bytes_eq c.in_ok-name.name) earlier ≡ false = sym (c.loop-index.invariant.held c.in_ok-name.name) ∙ absent in
-    let here = fault_from c.args.values.now earlier number value c.loop-index-test.true c.index-values-index.is c.loop-index.invariant.rest in
-    let behind = fault_named earlier number (as_table (view value)) found c.in_ok-name.name table_is named new in
+    let absent : has_text c.loop-index.names c.in_ok-name.name ≡ false =
+    rw c.in_ok-name.ensures.same
+    (absent_if_new c.in_ok-add_text.field-0 c.loop-index.names c.in_ok-text.text.now
+    c.if-not-branch.false c.in_ok-add_text.ensures.added) in
+    let new : list_any (bytes_eq c.in_ok-name.name) earlier ≡ false =
+    sym (c.loop-index.invariant.held c.in_ok-name.name) ∙ absent in
+    let here = fault_from c.args.values.now earlier number value c.loop-index-test.true
+    c.index-values-index.is c.loop-index.invariant.rest in
+    let behind = fault_named earlier number (as_table (view value)) found c.in_ok-name.name table_is
+    named new in
     grind (arith, common_steps)
 
 pub loop-index-preserved : goal.loop-index-preserved
@@ -54,15 +68,25 @@ loop-index-preserved c =
     let named : name_of number found ≡ Ok vcpu.name = grind (arith, common_steps) in
     let absent : has_text c.loop-index.names vcpu.name ≡ false = grind (arith, common_steps) in
     let settled : settings_fault number found ≡ None = grind (arith, common_steps) in
-    let this : IsVcpuOf number found vcpu = record { name = named; reservation = search rules; runnable = search rules } in
-    let adds : (text : List ℕ) → has_text c.add_text.new.texts text ≡ (bytes_eq text vcpu.name || has_text c.loop-index.names text) = grind (arith, common_steps) in
-    let pushed : c.push.new.self.items ≡ c.loop-index.vcpus.items ++ vcpu ∷ [] = grind (arith, common_steps) in
-    rw pushed (read_more c.args.values.now number c.loop-index.names c.add_text.new.texts c.loop-index.vcpus.items vcpu value found c.loop-index.invariant c.loop-index-test.true c.index-values-index.is table_is this settled absent adds)
+    let this : IsVcpuOf number found vcpu =
+    record { name = named; reservation = search rules; runnable = search rules } in
+    let adds : (text : List ℕ) → has_text c.add_text.new.texts text
+    ≡ (bytes_eq text vcpu.name || has_text c.loop-index.names text) =
+    grind (arith, common_steps) in
+    let pushed : c.push.new.self.items ≡ c.loop-index.vcpus.items ++ vcpu ∷ [] =
+    grind (arith, common_steps) in
+    rw pushed
+    (read_more c.args.values.now number c.loop-index.names c.add_text.new.texts
+    c.loop-index.vcpus.items vcpu value found c.loop-index.invariant c.loop-index-test.true
+    c.index-values-index.is table_is this settled absent adds)
 
 pub returns-clause-ok : goal.returns-clause-ok
 returns-clause-ok c =
     let all : c.loop-index.index ≡ length c.args.values.now = omega arith in
-    rw c.of.ensures (all_read c.args.values.now c.loop-index.index c.loop-index.names c.loop-index.vcpus.items c.loop-index.invariant all)
+    rw c.of.ensures
+    (all_read c.args.values.now c.loop-index.index c.loop-index.names c.loop-index.vcpus.items
+    c.loop-index.invariant all)
 
 pub returns-clause-faultless : goal.returns-clause-faultless
-returns-clause-faultless c = all_faultless c.args.values.now c.loop-index.index c.loop-index.names c.loop-index.vcpus.items c.loop-index.invariant c.loop-index-test.false
+returns-clause-faultless c = all_faultless c.args.values.now c.loop-index.index c.loop-index.names
+    c.loop-index.vcpus.items c.loop-index.invariant c.loop-index-test.false

@@ -21,7 +21,8 @@ returns-clause-chosen c = chosen_at_end _ _ _ c.loop-period-test.false c.loop-pe
 pub returns-clause-none : goal.returns-clause-none
 returns-clause-none c = none_at_end _ _ _ c.loop-period-test.false c.loop-period.invariant
 
-only_one : (r : Reservation) (best : Option Periodic) → IfSome best (IsChosen r) → IfSome best (λ task. (other : Periodic) → IsChosen r other → other ≡ task)
+only_one : (r : Reservation) (best : Option Periodic) → IfSome best (IsChosen r)
+    → IfSome best (λ task. (other : Periodic) → IsChosen r other → other ≡ task)
 only_one r None chosen = tt
 only_one r (Some task) chosen = λ other is. chosen_unique r other task is chosen
 

@@ -10,35 +10,44 @@ use Rattle.period_choice.proofs.tasks.tasks_of.Goals as goal
 pub loop-number-init : goal.loop-number-init
 loop-number-init c = record {
   as_many = ap length c.in_ok-tasks.ensures.items;
-  each = subst (AreTasksSoFar c.items-vcpus.result.now) (sym c.in_ok-tasks.ensures.items) (no_tasks c.items-vcpus.result.now);
+  each = subst (AreTasksSoFar c.items-vcpus.result.now) (sym c.in_ok-tasks.ensures.items)
+      (no_tasks c.items-vcpus.result.now);
 }
 
 -- the vCPU at this number, which is that of the next task
-at_length : (vcpus : List Vcpu) (n number : ℕ) (vcpu : Vcpu) → n ≡ number → slice_get vcpus number ≡ Some vcpu → slice_get vcpus n ≡ Some vcpu
+at_length : (vcpus : List Vcpu) (n number : ℕ) (vcpu : Vcpu) → n ≡ number
+    → slice_get vcpus number ≡ Some vcpu → slice_get vcpus n ≡ Some vcpu
 at_length vcpus n number vcpu same at = ap (slice_get vcpus) same ∙ at
 
 pub returns-in_err-task_of-clause-no_period : goal.returns-in_err-task_of-clause-no_period
 returns-in_err-task_of-clause-no_period c = λ vcpu is.
     let before = c.loop-number.invariant in
     let vcpus = c.items-vcpus.result.now in
-    let at = slice_get_read vcpus _ c.loop-number.number _ refl c.loop-number-test.true c.index-vcpus-number.is in
+    let at = slice_get_read vcpus _ c.loop-number.number _ refl c.loop-number-test.true
+    c.index-vcpus-number.is in
     let lacks = c.in_err-task_of.ensures.no_period in
     let told = rw is at c.from_residual-in_err-task_of.ensures in
     let named : c.loop-number.number ≡ vcpu = cc (lacks.0, told.1) in
-    let first = first_without vcpus c.loop-number.tasks.items c.index-vcpus-number.result before.each (at_length vcpus _ _ _ before.as_many at) lacks.1 in
-    subst (IsFirstWithoutPeriod c.args.host.now.vcpus) (before.as_many ∙ named) (subst (λ (v : List Vcpu). IsFirstWithoutPeriod v (length c.loop-number.tasks.items)) c.items-vcpus.ensures.same first)
+    let first = first_without vcpus c.loop-number.tasks.items c.index-vcpus-number.result
+    before.each (at_length vcpus _ _ _ before.as_many at) lacks.1 in
+    subst (IsFirstWithoutPeriod c.args.host.now.vcpus) (before.as_many ∙ named)
+    (subst (λ (v : List Vcpu). IsFirstWithoutPeriod v (length c.loop-number.tasks.items))
+    c.items-vcpus.ensures.same first)
 
 pub loop-number-preserved : goal.loop-number-preserved
 loop-number-preserved c =
     let before = c.loop-number.invariant in
     let vcpus = c.items-vcpus.result.now in
     let tasks = c.loop-number.tasks.items in
-    let at = slice_get_read vcpus _ c.loop-number.number _ refl c.loop-number-test.true c.index-vcpus-number.is in
+    let at = slice_get_read vcpus _ c.loop-number.number _ refl c.loop-number-test.true
+    c.index-vcpus-number.is in
     let pushed = c.in_ok-push.ensures.items in
     let longer = length_more tasks c.in_ok-task_of.field-0 in
     record {
       as_many = ap length pushed ∙ longer ∙ ap (λ n. n + 1) before.as_many;
-      each = rw pushed (task_more vcpus tasks c.index-vcpus-number.result c.in_ok-task_of.field-0 before.each (at_length vcpus _ _ _ before.as_many at) c.in_ok-task_of.ensures.ok);
+      each = rw pushed
+          (task_more vcpus tasks c.index-vcpus-number.result c.in_ok-task_of.field-0 before.each
+          (at_length vcpus _ _ _ before.as_many at) c.in_ok-task_of.ensures.ok);
     }
 
 pub of-requires : goal.of-requires
@@ -55,4 +64,5 @@ returns-clause-ok c =
     rw c.of.ensures (rw (← same) (record { as_many = omega arith; each = before.each }))
 
 pub returns-clause-only : goal.returns-clause-only
-returns-clause-only c = λ other is. tasks_unique c.args.host.now.vcpus other c.of.result is (returns-clause-ok c)
+returns-clause-only c = λ other is. tasks_unique c.args.host.now.vcpus other c.of.result is
+    (returns-clause-ok c)

@@ -4,7 +4,8 @@ use Rattle.plan_make.proofs.draft.draft_of.Goals as goal
 
 pub invariant_of-result : goal.invariant_of-result
 invariant_of-result g c =
-    let draft = made_draft c.args.tasks c.args.layout.cores c.args.layout.homes.items c.of-homes.result c.of-pieces.result c.in_ok-rows.rows
+    let draft = made_draft c.args.tasks c.args.layout.cores c.args.layout.homes.items
+    c.of-homes.result c.of-pieces.result c.in_ok-rows.rows
     c.requires c.in_ok-rows.ensures.of (c.of-pieces.ensures ∙ c.in_ok-pieces_of.ensures) c.of-homes.ensures in
     record {
       serves = draft.serves;

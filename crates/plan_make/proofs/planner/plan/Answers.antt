@@ -16,13 +16,18 @@ returns-in_err-tasks-clause-bound g c tasks are within =
 pub returns-in_err-tasks-clause-planned : goal.returns-in_err-tasks-clause-planned
 returns-in_err-tasks-clause-planned g c plan planned =
     let p = err_from_is_err_and c.from_residual.result c.from_residual.ensures.1 in
-    rw (p.1, p.2) (no_memory_for_tasks c.args.host.now.vcpus plan.tasks c.in_err-tasks.field-0.0 planned.is_start.tasks_are
+    rw (p.1, p.2)
+    (no_memory_for_tasks c.args.host.now.vcpus plan.tasks c.in_err-tasks.field-0.0
+    planned.is_start.tasks_are
     (λ vcpu is. c.in_err-tasks.ensures.no_period vcpu (ap Err is)))
 
 pub returns-in_err-layout-clause-planned : goal.returns-in_err-layout-clause-planned
 returns-in_err-layout-clause-planned g c plan planned =
-    let p = err_from_is_err_and c.from_residual-in_err-layout.result c.from_residual-in_err-layout.ensures.1 in
-    rw (p.1, p.2) (no_memory_for_layout c.args.host.now plan c.in_err-layout.field-0.0 planned c.in_err-layout.ensures.fault)
+    let p = err_from_is_err_and c.from_residual-in_err-layout.result
+    c.from_residual-in_err-layout.ensures.1 in
+    rw (p.1, p.2)
+    (no_memory_for_layout c.args.host.now plan c.in_err-layout.field-0.0 planned
+    c.in_err-layout.ensures.fault)
 
 -- what the calls made
 made : (g : Over) (c : goal.After-drop-draft-5 g)
@@ -44,7 +49,8 @@ returns-clause-only g c other planned =
 
 pub returns-clause-fits_host : goal.returns-clause-fits_host
 returns-clause-fits_host g c = record {
-  rows = c.in_ok-join_slivers.ensures.joined.size ∙ c.in_ok-draft.ensures.count ∙ c.in_ok-layout.ensures.count;
+  rows = c.in_ok-join_slivers.ensures.joined.size ∙ c.in_ok-draft.ensures.count
+      ∙ c.in_ok-layout.ensures.count;
   vcpus = ap length ((made g c).tasks_are) ∙ c.in_ok-tasks.ensures.ok.as_many;
   admitted = λ v. ap (λ tasks. has_task tasks v) (made g c).tasks_are
       ∙ tasks_admit c.args.host.now.vcpus c.in_ok-tasks.tasks c.in_ok-tasks.ensures.ok v;

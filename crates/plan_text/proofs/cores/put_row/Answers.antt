@@ -10,10 +10,16 @@ loop-at-init g c = none_written _ _ (tt {0})
 pub returns-in-Err : goal.returns-in-Err
 returns-in-Err g c =
     rw (← (row_lines (names_of c.args.vcpus.now) c.args.segments.now c.requires.rises))
-    (next_broken _ _ _ (line_at (names_of c.args.vcpus.now) c.args.segments.now) c.loop-at.at _ (tt {0}) _ c.in-Err.fault c.loop-at-test.true c.loop-at.invariant c.put_segment_at.ensures c.in-Err.is)
+    (next_broken _ _ _ (line_at (names_of c.args.vcpus.now) c.args.segments.now) c.loop-at.at _
+    (tt {0}) _ c.in-Err.fault c.loop-at-test.true c.loop-at.invariant c.put_segment_at.ensures
+    c.in-Err.is)
 
 pub loop-at-preserved : goal.loop-at-preserved
-loop-at-preserved g c = next_written _ _ _ (line_at (names_of c.args.vcpus.now) c.args.segments.now) c.loop-at.at (tt {0}) c.in_default.field-0 _ c.loop-at.invariant c.put_segment_at.ensures c.in_default.is
+loop-at-preserved g c = next_written _ _ _
+    (line_at (names_of c.args.vcpus.now) c.args.segments.now) c.loop-at.at
+    (tt {0}) c.in_default.field-0 _ c.loop-at.invariant c.put_segment_at.ensures c.in_default.is
 
 pub returns : goal.returns
-returns g c = rw (← (row_lines (names_of c.args.vcpus.now) c.args.segments.now c.requires.rises)) (all_written _ _ _ c.loop-at.at _ (tt {0}) c.loop-at.auto.at-end c.loop-at-test.false c.loop-at.invariant)
+returns g c = rw (← (row_lines (names_of c.args.vcpus.now) c.args.segments.now c.requires.rises))
+    (all_written _ _ _ c.loop-at.at _
+    (tt {0}) c.loop-at.auto.at-end c.loop-at-test.false c.loop-at.invariant)

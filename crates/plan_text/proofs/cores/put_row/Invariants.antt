@@ -6,4 +6,5 @@ use Rattle.plan_text.proofs.cores.put_row.Given as goal
 
 -- the texts of the numbers below came
 abbrev pub invariant-loop-at : goal.invariant-loop-at
-invariant-loop-at g l = Writes {U = Unit {0}} (g.K.Sink.state l.fn.sink) (g.K.Sink.state l.sink) (texts_below (line_at (names_of l.vcpus) l.segments) l.at) (Ok (tt {0}))
+invariant-loop-at g l = Writes {U = Unit {0}} (g.K.Sink.state l.fn.sink) (g.K.Sink.state l.sink)
+    (texts_below (line_at (names_of l.vcpus) l.segments) l.at) (Ok (tt {0}))

@@ -8,7 +8,8 @@ pub returns-in-Some : goal.returns-in-Some
 returns-in-Some c =
     let empty : IsTrue c.is_none.result → c.in-Some.words ≡ [] = λ none. grind (arith, common_steps) in
     let fills : c.in-Some.words ≡ [] → IsTrue c.is_none.result = λ none. grind (arith, common_steps) in
-    all_matched _ (map piece_text c.args.expected.now) c.in-Some.words c.is_none.result c.in-Some.ensures empty fills
+    all_matched _ (map piece_text c.args.expected.now) c.in-Some.words c.is_none.result
+    c.in-Some.ensures empty fills
 
 pub returns-in-None : goal.returns-in-None
 returns-in-None c = (λ no. absurd (cc), λ same. absurd (c.in-None.ensures [] (same ∙ sym (append-nil _))))

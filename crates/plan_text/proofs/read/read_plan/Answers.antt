@@ -13,13 +13,15 @@ use Rattle.plan_text.proofs.read.read_plan.Goals as goal
 pub read_text-requires-clause-good : goal.read_text-requires-clause-good
 read_text-requires-clause-good c =
     let own : c.in_ok-names.names ≡ names_of c.args.host.now.vcpus = search rules in
-    host_names c.args.host.now.vcpus c.in_ok-names.names own c.in_ok-names.ensures.good c.items.ensures.distinct
+    host_names c.args.host.now.vcpus c.in_ok-names.names own c.in_ok-names.ensures.good
+    c.items.ensures.distinct
 
 pub returns-clause-read : goal.returns-clause-read
 returns-clause-read c =
     let own : c.in_ok-names.names ≡ names_of c.args.host.now.vcpus = search rules in
     let good : AreHostNames c.in_ok-names.names =
-    host_names c.args.host.now.vcpus c.in_ok-names.names own c.in_ok-names.ensures.good c.items.ensures.distinct in
+    host_names c.args.host.now.vcpus c.in_ok-names.names own c.in_ok-names.ensures.good
+    c.items.ensures.distinct in
     let many : length c.in_ok-names.names ≡ length c.args.tasks.now =
     ap length own ∙ (length-map c.args.host.now.vcpus (λ (v : Vcpu). v.name) ∙ sym c.requires.named) in
     subst (λ (names : List (List ℕ)). (raw : RawTables)

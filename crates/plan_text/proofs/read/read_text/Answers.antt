@@ -13,7 +13,8 @@ use Rattle.plan_text.proofs.read.read_text.Goals as goal
 
 pub returns-in_default-clause-bad_line : goal.returns-in_default-clause-bad_line
 returns-in_default-clause-bad_line c = λ bad is.
-    let none : lines_of c.args.bytes.now ≡ [] = sym c.over-lines.ensures.lines ∙ c.in_default.ensures.steps.0 in
+    let none : lines_of c.args.bytes.now ≡ [] =
+    sym c.over-lines.ensures.lines ∙ c.in_default.ensures.steps.0 in
     let one : bad ≡ 1 = cc in
     rw one (head_is_bad c.args.names.now c.args.tasks.now c.args.host.now.cores
     (worded c.args.bytes.now) c.args.host.now.some_core
@@ -22,7 +23,8 @@ returns-in_default-clause-bad_line c = λ bad is.
 
 pub returns-then-not-is_head-clause-bad_line : goal.returns-then-not-is_head-clause-bad_line
 returns-then-not-is_head-clause-bad_line c = λ bad is.
-    let lines : lines_of c.args.bytes.now ≡ c.in-Some.head.now ∷ c.next.new.self = grind (arith, common_steps) in
+    let lines : lines_of c.args.bytes.now ≡ c.in-Some.head.now ∷ c.next.new.self =
+    grind (arith, common_steps) in
     let one : bad ≡ 1 = cc in
     let other : words_of c.in-Some.head.now ≡ head_words c.args.host.now.cores
     (count_by is_admitted c.args.tasks.now) → ⊥ =
@@ -37,7 +39,8 @@ returns-then-not-is_head-clause-bad_line c = λ bad is.
 
 pub from-left-requires : goal.from-left-requires
 from-left-requires c =
-    let lines : lines_of c.args.bytes.now ≡ c.in-Some.head.now ∷ c.next.new.self = grind (arith, common_steps) in
+    let lines : lines_of c.args.bytes.now ≡ c.in-Some.head.now ∷ c.next.new.self =
+    grind (arith, common_steps) in
     let words : words_of c.in-Some.head.now ≡ head_words c.args.host.now.cores
     (count_by is_admitted c.items.result.now) = search rules in
     let few = few_behind c.args.bytes.now c.in-Some.head.now c.next.new.self _ _ lines words in
@@ -47,7 +50,8 @@ pub returns-in_err-homes-clause-bad_line : goal.returns-in_err-homes-clause-bad_
 returns-in_err-homes-clause-bad_line c = λ bad is.
     let p = err_from_is_err_and c.from_residual.result c.from_residual.ensures.1 in
     let same : c.in_err-homes.field-0.0 ≡ BadLine bad = cc in
-    let lines : lines_of c.args.bytes.now ≡ c.in-Some.head.now ∷ c.next.new.self = grind (arith, common_steps) in
+    let lines : lines_of c.args.bytes.now ≡ c.in-Some.head.now ∷ c.next.new.self =
+    grind (arith, common_steps) in
     let words : words_of c.in-Some.head.now ≡ head_words c.args.host.now.cores
     (count_by is_admitted c.items.result.now) = search rules in
     let own : names_of c.items-2.result.now ≡ c.args.names.now = ap names_of c.items-2.ensures.same
@@ -60,17 +64,20 @@ pub returns-in_err-rows-clause-bad_line : goal.returns-in_err-rows-clause-bad_li
 returns-in_err-rows-clause-bad_line c = λ bad is.
     let p = err_from_is_err_and c.from_residual-in_err-rows.result c.from_residual-in_err-rows.ensures.1 in
     let same : c.in_err-rows.field-0.0 ≡ BadLine bad = cc in
-    let lines : lines_of c.args.bytes.now ≡ c.in-Some.head.now ∷ c.next.new.self = grind (arith, common_steps) in
+    let lines : lines_of c.args.bytes.now ≡ c.in-Some.head.now ∷ c.next.new.self =
+    grind (arith, common_steps) in
     let words : words_of c.in-Some.head.now ≡ head_words c.args.host.now.cores
     (count_by is_admitted c.items.result.now) = search rules in
     let own : names_of c.items-2.result.now ≡ c.args.names.now = ap names_of c.items-2.ensures.same
     ∙ sym c.requires.own in
-    let tasks : c.items-4.result.now ≡ c.items-3.result.now = c.items-4.ensures.same ∙ sym c.items-3.ensures.same in
+    let tasks : c.items-4.result.now ≡ c.items-3.result.now =
+    c.items-4.ensures.same ∙ sym c.items-3.ensures.same in
     let here = c.in_err-rows.ensures.bad_line bad (ap Err same) in
     bad_in_text c.args.names.now _ c.args.tasks.now _ _ _ _ _ _ _ _ bad own c.items-3.ensures.same
     c.items.ensures.same lines words c.from-left.ensures.lines c.from-left.ensures.number
     (c.in_ok-homes.ensures.behind bad
     (subst (λ ns. IsFirstBad (AreRows ns c.items-3.result.now 0 c.args.host.now.cores)
     c.read_vcpus.new.left.number c.read_vcpus.new.left.lines bad) (sym own)
-    (subst (λ ts. IsFirstBad (AreRows c.args.names.now ts 0 c.args.host.now.cores) c.read_vcpus.new.left.number
+    (subst (λ ts. IsFirstBad (AreRows c.args.names.now ts 0 c.args.host.now.cores)
+    c.read_vcpus.new.left.number
     c.read_vcpus.new.left.lines bad) tasks here)))

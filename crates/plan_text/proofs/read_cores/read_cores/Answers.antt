@@ -12,7 +12,8 @@ returns-in_err-take-clause-bad_line c = λ bad is.
     let p = err_from_is_err_and c.from_residual.result c.from_residual.ensures.1 in
     let same : c.in_err-take.field-0.0 ≡ BadLine bad = cc in
     let fault = c.in_err-take.ensures.bad_line bad (ap Err same) in
-    rw fault.0 (c.loop-core.invariant.behind _ (core_is_bad _ _ c.loop-core.core _ _ _ c.loop-core-test.true fault.1))
+    rw fault.0 (c.loop-core.invariant.behind _
+    (core_is_bad _ _ c.loop-core.core _ _ _ c.loop-core-test.true fault.1))
 
 pub loop-core-preserved : goal.loop-core-preserved
 loop-core-preserved c =
@@ -21,21 +22,26 @@ loop-core-preserved c =
     rw pushed (record {
       many = grind (arith, common_steps);
       lines = core_lines_more _ c.loop-core.core c.loop-core.rows.items c.in_ok-row.row.items _ _ _ _
-          c.loop-core.invariant.many c.loop-core.invariant.lines c.in_ok-take.ensures.ok c.in_ok-row.ensures.lines;
-      fine = all_snoc (λ row. All (IsFineSegment c.args.tasks.now) row) c.loop-core.rows.items c.in_ok-row.row.items
+          c.loop-core.invariant.many c.loop-core.invariant.lines c.in_ok-take.ensures.ok
+          c.in_ok-row.ensures.lines;
+      fine = all_snoc (λ row. All (IsFineSegment c.args.tasks.now) row) c.loop-core.rows.items
+          c.in_ok-row.row.items
           c.loop-core.invariant.fine c.in_ok-row.ensures.fine;
       behind = λ bad is. c.loop-core.invariant.behind bad
           (bad_behind_core _ _ c.loop-core.core _ _ _ _ _ _ _ c.in_ok-row.row.items bad c.loop-core-test.true
           c.in_ok-take.ensures.ok c.in_ok-take.ensures.number
-          c.in_ok-row.ensures.fine c.in_ok-row.ensures.lines c.in_ok-row.ensures.number c.in_ok-row.ensures.behind is);
+          c.in_ok-row.ensures.fine c.in_ok-row.ensures.lines c.in_ok-row.ensures.number
+          c.in_ok-row.ensures.behind is);
     })
 
 pub returns-in_err-take-2-clause-bad_line : goal.returns-in_err-take-2-clause-bad_line
 returns-in_err-take-2-clause-bad_line c = λ bad is.
-    let p = err_from_is_err_and c.from_residual-in_err-take-2.result c.from_residual-in_err-take-2.ensures.1 in
+    let p = err_from_is_err_and c.from_residual-in_err-take-2.result
+    c.from_residual-in_err-take-2.ensures.1 in
     let same : c.in_err-take-2.field-0.0 ≡ BadLine bad = cc in
     let fault = c.in_err-take-2.ensures.bad_line bad (ap Err same) in
-    rw fault.0 (c.loop-core.invariant.behind _ (end_is_bad _ _ c.loop-core.core _ _ _ c.loop-core-test.false fault.1))
+    rw fault.0 (c.loop-core.invariant.behind _
+    (end_is_bad _ _ c.loop-core.core _ _ _ c.loop-core-test.false fault.1))
 
 pub returns-in-Some-clause-bad_line : goal.returns-in-Some-clause-bad_line
 returns-in-Some-clause-bad_line c = λ bad is.

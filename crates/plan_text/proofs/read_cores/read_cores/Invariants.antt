@@ -9,6 +9,7 @@ invariant-loop-core l = record {
   many : length l.rows.items ≡ l.core;
   lines : l.fn.left.lines ≡ core_lines l.names 0 l.rows.items ++ l.left.lines;
   fine : AreFineRows l.tasks l.rows.items;
-  behind : (bad : ℕ) → IsFirstBad (AreRows l.names l.tasks l.core (l.cores - l.core)) l.left.number l.left.lines bad
+  behind : (bad : ℕ) → IsFirstBad (AreRows l.names l.tasks l.core (l.cores - l.core)) l.left.number
+      l.left.lines bad
       → IsFirstBad (AreRows l.names l.tasks 0 l.cores) l.fn.left.number l.fn.left.lines bad;
 }

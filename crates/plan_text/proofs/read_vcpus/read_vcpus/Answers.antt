@@ -45,7 +45,8 @@ loop-v-preserved c =
     ∙ (ap (λ (v : Vcpu). v.name) c.index-vcpus-v.is ∙ sym c.bytes.ensures.same) in
     let task : get_or c.args.tasks.now c.loop-v.v c.index-tasks-v.result ≡ c.index-tasks-v.result =
     sym c.index-tasks-v.is in
-    let pushed : c.push.new.self.items ≡ c.loop-v.homes.items ++ c.in_ok-home.home ∷ [] = grind (arith, common_steps) in
+    let pushed : c.push.new.self.items ≡ c.loop-v.homes.items ++ c.in_ok-home.home ∷ [] =
+    grind (arith, common_steps) in
     rw pushed (record {
       many = grind (arith, common_steps);
       lines = lines_more _ _ c.loop-v.v c.loop-v.homes.items c.in_ok-home.home c.bytes.result.now
@@ -54,12 +55,14 @@ loop-v-preserved c =
       housed = housed_more _ _ c.loop-v.v c.index-tasks-v.result c.loop-v.homes.items c.in_ok-home.home
           c.loop-v-test.true c.loop-v.invariant.housed (rw task c.in_ok-home.ensures.housed);
       behind = λ bad is. c.loop-v.invariant.behind bad
-          (bad_behind_vcpu _ _ _ c.loop-v.v _ _ _ _ c.in_ok-home.home _ _ bad named c.loop-v-test.true name task
+          (bad_behind_vcpu _ _ _ c.loop-v.v _ _ _ _ c.in_ok-home.home _ _ bad named
+          c.loop-v-test.true name task
           c.in_ok-home.ensures.housed c.in_ok-home.ensures.lines c.in_ok-home.ensures.number is);
     })
 
 pub returns-clause-housed : goal.returns-clause-housed
-returns-clause-housed c = housed_whole _ _ c.loop-v.v _ (omega (arith, c.loop-v-test.false)) c.loop-v.invariant.housed
+returns-clause-housed c = housed_whole _ _ c.loop-v.v _
+    (omega (arith, c.loop-v-test.false)) c.loop-v.invariant.housed
 
 pub returns-clause-behind : goal.returns-clause-behind
 returns-clause-behind c = λ bad is.

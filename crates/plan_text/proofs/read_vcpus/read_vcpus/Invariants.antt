@@ -11,6 +11,7 @@ invariant-loop-v l = record {
   many : length l.homes.items ≡ l.v;
   lines : l.fn.left.lines ≡ vcpu_lines (names_of l.vcpus) l.tasks l.homes.items ++ l.left.lines;
   housed : are_housed l.cores (take l.v l.tasks) l.homes.items ≡ true;
-  behind : (bad : ℕ) → IsFirstBad (AreVcpus (names_of l.vcpus) l.tasks l.cores l.v) l.left.number l.left.lines bad
+  behind : (bad : ℕ) → IsFirstBad (AreVcpus (names_of l.vcpus) l.tasks l.cores l.v) l.left.number
+      l.left.lines bad
       → IsFirstBad (AreVcpus (names_of l.vcpus) l.tasks l.cores 0) l.fn.left.number l.fn.left.lines bad;
 }

@@ -11,5 +11,6 @@ second_factor a (suc b) is = omega arith
 pub returns-clause-some : goal.returns-clause-some
 returns-clause-some c =
     let task = c.args.task.now in
-    let periods = second_factor task.period (102600 / task.period) (period_facts task.period task.listed).whole in
+    let periods = second_factor task.period (102600 / task.period)
+    (period_facts task.period task.listed).whole in
     mul-le-mul task.costs periods

@@ -5,4 +5,5 @@ use Rattle.step_machine.specs.Logs.{cores_of}
 use Rattle.step_machine.proofs.looks.lowest_behind.Given as goal
 
 abbrev pub invariant-loop-d : goal.invariant-loop-d
-invariant-loop-d l = (k : ℕ) (core : CoreState) → k < l.d → slice_get (cores_of l.logs) k ≡ Some core → l.skip ≢ Some k → l.tick ≤ core.clock + l.lag
+invariant-loop-d l = (k : ℕ) (core : CoreState) → k < l.d
+    → slice_get (cores_of l.logs) k ≡ Some core → l.skip ≢ Some k → l.tick ≤ core.clock + l.lag

@@ -5,7 +5,13 @@ use Rattle.step_machine.proofs.Phases.{phase_seen, entered_below, not_entered_ab
 use Rattle.step_machine.proofs.looks.phase_at.Goals as goal
 
 pub returns-then-log-len : goal.returns-then-log-len
-returns-then-log-len c = sym (ap shown (phase_seen c.args.rounds (core_of c.args.log.now) true (λ e. absurd (omega arith)) (search rules) (entered_below c.args.log.now.entries.items _ c.requires.numbered (omega arith))))
+returns-then-log-len c =
+    sym (ap shown (phase_seen c.args.rounds (core_of c.args.log.now) true
+    (λ e. absurd (omega arith)) (search rules)
+    (entered_below c.args.log.now.entries.items _ c.requires.numbered (omega arith))))
 
 pub returns-else-log-len : goal.returns-else-log-len
-returns-else-log-len c = sym (ap shown (phase_seen c.args.rounds (core_of c.args.log.now) false (λ e. absurd (omega arith)) (search rules) (not_entered_above c.args.log.now.entries.items _ c.requires.numbered (omega arith))))
+returns-else-log-len c =
+    sym (ap shown (phase_seen c.args.rounds (core_of c.args.log.now) false
+    (λ e. absurd (omega arith)) (search rules)
+    (not_entered_above c.args.log.now.entries.items _ c.requires.numbered (omega arith))))

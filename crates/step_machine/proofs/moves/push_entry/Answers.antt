@@ -14,7 +14,13 @@ returns c = λ before at.
       core = rw (is, c.push_reserved.ensures.items) refl;
       last_is = rw is refl;
       room = λ rounds n h. (let room = subst (λ (x : CoreLog). HasRoom rounds (n + 1) x) is h in record {
-        entries = omega (arith, ap length c.push_reserved.ensures.items, room.entries, c.push_reserved.ensures.capacity, length-append was.entries.items (c.args.entry ∷ []));
+        entries = omega (
+          arith,
+          ap length c.push_reserved.ensures.items,
+          room.entries,
+          c.push_reserved.ensures.capacity,
+          length-append was.entries.items (c.args.entry ∷ []),
+        );
         stints = omega (arith, room.stints);
       });
     }

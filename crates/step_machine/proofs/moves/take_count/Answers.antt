@@ -13,5 +13,10 @@ returns c = λ before at.
       becomes = refl;
       core = rw is refl;
       last_is = rw is refl;
-      room = λ rounds n h. (let room = subst (λ (x : CoreLog). HasRoom rounds (n + 1) x) is h in record { entries = omega (arith, room.entries); stints = omega (arith, room.stints) });
+      room = λ rounds n h.
+          (let room = subst (λ (x : CoreLog). HasRoom rounds (n + 1) x) is h in record {
+            entries =
+                omega (arith, room.entries);
+            stints = omega (arith, room.stints);
+          });
     }

@@ -30,7 +30,8 @@ next_stint-next-requires-clause-due c =
     let lt : i < length p.logs.items = rw c.deref.ensures.value at c.lowest-c.ensures.within in
     let at = slice_get_read p.logs.items (length p.logs.items) i log refl lt c.index-log.ensures in
     let low = least_clock p i log at (rw c.deref.ensures.value at c.lowest-c.ensures.least) in
-    λ core h. (let is = same (slice_get (cores_of p.logs.items) i) (core_of log) core (core_at p.logs.items i log at) h in rw (← is) (is_run _ (sym c.phase_at.ensures ∙ c.in-Run.is)))
+    λ core h.
+    (let is = same (slice_get (cores_of p.logs.items) i) (core_of log) core (core_at p.logs.items i log at) h in rw (← is) (is_run _ (sym c.phase_at.ensures ∙ c.in-Run.is)))
 
 pub returns-then-progress-count-clause-none : goal.returns-then-progress-count-clause-none
 returns-then-progress-count-clause-none c =
@@ -41,7 +42,10 @@ returns-then-progress-count-clause-none c =
     let lt : i < length p.logs.items = rw c.deref.ensures.value at c.lowest-c.ensures.within in
     let at = slice_get_read p.logs.items (length p.logs.items) i log refl lt c.index-log.ensures in
     let low = least_clock p i log at (rw c.deref.ensures.value at c.lowest-c.ensures.least) in
-    whole_at_end course c.args.rounds (state_of p) i (core_of log) c.requires.kept low (clock_at_end c.args.rounds (core_of log) (is_end _ (sym c.phase_at.ensures ∙ c.in-Finished.is))) (c.if-progress-count.true ∙ c.count.ensures.count)
+    whole_at_end course c.args.rounds (state_of p) i (core_of log) c.requires.kept low
+    (clock_at_end c.args.rounds (core_of log)
+    (is_end _ (sym c.phase_at.ensures ∙ c.in-Finished.is)))
+    (c.if-progress-count.true ∙ c.count.ensures.count)
 
 pub returns-else-progress-count-clause-some : goal.returns-else-progress-count-clause-some
 returns-else-progress-count-clause-some c =
@@ -52,7 +56,10 @@ returns-else-progress-count-clause-some c =
     let lt : i < length p.logs.items = rw c.deref.ensures.value at c.lowest-c.ensures.within in
     let at = slice_get_read p.logs.items (length p.logs.items) i log refl lt c.index-log.ensures in
     let low = least_clock p i log at (rw c.deref.ensures.value at c.lowest-c.ensures.least) in
-    (let phase = is_end _ (sym c.phase_at.ensures ∙ c.in-Finished.is) in post_at_end course c.args.rounds (state_of p) i (core_of log) c.requires.fits low (clock_at_end c.args.rounds (core_of log) phase) phase (omega (arith, c.count.ensures.count, c.requires.kept.posted_most)))
+    (let phase = is_end _ (sym c.phase_at.ensures ∙ c.in-Finished.is) in post_at_end course
+    c.args.rounds (state_of p) i (core_of log) c.requires.fits low
+    (clock_at_end c.args.rounds (core_of log) phase) phase
+    (omega (arith, c.count.ensures.count, c.requires.kept.posted_most)))
 
 pub returns-then-has_up_to-clause-some : goal.returns-then-has_up_to-clause-some
 returns-then-has_up_to-clause-some c =
@@ -63,7 +70,9 @@ returns-then-has_up_to-clause-some c =
     let lt : i < length p.logs.items = rw c.deref.ensures.value at c.lowest-c.ensures.within in
     let at = slice_get_read p.logs.items (length p.logs.items) i log refl lt c.index-log.ensures in
     let low = least_clock p i log at (rw c.deref.ensures.value at c.lowest-c.ensures.least) in
-    see_now course c.args.rounds (state_of p) i (core_of log) low (is_see _ (sym c.phase_at.ensures ∙ c.in-See.is)) (c.has_up_to.ensures.0 c.if-has_up_to.true)
+    see_now course c.args.rounds (state_of p) i (core_of log) low
+    (is_see _ (sym c.phase_at.ensures ∙ c.in-See.is))
+    (c.has_up_to.ensures.0 c.if-has_up_to.true)
 
 pub returns-else-has_up_to-clause-some : goal.returns-else-has_up_to-clause-some
 returns-else-has_up_to-clause-some c =
@@ -74,7 +83,10 @@ returns-else-has_up_to-clause-some c =
     let lt : i < length p.logs.items = rw c.deref.ensures.value at c.lowest-c.ensures.within in
     let at = slice_get_read p.logs.items (length p.logs.items) i log refl lt c.index-log.ensures in
     let low = least_clock p i log at (rw c.deref.ensures.value at c.lowest-c.ensures.least) in
-    post_for_see course c.args.rounds (state_of p) i (core_of log) c.lag-lag.ensures.kept low (is_see _ (sym c.phase_at.ensures ∙ c.in-See.is)) (λ has. (let is = c.has_up_to.ensures.1 has in let isnt = c.if-has_up_to.false in absurd (cc)))
+    post_for_see course c.args.rounds (state_of p) i (core_of log) c.lag-lag.ensures.kept low
+    (is_see _ (sym c.phase_at.ensures ∙ c.in-See.is))
+    (λ has. (let is = c.has_up_to.ensures.1 has in let isnt = c.if-has_up_to.false in absurd
+    (cc)))
 
 pub returns-in-Decide-clause-some : goal.returns-in-Decide-clause-some
 returns-in-Decide-clause-some c =
@@ -85,7 +97,8 @@ returns-in-Decide-clause-some c =
     let lt : i < length p.logs.items = rw c.deref.ensures.value at c.lowest-c.ensures.within in
     let at = slice_get_read p.logs.items (length p.logs.items) i log refl lt c.index-log.ensures in
     let low = least_clock p i log at (rw c.deref.ensures.value at c.lowest-c.ensures.least) in
-    decide_now course c.args.rounds (state_of p) i (core_of log) c.requires.kept low (is_decide _ (sym c.phase_at.ensures ∙ c.in-Decide.is))
+    decide_now course c.args.rounds (state_of p) i (core_of log) c.requires.kept low
+    (is_decide _ (sym c.phase_at.ensures ∙ c.in-Decide.is))
 
 pub returns-in-Run-clause-some : goal.returns-in-Run-clause-some
 returns-in-Run-clause-some c =
@@ -96,4 +109,6 @@ returns-in-Run-clause-some c =
     let lt : i < length p.logs.items = rw c.deref.ensures.value at c.lowest-c.ensures.within in
     let at = slice_get_read p.logs.items (length p.logs.items) i log refl lt c.index-log.ensures in
     let low = least_clock p i log at (rw c.deref.ensures.value at c.lowest-c.ensures.least) in
-    run_now course c.args.rounds (state_of p) i (core_of log) c.next_stint-next.result.stint c.lag-lag.ensures.kept low (c.next_stint-next.ensures.next (core_of log) (core_at p.logs.items i log at))
+    run_now course c.args.rounds (state_of p) i
+    (core_of log) c.next_stint-next.result.stint c.lag-lag.ensures.kept low
+    (c.next_stint-next.ensures.next (core_of log) (core_at p.logs.items i log at))

@@ -13,9 +13,12 @@ loop-place-preserved c =
     let lt : c.loop-place.place < length c.args.steps.now = omega arith in
     let old = c.loop-place.world.state in
     let new = c.apply-answer.new.self.state in
-    let moves : Moves course c.args.rounds old step new = rw (← inv.course, ← inv.rounds) c.in-Done.ensures.answer in
+    let moves : Moves course c.args.rounds old step new =
+    rw (← inv.course, ← inv.rounds) c.in-Done.ensures.answer in
     record {
-      leads = rw (take_more c.args.steps.now c.loop-place.place step lt, ← c.index-steps-place.is) (leads_more course c.args.rounds (opening course.cores) (take c.loop-place.place c.args.steps.now) old step new inv.leads moves);
+      leads = rw (take_more c.args.steps.now c.loop-place.place step lt, ← c.index-steps-place.is)
+          (leads_more course c.args.rounds (opening course.cores)
+          (take c.loop-place.place c.args.steps.now) old step new inv.leads moves);
       spare = omega (arith, inv.spare, c.apply-answer.ensures.spare);
       course = c.apply-answer.ensures.same.0 ∙ inv.course;
       rounds = c.apply-answer.ensures.same.1 ∙ inv.rounds;

@@ -10,12 +10,15 @@ use Rattle.step_machine.proofs.steps.decide.Goals as goal
 
 pub phase_at-phase-requires-clause-numbered : goal.phase_at-phase-requires-clause-numbered
 phase_at-phase-requires-clause-numbered c =
-    let at = log_found c.args.course.now c.args.rounds c.args.progress.now c.args.c c.index-log.result.now c.requires.kept c.requires.core c.index-log.ensures in
-    (log_kept c.args.course.now c.args.rounds c.args.progress.now c.args.c c.index-log.result.now c.requires.kept at).numbered
+    let at = log_found c.args.course.now c.args.rounds c.args.progress.now c.args.c
+    c.index-log.result.now c.requires.kept c.requires.core c.index-log.ensures in
+    (log_kept c.args.course.now c.args.rounds c.args.progress.now c.args.c c.index-log.result.now
+    c.requires.kept at).numbered
 
 pub returns-in_default : goal.returns-in_default
 returns-in_default c =
-    let at = log_found c.args.course.now c.args.rounds c.args.progress.now c.args.c c.index-log.result.now c.requires.kept c.requires.core c.index-log.ensures in
+    let at = log_found c.args.course.now c.args.rounds c.args.progress.now c.args.c
+    c.index-log.result.now c.requires.kept c.requires.core c.index-log.ensures in
     record {
       answer = (
         record {
@@ -34,6 +37,8 @@ pub enter-requires-clause-due : goal.enter-requires-clause-due
 enter-requires-clause-due c = λ core h.
     let log = c.index-log.result.now in
     let p = c.args.progress.now in
-    let at = log_found c.args.course.now c.args.rounds p c.args.c log c.requires.kept c.requires.core c.index-log.ensures in
-    let is = same (slice_get (cores_of p.logs.items) c.args.c) (core_of log) core (core_at p.logs.items c.args.c log at) h in
+    let at = log_found c.args.course.now c.args.rounds p c.args.c log c.requires.kept
+    c.requires.core c.index-log.ensures in
+    let is = same (slice_get (cores_of p.logs.items) c.args.c) (core_of log) core
+    (core_at p.logs.items c.args.c log at) h in
     rw (← is) (is_decide _ (sym c.phase_at-phase.ensures ∙ c.in-Decide.is), c.seen_by-seen.ensures, refl)

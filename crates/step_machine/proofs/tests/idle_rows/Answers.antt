@@ -8,7 +8,8 @@ flat_some : (o : Option (Option ℕ)) (v : ℕ) → flat o ≡ Some v → o ≡ 
 flat_some None v h = absurd cc
 flat_some (Some o) v h = ap Some h
 
-owner_push : (rows : List Row) (row : Row) (c x v : ℕ) → owner_at (rows ++ row ∷ []) c x ≡ Some v → (owner_at rows c x ≡ Some v) ⊎ (slice_get row x ≡ Some (Some v))
+owner_push : (rows : List Row) (row : Row) (c x v : ℕ) → owner_at (rows ++ row ∷ []) c x ≡ Some v
+    → (owner_at rows c x ≡ Some v) ⊎ (slice_get row x ≡ Some (Some v))
 owner_push [] row zero x v h = inr (flat_some (slice_get row x) v h)
 owner_push [] row (suc c) x v h = absurd cc
 owner_push (r ∷ rows) row zero x v h = inl h
@@ -16,9 +17,15 @@ owner_push (r ∷ rows) row (suc c) x v h = owner_push rows row c x v h
 
 pub loop-core-preserved : goal.loop-core-preserved
 loop-core-preserved c = record {
-  count = omega (arith, ap length c.in_ok-push.ensures.items, length-append c.loop-core.rows.items (c.in_ok-row.row ∷ []), c.loop-core.invariant.count);
-  idle = λ d x v h. elim (owner_push c.loop-core.rows.items c.in_ok-row.row d x v (subst (λ (rows : List Row). owner_at rows d x ≡ Some v) c.in_ok-push.ensures.items h)) [
-    | inl old ↦ c.loop-core.invariant.idle d x v old
-    | inr new ↦ c.in_ok-row.ensures x v new
-  ];
+  count = omega (
+    arith,
+    ap length c.in_ok-push.ensures.items,
+    length-append c.loop-core.rows.items (c.in_ok-row.row ∷ []),
+    c.loop-core.invariant.count,
+  );
+  idle = λ d x v h. elim (owner_push c.loop-core.rows.items c.in_ok-row.row d x v
+      (subst (λ (rows : List Row). owner_at rows d x ≡ Some v) c.in_ok-push.ensures.items h)) [
+        | inl old ↦ c.loop-core.invariant.idle d x v old
+        | inr new ↦ c.in_ok-row.ensures x v new
+      ];
 }

@@ -7,9 +7,16 @@ use Rattle.step_machine.proofs.tests.steps_of.Goals as goal
 
 pub loop-kind-preserved : goal.loop-kind-preserved
 loop-kind-preserved c = record {
-  count = omega (arith, ap length c.in_ok-push.ensures.items, length-append c.loop-kind.steps.items (c.step_of-step.result ∷ []), c.loop-kind.invariant.count);
-  names = λ k step course two h. elim (push_split c.loop-kind.steps.items k c.step_of-step.result step (subst (λ (steps : List Step). slice_get steps k ≡ Some step) c.in_ok-push.ensures.items h)) [
-    | inl old ↦ c.loop-kind.invariant.names k step course two old
-    | inr new ↦ subst (λ (s : Step). NamesCore course s) new.1 (c.step_of-step.ensures course two)
-  ];
+  count = omega (
+    arith,
+    ap length c.in_ok-push.ensures.items,
+    length-append c.loop-kind.steps.items (c.step_of-step.result ∷ []),
+    c.loop-kind.invariant.count,
+  );
+  names = λ k step course two h. elim
+      (push_split c.loop-kind.steps.items k c.step_of-step.result step
+      (subst (λ (steps : List Step). slice_get steps k ≡ Some step) c.in_ok-push.ensures.items h)) [
+        | inl old ↦ c.loop-kind.invariant.names k step course two old
+        | inr new ↦ subst (λ (s : Step). NamesCore course s) new.1 (c.step_of-step.ensures course two)
+      ];
 }

@@ -8,5 +8,6 @@ use Rattle.step_machine.proofs.tests.steps_of.Given as goal
 abbrev pub invariant-loop-kind : goal.invariant-loop-kind
 invariant-loop-kind l = record {
   count : length l.steps.items ≡ l.kind-index;
-  names : (k : ℕ) (step : Step) (course : CourseView) → course.cores ≡ 2 → slice_get l.steps.items k ≡ Some step → NamesCore course step;
+  names : (k : ℕ) (step : Step) (course : CourseView) → course.cores ≡ 2
+      → slice_get l.steps.items k ≡ Some step → NamesCore course step;
 }

@@ -10,5 +10,6 @@ returns c = (
   λ same. ap members_of (same_text c.args.a.now c.args.b.now (sym same ∙ c.eq.ensures)),
   λ same.
       let words = same_members c.args.a.now c.args.b.now c.told-a c.told-b c.fits-a c.fits-b same in
-      c.eq.ensures ∙ (ap (λ (b : List ℕ). pointwise nat_eq c.args.a.now b) (sym words) ∙ nat_list_eq_equiv.refl c.args.a.now),
+      c.eq.ensures ∙ (ap (λ (b : List ℕ). pointwise nat_eq c.args.a.now b) (sym words)
+      ∙ nat_list_eq_equiv.refl c.args.a.now),
 )

@@ -13,7 +13,8 @@ returns-in_default c =
 pub returns-in_default-rounds_of : goal.returns-in_default-rounds_of
 returns-in_default-rounds_of c =
     let words : texts c.args.rest.now ≡ c.as_bytes.result.now ∷ texts c.in-Some.more.now = search rules in
-    rw words (fault_of_rounds c.as_bytes.result.now (texts c.in-Some.more.now) c.in_default-rounds_of.ensures.none)
+    rw words (fault_of_rounds c.as_bytes.result.now
+    (texts c.in-Some.more.now) c.in_default-rounds_of.ensures.none)
 
 pub returns-else-is_empty : goal.returns-else-is_empty
 returns-else-is_empty c =

@@ -29,6 +29,9 @@ returns c =
     take_all c.loop-byte.byte-index c.args.bytes.now c.loop-byte-test.false in
     let value : c.loop-byte.number ≡ digits_value 10 c.args.bytes.now =
     c.loop-byte.invariant.value ∙ ap (digits_value 10) all in (
-      (subst (AllDigits 10) all c.loop-byte.invariant.digits, omega (arith, value, c.loop-byte.invariant.fits)),
+      (
+        subst (AllDigits 10) all c.loop-byte.invariant.digits,
+        omega (arith, value, c.loop-byte.invariant.fits),
+      ),
       value,
     )

@@ -18,5 +18,6 @@ returns c =
     let some : 0 < length c.args.bytes.now = grind (arith, common_steps) in
     let plain : (1 < length c.args.bytes.now → get_or c.args.bytes.now 0 0 ≡ 48 → ⊥) =
     λ long zero. grind (arith, common_steps) in
-    let read = read_spelling c.args.bytes.now c.number_of_digits.result some plain c.number_of_digits.ensures in
+    let read = read_spelling c.args.bytes.now c.number_of_digits.result some plain
+    c.number_of_digits.ensures in
     record { some = read.0; none = read.1 }

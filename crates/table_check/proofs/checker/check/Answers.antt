@@ -37,16 +37,20 @@ invariant_of-result c =
     let raw = c.args.raw.now.rows in
     let tasks : c.of.result ≡ c.args.tasks.now = c.of.ensures ∙ c.in_ok-from_slice-2.ensures.items
     ∙ c.items-6.ensures.same in
-    let homes : c.of-homes.result ≡ c.args.raw.now.homes = c.of-homes.ensures ∙ c.in_ok-from_slice.ensures.items
+    let homes : c.of-homes.result ≡ c.args.raw.now.homes =
+    c.of-homes.ensures ∙ c.in_ok-from_slice.ensures.items
     ∙ c.items-5.ensures.same in
     let rows : c.in_ok-rows.rows ≡ rows_of raw = c.in_ok-rows.ensures.rows ∙ ap rows_of c.items.ensures in
     record {
-      serves = subst (λ (ts : List (Option Periodic)). Serves ts c.in_ok-rows.rows) (c.items-3.ensures.same ∙ sym tasks)
+      serves = subst (λ (ts : List (Option Periodic)). Serves ts c.in_ok-rows.rows)
+          (c.items-3.ensures.same ∙ sym tasks)
           (subst (Serves c.items-3.result.now) c.items-4.ensures.same
           (subst (IsShortageOf c.items-3.result.now c.items-4.result.now) c.in_default-2.is
           c.in_ok-shortage.ensures));
       apart = subst Apart c.items-2.ensures.same c.in_default.ensures.none;
-      housed = subst (λ (ts : List (Option Periodic)). HaveHomes ts c.of-homes.result c.in_ok-rows.rows) (sym tasks)
+      housed = subst
+          (λ (ts : List (Option Periodic)). HaveHomes ts c.of-homes.result c.in_ok-rows.rows)
+          (sym tasks)
           (subst (λ (hs : List (Option ℕ)). HaveHomes c.args.tasks.now hs c.in_ok-rows.rows) (sym homes)
           (subst (λ (n : ℕ). IsTrue (are_housed n c.args.tasks.now c.args.raw.now.homes))
           (sym (ap length rows ∙ length-map {B = Row} raw (cells_from 0))) c.requires.housed));

@@ -6,12 +6,14 @@ use Rattle.table_check.specs.declared.clash.Clash.{Clash}
 use Rattle.table_check.proofs.Pairs.{apart_if_none, first_of_all, no_pair_yet}
 use Rattle.table_check.proofs.clash.find_clash.Goals as goal
 
-some : (rows : List Row) (count : ℕ) (best : Option Clash) → length rows ≤ count → IsFirstBefore rows count 0 best
+some : (rows : List Row) (count : ℕ) (best : Option Clash) → length rows ≤ count
+    → IsFirstBefore rows count 0 best
     → IfSome best (λ clash. IsFirstClash rows clash.vcpu clash.tick clash.core clash.other)
 some rows count None all before = tt
 some rows count (Some first) all before = first_of_all rows count first all before
 
-none : (rows : List Row) (count : ℕ) (best : Option Clash) → length rows ≤ count → IsFirstBefore rows count 0 best
+none : (rows : List Row) (count : ℕ) (best : Option Clash) → length rows ≤ count
+    → IsFirstBefore rows count 0 best
     → IfNone best (Apart rows)
 none rows count None all before = apart_if_none rows count all before
 none rows count (Some first) all before = tt

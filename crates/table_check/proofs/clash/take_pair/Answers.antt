@@ -20,7 +20,8 @@ returns-then-is_sooner c =
     let a = cells_from 0 c.segments.result.now in
     let b = cells_from 0 c.segments-2.result.now in
     let two : ArePair rows core other a b =
-    are_pair rows core other a b c.index-rows-core.result c.index-rows-other.result c.requires.lower c.requires.there
+    are_pair rows core other a b c.index-rows-core.result c.index-rows-other.result c.requires.lower
+    c.requires.there
     c.index-rows-core.is c.index-rows-other.is c.segments.ensures.cells c.segments-2.ensures.cells in
     becomes_first rows core other c.in-Some.meeting.vcpu c.in-Some.meeting.tick c.args.best c.requires.before
     (c.is_sooner.ensures.yes c.if-is_sooner.true)
@@ -35,7 +36,8 @@ returns-else-is_sooner c =
     let a = cells_from 0 c.segments.result.now in
     let b = cells_from 0 c.segments-2.result.now in
     let two : ArePair rows core other a b =
-    are_pair rows core other a b c.index-rows-core.result c.index-rows-other.result c.requires.lower c.requires.there
+    are_pair rows core other a b c.index-rows-core.result c.index-rows-other.result c.requires.lower
+    c.requires.there
     c.index-rows-core.is c.index-rows-other.is c.segments.ensures.cells c.segments-2.ensures.cells in
     stays_sooner rows core other c.in-Some.meeting.tick c.args.best c.requires.before
     (c.is_sooner.ensures.no c.if-is_sooner.false)

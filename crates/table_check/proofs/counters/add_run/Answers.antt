@@ -47,10 +47,12 @@ overflow_add-index_mut c =
     let cut = is_cut task c.args.from tick c.min-end.result c.args.to c.cutting-test.true c.requires.in_round
     c.min-end.ensures in
     let few = (holds_tick task tick lt).few in
-    let read = read_count tasks counters c.args.vcpu (tick / task.period) c.index.result c.index_mut.result.now _
+    let read = read_count tasks counters c.args.vcpu
+    (tick / task.period) c.index.result c.index_mut.result.now _
     task c.requires.task
     (c.cutting.invariant.size ∙ c.requires.size) few c.index.ensures.value c.index_mut.ensures.value in
-    let room = room_for_cut tasks c.args.counters.now.items counters c.args.vcpu c.args.from tick c.min-end.result task
+    let room = room_for_cut tasks c.args.counters.now.items counters c.args.vcpu c.args.from tick
+    c.min-end.result task
     c.requires.task lt c.cutting.invariant.low (omega (arith, cut.rises))
     (omega (arith, cut.within, c.requires.in_round)) c.requires.room c.cutting.invariant.grown in
     omega (arith, read, room)
@@ -63,17 +65,21 @@ cutting-preserved c =
     let counters = c.cutting.counters.items in
     let end = c.min-end.result in
     let lt : tick < ROUND = omega (arith, c.requires.in_round, c.cutting-test.true) in
-    let cut = is_cut task c.args.from tick end c.args.to c.cutting-test.true c.requires.in_round c.min-end.ensures in
+    let cut = is_cut task c.args.from tick end c.args.to c.cutting-test.true c.requires.in_round
+    c.min-end.ensures in
     let few = (holds_tick task tick lt).few in
     let size : length counters ≡ length tasks * MAX_PERIODS = c.cutting.invariant.size ∙ c.requires.size in
-    let read = read_count tasks counters c.args.vcpu (tick / task.period) c.index.result c.index_mut.result.now _
+    let read = read_count tasks counters c.args.vcpu
+    (tick / task.period) c.index.result c.index_mut.result.now _
     task c.requires.task
     size few c.index.ensures.value c.index_mut.ensures.value in
     record {
       low = omega (arith, c.cutting.invariant.low, cut.rises);
       high = cut.within;
       size = length-set _ _ _ ∙ c.cutting.invariant.size;
-      grown = subst (λ n. GrowBy tasks (ticks_given (Some c.args.vcpu) c.args.from end) c.args.counters.now.items
+      grown = subst
+          (λ n. GrowBy tasks (ticks_given (Some c.args.vcpu) c.args.from end)
+          c.args.counters.now.items
           (set counters (n * MAX_PERIODS + tick / task.period) (c.index_mut.result.now + (end - tick))))
           (sym c.index.ensures.value)
           (one_more_cut tasks c.args.counters.now.items counters c.args.vcpu c.args.from tick end
@@ -85,5 +91,6 @@ cutting-preserved c =
 pub returns-clause-grown : goal.returns-clause-grown
 returns-clause-grown c =
     let at_end : c.cutting.tick ≡ c.args.to = omega (arith, c.cutting.invariant.high, c.cutting-test.false) in
-    subst (λ n. GrowBy c.args.tasks.now (ticks_given (Some c.args.vcpu) c.args.from n) c.args.counters.now.items
+    subst (λ n. GrowBy c.args.tasks.now
+    (ticks_given (Some c.args.vcpu) c.args.from n) c.args.counters.now.items
     c.cutting.counters.items) at_end c.cutting.invariant.grown

@@ -9,7 +9,8 @@ use Rattle.table_check.proofs.counters.count_supply.Goals as goal
 
 pub loop-row-init : goal.loop-row-init
 loop-row-init c =
-    let items : c.in_ok-counters.counters.items ≡ replicate (length c.args.tasks.now * MAX_PERIODS) 0 = search rules in
+    let items : c.in_ok-counters.counters.items
+    ≡ replicate (length c.args.tasks.now * MAX_PERIODS) 0 = search rules in
     record {
       size = ap length items ∙ length-replicate (length c.args.tasks.now * MAX_PERIODS) 0;
       counted = subst (CountSupply c.args.tasks.now []) (sym items)
@@ -18,7 +19,8 @@ loop-row-init c =
 
 pub add_row-requires-clause-room : goal.add_row-requires-clause-room
 add_row-requires-clause-room c =
-    room_for_row c.args.tasks.now c.args.rows.now c.loop-row.row-index c.loop-row.counters.items c.requires.few_rows
+    room_for_row c.args.tasks.now c.args.rows.now c.loop-row.row-index c.loop-row.counters.items
+    c.requires.few_rows
     c.loop-row.invariant.counted
 
 pub loop-row-preserved : goal.loop-row-preserved

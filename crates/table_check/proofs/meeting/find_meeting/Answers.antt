@@ -19,7 +19,8 @@ bounds-row-here_at c = some_left c.args.row.now c.sweeping.tick c.sweeping.here_
     (omega (arith, c.sweeping-test.true))
 
 pub bounds-other-there_at : goal.bounds-other-there_at
-bounds-other-there_at c = some_left c.args.other.now c.sweeping.tick c.sweeping.there_at c.sweeping.invariant.there
+bounds-other-there_at c = some_left c.args.other.now c.sweeping.tick c.sweeping.there_at
+    c.sweeping.invariant.there
     (omega (arith, c.sweeping-test.true))
 
 pub returns-in-Some : goal.returns-in-Some
@@ -30,7 +31,8 @@ returns-in-Some c =
     (omega (arith, c.sweeping-test.true)) in
     let lt_b = some_left c.args.other.now c.sweeping.tick c.sweeping.there_at was.there
     (omega (arith, c.sweeping-test.true)) in (
-      meets_now c.args.row.now c.args.other.now c.sweeping.tick c.sweeping.here_at c.sweeping.there_at c.in-Some.vcpu
+      meets_now c.args.row.now c.args.other.now c.sweeping.tick c.sweeping.here_at
+          c.sweeping.there_at c.in-Some.vcpu
           c.index-row-here_at.result c.index-other-there_at.result was.here was.there lt_a lt_b
           c.index-row-here_at.is c.index-other-there_at.is both.0 both.1,
       was.none,
@@ -76,7 +78,8 @@ sweeping-preserved c =
           (goes_on row tick c.sweeping.here_at y here was.here lt_a c.index-row-here_at.is low end_a);
       there = rw c.place_at-there_at.ensures
           (goes_on other tick c.sweeping.there_at y there was.there lt_b c.index-other-there_at.is low end_b);
-      none = none_in_segments row other tick c.sweeping.here_at c.sweeping.there_at y here there was.here was.there
+      none = none_in_segments row other tick c.sweeping.here_at c.sweeping.there_at y here there
+          was.here was.there
           lt_a lt_b
           c.index-row-here_at.is c.index-other-there_at.is c.in_default.ensures.none end_a end_b was.none;
     }

@@ -7,7 +7,8 @@ use Rattle.table_check.proofs.shape.build_rows.Goals as goal
 
 pub loop-core-preserved : goal.loop-core-preserved
 loop-core-preserved c =
-    let at = slice_get_read c.args.raw.now _ c.loop-core.core c.index-raw-core.result refl c.loop-core-test.true
+    let at = slice_get_read c.args.raw.now _ c.loop-core.core c.index-raw-core.result refl
+    c.loop-core-test.true
     c.index-raw-core.is in
     let good : bad_place 0 c.index-raw-core.result ≡ None = ap (bad_place 0) (sym c.items.ensures)
     ∙ c.in_ok-build_row.ensures.good in
@@ -18,8 +19,10 @@ loop-core-preserved c =
           (c.in_ok-build_row.ensures.row ∙ ap (cells_from 0) c.items.ensures)
           ∙ sym (rows_more c.args.raw.now c.loop-core.core c.index-raw-core.result c.loop-core-test.true
           c.index-raw-core.is);
-      good = good_more c.args.raw.now c.loop-core.core c.index-raw-core.result at good c.loop-core.invariant.good;
+      good = good_more c.args.raw.now c.loop-core.core c.index-raw-core.result at good
+          c.loop-core.invariant.good;
     }
 
 pub returns-clause-good : goal.returns-clause-good
-returns-clause-good c = good_all c.args.raw.now c.loop-core.core c.loop-core-test.false c.loop-core.invariant.good
+returns-clause-good c = good_all c.args.raw.now c.loop-core.core c.loop-core-test.false
+    c.loop-core.invariant.good

@@ -15,17 +15,22 @@ bounds-counters-vcpu c =
 
 pub returns-in-Some-first_low : goal.returns-in-Some-first_low
 returns-in-Some-first_low c = λ rows counted.
-    let at = slice_get_read c.args.tasks.now _ c.loop-vcpu.vcpu c.index-tasks-vcpu.result refl c.loop-vcpu-test.true
+    let at = slice_get_read c.args.tasks.now _ c.loop-vcpu.vcpu c.index-tasks-vcpu.result refl
+    c.loop-vcpu-test.true
     c.index-tasks-vcpu.is ∙ ap Some c.in-Some.is in
-    first_short_if_low c.args.tasks.now rows c.args.counters.now c.loop-vcpu.vcpu c.in-Some-first_low.period_no _
+    first_short_if_low c.args.tasks.now rows c.args.counters.now c.loop-vcpu.vcpu
+    c.in-Some-first_low.period_no _
     c.in-Some.task at counted c.loop-vcpu.invariant c.in-Some-first_low.ensures refl
 
 pub loop-vcpu-preserved : goal.loop-vcpu-preserved
 loop-vcpu-preserved c =
-    let at = slice_get_read c.args.tasks.now _ c.loop-vcpu.vcpu c.index-tasks-vcpu.result refl c.loop-vcpu-test.true
+    let at = slice_get_read c.args.tasks.now _ c.loop-vcpu.vcpu c.index-tasks-vcpu.result refl
+    c.loop-vcpu-test.true
     c.index-tasks-vcpu.is in
-    let here : IsServedBy c.args.tasks.now c.args.counters.now c.loop-vcpu.vcpu = elim c.match-tasks-vcpu.branch [
-      | in-Some+in_default-first_low w ↦ served_if_none_low c.args.tasks.now c.args.counters.now c.loop-vcpu.vcpu
+    let here : IsServedBy c.args.tasks.now c.args.counters.now c.loop-vcpu.vcpu =
+    elim c.match-tasks-vcpu.branch [
+      | in-Some+in_default-first_low w ↦
+          served_if_none_low c.args.tasks.now c.args.counters.now c.loop-vcpu.vcpu
           w.in-Some.task (at ∙ ap Some w.in-Some.is) w.in_default-first_low.ensures
       | in_default w ↦ served_if_no_task c.args.tasks.now c.args.counters.now c.loop-vcpu.vcpu
           (at ∙ ap Some w.in_default.is)

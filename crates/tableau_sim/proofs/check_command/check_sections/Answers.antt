@@ -5,7 +5,8 @@ use Rattle.tableau_sim.proofs.check_command.check_sections.Goals as goal
 
 pub returns-in-Err-tasks_of : goal.returns-in-Err-tasks_of
 returns-in-Err-tasks_of c = rw (c.refusal-in-Err-tasks_of.ensures, c.status_of_tasks.ensures)
-    (tasks_refused c.args.sections.now c.in-Ok.host c.in-Err-tasks_of.fault (rw c.part.ensures at c.in-Ok.ensures.ok)
+    (tasks_refused c.args.sections.now c.in-Ok.host c.in-Err-tasks_of.fault
+    (rw c.part.ensures at c.in-Ok.ensures.ok)
     (λ vcpu is. c.in-Err-tasks_of.ensures.no_period vcpu (ap Err is)))
 
 pub returns-in-Err-read_plan : goal.returns-in-Err-read_plan
@@ -21,13 +22,15 @@ returns-in-Ok-check c =
     let tasked : HasTasks c.args.sections.now c.in-Ok.host c.in-Ok-tasks_of.tasks =
     record { is_host = rw c.part.ensures at c.in-Ok.ensures.ok; are_tasks = c.in-Ok-tasks_of.ensures.ok } in
     tables_pass c.args.sections.now c.in-Ok.host c.in-Ok-tasks_of.tasks c.in-Ok-read_plan.raw
-    (record { tasked = tasked; text = rw c.part-2.ensures at c.in-Ok-read_plan.ensures.ok }) c.in-Ok-check.ensures.good
+    (record { tasked = tasked; text = rw c.part-2.ensures at c.in-Ok-read_plan.ensures.ok })
+    c.in-Ok-check.ensures.good
 
 pub returns-in-Err-check : goal.returns-in-Err-check
 returns-in-Err-check c =
     let tasked : HasTasks c.args.sections.now c.in-Ok.host c.in-Ok-tasks_of.tasks =
     record { is_host = rw c.part.ensures at c.in-Ok.ensures.ok; are_tasks = c.in-Ok-tasks_of.ensures.ok } in
     rw (c.refusal-in-Err-check.ensures, c.status_of_check.ensures)
-    (tables_refused c.args.sections.now c.in-Ok.host c.in-Ok-tasks_of.tasks c.in-Ok-read_plan.raw c.in-Err-check.fault
+    (tables_refused c.args.sections.now c.in-Ok.host c.in-Ok-tasks_of.tasks c.in-Ok-read_plan.raw
+    c.in-Err-check.fault
     (record { tasked = tasked; text = rw c.part-2.ensures at c.in-Ok-read_plan.ensures.ok })
     c.in-Err-check.ensures.fault)

@@ -25,13 +25,17 @@ pub returns-clause-placement : goal.returns-clause-placement
 returns-clause-placement c = grind (arith, common_steps)
 
 pub returns-clause-only : goal.returns-clause-only
-returns-clause-only c = λ other is. placement_unique c.args.tasks.now c.args.cores other _ is (returns-clause-placement c)
+returns-clause-only c = λ other is. placement_unique c.args.tasks.now c.args.cores other _ is
+    (returns-clause-placement c)
 
 pub returns-clause-each : goal.returns-clause-each
-returns-clause-each c = placement_places_each c.args.tasks.now c.args.cores _ c.requires.some_core (returns-clause-placement c)
+returns-clause-each c = placement_places_each c.args.tasks.now c.args.cores _ c.requires.some_core
+    (returns-clause-placement c)
 
 pub returns-clause-fits : goal.returns-clause-fits
-returns-clause-fits c = placement_fits c.args.tasks.now c.args.cores _ c.requires.some_core (returns-clause-placement c)
+returns-clause-fits c = placement_fits c.args.tasks.now c.args.cores _ c.requires.some_core
+    (returns-clause-placement c)
 
 pub returns-clause-bound : goal.returns-clause-bound
-returns-clause-bound c = placement_within_bound c.args.tasks.now c.args.cores _ c.requires.some_core (returns-clause-placement c)
+returns-clause-bound c = placement_within_bound c.args.tasks.now c.args.cores _ c.requires.some_core
+    (returns-clause-placement c)

@@ -10,17 +10,23 @@ use Rattle.worst_fit.proofs.rank.falling_order.Goals as goal
 pub loop-number-preserved : goal.loop-number-preserved
 loop-number-preserved c = elim c.match-task.branch [
   | in-Some+in_ok-push w ↦
-      push_some c.loop-number.ranks.items c.match-task.ranks.items _ _ _ _ _ _ c.loop-number-test.true c.index-tasks-number.is w.in-Some.is w.demand_of.ensures.value
+      push_some c.loop-number.ranks.items c.match-task.ranks.items _ _ _ _ _ _
+      c.loop-number-test.true c.index-tasks-number.is w.in-Some.is w.demand_of.ensures.value
       (rw w.ranks-is w.in_ok-push.ensures.items) c.loop-number.invariant
   | in_default w ↦
-      skip_none c.loop-number.ranks.items c.match-task.ranks.items _ _ _ _ c.loop-number-test.true c.index-tasks-number.is w.in_default.is (rw w.ranks-is refl) c.loop-number.invariant
+      skip_none c.loop-number.ranks.items c.match-task.ranks.items _ _ _ _ c.loop-number-test.true
+      c.index-tasks-number.is w.in_default.is (rw w.ranks-is refl) c.loop-number.invariant
 ]
 
 pub returns : goal.returns
 returns c =
-    let end = ap (ranks_from c.loop-number.number) (drop_of_length-le c.args.tasks.now {i = c.loop-number.number} c.loop-number-test.false) ∙ ranks_from-nil c.loop-number.number in
-    let all = sym (append-nil c.loop-number.ranks.items) ∙ ap (λ r. c.loop-number.ranks.items ++ r) (sym end) ∙ c.loop-number.invariant in
+    let end = ap (ranks_from c.loop-number.number)
+    (drop_of_length-le c.args.tasks.now {i = c.loop-number.number} c.loop-number-test.false)
+    ∙ ranks_from-nil c.loop-number.number in
+    let all = sym (append-nil c.loop-number.ranks.items)
+    ∙ ap (λ r. c.loop-number.ranks.items ++ r) (sym end) ∙ c.loop-number.invariant in
     record {
-      admitted = subst (λ (r : List Rank). IsPermutation r c.sort.new.self.items) all c.in_ok-sort.ensures.permutation;
+      admitted = subst (λ (r : List Rank). IsPermutation r c.sort.new.self.items) all
+          c.in_ok-sort.ensures.permutation;
       falls = c.in_ok-sort.ensures.sorted;
     }

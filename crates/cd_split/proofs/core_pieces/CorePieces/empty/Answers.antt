@@ -10,6 +10,8 @@ pub invariant_of-result : goal.invariant_of-result
 invariant_of-result c = record {
   few = (let count = ap length c.loop.invariant ∙ length-replicate c.loop.counter [] in omega arith);
   own = λ core. (
-      let none : get_or c.loop.lists.items core [] ≡ [] = ap (λ lists. get_or lists core []) c.loop.invariant ∙ get_or-replicate c.loop.counter core [] in
+      let none : get_or c.loop.lists.items core [] ≡ [] =
+      ap (λ lists. get_or lists core []) c.loop.invariant
+      ∙ get_or-replicate c.loop.counter core [] in
       subst (All (λ p. p.core ≡ core)) (sym none) (All-nil (λ (p : Piece). p.core ≡ core)));
 }

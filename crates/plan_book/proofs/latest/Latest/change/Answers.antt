@@ -7,7 +7,8 @@ use Rattle.plan_book.proofs.latest.Latest.change.Goals as goal
 pub returns-in_ok-take-in-Ok-clause-follows : goal.returns-in_ok-take-in-Ok-clause-follows
 returns-in_ok-take-in-Ok-clause-follows g c =
     let told = c.in_ok-take-in-Ok.ensures in
-    inl (known_taken c.args.self.now c.take.new.self c.args.edits.now c.in-Ok.plan c.requires.some (rw told.host c.in_ok-host.ensures)
+    inl (known_taken c.args.self.now c.take.new.self c.args.edits.now c.in-Ok.plan c.requires.some
+    (rw told.host c.in_ok-host.ensures)
     (rw (told.host) (rw c.in-Ok.is at c.in_ok-plan.ensures.planned)) told.plans told.runnable told.outcomes)
 
 pub returns-in_ok-take-in-Ok-clause-grows : goal.returns-in_ok-take-in-Ok-clause-grows
@@ -16,10 +17,19 @@ returns-in_ok-take-in-Ok-clause-grows g c = inr (c.in-Ok.plan, c.in_ok-take-in-O
 pub returns-in_ok-take-in-Ok-clause-fits : goal.returns-in_ok-take-in-Ok-clause-fits
 returns-in_ok-take-in-Ok-clause-fits g c _ =
     let told = c.in_ok-take-in-Ok.ensures in
-    fits_taken c.args.self.now c.take.new.self c.in-Ok.plan told.plans (rw told.host (rw c.in-Ok.is at c.in_ok-plan.ensures.fits))
+    fits_taken c.args.self.now c.take.new.self c.in-Ok.plan told.plans
+    (rw told.host (rw c.in-Ok.is at c.in_ok-plan.ensures.fits))
 
 pub returns-in_ok-push-in-Err-clause-follows : goal.returns-in_ok-push-in-Err-clause-follows
 returns-in_ok-push-in-Err-clause-follows g c =
-    let pushed : c.push.new.self.items ≡ c.args.self.now.outcomes.items ++ c.in-Err.outcome ∷ [] = grind (arith, common_steps) in
-    let new : Latest = record { host = c.args.self.now.host; plans = c.args.self.now.plans; runnable = c.args.self.now.runnable; outcomes = c.push.new.self } in
-    inr (known_refused c.args.self.now c.args.edits.now c.in_ok-host.host c.in-Err.outcome c.in_ok-host.ensures (rw c.in-Err.is at c.in_ok-plan.ensures.unplanned) new refl pushed)
+    let pushed : c.push.new.self.items ≡ c.args.self.now.outcomes.items ++ c.in-Err.outcome ∷ [] =
+    grind (arith, common_steps) in
+    let new : Latest =
+    record {
+      host = c.args.self.now.host;
+      plans = c.args.self.now.plans;
+      runnable = c.args.self.now.runnable;
+      outcomes = c.push.new.self;
+    } in
+    inr (known_refused c.args.self.now c.args.edits.now c.in_ok-host.host c.in-Err.outcome
+    c.in_ok-host.ensures (rw c.in-Err.is at c.in_ok-plan.ensures.unplanned) new refl pushed)

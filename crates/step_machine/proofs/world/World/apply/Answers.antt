@@ -21,7 +21,10 @@ invariant_of-self c =
     record {
       course_kept = kept.course_kept;
       fits = kept.fits;
-      kept = answers_keep was.course.now was.rounds (state_of was.progress) c.args.step c.take_step-answer.result (state_of c.take_step-answer.new.progress) kept.course_kept c.take_step-answer.ensures.answer kept.kept;
+      kept = answers_keep was.course.now was.rounds
+          (state_of was.progress) c.args.step c.take_step-answer.result
+          (state_of c.take_step-answer.new.progress) kept.course_kept
+          c.take_step-answer.ensures.answer kept.kept;
       room = c.take_step-answer.ensures.spare (was.spare - 1) (rw (← back) kept.room);
       last = c.take_step-answer.ensures.last kept.last;
     }
@@ -30,4 +33,7 @@ pub returns-clause-kept : goal.returns-clause-kept
 returns-clause-kept c =
     let was = c.self.inside in
     let kept = c.self.invariant in
-    answers_keep was.course.now was.rounds (state_of was.progress) c.args.step c.take_step-answer.result (state_of c.take_step-answer.new.progress) kept.course_kept c.take_step-answer.ensures.answer kept.kept
+    answers_keep was.course.now was.rounds
+    (state_of was.progress) c.args.step c.take_step-answer.result
+    (state_of c.take_step-answer.new.progress) kept.course_kept
+    c.take_step-answer.ensures.answer kept.kept

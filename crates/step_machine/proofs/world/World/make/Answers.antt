@@ -9,12 +9,23 @@ pub invariant_of-result : goal.invariant_of-result
 invariant_of-result c =
     let course = c.args.course.now in
     let logs = c.in_ok-logs.logs in
-    let new : AreNew course.cores c.args.rounds c.args.turns logs.items = rw c.cores.ensures.cores at c.in_ok-logs.ensures in
+    let new : AreNew course.cores c.args.rounds c.args.turns logs.items =
+    rw c.cores.ensures.cores at c.in_ok-logs.ensures in
     record {
       course_kept = c.cores.ensures.kept;
       fits = c.requires;
-      kept = subst (λ (s : State). Kept course c.args.rounds s) (sym (new_state course.cores c.args.rounds c.args.turns (record { posted = 0; decided = c.in_ok-decided.decided; logs = logs }) refl c.in_ok-decided.ensures.items new)) (opening_kept course c.args.rounds);
-      room = record { decided = omega (arith, ap length c.in_ok-decided.ensures.items, c.in_ok-decided.ensures.exact); logs = new_room course.cores c.args.rounds c.args.turns logs.items new };
+      kept = subst (λ (s : State). Kept course c.args.rounds s)
+          (sym (new_state course.cores c.args.rounds c.args.turns
+          (record { posted = 0; decided = c.in_ok-decided.decided; logs = logs }) refl
+          c.in_ok-decided.ensures.items new)) (opening_kept course c.args.rounds);
+      room = record {
+        decided = omega (
+          arith,
+          ap length c.in_ok-decided.ensures.items,
+          c.in_ok-decided.ensures.exact,
+        );
+        logs = new_room course.cores c.args.rounds c.args.turns logs.items new;
+      };
       last = new_know course course.cores c.args.rounds c.args.turns logs.items new;
     }
 
@@ -22,13 +33,20 @@ pub returns-clause-opens : goal.returns-clause-opens
 returns-clause-opens c =
     let course = c.args.course.now in
     let logs = c.in_ok-logs.logs in
-    let new : AreNew course.cores c.args.rounds c.args.turns logs.items = rw c.cores.ensures.cores at c.in_ok-logs.ensures in
+    let new : AreNew course.cores c.args.rounds c.args.turns logs.items =
+    rw c.cores.ensures.cores at c.in_ok-logs.ensures in
     ap (λ (s : State). record { course = course; rounds = c.args.rounds; spare = c.args.turns; state = s })
-    (new_state course.cores c.args.rounds c.args.turns (record { posted = 0; decided = c.in_ok-decided.decided; logs = logs }) refl c.in_ok-decided.ensures.items new)
+    (new_state course.cores c.args.rounds c.args.turns
+    (record { posted = 0; decided = c.in_ok-decided.decided; logs = logs }) refl
+    c.in_ok-decided.ensures.items new)
 
 pub returns-clause-kept : goal.returns-clause-kept
 returns-clause-kept c =
     let course = c.args.course.now in
     let logs = c.in_ok-logs.logs in
-    let new : AreNew course.cores c.args.rounds c.args.turns logs.items = rw c.cores.ensures.cores at c.in_ok-logs.ensures in
-    subst (λ (s : State). Kept course c.args.rounds s) (sym (new_state course.cores c.args.rounds c.args.turns (record { posted = 0; decided = c.in_ok-decided.decided; logs = logs }) refl c.in_ok-decided.ensures.items new)) (opening_kept course c.args.rounds)
+    let new : AreNew course.cores c.args.rounds c.args.turns logs.items =
+    rw c.cores.ensures.cores at c.in_ok-logs.ensures in
+    subst (λ (s : State). Kept course c.args.rounds s)
+    (sym (new_state course.cores c.args.rounds c.args.turns
+    (record { posted = 0; decided = c.in_ok-decided.decided; logs = logs }) refl
+    c.in_ok-decided.ensures.items new)) (opening_kept course c.args.rounds)

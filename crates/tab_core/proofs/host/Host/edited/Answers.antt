@@ -10,10 +10,13 @@ of-requires-clause-distinct c = distinct_names _ c.items-vcpus.result.now c.in_o
 
 pub loop-edit-preserved : goal.loop-edit-preserved
 loop-edit-preserved c = record {
-  size = ap length c.apply.ensures ∙ size_kept c.loop-edit.reservations.items c.edit-item.result ∙ c.loop-edit.invariant.size;
+  size = ap length c.apply.ensures ∙ size_kept c.loop-edit.reservations.items c.edit-item.result
+      ∙ c.loop-edit.invariant.size;
   edits =
       c.apply.ensures
       ∙ ap (λ rs. edited_once rs c.edit-item.result) c.loop-edit.invariant.edits
-      ∙ ap (edited_once (edited (reservations_of c.items-vcpus.result.now) (take c.loop-edit.edit-index c.args.edits.now))) c.edit-item.is
-      ∙ sym (edited_next (reservations_of c.items-vcpus.result.now) c.args.edits.now c.loop-edit.edit-index c.edit-item.result c.loop-edit-test.true);
+      ∙ ap (edited_once (edited (reservations_of c.items-vcpus.result.now)
+      (take c.loop-edit.edit-index c.args.edits.now))) c.edit-item.is
+      ∙ sym (edited_next (reservations_of c.items-vcpus.result.now) c.args.edits.now
+      c.loop-edit.edit-index c.edit-item.result c.loop-edit-test.true);
 }

@@ -6,7 +6,8 @@ use Rattle.tab_io.proofs.memory.MemSourceSource.read.Goals as goal
 -- what was copied from the front of a rest, and then the rest after it
 taken_front : (all into : List ℕ) (at n : ℕ) (left : List ℕ) → left ≡ drop at all → take n into ≡ take n left
     → drop at all ≡ take n into ++ drop (at + n) all
-taken_front all into at n left is same = rw (same, is, ← drop-drop n at all) (sym (take-append-drop n (drop at all)))
+taken_front all into at n left is same =
+    rw (same, is, ← drop-drop n at all) (sym (take-append-drop n (drop at all)))
 
 pub returns-clause-gave : goal.returns-clause-gave
 returns-clause-gave c =

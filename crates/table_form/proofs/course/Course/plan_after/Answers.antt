@@ -7,6 +7,9 @@ use Rattle.table_form.proofs.course.Course.plan_after.Goals as goal
 pub returns-clause-rows : goal.returns-clause-rows
 returns-clause-rows c =
     let was = c.self.inside in
-    let course : CourseView = course_view was.cores was.lag was.quantum was.ticks.items was.plans.items was.numbers.items was.runnable.items in
-    rows_of_plan course was.plans.items c.args.n c.index-number.result.now c.index.result.now c.self.invariant.form refl (rw (← c.self.view_is) at c.requires) c.index-number.ensures c.index.ensures
+    let course : CourseView = course_view was.cores was.lag was.quantum was.ticks.items
+    was.plans.items was.numbers.items was.runnable.items in
+    rows_of_plan course was.plans.items c.args.n c.index-number.result.now c.index.result.now
+    c.self.invariant.form refl (rw (← c.self.view_is) at c.requires) c.index-number.ensures
+    c.index.ensures
     ∙ ap (λ (v : CourseView). v.cores) c.self.view_is

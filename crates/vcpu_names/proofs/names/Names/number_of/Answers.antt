@@ -7,4 +7,5 @@ pub returns-clause-unknown : goal.returns-clause-unknown
 returns-clause-unknown c =
     let is : c.copied.result ≡ number_at c.self.inside.numbers c.args.name.now = search rules in
     subst (λ (names : List (List ℕ)). IfNone c.copied.result (IsUnknown names c.args.name.now)) c.self.view_is
-    (unknown_if (names_of c.self.inside.vcpus.now) c.self.inside.numbers c.args.name.now c.copied.result c.self.invariant is)
+    (unknown_if (names_of c.self.inside.vcpus.now) c.self.inside.numbers c.args.name.now
+    c.copied.result c.self.invariant is)
