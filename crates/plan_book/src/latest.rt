@@ -8,7 +8,7 @@ ghost use Rattle.table_form.specs.Views.{plan_view};
 ghost use Rattle.plan_make.specs.Planned.{IsPlanned};
 ghost use Rattle.script_doc.specs.Events.{IsWithin};
 ghost use Rattle.plan_book.specs.After.{Follows, IsKnownAtFirst, IsRefused, IsTaken, IsUnplanned, runnable_at_first};
-ghost use Rattle.plan_book.specs.Faults.{outcome_of_lem};
+ghost use Rattle.plan_book.specs.Faults.{outcome_told};
 ghost use Rattle.plan_book.specs.Steps.{Grows, IsHostFault, known_of};
 
 use crate::fault::BookFault;
@@ -156,7 +156,7 @@ fn planned<R: Threads + Sync>(
 
 // The outcome that a refusal of the host's plan is, but for want of memory.
 fn outcome_of(fault: &PlanFault) -> Option<Outcome>
-    ensures { result ≡ outcome_of_lem fault.now }
+    ensures { result ≡ outcome_told fault.now }
 {
     match fault {
         PlanFault::NoPeriod { vcpu } => Some(Outcome::NoPeriod { vcpu: *vcpu }),

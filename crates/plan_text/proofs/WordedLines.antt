@@ -9,7 +9,7 @@ use Rattle.std.proofs.lemmas.Bool.Decides.{nat_tests}
 use Rattle.std.proofs.lemmas.Fmt.{decimal_is_IsNumeral, decimal_nonempty}
 use Rattle.std.proofs.lemmas.List.Elements.{All-append}
 use Rattle.std.proofs.lemmas.List.Sums.{AllPass-from_list_all}
-use Rattle.tab_core.specs.Name.{IsName, is_dash_lem, is_name_byte_lem}
+use Rattle.tab_core.specs.Name.{IsName, is_lone_dash, is_byte_of_name}
 use Rattle.tab_core.specs.declared.TheConstants.{MAX_NAME}
 use Rattle.tab_core.specs.declared.periodic.Periodic.{Periodic}
 use Rattle.tab_words.specs.Lines.{lines_of}
@@ -101,28 +101,28 @@ decimal_word n low =
     let long = decimal_nonempty n low in grind (arith, nat_tests) in
     rw some (plain_digits (decimal n) (decimal_is_IsNumeral n low).0.1)
 
-plain_name_byte : (byte : ℕ) → is_name_byte_lem byte ≡ true → is_plain byte ≡ true
+plain_name_byte : (byte : ℕ) → is_byte_of_name byte ≡ true → is_plain byte ≡ true
 plain_name_byte byte is =
     let no_space : byte ≢ 32 = λ same.
-    absurd (let no : is_name_byte_lem 32 ≡ true = ap is_name_byte_lem (sym same) ∙ is in cc) in
+    absurd (let no : is_byte_of_name 32 ≡ true = ap is_byte_of_name (sym same) ∙ is in cc) in
     let no_line_feed : byte ≢ 10 = λ same.
-    absurd (let no : is_name_byte_lem 10 ≡ true = ap is_name_byte_lem (sym same) ∙ is in cc) in
+    absurd (let no : is_byte_of_name 10 ≡ true = ap is_byte_of_name (sym same) ∙ is in cc) in
     grind (arith, nat_tests)
 
-plain_name : (bytes : List ℕ) → list_all is_name_byte_lem bytes ≡ true → list_all is_plain bytes ≡ true
+plain_name : (bytes : List ℕ) → list_all is_byte_of_name bytes ≡ true → list_all is_plain bytes ≡ true
 plain_name [] all = refl
 plain_name (byte ∷ bytes) all =
-    let parts = and_parts (is_name_byte_lem byte) (list_all is_name_byte_lem bytes) all in
+    let parts = and_parts (is_byte_of_name byte) (list_all is_byte_of_name bytes) all in
     rw (plain_name_byte byte parts.0) (plain_name bytes parts.1)
 
 pub name_word : (name : List ℕ) → IsName name → is_word name ≡ true
 name_word name good =
     let parts =
     and_parts ((nat_le 1 (length name) && nat_le (length name) MAX_NAME)
-    && not (is_dash_lem name))
-    (list_all is_name_byte_lem name) good in
+    && not (is_lone_dash name))
+    (list_all is_byte_of_name name) good in
     let sized = and_parts (nat_le 1 (length name) && nat_le (length name) MAX_NAME)
-    (not (is_dash_lem name)) parts.0 in
+    (not (is_lone_dash name)) parts.0 in
     let long = and_parts (nat_le 1 (length name)) (nat_le (length name) MAX_NAME) sized.0 in
     let some : nat_lt 0 (length name) ≡ true = grind (arith, nat_tests, long.0) in
     rw some (plain_name name parts.1)

@@ -1,6 +1,6 @@
 ghost use Rattle.std.specs.Prelude.{◌≡◌, ◌↔◌, IfOk, IsErrOf, IsTrue};
 ghost use Rattle.std.specs.List.{list_all};
-ghost use Rattle.tab_core.specs.Name.{IsName, is_name, is_dash_lem, is_name_byte_lem};
+ghost use Rattle.tab_core.specs.Name.{IsName, is_name, is_lone_dash, is_byte_of_name};
 ghost use Rattle.tab_core.specs.declared.name.NameFault.TheVariants.{NoMemory};
 
 use crate::{MAX_NAME, NoMemory};
@@ -94,19 +94,19 @@ fn is_good(bytes: &[u8]) -> bool
 }
 
 fn is_dash(bytes: &[u8]) -> bool
-    ensures { result ≡ is_dash_lem bytes.now }
+    ensures { result ≡ is_lone_dash bytes.now }
 {
     bytes.len() == 1 && bytes[0] == b'-'
 }
 
 fn are_name_bytes(bytes: &[u8]) -> bool
-    ensures { result ≡ list_all is_name_byte_lem bytes.now }
+    ensures { result ≡ list_all is_byte_of_name bytes.now }
 {
     bytes.iter().all(|byte| is_name_byte(*byte))
 }
 
 fn is_name_byte(byte: u8) -> bool
-    ensures { result ≡ is_name_byte_lem byte }
+    ensures { result ≡ is_byte_of_name byte }
 {
     matches!(byte, b'a'..=b'z' | b'A'..=b'Z' | b'0'..=b'9' | b'_' | b'-' | b'.')
 }
