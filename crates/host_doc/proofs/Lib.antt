@@ -1,4 +1,6 @@
 pub mod Causes
+pub mod HostNames
 pub mod Keys
+pub mod OneHost
 pub mod Texts
 pub mod Walk

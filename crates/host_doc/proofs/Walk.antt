@@ -18,7 +18,7 @@ use Rattle.host_doc.specs.Value.{count_of}
 use Rattle.host_doc.specs.Vcpus.{AreVcpusOf, EachIsVcpuOf, IsVcpuOf, names_of, settings_fault, vcpu_fault, vcpus_fault}
 use Rattle.host_doc.specs.declared.fault.HostFault.{HostFault}
 
-bytes_eq-same : (xs : List ℕ) → bytes_eq xs xs ≡ true
+pub bytes_eq-same : (xs : List ℕ) → bytes_eq xs xs ≡ true
 bytes_eq-same [] = refl
 bytes_eq-same (x ∷ xs) = grind (arith, nat_tests, bytes_eq-same xs)
 

@@ -2,11 +2,12 @@
 //!
 //! What a document stands for and which of its faults is the first is defined in
 //! `specs/Document.antt`, over the table of keys in `specs/KeyTable.antt`. `read_host` says that it
-//! answers exactly so.
+//! answers exactly so, and a text states one host at most.
 #![tactic(auto)]
 
 mod document;
 mod fault;
+mod laws;
 #[cfg(test)]
 mod tests;
 mod value;
@@ -14,3 +15,4 @@ mod vcpus;
 
 pub use document::read_host;
 pub use fault::{HostFault, Key, Path};
+pub use laws::a_text_states_one_host;

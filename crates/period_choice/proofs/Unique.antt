@@ -2,60 +2,13 @@
 use Rattle.std.proofs.Common.{◌≡◌, ℕ, ◌≤◌, ap, subst, ◌∙◌, sym, arith, inl, inr, get_or, List, Option, Some, None}
 use Rattle.std.proofs.lemmas.List.{same_lists}
 use Rattle.std.proofs.lemmas.Option.{slice_get-get_or, slice_get_cases}
-use Rattle.std.proofs.Props.{props}
+use Rattle.tab_core.proofs.Alike.{same_budget}
 use Rattle.tab_core.specs.declared.periodic.Periodic.{Periodic}
 use Rattle.tab_core.specs.declared.reservation.Reservation.{Reservation}
-use Rattle.tab_core.specs.Period.{IsPeriod}
 use Rattle.tab_core.specs.declared.vcpu.Vcpu.{Vcpu}
 use Rattle.reservation.specs.Cost.{cost}
 use Rattle.period_choice.specs.Choice.{IsChosen, demand_at}
 use Rattle.period_choice.specs.Tasks.{AreTasksOf, IsTaskOf}
-
--- a budget is its two numbers, since each fact on them has one proof
-alike : (a : Periodic) (costs : 1 ≤ a.cost) (within : a.cost ≤ a.period) (listed : IsPeriod a.period)
-    → let same : Periodic = record { cost = a.cost; period = a.period; costs = costs; within = within; listed = listed } in a ≡ same
-alike a costs within listed =
-    let first : IsProp (1 ≤ a.cost) = hlevel props in
-    let second : IsProp (a.cost ≤ a.period) = hlevel props in
-    let third : IsProp (IsPeriod a.period) = hlevel props in
-    let one : Periodic =
-    record {
-      cost = a.cost;
-      period = a.period;
-      costs = costs;
-      within = a.within;
-      listed = a.listed;
-    } in
-    let two : Periodic =
-    record {
-      cost = a.cost;
-      period = a.period;
-      costs = costs;
-      within = within;
-      listed = a.listed;
-    } in
-    let three : Periodic =
-    record {
-      cost = a.cost;
-      period = a.period;
-      costs = costs;
-      within = within;
-      listed = listed;
-    } in
-    let e1 : a ≡ one =
-    ap (λ (x : 1 ≤ a.cost). let t : Periodic = record { cost = a.cost; period = a.period; costs = x; within = a.within; listed = a.listed } in t) (first a.costs costs) in
-    let e2 : one ≡ two =
-    ap (λ (x : a.cost
-    ≤ a.period). let t : Periodic = record { cost = a.cost; period = a.period; costs = costs; within = x; listed = a.listed } in t) (second a.within within) in
-    let e3 : two ≡ three =
-    ap (λ (x : IsPeriod a.period). let t : Periodic = record { cost = a.cost; period = a.period; costs = costs; within = within; listed = x } in t) (third a.listed listed) in
-    e1 ∙ e2 ∙ e3
-
-same_numbers : (a b : Periodic) → a.cost ≡ b.cost → a.period ≡ b.period → a ≡ b
-same_numbers a b cost_is period =
-    let At : ℕ → ℕ → Type 0 = λ c p. (costs : 1 ≤ c) (within : c ≤ p) (listed : IsPeriod p)
-    → let t : Periodic = record { cost = c; period = p; costs = costs; within = within; listed = listed } in a ≡ t in
-    subst (At b.cost) period (subst (λ c. At c a.period) cost_is (alike a)) b.costs b.within b.listed
 
 -- the budgets of two chosen periods: each is least, and of those the largest
 pub chosen_unique : (r : Reservation) (a b : Periodic) → IsChosen r a → IsChosen r b → a ≡ b
@@ -66,7 +19,7 @@ chosen_unique r a b of_a of_b =
     let low = of_b.largest a.period of_a.admissible same in
     let high = of_a.largest b.period of_b.admissible (sym same) in
     let period : a.period ≡ b.period = omega arith in
-    same_numbers a b (of_a.cost_is ∙ ap (cost r.share_ppm) period ∙ sym of_b.cost_is) period
+    same_budget a b (of_a.cost_is ∙ ap (cost r.share_ppm) period ∙ sym of_b.cost_is) period
 
 pub task_unique : (reservation : Option Reservation) (a b : Option Periodic)
     → IsTaskOf reservation a → IsTaskOf reservation b → a ≡ b

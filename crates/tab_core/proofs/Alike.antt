@@ -1,0 +1,137 @@
+-- Two values of the same numbers are one, since each fact on the numbers has one proof.
+use Rattle.std.proofs.Common.{◌≡◌, ℕ, ◌≤◌, Bool, List, Option, ap, subst, ◌∙◌}
+use Rattle.std.proofs.Props.{props}
+use Rattle.tab_core.specs.Period.{IsPeriod}
+use Rattle.tab_core.specs.declared.TheConstants.{MAX_CORES, MAX_LATENCY_NS, MAX_SLIVER, ROUND, WHOLE_PPM}
+use Rattle.tab_core.specs.declared.host.Host.{Host}
+use Rattle.tab_core.specs.declared.periodic.Periodic.{Periodic}
+use Rattle.tab_core.specs.declared.reservation.Reservation.{Reservation}
+use Rattle.tab_core.specs.declared.vcpu.Vcpu.{Vcpu}
+
+-- ---- budgets
+
+record BudgetFacts (cost period : ℕ) : Type 0 where
+  pub costs : 1 ≤ cost
+  pub within : cost ≤ period
+  pub listed : IsPeriod period
+
+abbrev budget_with : (cost period : ℕ) → BudgetFacts cost period → Periodic
+budget_with cost period f = record {
+  cost = cost;
+  period = period;
+  costs = f.costs;
+  within = f.within;
+  listed = f.listed;
+}
+
+abbrev budget_facts : (a : Periodic) → BudgetFacts a.cost a.period
+budget_facts a = record { costs = a.costs; within = a.within; listed = a.listed }
+
+one_budget_proof : (cost period : ℕ) → IsProp (BudgetFacts cost period)
+one_budget_proof cost period = hlevel props
+
+pub same_budget : (a b : Periodic) → a.cost ≡ b.cost → a.period ≡ b.period → a ≡ b
+same_budget a b cost period =
+    let At : ℕ → ℕ → Type 0 = λ c p. (f : BudgetFacts c p) → a ≡ budget_with c p f in
+    let here : At a.cost a.period =
+    λ f. ap (budget_with a.cost a.period) (one_budget_proof a.cost a.period (budget_facts a) f) in
+    subst (At b.cost) period (subst (λ c. At c a.period) cost here) (budget_facts b)
+
+-- ---- reservations
+
+record ReservationFacts (share_ppm latency_ns : ℕ) : Type 0 where
+  pub shares : 1 ≤ share_ppm
+  pub whole : share_ppm ≤ WHOLE_PPM
+  pub bounded : latency_ns ≤ MAX_LATENCY_NS
+
+abbrev reservation_with : (share_ppm latency_ns : ℕ) → ReservationFacts share_ppm latency_ns → Reservation
+reservation_with share_ppm latency_ns f = record {
+  share_ppm = share_ppm;
+  latency_ns = latency_ns;
+  shares = f.shares;
+  whole = f.whole;
+  bounded = f.bounded;
+}
+
+abbrev reservation_facts : (a : Reservation) → ReservationFacts a.share_ppm a.latency_ns
+reservation_facts a = record { shares = a.shares; whole = a.whole; bounded = a.bounded }
+
+one_reservation_proof : (share_ppm latency_ns : ℕ) → IsProp (ReservationFacts share_ppm latency_ns)
+one_reservation_proof share_ppm latency_ns = hlevel props
+
+pub same_reservation : (a b : Reservation) → a.share_ppm ≡ b.share_ppm → a.latency_ns ≡ b.latency_ns
+    → a ≡ b
+same_reservation a b share latency =
+    let At : ℕ → ℕ → Type 0 = λ s l. (f : ReservationFacts s l) → a ≡ reservation_with s l f in
+    let here : At a.share_ppm a.latency_ns =
+    λ f. ap (reservation_with a.share_ppm a.latency_ns)
+    (one_reservation_proof a.share_ppm a.latency_ns (reservation_facts a) f) in
+    subst (At b.share_ppm) latency (subst (λ s. At s a.latency_ns) share here) (reservation_facts b)
+
+-- ---- vCPUs
+
+abbrev vcpu_with : List ℕ → Option Reservation → Bool → Vcpu
+vcpu_with name reservation runnable = record { name = name; reservation = reservation; runnable = runnable }
+
+pub same_vcpu : (a b : Vcpu) → a.name ≡ b.name → a.reservation ≡ b.reservation → a.runnable ≡ b.runnable
+    → a ≡ b
+same_vcpu a b name reservation runnable =
+    ap (λ n. vcpu_with n a.reservation a.runnable) name
+    ∙ ap (λ r. vcpu_with b.name r a.runnable) reservation
+    ∙ ap (vcpu_with b.name b.reservation) runnable
+
+-- ---- hosts
+
+record HostFacts (cores lag sliver quantum : ℕ) : Type 0 where
+  pub some_core : 1 ≤ cores
+  pub few_cores : cores ≤ MAX_CORES
+  pub some_lag : 1 ≤ lag
+  pub lag_in_round : lag ≤ ROUND
+  pub small_sliver : sliver ≤ MAX_SLIVER
+  pub some_quantum : 1 ≤ quantum
+  pub quantum_in_round : quantum ≤ ROUND
+
+abbrev host_with : (cores lag sliver quantum : ℕ) (vcpus : List Vcpu)
+    → HostFacts cores lag sliver quantum → Host
+host_with cores lag sliver quantum vcpus f = record {
+  cores = cores;
+  lag = lag;
+  sliver = sliver;
+  quantum = quantum;
+  vcpus = vcpus;
+  some_core = f.some_core;
+  few_cores = f.few_cores;
+  some_lag = f.some_lag;
+  lag_in_round = f.lag_in_round;
+  small_sliver = f.small_sliver;
+  some_quantum = f.some_quantum;
+  quantum_in_round = f.quantum_in_round;
+}
+
+abbrev host_facts : (host : Host) → HostFacts host.cores host.lag host.sliver host.quantum
+host_facts host = record {
+  some_core = host.some_core;
+  few_cores = host.few_cores;
+  some_lag = host.some_lag;
+  lag_in_round = host.lag_in_round;
+  small_sliver = host.small_sliver;
+  some_quantum = host.some_quantum;
+  quantum_in_round = host.quantum_in_round;
+}
+
+one_host_proof : (cores lag sliver quantum : ℕ) → IsProp (HostFacts cores lag sliver quantum)
+one_host_proof cores lag sliver quantum = hlevel props
+
+pub same_host : (a b : Host) → a.cores ≡ b.cores → a.lag ≡ b.lag → a.sliver ≡ b.sliver
+    → a.quantum ≡ b.quantum → a.vcpus ≡ b.vcpus → a ≡ b
+same_host a b cores lag sliver quantum vcpus =
+    let At : ℕ → ℕ → ℕ → ℕ → List Vcpu → Type 0 =
+    λ c l s q vs. (f : HostFacts c l s q) → a ≡ host_with c l s q vs f in
+    let here : At a.cores a.lag a.sliver a.quantum a.vcpus =
+    λ f. ap (host_with a.cores a.lag a.sliver a.quantum a.vcpus)
+    (one_host_proof a.cores a.lag a.sliver a.quantum (host_facts a) f) in
+    subst (At b.cores b.lag b.sliver b.quantum) vcpus
+    (subst (λ q. At b.cores b.lag b.sliver q a.vcpus) quantum
+    (subst (λ s. At b.cores b.lag s a.quantum a.vcpus) sliver
+    (subst (λ l. At b.cores l a.sliver a.quantum a.vcpus) lag
+    (subst (λ c. At c a.lag a.sliver a.quantum a.vcpus) cores here)))) (host_facts b)
