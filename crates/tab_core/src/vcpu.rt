@@ -31,7 +31,8 @@ impl Model for Vcpus {
 
     ghost view = { λ vcpus. vcpus.items.items };
 
-    ghost invariant = { λ vcpus. (length vcpus.items.items ≤ MAX_VCPUS) × HaveDistinctNames vcpus.items.items };
+    ghost invariant = { λ vcpus. (length vcpus.items.items ≤ MAX_VCPUS)
+        × HaveDistinctNames vcpus.items.items };
 }
 
 impl Vcpus {
