@@ -27,6 +27,8 @@ impl<'a> Model for Names<'a> {
 }
 
 impl<'a> Names<'a> {
+    /// The names of these vCPUs, of which there are at most 256, each with the form of a name. Fails
+    /// only for want of memory.
     pub fn of(alloc: Global, vcpus: &'a [Vcpu]) -> Result<Names<'a>, AllocError>
         requires { length vcpus.now ≤ MAX_VCPUS }
         ensures names { IfOk result (λ names. names ≡ names_of vcpus.now) }
@@ -44,7 +46,7 @@ impl<'a> Names<'a> {
         Ok(Names { vcpus, numbers })
     }
 
-    /// The number of the vCPU of this name, if there is one.
+    /// The number of the vCPU of this name. None exactly where no vCPU has it.
     pub fn number_of(&self, name: &[u8]) -> Option<VcpuNo>
         ensures known { IfSome result (λ vcpu. (vcpu < length self.now) × (name_at self.now vcpu ≡ name.now)
             × IsName name.now) }

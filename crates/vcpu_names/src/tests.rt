@@ -18,13 +18,16 @@ fn vcpu_of(name: Name) -> Vcpu
 fn finds_each_vcpu_by_its_name_alone(rt: HostRuntime) -> Result<(), Fail> {
     let alloc = rt.alloc();
     let b = Name::of(alloc, b"b")?;
-    let a = Name::of(alloc, b"a.1")?;
-    let vcpus = [vcpu_of(b), vcpu_of(a)];
+    let longer = Name::of(alloc, b"a.1")?;
+    let a = Name::of(alloc, b"a")?;
+    let vcpus = [vcpu_of(b), vcpu_of(longer), vcpu_of(a)];
     let names = Names::of(alloc, &vcpus)?;
-    let cases: [(&[u8], Option<VcpuNo>); 6] = [
+    let cases: [(&[u8], Option<VcpuNo>); 8] = [
         (b"b", Some(VcpuNo(0))),
         (b"a.1", Some(VcpuNo(1))),
-        (b"a", None),
+        (b"a", Some(VcpuNo(2))),
+        (b"a.", None),
+        (b"a.1 ", None),
         (b"B", None),
         (b"", None),
         (b"-", None),
