@@ -26,9 +26,11 @@ impl Model for Course {
 
     ghost Value = { CourseView };
 
-    ghost view = { λ c. course_view c.cores c.lag c.quantum c.ticks.items c.plans.items c.numbers.items c.runnable.items };
+    ghost view = { λ c. course_view c.cores c.lag c.quantum c.ticks.items c.plans.items
+        c.numbers.items c.runnable.items };
 
-    ghost invariant = { λ c. IsCourse (course_view c.cores c.lag c.quantum c.ticks.items c.plans.items c.numbers.items c.runnable.items) };
+    ghost invariant = { λ c. IsCourse (course_view c.cores c.lag c.quantum c.ticks.items
+        c.plans.items c.numbers.items c.runnable.items) };
 }
 
 impl Course {
