@@ -1,5 +1,5 @@
 -- A reservation has at most one chosen budget, and a host's vCPUs at most one list of tasks.
-use Rattle.std.proofs.Common.{◌≡◌, ℕ, ◌≤◌, ap, subst, ◌∙◌, sym, arith, inl, inr, get_or, List, Option, Some, None}
+use Rattle.std.proofs.Common.{◌≡◌, ap, ◌∙◌, sym, arith, inl, inr, get_or, List, Option, Some, None}
 use Rattle.std.proofs.lemmas.List.{same_lists}
 use Rattle.std.proofs.lemmas.Option.{slice_get-get_or, slice_get_cases}
 use Rattle.tab_core.proofs.Alike.{same_budget}

@@ -11,6 +11,8 @@ use tab_core::{PERIODS, Periodic, Reservation, TICK_NS};
 ///
 /// A period is admissible if twice the ticks that it doesn't give are within the latency. The
 /// result is none exactly where no period is admissible.
+///
+/// Source of the latency rule: I. Shin and I. Lee, RTSS 2003.
 pub fn choose(r: &Reservation) -> Option<Periodic>
     ensures chosen { IfSome result (IsChosen r.now) }
     ensures only { IfSome result (λ task. (other : Periodic) → IsChosen r.now other → other ≡ task) }
