@@ -49,7 +49,9 @@ total_set [] takes some = absurd (omega arith)
 total_set (load ∷ []) takes some = omega arith
 total_set (load ∷ next ∷ loads) takes some = elim (cases_Bool (leb load (least_load (next ∷ loads)))) [
   | inl here ↦
-      (let le = leb-true _ _ here in let least : min load (least_load (next ∷ loads)) ≡ load = omega arith in rw here (rw least (omega arith)))
+      (let le = leb-true _ _ here in
+      let least : min load (least_load (next ∷ loads)) ≡ load = omega arith in
+      rw here (rw least (omega arith)))
   | inr there ↦ (let lt = leb-false _ _ there in
       let least : min load (least_load (next ∷ loads)) ≡ least_load (next ∷ loads) = omega arith in
       let rest = total_set (next ∷ loads) takes (omega arith) in

@@ -114,7 +114,9 @@ keeps_on tasks cores rank rest p some ranked room kept =
       fit = λ core lt. elim (cases_eq core home) [
         | inl e ↦ (let new = get_or-set_at p.loads home core load 0 e in_loads in omega arith)
         | inr ne ↦
-            (let new = get_or-set_other p.loads home core load 0 ne in let old = kept.fit core lt in omega arith)
+            (let new = get_or-set_other p.loads home core load 0 ne in
+            let old = kept.fit core lt in
+            omega arith)
       ];
       on_cores = λ vcpu core at. elim (cases_eq vcpu rank.vcpu) [
         | inl e ↦ (let new = get_or-set_at p.core_of rank.vcpu vcpu (Some home) None e (omega arith) in

@@ -13,7 +13,10 @@ use tab_core::{CoreNo, NoMemory, ROUND, Tasks, VcpuNo};
 /// Places the admitted vCPUs on the cores by worst-fit decreasing.
 ///
 /// They are taken by falling demand, ties to the lower number. Each goes to the core of least load,
-/// ties to the lower core, if the load is then at most a round, and is left over otherwise.
+/// ties to the lower core, if the load is then at most a round, and is left over otherwise. There
+/// are 1 to 32 cores. Within the bound of `IsWithinBound` nobody is left over.
+///
+/// Source: D. S. Johnson, "Near-optimal bin packing algorithms", thesis, MIT, 1973.
 pub fn place(alloc: Global, tasks: &Tasks, cores: u32) -> Result<Placed, NoMemory>
     requires some_core { 1 ≤ cores }
     requires few_cores { cores ≤ MAX_CORES }

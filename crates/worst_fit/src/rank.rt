@@ -35,9 +35,11 @@ impl Ord for Rank {
 }
 
 impl PartialOrd for Rank {
-    ghost partial_cmp = { as_partial_cmp (then_cmp (flip_args (on (λ r. r.demand) nat_cmp)) (on (λ r. r.vcpu) nat_cmp)) };
+    ghost partial_cmp = { as_partial_cmp
+        (then_cmp (flip_args (on (λ r. r.demand) nat_cmp)) (on (λ r. r.vcpu) nat_cmp)) };
 
-    ghost laws = { partial_order_from_own_ties (Prim.search (comparing, rules)) (Prim.search (comparing, rules)) };
+    ghost laws = { partial_order_from_own_ties
+        (Prim.search (comparing, rules)) (Prim.search (comparing, rules)) };
 
     fn partial_cmp(&self, other: &Rank) -> Option<Ordering> {
         Some(self.cmp(other))
