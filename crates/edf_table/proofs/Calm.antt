@@ -26,7 +26,8 @@ calm_window_begun p tick until x calm le lt from =
     let low = not_later p x w (omega (arith, begun p tick from)) in
     elim (cases_lt w (window_no p x)) [
       | inl above ↦
-          (let more = mul-le-mul_left {m = w + 1} {n = window_no p x} p.period (omega arith) in absurd (omega (arith, begun p x (omega arith))))
+          (let more = mul-le-mul_left {m = w + 1} {n = window_no p x} p.period (omega arith) in
+          absurd (omega (arith, begun p x (omega arith))))
       | inr same ↦ omega arith
     ]
 

@@ -42,7 +42,8 @@ unfolding of_vcpu
 of_one v [] apart = omega arith
 of_one v (p ∷ ps) apart = elim (cases_Bool (eqb p.vcpu v)) [
   | inl same ↦
-      (let none = of_no_other v ps (λ i q at e. (let place = apart 0 (suc i) p q refl at (eqb-true p.vcpu v same ∙ sym e) in omega arith)) in
+      (let none = of_no_other v ps (λ i q at e.
+      (let place = apart 0 (suc i) p q refl at (eqb-true p.vcpu v same ∙ sym e) in omega arith)) in
       rw same (omega arith))
   | inr other ↦ rw other (omega (arith, of_one v ps (tail_distinct p ps apart)))
 ]

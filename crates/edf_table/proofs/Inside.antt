@@ -20,7 +20,9 @@ cell_at : (js : List Job) (n x : ℕ) → x < n → get_or (edf_cells js n) x No
 cell_at js zero x lt = absurd (omega arith)
 cell_at js (suc n) x lt = rw (edf_cells-suc js n) (elim (cases_eq x n) [
   | inl same ↦
-      (let seam = subst (λ m. get_or (edf_cells js n ++ cell js n ∷ []) m None ≡ cell js n) (length-edf_cells js n) (get_or-append_seam (edf_cells js n) (cell js n) [] None) in
+      (let seam =
+      subst (λ m. get_or (edf_cells js n ++ cell js n ∷ []) m None ≡ cell js n) (length-edf_cells js n)
+      (get_or-append_seam (edf_cells js n) (cell js n) [] None) in
       subst (λ m. get_or (edf_cells js n ++ cell js n ∷ []) m None ≡ cell js m) (sym same) seam)
   | inr ne ↦ get_or_append_left (edf_cells js n) (cell js n ∷ []) None x
       (omega (arith, length-edf_cells js n)) ∙ cell_at js n x (omega arith)
@@ -48,7 +50,9 @@ not_late js j x met lt first =
       elim (cases_lt x j.deadline) [
         | inl before ↦ before
         | inr late ↦
-            (let in_time = met j first.0 (omega arith) in let kept = had_le_had js j j.deadline x late in absurd (omega arith))
+            (let in_time = met j first.0 (omega arith) in
+            let kept = had_le_had js j j.deadline x late in
+            absurd (omega arith))
       ],
     )
 

@@ -84,7 +84,8 @@ overloads_end_later : (ps : List Piece) (tick : ℕ) → DistinctVcpus ps → Me
     → (s e : ℕ) → IsOverloaded (jobs_of ps) s e → tick ≤ e
 overloads_end_later ps tick apart met s e over = elim (cases_lt e tick) [
   | inl before ↦
-      (let fits = met_fits (jobs_of ps) s e (jobs_of_distinct ps apart) (λ j a due. met j a (omega arith)) (omega (arith, over.some_ticks)) in
+      (let fits = met_fits (jobs_of ps) s e (jobs_of_distinct ps apart)
+      (λ j a due. met j a (omega arith)) (omega (arith, over.some_ticks)) in
       absurd (omega (arith, over.too_much)))
   | inr after ↦ after
 ]

@@ -116,7 +116,8 @@ first_jobs_distinct s (suc n) some =
     (let place = first_job_place s n i a in
     elim b [
       | inl e ↦
-          (let there : place.0 * s.period + s.to ≡ n * s.period + s.to = ap (λ (x : Job). x.deadline) place.2 ∙ sym t ∙ sym (ap (λ (x : Job). x.deadline) e) in
+          (let there : place.0 * s.period + s.to ≡ n * s.period + s.to =
+          ap (λ (x : Job). x.deadline) place.2 ∙ sym t ∙ sym (ap (λ (x : Job). x.deadline) e) in
           let same = same_multiple s.period place.0 n s.to some there in omega (arith, place.1))
       | inr none ↦ none
     ])))

@@ -108,7 +108,8 @@ shorter_fits jobs v x f t is two window fits s e lt within =
     let short = first_jobs (tight v (x - 1) f t) n in
     rw (demand_in-append jobs short s e) (elim (cases_lt e ROUND) [
       | inl before ↦
-          (let bound = rw (demand_in-append jobs long s (e + 1)) at (fits s (e + 1) (omega arith) (omega arith)) in
+          (let bound =
+          rw (demand_in-append jobs long s (e + 1)) at (fits s (e + 1) (omega arith) (omega arith)) in
           let here = rw (demand_in-append jobs long s e) at (fits s e lt within) in
           let longer = demand_longer jobs s e in
           elim (less_or_none v x f t n s e two) [ inl none ↦ omega arith | inr less ↦ omega arith ])

@@ -60,7 +60,8 @@ starts_one s (suc n) start end k lt some at le =
     rw (first_jobs-suc s n) (demand_from-append (first_jobs s n) (job_of s n ∷ []) start end
     ∙ (rw (demand_from-one (job_of s n) start end) (elim (cases_eq k n) [
       | inl same ↦
-          (let none = starts_none s n start end (λ m m-lt m-at m-le. (let e = same_multiple s.period m k s.from some (m-at ∙ sym at) in omega arith)) in
+          (let none = starts_none s n start end (λ m m-lt m-at m-le.
+          (let e = same_multiple s.period m k s.from some (m-at ∙ sym at) in omega arith)) in
           let here = begins_here (job_of s n) start end
           (subst (λ m. m * s.period + s.from ≡ start) same at)
           (subst (λ m. m * s.period + s.to ≤ end) same le) in

@@ -35,7 +35,9 @@ counted_start ps n enough =
       small = λ i. elim (cases_lt i n) [
         | inl lt ↦ rw (get_or-replicate {A = ℕ} n i 0 0 lt) (omega arith)
         | inr past ↦
-            (let zero_past : get_or zeros i 0 ≡ 0 = get_or_past zeros i 0 (omega (arith, length-replicate {A = ℕ} n 0)) in omega arith)
+            (let zero_past : get_or zeros i 0 ≡ 0 =
+            get_or_past zeros i 0 (omega (arith, length-replicate {A = ℕ} n 0)) in
+            omega arith)
       ];
       each = λ i d lt k. rw (
         had-zero (jobs_of ps) (job_of (subtask_of (get_or ps i d)) k),
@@ -145,7 +147,8 @@ counted_run ps gs tick i apart counted met lt urgent = record {
   ];
   each = λ k d k-in n. elim (cases_eq k i) [
     | inl same ↦
-        (let P : ℕ → Type 0 = λ m. had (jobs_of ps) (job_of (subtask_of (get_or ps m d)) n) (tick + 1) ≡ min (get_or ps m d).cost (get_or (one_more gs i) m 0 - n * (get_or ps m d).cost) in
+        (let P : ℕ → Type 0 = λ m. had (jobs_of ps) (job_of (subtask_of (get_or ps m d)) n) (tick + 1)
+        ≡ min (get_or ps m d).cost (get_or (one_more gs i) m 0 - n * (get_or ps m d).cost) in
         subst P (sym same)
         (rw (get_or-set_same gs i (get_or gs i 0 + 1) 0 (omega (arith, counted.enough, urgent.in_range)))
         (each_of_run ps gs tick i d apart counted met lt urgent n)))

@@ -56,7 +56,8 @@ runs_none : (c : Option Job) (s : Subtask) (m : ℕ) → is_cell_of s.vcpu (owne
     → sum_by (λ j. cond (is_run_of j c) 1 0) (first_jobs s m) ≡ 0
 runs_none None s m h = sum_zero (λ j. 0) (first_jobs s m) (λ j a. refl)
 runs_none (Some i) s m h = sum_zero (λ j. cond (is_same_job i j) 1 0) (first_jobs s m) (λ j a.
-    (let other : i.vcpu ≢ j.vcpu = λ e. false≢true (sym h ∙ eq-eqb s.vcpu i.vcpu (sym (vcpu_of_subtask s m j a) ∙ sym e)) in
+    (let other : i.vcpu ≢ j.vcpu =
+    λ e. false≢true (sym h ∙ eq-eqb s.vcpu i.vcpu (sym (vcpu_of_subtask s m j a) ∙ sym e)) in
     ap (λ b. cond b 1 0) (and_left (eqb i.vcpu j.vcpu) (eqb i.deadline j.deadline)
     (ne_eqb i.vcpu j.vcpu other))))
 
@@ -78,7 +79,8 @@ of_piece ps i d j apart lt a v =
     let place = job_place ps d j a in
     elim (cases_eq place.0 i) [
       | inl same ↦
-          (let there : Among (first_jobs (subtask_of (get_or ps place.0 d)) (ROUND / (get_or ps place.0 d).period)) j =
+          (let there : Among (first_jobs (subtask_of (get_or ps place.0 d))
+          (ROUND / (get_or ps place.0 d).period)) j =
           subst (λ (x : Job). Among (first_jobs (subtask_of (get_or ps place.0 d))
           (ROUND / (get_or ps place.0 d).period)) x) place.4
           (first_job_among (subtask_of (get_or ps place.0 d))

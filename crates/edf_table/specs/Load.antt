@@ -8,6 +8,7 @@ pub record IsWhole (p : Piece) : Type 0 where
   pub begins : p.from ≡ 0
   pub ends : p.to ≡ p.period
 
+-- so are those of each piece
 abbrev pub AllWhole : List Piece → Type 0
 AllWhole [] = Unit {0}
 AllWhole (p ∷ ps) = IsWhole p × AllWhole ps

@@ -12,6 +12,7 @@ pub record IsReported (jobs : List Job) (from to demand : ℕ) : Type 0 where
   pub first : IsFirstOverload jobs from to
   pub asked : demand ≡ demand_in jobs from to
 
+-- the same, of an overload
 abbrev pub IsOverloadOf : List Job → Overload → Type 0
 IsOverloadOf jobs overload = IsReported jobs overload.from overload.to overload.demand
 

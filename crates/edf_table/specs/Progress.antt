@@ -1,7 +1,6 @@
 -- What the simulation keeps from tick to tick: private to this crate, and in no public contract.
 use Rattle.std.specs.List.{sum_by}
-use Rattle.std.specs.Prelude.{◌==◌, if◌then◌else◌, ◌≡◌, ℕ, ◌+◌, ◌-◌, ◌*◌, ◌/◌, ◌<◌, ◌≤◌, ◌&&◌, Bool, true, nat_le, nat_lt, min, List, [], ◌∷◌, length, slice_index, slice_index_or, Option, MatchOption, false}
-use Rattle.std.proofs.Common.{◌⊎◌}
+use Rattle.std.specs.Prelude.{◌==◌, if◌then◌else◌, ◌≡◌, ℕ, ◌+◌, ◌-◌, ◌*◌, ◌/◌, ◌<◌, ◌≤◌, ◌&&◌, ◌⊎◌, Bool, true, nat_le, nat_lt, min, List, [], ◌∷◌, length, slice_index, slice_index_or, Option, MatchOption, false}
 use Rattle.tab_core.specs.declared.TheConstants.{ROUND}
 use Rattle.tab_core.specs.declared.piece.Piece.{Piece}
 use Rattle.table_form.specs.Jobs.{Job, job_of, subtask_of, jobs_of}
@@ -29,6 +28,7 @@ window_no p tick = (tick - p.from) / p.period
 abbrev pub is_ready : Piece → ℕ → ℕ → Bool
 is_ready p given tick = nat_le p.from tick && nat_lt given ((window_no p tick + 1) * p.cost)
 
+-- the end of the piece's window that began last
 abbrev pub due_at : Piece → ℕ → ℕ
 due_at p tick = window_no p tick * p.period + p.to
 

@@ -12,7 +12,8 @@ ghost use Rattle.edf_table.specs.Load.{AllWhole, load};
 pub fn shorter_piece_fits()
     ensures { (jobs : List Job) (vcpu cost from period : ℕ) → IsPeriod period → 2 ≤ cost
         → from + cost ≤ period
-        → FitsBeside jobs (tight vcpu cost from period) → FitsBeside jobs (tight vcpu (cost - 1) from period) }
+        → FitsBeside jobs (tight vcpu cost from period)
+        → FitsBeside jobs (tight vcpu (cost - 1) from period) }
 {}
 
 /// Pieces whose windows are whole periods fit where they take no more than a round.

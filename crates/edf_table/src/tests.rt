@@ -71,7 +71,7 @@ fn an_overload(rt: HostRuntime) {
 fn a_full_core(rt: HostRuntime) -> Result<(), Fail> {
     let pieces = around(70);
     assert!(rt; fits(&pieces));
-    let row = simulate(rt.alloc(), &pieces).ok().ok_or("the pieces fit")?;
+    let row = simulate(rt.alloc(), &pieces)?;
     let begin = [
         (Some(VcpuNo(0)), 50),
         (Some(VcpuNo(1)), 80),
@@ -123,13 +123,9 @@ fn three_periods() -> [Piece; 3]
 
 #[test]
 fn whole_periods(rt: HostRuntime) -> Result<(), Fail> {
-    let row = simulate(rt.alloc(), &quarters())
-        .ok()
-        .ok_or("the core is just full")?;
+    let row = simulate(rt.alloc(), &quarters())?;
     assert_eq!(rt; row.segments().len(), 36);
-    let row = simulate(rt.alloc(), &three_periods())
-        .ok()
-        .ok_or("the pieces fit")?;
+    let row = simulate(rt.alloc(), &three_periods())?;
     let begin = [
         (Some(VcpuNo(0)), 2850),
         (Some(VcpuNo(1)), 11_400),
