@@ -81,7 +81,9 @@ insides v x y f t from to (suc n) le =
                 })
           ]))
       | inr out_x ↦
-          (let long' : demand_in (first_jobs (tight v x f t) (suc n)) from to ≡ demand_in (first_jobs (tight v x f t) n) from to = long ∙ ap (λ b. demand_in (first_jobs (tight v x f t) n) from to + cond b x 0) out_x ∙ omega arith in
+          (let long' : demand_in (first_jobs (tight v x f t) (suc n)) from to
+          ≡ demand_in (first_jobs (tight v x f t) n) from to = long
+          ∙ ap (λ b. demand_in (first_jobs (tight v x f t) n) from to + cond b x 0) out_x ∙ omega arith in
           elim (insides v x y f t from to n le) [
             | inl none ↦ inl (long' ∙ none)
             | inr some ↦ (let demand = some.demand in

@@ -1,6 +1,5 @@
 -- What the search for a core and for a cut finds: private to this crate.
-use Rattle.std.specs.Prelude.{◌≡◌, ℕ, ◌<◌, ◌≤◌, List, ◌++◌, Contains, length, slice_index_or}
-use Rattle.std.proofs.Common.{◌⊎◌}
+use Rattle.std.specs.Prelude.{◌≡◌, ◌⊎◌, ℕ, ◌<◌, ◌≤◌, List, ◌++◌, Contains, length, slice_index_or}
 use Rattle.tab_core.specs.declared.piece.Piece.{Piece}
 use Rattle.table_form.specs.Jobs.{Job, Subtask, jobs_of_subtask, subtask_of}
 use Rattle.edf_table.specs.Beside.{remainder, tight}
@@ -20,10 +19,11 @@ abbrev pub IsTooMuch : List Piece → Left → ℕ → Type 0
 IsTooMuch pieces left cost = (more : ℕ) → cost ≤ more → more < left.rest
     → FitsWith pieces (tight left.vcpu more left.from left.period) → ⊥
 
--- what is left fits on the core; a cut of it does
+-- what is left fits on the core
 abbrev pub IsHomeFor : List (List Piece) → Left → ℕ → Type 0
 IsHomeFor cores left core = TakesRest cores left.vcpu left.period left.rest left.from core
 
+-- a cut of it does
 abbrev pub IsCutFor : List (List Piece) → Left → ℕ → Type 0
 IsCutFor cores left core = TakesCut cores left.vcpu left.period left.rest left.from core
 

@@ -2,9 +2,8 @@
 -- Source: the C=D scheme of A. Burns, R. I. Davis, P. Wang, F. Zhang, "Partitioned EDF scheduling
 -- for multiprocessors using a C=D task splitting scheme", Real-Time Systems 48, 2012. The order of
 -- the cores and the least piece that is cut off are this project's own.
-use Rattle.std.specs.Prelude.{◌≡◌, ◌≢◌, ℕ, ◌+◌, ◌-◌, ◌<◌, ◌≤◌, ◌==◌, not, List, [], ◌∷◌, ◌++◌, Contains, filter, length}
+use Rattle.std.specs.Prelude.{◌≡◌, ◌≢◌, ◌⊎◌, ℕ, ◌+◌, ◌-◌, ◌<◌, ◌≤◌, ◌==◌, not, List, [], ◌∷◌, ◌++◌, Contains, filter, length}
 use Rattle.std.specs.List.{AllZip, range_with_len}
-use Rattle.std.proofs.Common.{◌⊎◌}
 use Rattle.tab_core.specs.declared.over.Over.{Over}
 use Rattle.tab_core.specs.declared.periodic.Periodic.{Periodic}
 use Rattle.tab_core.specs.declared.piece.Piece.{Piece}

@@ -76,7 +76,8 @@ pub(crate) fn greatest_cut(
     requires small { load ≤ ROUND }
     ensures { IfOk result (λ found. MatchOption found
         (IsTooMuch pieces.now left.now LEAST_CUT)
-        (λ cost. (LEAST_CUT ≤ cost) × IsGreatestCut pieces.now left.now.vcpu left.now.period left.now.rest left.now.from cost)) }
+        (λ cost. (LEAST_CUT ≤ cost) × IsGreatestCut pieces.now left.now.vcpu left.now.period
+        left.now.rest left.now.from cost)) }
 {
     let mut low = LEAST_CUT - 1;
     let mut high = left.rest.min(most_by_load(load, left.period) + 1);

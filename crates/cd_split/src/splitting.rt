@@ -32,8 +32,11 @@ fn numbers_of(alloc: Global, count: u32) -> Result<Vec<CoreNo>, NoMemory>
 /// The pieces of a vCPU that is split over the cores, the last of them on its home.
 ///
 /// The first unused core, by rising load and then number, that takes all that is left is the home.
-/// Where there is none, the first core on which at least `LEAST_CUT` ticks fit without slack takes
-/// as many of them as fit. `NoRoom` comes exactly where neither step finds a core.
+/// Otherwise, if two or more are unused, the first on which `LEAST_CUT` or more of these ticks, but
+/// not all, fit without slack takes as many as fit, and the rest goes on in the same way. `NoRoom`
+/// comes exactly where neither step finds a core. The vCPU has no piece yet.
+///
+/// Source: C=D splitting of A. Burns, R. I. Davis, P. Wang and F. Zhang, Real-Time Systems 48, 2012.
 pub fn split(
     alloc: Global,
     vcpu: VcpuNo,

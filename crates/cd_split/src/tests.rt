@@ -122,9 +122,7 @@ fn of_1900(cost: u32) -> Periodic
 #[test]
 fn two_equal_cores(rt: HostRuntime) -> Result<(), Fail> {
     let task = of_a_round(61_560);
-    let pieces = split_beside(rt.alloc(), &[task, task], task)
-        .ok()
-        .ok_or("there is room")?;
+    let pieces = split_beside(rt.alloc(), &[task, task], task)?;
     assert!(rt;
         is_split_into(
             &pieces,
@@ -141,9 +139,7 @@ fn two_equal_cores(rt: HostRuntime) -> Result<(), Fail> {
 #[test]
 fn equal_loads_go_to_the_lower_core(rt: HostRuntime) -> Result<(), Fail> {
     let whole = of_a_hundred(70);
-    let pieces = split_beside(rt.alloc(), &[whole, whole, whole], of_a_hundred(50))
-        .ok()
-        .ok_or("there is room")?;
+    let pieces = split_beside(rt.alloc(), &[whole, whole, whole], of_a_hundred(50))?;
     assert!(rt; is_split_into(&pieces, &[(0, 0, 30, 30), (1, 30, 100, 20)]));
     Ok(())
 }
@@ -151,9 +147,7 @@ fn equal_loads_go_to_the_lower_core(rt: HostRuntime) -> Result<(), Fail> {
 #[test]
 fn nine_ticks_are_no_cut(rt: HostRuntime) -> Result<(), Fail> {
     let whole = [of_a_hundred(91), of_a_round(94_392), of_a_round(94_392)];
-    let pieces = split_beside(rt.alloc(), &whole, of_a_round(10_000))
-        .ok()
-        .ok_or("there is room")?;
+    let pieces = split_beside(rt.alloc(), &whole, of_a_round(10_000))?;
     assert!(rt; is_split_into(&pieces, &[(1, 0, 8208, 8208), (0, 8208, 102_600, 1792)]));
     Ok(())
 }
@@ -161,9 +155,7 @@ fn nine_ticks_are_no_cut(rt: HostRuntime) -> Result<(), Fail> {
 #[test]
 fn several_cuts(rt: HostRuntime) -> Result<(), Fail> {
     let whole = four_periods();
-    let pieces = split_beside(rt.alloc(), &whole, of_1900(700))
-        .ok()
-        .ok_or("there is room")?;
+    let pieces = split_beside(rt.alloc(), &whole, of_1900(700))?;
     let expected = [
         (3, 0, 226, 226),
         (1, 226, 266, 40),

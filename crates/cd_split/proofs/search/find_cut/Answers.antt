@@ -62,7 +62,10 @@ loop-rank-preserved c =
           (subst (λ ps. FitsWith ps (tight left.vcpu cut.0 left.from left.period))
           (sym w.of_core-pieces.ensures.same) cut.2.fits)))
       | else-is_unused w ↦
-          (λ in_unused cut. let used = c.is_unused.ensures.1 in_unused in let unused = w.if-is_unused.false in absurd (cc))
+          (λ in_unused cut.
+          let used = c.is_unused.ensures.1 in_unused in
+          let unused = w.if-is_unused.false in
+          absurd (cc))
     ])
 
 pub returns : goal.returns

@@ -165,7 +165,9 @@ loop-pieces-preserved c =
       there = subst (All (λ core. core < length cores)) (sym filtered)
           (All-filter (λ other. not (other == piece.core))
           (λ core. core < length cores) unused before.there);
-      few = (let parts = length-filter_both (λ other. not (other == piece.core)) (λ other. not (not (other == piece.core))) (λ other. refl) unused in omega (arith, ap length filtered, before.few));
+      few = (let parts = length-filter_both (λ other. not (other == piece.core))
+          (λ other. not (not (other == piece.core))) (λ other. refl) unused in
+          omega (arith, ap length filtered, before.few));
       so_far = λ pieces splits. (
           let at_left = as_of (λ v p. Splits cores v p after.rest after.from later pieces) vcpu
           period left.vcpu left.period (sym before.vcpu) (sym before.period) splits in
