@@ -6,6 +6,7 @@ pub mod Filled
 pub mod Grown
 pub mod Inside
 pub mod Joined
+pub mod Lengths
 pub mod Maximal
 pub mod Members
 pub mod Moved

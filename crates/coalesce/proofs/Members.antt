@@ -3,15 +3,14 @@ use Rattle.std.proofs.Common.{◌≡◌, ℕ, zero, suc, ◌<◌, ◌⊎◌, Lis
 use Rattle.std.proofs.lemmas.Option.{slice_get-get_or}
 
 -- an element of joined lists is one of either
-pub slice_get-append_cases : {X : Type 0} (xs ys : List X) (i : ℕ) (x : X) → slice_get (xs ++ ys) i ≡ Some x →
-    (slice_get xs i ≡ Some x) ⊎ ((j : ℕ) × (slice_get ys j ≡ Some x))
+pub slice_get-append_cases : {X : Type 0} (xs ys : List X) (i : ℕ) (x : X) → slice_get (xs ++ ys) i ≡ Some x
+    → (slice_get xs i ≡ Some x) ⊎ ((j : ℕ) × (slice_get ys j ≡ Some x))
 slice_get-append_cases [] ys i x at = inr (i, at)
 slice_get-append_cases (z ∷ xs) ys zero x at = inl at
 slice_get-append_cases (z ∷ xs) ys (suc i) x at = slice_get-append_cases xs ys i x at
 
 pub slice_get-append_left : {X : Type 0} (xs ys : List X) (i : ℕ) (x : X) → slice_get xs i ≡ Some x
-    → slice_get
-    (xs ++ ys) i ≡ Some x
+    → slice_get (xs ++ ys) i ≡ Some x
 slice_get-append_left [] ys i x at = absurd cc
 slice_get-append_left (z ∷ xs) ys zero x at = at
 slice_get-append_left (z ∷ xs) ys (suc i) x at = slice_get-append_left xs ys i x at
@@ -27,8 +26,8 @@ slice_get-set_same xs i y lt =
     slice_get-get_or (set xs i y) i y (omega (arith, length-set xs i y))
     ∙ ap Some (get_or-set_same xs i y y lt)
 
-pub slice_get-set_other : {X : Type 0} (xs : List X) (i j : ℕ) (y : X) → (j ≡ i → ⊥) → slice_get
-    (set xs i y) j ≡ slice_get xs j
+pub slice_get-set_other : {X : Type 0} (xs : List X) (i j : ℕ) (y : X) → (j ≡ i → ⊥)
+    → slice_get (set xs i y) j ≡ slice_get xs j
 slice_get-set_other [] i j y ne = refl
 slice_get-set_other (x ∷ xs) zero zero y ne = absurd (ne refl)
 slice_get-set_other (x ∷ xs) zero (suc j) y ne = refl

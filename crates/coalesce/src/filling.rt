@@ -20,8 +20,8 @@ fn given(
     sliver: u32,
 ) -> Segment
     requires { start ≤ segment.now.end }
-    ensures { stretch_of result
-        ≡ given (has_vcpu may_grow.now) sliver (record { owner = before; end = start }) (stretch_of segment.now) }
+    ensures { stretch_of result ≡ given (has_vcpu may_grow.now) sliver
+        (record { owner = before; end = start }) (stretch_of segment.now) }
 {
     let Some(vcpu) = before else {
         return *segment;

@@ -68,6 +68,8 @@ fn join_rows(
 ///
 /// So each job has at least its cost of ticks inside its window, and no row has more segments than
 /// before. Only want of memory prevents it.
+///
+/// Source: the coalescing of M. Vanga, A. Gujarati and B. B. Brandenburg, EuroSys 2018.
 pub fn join_slivers(alloc: Global, draft: &Draft, sliver: u32) -> Result<Plan, NoMemory>
     ensures joined { IfOk result
         (λ plan. AreJoined draft.now.pieces sliver draft.now.tables.rows plan.tables.rows) }
@@ -78,10 +80,12 @@ pub fn join_slivers(alloc: Global, draft: &Draft, sliver: u32) -> Result<Plan, N
     ensures homes { IfOk result (λ plan. plan.tables.homes ≡ draft.now.tables.homes) }
     ensures jobs { IfOk result (λ plan. (core i k : ℕ) (row : Row) (p : Piece)
         → slice_get plan.tables.rows core ≡ Some row → slice_get (pieces_at draft.now.pieces core) i ≡ Some p
-        → k < ROUND / p.period → p.cost ≤ cells_within p.vcpu row (k * p.period + p.from) (k * p.period + p.to)) }
+        → k < ROUND / p.period
+        → p.cost ≤ cells_within p.vcpu row (k * p.period + p.from) (k * p.period + p.to)) }
     ensures fewer { IfOk result (λ plan. (core : ℕ) (row new : Row)
         → slice_get draft.now.tables.rows core ≡ Some row
-        → slice_get plan.tables.rows core ≡ Some new → length (stretches_from 0 new) ≤ length (stretches_from 0 row)) }
+        → slice_get plan.tables.rows core ≡ Some new
+        → length (stretches_from 0 new) ≤ length (stretches_from 0 row)) }
 {
     let joined = join_rows(
         alloc,

@@ -42,7 +42,8 @@ fn swap_last(out: &mut Vec<Segment>, end: u32)
     requires below { EndBelow (map stretch_of out.old.items) end }
     ensures { (before : List Stretch) (x y : Stretch) → map stretch_of out.old.items ≡ before ++ x ∷ y ∷ []
         → map stretch_of out.new.items ≡ before
-        ++ record { owner = x.owner; end = x.end + (end - y.end) } ∷ record { owner = y.owner; end = end } ∷ [] }
+        ++ record { owner = x.owner; end = x.end + (end - y.end) }
+        ∷ record { owner = y.owner; end = end } ∷ [] }
 {
     let last = out.len() - 1;
     let (x, y) = (out[last - 1], out[last]);
