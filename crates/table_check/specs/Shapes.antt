@@ -10,6 +10,7 @@ use Rattle.table_form.specs.declared.segment.Segment.{Segment}
 abbrev pub rows_of : List (List Segment) → List Row
 rows_of raw = map (cells_from 0) raw
 
+-- the place of the first bad end, if there are segments and they make no row
 abbrev pub bad_in : Option (List Segment) → Option ℕ
 bad_in None = None
 bad_in (Some segments) = bad_place 0 segments

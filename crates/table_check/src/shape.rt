@@ -14,7 +14,8 @@ fn build_row(alloc: Global, segments: &[Segment], core: usize) -> Result<CoreTab
     requires { core < MAX_CORES }
     ensures row { IfOk result (λ row. row ≡ cells_from 0 segments.now) }
     ensures good { IfOk result (λ _. bad_place 0 segments.now ≡ None) }
-    ensures fault { IfErr result (λ fault. (fault ≡ CheckFault.NoMemory) ⊎ IsRowFault core segments.now fault) }
+    ensures fault { IfErr result (λ fault. (fault ≡ CheckFault.NoMemory)
+        ⊎ IsRowFault core segments.now fault) }
 {
     match CoreTable::of(Vec::from_slice(alloc, segments)?) {
         Ok(row) => Ok(row),

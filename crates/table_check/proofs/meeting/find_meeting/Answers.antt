@@ -70,8 +70,9 @@ sweeping-preserved c =
     let end_a : y ≤ here.end = omega (arith, c.min-tick.ensures) in
     let end_b : y ≤ there.end = omega (arith, c.min-tick.ensures) in
     record {
-      within = (let le = end_in_round row tick c.sweeping.here_at here was.here lt_a c.index-row-here_at.is in omega
-          arith);
+      within = (let le = end_in_round row tick c.sweeping.here_at here was.here lt_a
+          c.index-row-here_at.is in
+          omega arith);
       here_low = rw c.place_at-here_at.ensures (place_within row c.sweeping.here_at y here lt_a);
       there_low = rw c.place_at-there_at.ensures (place_within other c.sweeping.there_at y there lt_b);
       here = rw c.place_at-here_at.ensures
