@@ -17,7 +17,8 @@ use Rattle.plan_make.specs.Layout.{home_of, with_pieces}
 use Rattle.plan_make.specs.Steps.{AreAllottedTo, AreShares, has_piece}
 use Rattle.table_form.proofs.Filters.{slice_get-filter}
 use Rattle.plan_make.proofs.Added.{costs-with_pieces, of_core, of_core-cons, pieces_on-with_pieces}
-use Rattle.plan_make.proofs.Members.{all_at, all_from_places, slice_get-append_cases, slice_get-set_other, slice_get-set_same}
+use Rattle.coalesce.proofs.Members.{slice_get-append_cases, slice_get-set_other, slice_get-set_same}
+use Rattle.plan_make.proofs.Members.{all_at, all_from_places}
 use Rattle.plan_make.proofs.Shares.{below_from_fit, cost_on_all, cost_on_none, costs_none, ends_before, some_piece}
 
 -- the piece is one of the new ones, and stands on the core
@@ -135,7 +136,8 @@ allotted_next tasks homes cores vcpu home task pieces allotted shares has homele
               (λ (q : Piece). q.vcpu ≡ vcpu) (λ q is. is.0) pieces shares.are_of)) in
               omega (arith, shares.cost, ap (λ (x : Periodic). x.cost) t_is))
           | inr ne ↦
-              (let before = allotted.costs v h t (sym (slice_get-set_other homes vcpu v (Some home) ne) ∙ at) at' in
+              (let before = allotted.costs v h t
+              (sym (slice_get-set_other homes vcpu v (Some home) ne) ∙ at) at' in
               let new =
               cost_on_none v pieces
               (All-weaker (λ (q : Piece). (q.vcpu ≡ vcpu) × (q.period ≡ task.period))
@@ -198,7 +200,8 @@ allotted_next tasks homes cores vcpu home task pieces allotted shares has homele
               in
               either ∙ or_second (has_piece v (pieces_on cores h)) (has_piece v (of_core h pieces)) new)
           | inr ne ↦
-              (let before = allotted.at_home v h (sym (slice_get-set_other homes vcpu v (Some home) ne) ∙ at) in
+              (let before = allotted.at_home v h
+              (sym (slice_get-set_other homes vcpu v (Some home) ne) ∙ at) in
               either ∙ or_first (has_piece v (pieces_on cores h)) (has_piece v (of_core h pieces)) before)
         ])
 

@@ -6,7 +6,8 @@ use Rattle.std.proofs.lemmas.Option.{slice_get_within}
 use Rattle.tab_core.specs.declared.periodic.Periodic.{Periodic}
 use Rattle.table_form.specs.Homes.{are_housed, is_housed}
 use Rattle.worst_fit.specs.Placement.{IsAdmitted, IsPlaced, PlacesEach}
-use Rattle.plan_make.proofs.Members.{contains_cases, contains_first, contains_later, contains_none, slice_get-set_other, slice_get-set_same, slice_get_from_contains}
+use Rattle.coalesce.proofs.Members.{slice_get-set_other, slice_get-set_same}
+use Rattle.plan_make.proofs.Members.{contains_cases, contains_first, contains_later, contains_none, slice_get_from_contains}
 
 -- where the homes are these and so many vCPUs are still left over
 abbrev pub ArePlaced : List (Option Periodic) → ℕ → List (Option ℕ) → List ℕ → Type 0
@@ -41,13 +42,16 @@ placed_next tasks count homes vcpu left core placed there known = record {
 
     not_again : Contains left vcpu → ⊥
     not_again found =
-        (let at = slice_get_from_contains left vcpu found in let same = placed.once 0 (suc at.0) vcpu refl at.1 in absurd (omega arith))
+        (let at = slice_get_from_contains left vcpu found in
+        let same = placed.once 0 (suc at.0) vcpu refl at.1 in
+        absurd (omega arith))
 
     on_core : (v c : ℕ) → slice_get (set homes vcpu (Some core)) v ≡ Some (Some c)
         → (c < count) × IsAdmitted tasks v × (Contains left v → ⊥)
     on_core v c at = elim (cases_eq v vcpu) [
       | inl same ↦
-          (let here = sym (slice_get-set_same homes vcpu (Some core) known) ∙ ap (slice_get (set homes vcpu (Some core))) (sym same) ∙ at in
+          (let here = sym (slice_get-set_same homes vcpu (Some core) known)
+          ∙ ap (slice_get (set homes vcpu (Some core))) (sym same) ∙ at in
           let c_is : core ≡ c = cc in (
             subst (λ n. n < count) c_is there,
             subst (IsAdmitted tasks) (sym same)

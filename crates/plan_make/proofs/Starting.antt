@@ -136,9 +136,12 @@ sum_at_one f xs at d value lt none here elsewhere =
     let nothing = sum_by-le f 0 (set xs at d)
     (All-from_get_or (λ x. f x ≤ 0) (set xs at d) d (λ k lt'. elim (cases_eq k at) [
       | inl same ↦
-          (let read = ap (λ j. f (get_or (set xs at d) j d)) same ∙ ap f (get_or-set_same xs at d d lt) in omega arith)
+          (let read = ap (λ j. f (get_or (set xs at d) j d)) same ∙ ap f (get_or-set_same xs at d d lt) in
+          omega arith)
       | inr ne ↦
-          (let read = ap f (get_or-set_other xs at k d d ne) in let e = elsewhere k (omega (arith, length-set xs at d)) ne in omega arith)
+          (let read = ap f (get_or-set_other xs at k d d ne) in
+          let e = elsewhere k (omega (arith, length-set xs at d)) ne in
+          omega arith)
     ])) in
     omega arith
 

@@ -13,6 +13,7 @@ use Rattle.cd_split.specs.Splitting.{Splits, core_numbers}
 abbrev pub whole : ℕ → Periodic → Subtask
 whole vcpu task = record { vcpu = vcpu; cost = task.cost; from = 0; to = task.period; period = task.period }
 
+-- all of the vCPU, if it has a task and its home is this core
 abbrev pub whole_at : ℕ → ℕ → Option Periodic → Option ℕ → List Subtask
 whole_at core vcpu None home = []
 whole_at core vcpu (Some task) None = []

@@ -27,6 +27,8 @@ use table_form::Plan;
 /// within the bound of worst fit is without room.
 ///
 /// The rows are made side by side, each in a thread of its own where one can be started.
+///
+/// Source: the planner of M. Vanga, A. Gujarati and B. B. Brandenburg, EuroSys 2018.
 pub fn plan<R: Threads + Sync>(rt: &R, alloc: Global, host: &Host) -> Result<Plan, PlanFault>
     ensures ok { IfOk result (λ plan. IsPlanned host.now (plan_view plan)) }
     ensures only { IfOk result (λ plan. (other : PlanView) → IsPlanned host.now other

@@ -153,9 +153,7 @@ fn is_without_room(
 #[test]
 fn the_third_vcpu_is_split(rt: HostRuntime) -> Result<(), Fail> {
     let host = host_of(rt.alloc(), 2, 30, [patient(600_000); 3])?;
-    let made = plan(&rt, rt.alloc(), &host)
-        .ok()
-        .ok_or("the host has a plan")?;
+    let made = plan(&rt, rt.alloc(), &host)?;
     assert!(rt; has_homes(&made, &[0, 1, 1]));
     assert!(rt; core_has(&made, 0, &[(Some(2), 41_040), (Some(0), 102_600)]));
     let second = [(Some(1), 61_560), (Some(2), 82_080), (None, 102_600)];
@@ -167,9 +165,7 @@ fn the_third_vcpu_is_split(rt: HostRuntime) -> Result<(), Fail> {
 fn nobody_is_split_at_the_bound(rt: HostRuntime) -> Result<(), Fail> {
     let (large, small) = (patient(600_000), patient(200_000));
     let host = host_of(rt.alloc(), 2, 30, [large, large, small])?;
-    let made = plan(&rt, rt.alloc(), &host)
-        .ok()
-        .ok_or("the host has a plan")?;
+    let made = plan(&rt, rt.alloc(), &host)?;
     assert!(rt; has_homes(&made, &[0, 1, 0]));
     let first = [
         (Some(2), 10_260),
@@ -214,14 +210,10 @@ fn a_short_idle_end_goes_to_the_vcpu_before_it(rt: HostRuntime) -> Result<(), Fa
         latency_ns: 102_702_600,
     };
     let host = host_of(rt.alloc(), 1, 1000, [Some(nearly_whole), None, None])?;
-    let made = plan(&rt, rt.alloc(), &host)
-        .ok()
-        .ok_or("the host has a plan")?;
+    let made = plan(&rt, rt.alloc(), &host)?;
     assert!(rt; core_has(&made, 0, &[(Some(0), 102_600)]));
     let host = host_of(rt.alloc(), 1, 513, [Some(nearly_whole), None, None])?;
-    let made = plan(&rt, rt.alloc(), &host)
-        .ok()
-        .ok_or("the host has a plan")?;
+    let made = plan(&rt, rt.alloc(), &host)?;
     assert!(rt; core_has(&made, 0, &[(Some(0), 102_087), (None, 102_600)]));
     Ok(())
 }
@@ -239,8 +231,7 @@ fn half_and_often<R: Threads + Sync>(rt: &R, alloc: Global, sliver: u32) -> Resu
         latency_ns: 180_180,
     };
     let host = host_of(alloc, 1, sliver, [Some(half), Some(often), None])?;
-    let made = plan(rt, alloc, &host).ok().ok_or("the host has a plan")?;
-    Ok(made)
+    Ok(plan(rt, alloc, &host)?)
 }
 
 // Whether the only row has so many segments, begins with these, and keeps vCPU 1 waiting so long.
