@@ -140,6 +140,7 @@ pub no_not_toml : (result : Result Host HostFault) (ms : Members)
 no_not_toml (Ok host) ms of is = cc
 no_not_toml (Err fault) ms (inl memory) is = cc
 no_not_toml (Err fault) ms (inr first) is =
-    let of_key =
-    first_is_of_key ms
-    in let toml : first_fault ms ≡ Some NotToml = cc in let wrong : is_of_key (Some NotToml) ≡ true = sym (ap is_of_key toml) ∙ of_key in cc
+    let of_key = first_is_of_key ms in
+    let toml : first_fault ms ≡ Some NotToml = cc in
+    let wrong : is_of_key (Some NotToml) ≡ true = sym (ap is_of_key toml) ∙ of_key in
+    cc

@@ -1,5 +1,5 @@
 -- The vCPUs that a document states are few, and have names of which no two are one.
-use Rattle.std.proofs.Common.{◌≡◌, leb, ℕ, zero, suc, ◌+◌, ◌<◌, ◌≤◌, Bool, true, false, ◌||◌, IsTrue, List, [], ◌∷◌, ◌++◌, length, slice_get, Option, Some, None, Result, Ok, Err, IfOk, refl, sym, ap, subst, ◌∙◌, arith, inl, inr, bytes_eq}
+use Rattle.std.proofs.Common.{◌≡◌, leb, ℕ, zero, suc, ◌+◌, ◌<◌, ◌≤◌, Bool, true, false, List, [], ◌++◌, length, slice_get, Option, Some, None, Result, Ok, Err, IfOk, refl, sym, ap, subst, ◌∙◌, arith, inl, inr, bytes_eq}
 use Rattle.std.proofs.lemmas.Bool.{cases_lt, false≢true, leb-true, or_parts}
 use Rattle.std.proofs.lemmas.List.Folds.{list_any-append}
 use Rattle.std.proofs.lemmas.Option.{slice_get_within}
@@ -11,11 +11,11 @@ use Rattle.tab_core.specs.declared.TheConstants.{MAX_VCPUS}
 use Rattle.tab_core.specs.declared.host.Host.{Host}
 use Rattle.tab_core.specs.declared.vcpu.Vcpu.{Vcpu}
 use Rattle.toml.specs.Data.{Data, Items, Members, as_array, as_table, get_item, item, no_items, table}
-use Rattle.host_doc.specs.Document.{IsHostOf, IsHostText, members_fault}
+use Rattle.host_doc.specs.Document.{IsHostText, members_fault}
 use Rattle.host_doc.specs.KeyTable.{name_of, vcpus_of}
 use Rattle.host_doc.specs.Path.{of_document, of_vcpu}
 use Rattle.host_doc.specs.Value.{count_of, found_at, items_or, limited, text_at, well_formed}
-use Rattle.host_doc.specs.Vcpus.{AreVcpusOf, IsVcpuOf, names_of, same_name, vcpu_fault, vcpus_fault}
+use Rattle.host_doc.specs.Vcpus.{AreVcpusOf, names_of, same_name, vcpu_fault, vcpus_fault}
 use Rattle.host_doc.specs.declared.fault.HostFault.{HostFault}
 use Rattle.host_doc.specs.declared.fault.HostFault.TheVariants.{OutOfRange, SameName, TooMany}
 use Rattle.host_doc.specs.declared.fault.Key.TheVariants.{Name, Vcpu as VcpuKey}

@@ -1,6 +1,6 @@
 -- A document states one host at most: each of the host's numbers stands in it, and each vCPU is the
 -- member of its number.
-use Rattle.std.proofs.Common.{◌≡◌, ℕ, zero, suc, ◌+◌, ◌<◌, ◌≤◌, Bool, true, false, List, [], ◌∷◌, ◌++◌, length, get_or, Option, Some, None, Result, Ok, Err, IfOk, refl, sym, ap, subst, ◌∙◌, arith}
+use Rattle.std.proofs.Common.{◌≡◌, ℕ, zero, suc, ◌+◌, ◌<◌, Bool, true, false, List, [], ◌++◌, get_or, Option, Some, None, Result, Ok, Err, IfOk, refl, sym, ap, subst, ◌∙◌, arith}
 use Rattle.std.proofs.lemmas.List.{same_lists}
 use Rattle.std.proofs.lemmas.Option.{slice_get-get_or}
 use Rattle.std.specs.Option.{option_or}
@@ -10,11 +10,11 @@ use Rattle.tab_core.specs.declared.host.Host.{Host}
 use Rattle.tab_core.specs.declared.reservation.Reservation.{Reservation}
 use Rattle.tab_core.specs.declared.vcpu.Vcpu.{Vcpu}
 use Rattle.toml.specs.Data.{Data, Items, Members, array, as_table, boolean, datetime, float, get_item, integer, item, no_items, string, table}
-use Rattle.host_doc.specs.Document.{IsDocument, IsHostOf, IsHostText, first_fault, members_fault}
+use Rattle.host_doc.specs.Document.{IsHostOf, IsHostText, first_fault, members_fault}
 use Rattle.host_doc.specs.KeyTable.{cores_of, document_keys, format_of, lag_of, quantum_of, sliver_of, unknown_key, vcpus_of}
 use Rattle.host_doc.specs.Path.{of_document}
 use Rattle.host_doc.specs.Value.{count_of}
-use Rattle.host_doc.specs.Vcpus.{AreVcpusOf, IsReservationOf, IsVcpuOf, first_of, names_of, vcpu_fault, vcpus_fault}
+use Rattle.host_doc.specs.Vcpus.{AreVcpusOf, IsReservationOf, IsVcpuOf, names_of, vcpu_fault, vcpus_fault}
 use Rattle.host_doc.specs.declared.fault.HostFault.{HostFault}
 use Rattle.host_doc.specs.declared.fault.Key.TheVariants.{Unknown}
 

@@ -92,11 +92,15 @@ distinct_with vcpus vcpu distinct new = λ j k a b at_j at_k same.
       | inl j_before ↦ elim (slice_get-last vcpus vcpu b k at_k) [
         | inl k_before ↦ distinct j k a b j_before k_before same
         | inr k_last ↦
-            absurd (let held = name_held vcpus a j j_before in let name : a.name ≡ vcpu.name = same ∙ ap (λ (v : Vcpu). v.name) (sym k_last.1) in cc)
+            let held = name_held vcpus a j j_before in
+            let name : a.name ≡ vcpu.name = same ∙ ap (λ (v : Vcpu). v.name) (sym k_last.1) in
+            absurd cc
       ]
       | inr j_last ↦ elim (slice_get-last vcpus vcpu b k at_k) [
         | inl k_before ↦
-            absurd (let held = name_held vcpus b k k_before in let name : b.name ≡ vcpu.name = sym same ∙ ap (λ (v : Vcpu). v.name) (sym j_last.1) in cc)
+            let held = name_held vcpus b k k_before in
+            let name : b.name ≡ vcpu.name = sym same ∙ ap (λ (v : Vcpu). v.name) (sym j_last.1) in
+            absurd cc
         | inr k_last ↦ j_last.0 ∙ sym k_last.0
       ]
     ]

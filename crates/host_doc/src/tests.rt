@@ -28,7 +28,7 @@ fn second(alloc: Global, lines: &str) -> Result<String, AllocError> {
 
 #[test]
 fn documents(rt: HostRuntime) -> Result<(), Fail> {
-    let cases: [(&[u8], &str); 58] = [
+    let cases: [(&[u8], &str); 60] = [
         (b"", "host key cores"),
         (b"cores = 0", "host value cores"),
         (b"cores = 1\nlag = 1.5", "host key lag"),
@@ -81,6 +81,14 @@ fn documents(rt: HostRuntime) -> Result<(), Fail> {
         (
             b"cores = 1\nvcpu = [{name = \"a\", admitted = false}, []]",
             "host key vcpu 1",
+        ),
+        (
+            b"cores = 1\nvcpu = [{name = \"a\", admitted = false}, {name = \"\"}, {}]",
+            "host value vcpu 1 name",
+        ),
+        (
+            b"cores = 1\nvcpu = [{name = \"a\", admitted = false}, {name = \"b\", admitted = false}, {}]",
+            "host key vcpu 2 name",
         ),
         (b"cores = 1\nCores = 1", "host key unknown key"),
         (b"cores = 1\n\"\" = 1", "host key unknown key"),
@@ -223,8 +231,16 @@ fn describe(alloc: Global, vcpu: &Vcpu) -> Result<String, AllocError> {
 
 #[test]
 fn the_vcpus_of_a_host(rt: HostRuntime) -> Result<(), Fail> {
-    let document =
-        b"cores = 1\n[[vcpu]]\nname = \"web\"\nshare_ppm = 250000\nlatency_ns = 20000000\n[[vcpu]]\nname = \"db\"\nadmitted = false\nrunnable = false\nshare_ppm = 1";
+    let document = b"cores = 1
+[[vcpu]]
+name = \"web\"
+share_ppm = 250000
+latency_ns = 20000000
+[[vcpu]]
+name = \"db\"
+admitted = false
+runnable = false
+share_ppm = 1";
     let expected: [(&[u8], &str); 2] = [(b"web", "250000 20000000 true"), (b"db", "none false")];
     match read_host(rt.alloc(), document) {
         Ok(host) => {

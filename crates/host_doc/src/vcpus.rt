@@ -67,7 +67,8 @@ fn add_text<'a>(texts: &mut BTreeSet<&'a str, Global>, text: &'a str) -> Result<
 // The vCPU of this number and name that a member stands for.
 fn vcpu_of(table: &Table, number: u32, name: Name) -> Result<Vcpu, HostFault>
     ensures name { IfOk result (λ vcpu. vcpu.name ≡ name) }
-    ensures reservation { IfOk result (λ vcpu. IsReservationOf number (table_view table.now) vcpu.reservation) }
+    ensures reservation { IfOk result (λ vcpu.
+        IsReservationOf number (table_view table.now) vcpu.reservation) }
     ensures runnable { IfOk result (λ vcpu. runnable_of number (table_view table.now) ≡ Ok vcpu.runnable) }
     ensures fault { result_err result ≡ settings_fault number (table_view table.now) }
 {
