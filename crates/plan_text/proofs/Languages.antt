@@ -1,6 +1,6 @@
 -- What may follow in a plan text, line by line.
-use Rattle.std.proofs.Common.{◌≡◌, ◌≢◌, ℕ, zero, suc, ◌+◌, ◌-◌, ◌^◌, ◌<◌, ◌≤◌, List, [], ◌∷◌, ◌++◌, length, map, replicate, get_or, codes, decimal, Option, refl, sym, ap, ◌∙◌, subst, append_assoc, append-nil, arith}
-use Rattle.std.proofs.lemmas.List.Elements.{All-append}
+use Rattle.std.proofs.Common.{◌≡◌, ◌≢◌, ℕ, zero, suc, ◌+◌, ◌-◌, ◌^◌, ◌<◌, ◌≤◌, List, [], ◌∷◌, ◌++◌, length, map, replicate, codes, decimal, Option, refl, sym, ap, ◌∙◌, subst, append_assoc, append-nil, arith}
+use Rattle.std.proofs.lemmas.List.Elements.{All-append, All-cons, All-nil, All-tail}
 use Rattle.std.specs.List.{All}
 use Rattle.std.specs.Str.Parse.{AllDigits}
 use Rattle.std.proofs.lemmas.Fmt.{decimal_is_IsNumeral}
@@ -10,19 +10,6 @@ use Rattle.plan_text.specs.FirstBad.{IsBegun, IsFirstBad}
 use Rattle.plan_text.specs.PlanLines.{AreFineRows, IsFineSegment, Line, core_lines, core_words, end_words, segment_words}
 use Rattle.plan_text.specs.Reading.{AreRows, AreSegments, IsNoSegment, IsOtherLine}
 use Rattle.plan_text.proofs.FirstBad.{bad_behind, bad_of_both, first_is_bad}
-
--- ---- lists
-
-pub all_cons : {X : Type 0} (P : X → Type 0) (x : X) (xs : List X) → P x → All P xs → (k : ℕ) (d : X)
-    → k < length (x ∷ xs) → P (get_or (x ∷ xs) k d)
-all_cons P x xs here more zero d low = here
-all_cons P x xs here more (suc k) d low = more k d (omega arith)
-
-pub all_tail : {X : Type 0} (P : X → Type 0) (x : X) (xs : List X) → All P (x ∷ xs) → All P xs
-all_tail P x xs all k d low = all (suc k) d (omega arith)
-
-pub all_none : {X : Type 0} (P : X → Type 0) → All P []
-all_none P k d low = absurd (omega arith)
 
 -- ---- lines that differ
 
@@ -47,9 +34,9 @@ core_is_no_end core is = absurd (cc)
 -- ---- the cores and the end
 
 empty_rows : (tasks : List (Option Periodic)) (count : ℕ) → AreFineRows tasks (replicate count [])
-empty_rows tasks zero = all_none (λ row. All (IsFineSegment tasks) row)
+empty_rows tasks zero = All-nil (λ row. All (IsFineSegment tasks) row)
 empty_rows tasks (suc count) =
-    all_cons (λ row. All (IsFineSegment tasks) row) [] (replicate count []) (all_none (IsFineSegment tasks))
+    All-cons (λ row. All (IsFineSegment tasks) row) [] (replicate count []) (All-nil (IsFineSegment tasks))
     (empty_rows tasks count)
 
 many_empty : (count : ℕ) → length (replicate {A = List Segment} count []) ≡ count
@@ -74,7 +61,7 @@ pub rows_back : (names : List (List ℕ)) (tasks : List (Option Periodic)) (core
 rows_back names tasks core count lines are = record {
   rows = are.row ∷ are.rows.rows;
   many = let many = are.rows.many in omega arith;
-  fine = all_cons (λ row. All (IsFineSegment tasks) row) are.row are.rows.rows are.fine are.rows.fine;
+  fine = All-cons (λ row. All (IsFineSegment tasks) row) are.row are.rows.rows are.fine are.rows.fine;
   written =
       ap (λ ls. core_words core ∷ ls)
       (are.written ∙ (ap (λ ls. map (segment_words names) are.row ++ ls) are.rows.written
@@ -107,7 +94,7 @@ rows_go_parts names tasks core count line lines (row ∷ rows) many fine written
           rows = rows;
           many = omega arith;
           fine =
-              all_tail (λ row. All (IsFineSegment tasks) row) row rows fine;
+              All-tail (λ row. All (IsFineSegment tasks) row) row rows fine;
           written = refl;
         };
         written = rest ∙ append_assoc (map (segment_words names) row) (core_lines names (core + 1) rows)
@@ -159,7 +146,7 @@ segments_begun names tasks core count =
       text =
           record {
             row = [];
-            fine = all_none (IsFineSegment tasks);
+            fine = All-nil (IsFineSegment tasks);
             rest = begun.rest;
             rows = begun.text;
             written =
@@ -173,7 +160,7 @@ pub segment_back : (names : List (List ℕ)) (tasks : List (Option Periodic)) (c
     → AreSegments names tasks core count (segment_words names s ∷ lines)
 segment_back names tasks core count s lines fine are = record {
   row = s ∷ are.row;
-  fine = all_cons (IsFineSegment tasks) s are.row fine are.fine;
+  fine = All-cons (IsFineSegment tasks) s are.row fine are.fine;
   rest = are.rest;
   rows = are.rows;
   written = ap (λ ls. segment_words names s ∷ ls) are.written;
@@ -188,7 +175,7 @@ segment_goes_parts names tasks core count s lines [] rest fine all rows written 
     absurd (rows_lack names tasks core rows.rows s lines fine (written ∙ rows.written))
 segment_goes_parts names tasks core count s lines (t ∷ row) rest fine all rows written = record {
   row = row;
-  fine = all_tail (IsFineSegment tasks) t row all;
+  fine = All-tail (IsFineSegment tasks) t row all;
   rest = rest;
   rows = rows;
   written = cc;
@@ -229,7 +216,7 @@ bad_behind_row names tasks core count first lines bad none is =
     bad_of_both (AreSegments names tasks core count) (AreRows names tasks core count) first lines bad
     (λ some rows. record {
       row = [];
-      fine = all_none (IsFineSegment tasks);
+      fine = All-nil (IsFineSegment tasks);
       rest = some;
       rows = rows;
       written = refl;
@@ -254,7 +241,7 @@ bad_behind_segments names tasks core count first (s ∷ row) rest bad all none i
     (λ lines are. segment_back names tasks core count s lines (all 0 s (omega arith)) are)
     (λ lines are. segment_goes names tasks core count s lines (all 0 s (omega arith)) are)
     (bad_behind_segments names tasks core count (first + 1) row rest bad
-    (all_tail (IsFineSegment tasks) s row all) none
+    (All-tail (IsFineSegment tasks) s row all) none
     (subst (λ n. IsFirstBad (AreRows names tasks core count) n rest bad) (omega arith) is))
 
 -- ---- cores, one after the other
@@ -276,7 +263,7 @@ core_lines-last names core (first ∷ rows) row =
     (core_words (core + length (first ∷ rows)) ∷ map (segment_words names) row))
 
 pub all_snoc : {X : Type 0} (P : X → Type 0) (xs : List X) (x : X) → All P xs → P x → All P (xs ++ x ∷ [])
-all_snoc P xs x all here = All-append P xs (x ∷ []) all (all_cons P x [] here (all_none P))
+all_snoc P xs x all here = All-append P xs (x ∷ []) all (All-cons P x [] here (All-nil P))
 
 -- the first bad line behind a core's line and its segments
 pub bad_behind_core : (names : List (List ℕ)) (tasks : List (Option Periodic))
@@ -343,7 +330,7 @@ line_behind_end names tasks core cores first second lines behind past written ne
     (λ rest none. rw none (record {
       rows = [];
       many = refl;
-      fine = all_none (λ row. All (IsFineSegment tasks) row);
+      fine = All-nil (λ row. All (IsFineSegment tasks) row);
       written = refl;
     }))
     (λ rest are. let all = end_goes names tasks core (end_words ∷ rest) are in cc)

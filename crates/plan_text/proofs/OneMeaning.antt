@@ -4,6 +4,7 @@ use Rattle.std.proofs.Props.{props}
 use Rattle.std.proofs.lemmas.Bool.{and_parts}
 use Rattle.std.proofs.lemmas.Bool.Decides.{nat_tests}
 use Rattle.std.proofs.lemmas.Fmt.{decimal_injective}
+use Rattle.std.proofs.lemmas.List.Elements.{All-tail}
 use Rattle.std.specs.List.{All}
 use Rattle.std.specs.Option.{ForSome}
 use Rattle.tab_core.specs.Name.{IsName}
@@ -16,7 +17,7 @@ use Rattle.table_form.specs.declared.segment.Segment.{Segment}
 use Rattle.plan_text.specs.Names.{AreHostNames}
 use Rattle.plan_text.specs.PlanLines.{AreFineRows, AreLinesOf, IsFineSegment, Line, core_lines, end_words, segment_words, vcpu_lines}
 use Rattle.plan_text.specs.PlanText.{owner_word}
-use Rattle.plan_text.proofs.Languages.{all_tail, core_is_no_end, core_is_no_segment, end_is_no_segment}
+use Rattle.plan_text.proofs.Languages.{core_is_no_end, core_is_no_segment, end_is_no_segment}
 use Rattle.plan_text.proofs.Parts.{task_within}
 use Rattle.plan_text.proofs.SegmentLines.{dash_is_no_name}
 
@@ -94,8 +95,8 @@ row_same names tasks (s ∷ row) (t ∷ other) rest more many good all all' none
     let words : segment_words names s ≡ segment_words names t = cc in
     let tails : map (segment_words names) row ++ rest ≡ map (segment_words names) other ++ more = cc in
     let first = words_same names tasks s t many good (all 0 s (omega arith)) (all' 0 t (omega arith)) words in
-    let behind = row_same names tasks row other rest more many good (all_tail (IsFineSegment tasks) s row all)
-    (all_tail (IsFineSegment tasks) t other all') none none' tails in
+    let behind = row_same names tasks row other rest more many good (All-tail (IsFineSegment tasks) s row all)
+    (All-tail (IsFineSegment tasks) t other all') none none' tails in
     (ap (λ x. x ∷ row) first ∙ ap (λ xs. t ∷ xs) behind.0, behind.1)
 
 cores_first : (names : List (List ℕ)) (tasks : List (Option Periodic)) (core : ℕ) (rows : List (List Segment))
@@ -124,8 +125,8 @@ rows_same names tasks core (row ∷ rows) (other ∷ others) many good all all' 
     (all' 0 other (omega arith))
     (cores_first names tasks (core + 1) rows) (cores_first names tasks (core + 1) others) parted in
     let behind = rows_same names tasks (core + 1) rows others many good
-    (all_tail (λ r. All (IsFineSegment tasks) r) row rows all)
-    (all_tail (λ r. All (IsFineSegment tasks) r) other others all') both.1 in
+    (All-tail (λ r. All (IsFineSegment tasks) r) row rows all)
+    (All-tail (λ r. All (IsFineSegment tasks) r) other others all') both.1 in
     ap (λ x. x ∷ rows) both.0 ∙ ap (λ xs. other ∷ xs) behind
 
 -- ---- homes

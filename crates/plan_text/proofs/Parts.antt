@@ -1,10 +1,8 @@
 -- The plan text in its parts.
-use Rattle.std.proofs.Common.{suc, inl, inr, sym, ap, subst, ◌∙◌, ◌≡◌, ℕ, ◌<◌, ◌≤◌, List, [], ◌∷◌, codes, count_by, length, get_or, Option, Some, None, Result, Ok, Err, true, false, refl}
-use Rattle.std.specs.Prelude.{slice_get}
+use Rattle.std.proofs.Common.{suc, inl, inr, sym, ap, subst, ◌∙◌, ◌≡◌, ℕ, ◌<◌, ◌≤◌, List, [], ◌∷◌, codes, count_by, length, get_or, Option, None, Result, Ok, Err, true, false, refl}
 use Rattle.std.proofs.lemmas.Bool.{and_parts, cases_lt, false≢true}
 use Rattle.std.proofs.lemmas.List.{get_or_default, get_or-map}
-use Rattle.std.proofs.lemmas.Option.{slice_get_read, slice_get_past}
-use Rattle.tab_core.specs.declared.TheConstants.{ROUND}
+use Rattle.std.proofs.lemmas.Option.{slice_get_past}
 use Rattle.tab_core.specs.declared.periodic.Periodic.{Periodic}
 use Rattle.tab_core.specs.declared.vcpu.Vcpu.{Vcpu}
 use Rattle.tab_io.specs.Views.{SinkView}
@@ -13,12 +11,10 @@ use Rattle.tab_io.specs.declared.sink.WriteFault.{WriteFault}
 use Rattle.tab_io.proofs.Writing.{writes_then, writes_broken}
 use Rattle.table_form.specs.declared.segment.Segment.{Segment}
 use Rattle.table_form.specs.Plans.{PlanView}
-use Rattle.table_form.specs.Rows.{Row, RisesTo, cells_from}
-use Rattle.table_form.specs.Serves.{flat, cell_of, has_task, OwnersHaveTasks}
+use Rattle.table_form.specs.Rows.{Row, cells_from}
+use Rattle.table_form.specs.Serves.{has_task}
 use Rattle.table_form.specs.Homes.{HaveHomes, are_housed, is_housed}
-use Rattle.table_form.proofs.StretchLemmas.{owner_stands}
 use Rattle.plan_text.specs.PlanText.{core_line, core_text, head_line, is_admitted, name_at, names_of, plan_text, row_text, task_text, texts_below, vcpu_text}
-use Rattle.plan_text.specs.Owners.{AreOwnedBelow, OwnersBelow}
 
 pub same_default : {X : Type 0} (xs : List X) (i : ℕ) (x d : X) → i < length xs → x ≡ get_or xs i x
     → get_or xs i d ≡ x
@@ -42,16 +38,6 @@ vcpu_here vcpus tasks homes v vcpu task home named tasked housed vcpu_is task_is
     (sym (same_default tasks v task None tasked task_is))
     ∙ ap (λ o. task_text (name_at (names_of vcpus) v) (get_or tasks v None) o)
     (sym (same_default homes v home None housed home_is))
-
--- the owners of a core's segments are those of its cells
-pub owned_here : (n : ℕ) (rows : List Row) (core : ℕ) (row : Row) (ss : List Segment)
-    → OwnersBelow n rows → core < length rows → row ≡ get_or rows core row
-    → cells_from 0 ss ≡ row → RisesTo 0 ss ROUND → AreOwnedBelow n ss
-owned_here n rows core row ss owned low is cells rises k s at v owner =
-    let stands = owner_stands 0 ss ROUND k s rises at in
-    let here = ap (λ (r : Row). slice_get r stands.0) (sym cells) ∙ (stands.1 ∙ ap Some owner) in
-    owned core stands.0 v (ap (λ (r : Option Row). cell_of r stands.0)
-    (slice_get_read rows (length rows) core row refl low is) ∙ ap flat here)
 
 pub core_broken : (s t : SinkView) (names : List (List ℕ)) (rows : List Row) (core : ℕ)
     (q : Result (Unit {0}) WriteFault) (e : WriteFault)
@@ -95,11 +81,6 @@ task_within tasks v h = elim (cases_lt v (length tasks)) [
   | inl low ↦ low
   | inr past ↦ absurd (false≢true (sym (no_task tasks v past) ∙ h))
 ]
-
-pub owners_below : (n : ℕ) (tasks : List (Option Periodic)) (rows : List Row) → length tasks ≡ n
-    → OwnersHaveTasks tasks rows → OwnersBelow n rows
-owners_below n tasks rows same owned c place v at =
-    subst (λ m. v < m) same (task_within tasks v (owned v place c at))
 
 -- the text in its four parts, one after the other
 pub head_broken : (s t : SinkView) (names : List (List ℕ)) (plan : PlanView)

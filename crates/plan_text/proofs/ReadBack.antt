@@ -6,6 +6,7 @@ use Rattle.std.specs.Option.{ForSome, option_eq}
 use Rattle.std.proofs.lemmas.Bool.{and_parts}
 use Rattle.std.proofs.lemmas.Bool.Decides.{nat_tests}
 use Rattle.std.proofs.lemmas.List.{length-map}
+use Rattle.std.proofs.lemmas.List.Elements.{All-cons, All-nil, All-tail}
 use Rattle.std.proofs.lemmas.List.Sums.{count_by-le-length}
 use Rattle.std.proofs.lemmas.Option.{slice_get-get_or}
 use Rattle.tab_core.proofs.Periods.{period_facts}
@@ -26,7 +27,6 @@ use Rattle.plan_text.specs.Names.{AreHostNames}
 use Rattle.plan_text.specs.PlanLines.{AreFineRows, IsFineSegment, Line, core_lines, core_words, end_words, head_words, segment_words, vcpu_lines, vcpu_part, worded}
 use Rattle.plan_text.specs.PlanText.{core_line, core_text, is_admitted, owner_word, plan_text, row_text, segment_line, task_text, texts_below, vcpu_text}
 use Rattle.plan_text.specs.Written.{IsHostWithPlan, IsReadBack}
-use Rattle.plan_text.proofs.Languages.{all_cons, all_none, all_tail}
 use Rattle.plan_text.proofs.Numbered.{texts_below-shift, texts_below-suc, texts_below-zero}
 use Rattle.plan_text.proofs.Parts.{task_within}
 use Rattle.plan_text.proofs.WordedLines.{core_worded, end_worded, head_worded, segment_worded, task_worded}
@@ -131,7 +131,7 @@ stretches_good tasks most at (cell ∷ cells) within all =
     rw (stretches-cons at cell cells)
     (front_good tasks most (record { owner = cell; end = at + 1 }) (stretches_from (at + 1) cells)
     (record { low = omega arith; owned = all 0 cell (omega arith) })
-    (stretches_good tasks most (at + 1) cells (omega arith) (all_tail (IsOwned tasks) cell cells all)))
+    (stretches_good tasks most (at + 1) cells (omega arith) (All-tail (IsOwned tasks) cell cells all)))
 
 -- segments that say these stretches
 segments_of : (tasks : List (Option Periodic)) (most : ℕ) (ss : List Stretch) → length tasks ≤ MAX_VCPUS
@@ -155,8 +155,8 @@ rows_of tasks (row ∷ rows) few rounds owned =
     let size : 0 + length row ≤ ROUND = let is = rounds 0 row (omega arith) in omega arith in
     let first = segments_of tasks ROUND (stretches_from 0 row) few
     (stretches_good tasks ROUND 0 row size (owned 0 row (omega arith))) in
-    let more = rows_of tasks rows few (all_tail (λ (r : Row). length r ≡ ROUND) row rows rounds)
-    (all_tail (λ r. All (IsOwned tasks) r) row rows owned) in (
+    let more = rows_of tasks rows few (All-tail (λ (r : Row). length r ≡ ROUND) row rows rounds)
+    (All-tail (λ r. All (IsOwned tasks) r) row rows owned) in (
       first.0 ∷ more.0,
       ap (λ ss. ss ∷ map (λ r. map stretch_of r) more.0) first.1
           ∙ ap (λ rest. stretches_from 0 row ∷ rest) more.1,
@@ -186,13 +186,13 @@ stretches_worded names tasks (s ∷ ss) rest good many all =
 fine_segments : (tasks : List (Option Periodic)) (segments : List Segment) (ss : List Stretch)
     → map stretch_of segments ≡ ss → AllByRecursion (IsGoodStretch tasks ROUND) ss
     → All (IsFineSegment tasks) segments
-fine_segments tasks [] ss is all = all_none (IsFineSegment tasks)
+fine_segments tasks [] ss is all = All-nil (IsFineSegment tasks)
 fine_segments tasks (s ∷ segments) [] is all = absurd (cc)
 fine_segments tasks (s ∷ segments) (t ∷ ss) is all =
     let first : stretch_of s ≡ t = cc in
     let good : IsGoodStretch tasks ROUND (stretch_of s) =
     subst (IsGoodStretch tasks ROUND) (sym first) all.0 in
-    all_cons (IsFineSegment tasks) s segments
+    All-cons (IsFineSegment tasks) s segments
     (record { small = let low = good.low in omega arith; owned = good.owned })
     (fine_segments tasks segments ss (cc) all.1)
 
@@ -200,15 +200,15 @@ fine_rows : (tasks : List (Option Periodic)) (raw : List (List Segment)) (rows :
     → map (λ row. map stretch_of row) raw ≡ map (λ row. stretches_from 0 row) rows
     → All (λ (row : Row). length row ≡ ROUND) rows → All (λ row. All (IsOwned tasks) row) rows
     → AreFineRows tasks raw
-fine_rows tasks [] rows is rounds owned = all_none (λ row. All (IsFineSegment tasks) row)
+fine_rows tasks [] rows is rounds owned = All-nil (λ row. All (IsFineSegment tasks) row)
 fine_rows tasks (segments ∷ raw) [] is rounds owned = absurd (cc)
 fine_rows tasks (segments ∷ raw) (row ∷ rows) is rounds owned =
     let size : 0 + length row ≤ ROUND = let same = rounds 0 row (omega arith) in omega arith in
-    all_cons (λ r. All (IsFineSegment tasks) r) segments raw
+    All-cons (λ r. All (IsFineSegment tasks) r) segments raw
     (fine_segments tasks segments (stretches_from 0 row) (cc)
     (stretches_good tasks ROUND 0 row size (owned 0 row (omega arith))))
-    (fine_rows tasks raw rows (cc) (all_tail (λ (r : Row). length r ≡ ROUND) row rows rounds)
-    (all_tail (λ r. All (IsOwned tasks) r) row rows owned))
+    (fine_rows tasks raw rows (cc) (All-tail (λ (r : Row). length r ≡ ROUND) row rows rounds)
+    (All-tail (λ r. All (IsOwned tasks) r) row rows owned))
 
 -- the cores' texts, of which the first has this number
 abbrev text_from : List (List ℕ) → List Row → ℕ → ℕ → List ℕ
@@ -260,8 +260,8 @@ cores_worded names tasks core (segments ∷ raw) (row ∷ rows) rest good many f
     (ap (map (stretch_words names)) (sym here) ∙ sym (same_words names segments))
     ∙ (ap (λ ls. map (segment_words names) segments ++ ls)
     (cores_worded names tasks (core + 1) raw rows rest good many (omega arith) (cc)
-    (all_tail (λ (r : Row). length r ≡ ROUND) row rows rounds)
-    (all_tail (λ r. All (IsOwned tasks) r) row rows owned))
+    (All-tail (λ (r : Row). length r ≡ ROUND) row rows rounds)
+    (All-tail (λ r. All (IsOwned tasks) r) row rows owned))
     ∙ sym (append_assoc (map (segment_words names) segments) (core_lines names (core + 1) raw)
     (worded rest)))))))
 

@@ -194,7 +194,8 @@ bad_behind_vcpu names tasks cores v first number name (Some task)
     rw written (bad_behind (AreVcpus names tasks cores v) (AreVcpus names tasks cores (v + 1)) first
     (vcpu_words name task core) rest bad
     (λ some are. vcpus_back names tasks cores v name (Some task) (Some core) some parts housed are)
-    (λ some are. let go = vcpus_go names tasks cores v name (Some task) (vcpu_words name task core ∷ some) parts are in
+    (λ some are.
+    let go = vcpus_go names tasks cores v name (Some task) (vcpu_words name task core ∷ some) parts are in
     (with_home names tasks cores v name task
     (vcpu_words name task core) some go.home go.rest go.housed go.more go.written).3)
     (subst (λ n. IsFirstBad (AreVcpus names tasks cores (v + 1)) n rest bad) (omega arith) is))

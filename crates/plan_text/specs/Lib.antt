@@ -1,6 +1,6 @@
 pub mod FirstBad
+pub mod MaximalSegments
 pub mod Names
-pub mod Owners
 pub mod PlanLines
 pub mod PlanText
 pub mod Reading

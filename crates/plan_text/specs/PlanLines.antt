@@ -22,15 +22,14 @@ worded bytes = map words_of (lines_of bytes)
 
 -- the first line: how many cores and admitted vCPUs there are
 abbrev pub head_words : ℕ → ℕ → Line
-head_words cores admitted = codes "plan" ∷ codes "cores" ∷ decimal cores ∷ codes "vcpus" ∷ decimal
-    admitted ∷ []
+head_words cores admitted =
+    codes "plan" ∷ codes "cores" ∷ decimal cores ∷ codes "vcpus" ∷ decimal admitted ∷ []
 
 -- the line of an admitted vCPU
 abbrev pub vcpu_words : List ℕ → Periodic → ℕ → Line
 vcpu_words name task home =
     codes "vcpu" ∷ name ∷ codes "period" ∷ decimal task.period ∷ codes "cost" ∷ decimal task.cost
-    ∷ codes "home" ∷
-    decimal home ∷ []
+    ∷ codes "home" ∷ decimal home ∷ []
 
 -- a vCPU without a task has no line
 abbrev pub vcpu_part : List ℕ → Option Periodic → Option ℕ → List Line

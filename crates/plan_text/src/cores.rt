@@ -1,13 +1,13 @@
 ghost use Rattle.std.specs.Prelude.{◌≡◌, ◌<◌, ◌≤◌, length};
-ghost use Rattle.std.specs.Option.{ForSome};
 ghost use Rattle.tab_core.specs.declared.TheConstants.{MAX_CORES, ROUND};
 ghost use Rattle.tab_io.specs.Outside.{Writes};
-ghost use Rattle.table_form.specs.Rows.{Row, RisesTo, cells_from};
+ghost use Rattle.table_form.specs.Rows.{RisesTo, cells_from};
 ghost use Rattle.table_form.specs.Stretches.{stretch_of};
-ghost use Rattle.plan_text.specs.PlanText.{core_line, core_text, name_at, names_of, owner_word, row_text, segment_line, texts_below};
-ghost use Rattle.plan_text.specs.Owners.{AreOwnedBelow, OwnersBelow, ends_maximal, line_at};
+ghost use Rattle.plan_text.specs.PlanText.{core_line, core_text, names_of, row_text, segment_line, texts_below};
+ghost use Rattle.plan_text.specs.MaximalSegments.{ends_maximal, line_at};
 
-use tab_core::{Vcpu, VcpuNo};
+use crate::owner::owner_in;
+use tab_core::Vcpu;
 use tab_io::{Sink, WriteFault};
 use tab_words::{TextPiece, put_pieces};
 use table_form::{CoreTable, Segment};
@@ -18,8 +18,7 @@ pub(crate) fn put_cores<K: Sink>(
     vcpus: &[Vcpu],
     rows: &[CoreTable],
 ) -> Result<(), WriteFault>
-    requires owned { OwnersBelow (length vcpus.now) rows.now }
-    requires few { length rows.now ≤ MAX_CORES }
+    requires { length rows.now ≤ MAX_CORES }
     ensures { Writes (K.state sink.old) (K.state sink.new)
         (texts_below (core_text (names_of vcpus.now) rows.now) (length rows.now)) result }
 {
@@ -37,7 +36,6 @@ fn put_core<K: Sink>(
     rows: &[CoreTable],
     core: usize,
 ) -> Result<(), WriteFault>
-    requires owned { OwnersBelow (length vcpus.now) rows.now }
     requires core { core < length rows.now }
     requires few { length rows.now ≤ MAX_CORES }
     ensures { Writes (K.state sink.old) (K.state sink.new)
@@ -65,8 +63,7 @@ fn put_core_line<K: Sink>(sink: &mut K, core: u32) -> Result<(), WriteFault>
 
 // Writes the lines of a row's maximal segments.
 fn put_row<K: Sink>(sink: &mut K, vcpus: &[Vcpu], segments: &[Segment]) -> Result<(), WriteFault>
-    requires rises { RisesTo 0 segments.now ROUND }
-    requires owned { AreOwnedBelow (length vcpus.now) segments.now }
+    requires { RisesTo 0 segments.now ROUND }
     ensures { Writes (K.state sink.old) (K.state sink.new)
         (row_text (names_of vcpus.now) (cells_from 0 segments.now)) result }
 {
@@ -79,15 +76,14 @@ fn put_row<K: Sink>(sink: &mut K, vcpus: &[Vcpu], segments: &[Segment]) -> Resul
 }
 
 // Writes the line of the segment, unless the next one goes on with its owner.
-#[tactic(auto, unfolding(crate::specs::Owners::line_at))]
+#[tactic(auto, unfolding(crate::specs::MaximalSegments::line_at))]
 fn put_segment_at<K: Sink>(
     sink: &mut K,
     vcpus: &[Vcpu],
     segments: &[Segment],
     at: usize,
 ) -> Result<(), WriteFault>
-    requires at { at < length segments.now }
-    requires owned { AreOwnedBelow (length vcpus.now) segments.now }
+    requires { at < length segments.now }
     ensures { Writes (K.state sink.old) (K.state sink.new)
         (line_at (names_of vcpus.now) segments.now at) result }
 {
@@ -110,7 +106,6 @@ fn ends_stretch(segments: &[Segment], at: usize) -> bool
 
 #[tactic(auto, unfolding(crate::specs::PlanText::segment_line))]
 fn put_segment<K: Sink>(sink: &mut K, vcpus: &[Vcpu], segment: &Segment) -> Result<(), WriteFault>
-    requires { ForSome segment.now.owner (λ v. v < length vcpus.now) }
     ensures { Writes (K.state sink.old) (K.state sink.new)
         (segment_line (names_of vcpus.now) (stretch_of segment.now)) result }
 {
@@ -119,18 +114,8 @@ fn put_segment<K: Sink>(sink: &mut K, vcpus: &[Vcpu], segment: &Segment) -> Resu
         &[
             TextPiece::Number(segment.end),
             TextPiece::Text(b" "),
-            TextPiece::Text(owner_text(vcpus, &segment.owner)),
+            TextPiece::Text(owner_in(vcpus, &segment.owner)),
             TextPiece::Text(b"\n"),
         ],
     )
-}
-
-fn owner_text<'a>(vcpus: &'a [Vcpu], owner: &Option<VcpuNo>) -> &'a [u8]
-    requires { ForSome owner.now (λ v. v < length vcpus.now) }
-    ensures { result.now ≡ owner_word (names_of vcpus.now) owner.now }
-{
-    match owner {
-        None => b"-",
-        Some(v) => vcpus[v.index()].name.bytes(),
-    }
 }

@@ -39,7 +39,8 @@ pub fn read_plan(
     requires short { length bytes.now < 2 ^ 32 }
     ensures ok { IfOk result (IsPlanText (names_of host.now.vcpus) host.now.cores tasks.now bytes.now) }
     ensures bad_line { (bad : ℕ) → IsErrOf result (ReadPlan.BadLine bad)
-        → IsFirstBad (IsSomePlan (names_of host.now.vcpus) host.now.cores tasks.now) 1 (worded bytes.now) bad }
+        → IsFirstBad (IsSomePlan (names_of host.now.vcpus) host.now.cores tasks.now) 1
+        (worded bytes.now) bad }
     // What checked tables need: rows, homes and owners.
     ensures few { IfOk result (λ raw. length raw.rows ≤ MAX_CORES) }
     ensures housed { IfOk result (λ raw. IsTrue (are_housed (length raw.rows) tasks.now raw.homes)) }

@@ -29,7 +29,8 @@ pub(crate) fn read_cores(
     requires good { AreHostNames names.now }
     requires named { length names.now ≡ length tasks.now }
     requires few_cores { cores ≤ MAX_CORES }
-    ensures lines { IfOk result (λ rows. left.old.lines ≡ core_lines names.now 0 rows.items ++ end_words ∷ []) }
+    ensures lines { IfOk result (λ rows.
+        left.old.lines ≡ core_lines names.now 0 rows.items ++ end_words ∷ []) }
     ensures rows { IfOk result (λ rows. length rows.items ≡ cores) }
     ensures fine { IfOk result (λ rows. AreFineRows tasks.now rows.items) }
     ensures bad_line { (bad : ℕ) → IsErrOf result (ReadPlan.BadLine bad)

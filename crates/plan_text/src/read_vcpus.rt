@@ -54,7 +54,8 @@ fn read_vcpu(
     cores: u32,
 ) -> Result<Option<CoreNo>, ReadPlan>
     requires few_cores { cores ≤ MAX_CORES }
-    ensures lines { IfOk result (λ home. left.old.lines ≡ vcpu_part name.now task.now home ++ left.new.lines) }
+    ensures lines { IfOk result (λ home.
+        left.old.lines ≡ vcpu_part name.now task.now home ++ left.new.lines) }
     ensures number { IfOk result (λ home.
         left.new.number ≡ left.old.number + length (vcpu_part name.now task.now home)) }
     ensures housed { IfOk result (λ home. is_housed cores task.now home ≡ true) }

@@ -3,7 +3,6 @@ ghost use Rattle.tab_core.specs.declared.TheConstants.{MAX_CORES, MAX_VCPUS};
 ghost use Rattle.tab_io.specs.Outside.{Writes};
 ghost use Rattle.table_form.specs.Plans.{IsPlanFor};
 ghost use Rattle.table_form.specs.Views.{plan_view};
-ghost use Rattle.plan_text.specs.Owners.{OwnersBelow};
 ghost use Rattle.plan_text.specs.PlanText.{head_line, names_of, plan_text};
 
 use crate::cores::put_cores;
@@ -40,9 +39,9 @@ fn put_plan<K: Sink>(
     requires few { length tasks.now ≤ MAX_VCPUS }
     requires housed { length homes.now ≡ length tasks.now }
     requires few_rows { length rows.now ≤ MAX_CORES }
-    requires owned { OwnersBelow (length vcpus.now) rows.now }
     ensures { Writes (K.state sink.old) (K.state sink.new)
-        (plan_text (names_of vcpus.now) (record { tasks = tasks.now; homes = homes.now; rows = rows.now })) result }
+        (plan_text (names_of vcpus.now)
+        (record { tasks = tasks.now; homes = homes.now; rows = rows.now })) result }
 {
     if let Err(fault) = put_head(sink, rows.len() as u32, count_admitted(tasks)) {
         return Err(fault);

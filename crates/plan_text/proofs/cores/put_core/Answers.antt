@@ -1,17 +1,13 @@
-use Rattle.std.proofs.Common.{length}
 use Rattle.plan_text.specs.PlanText.{names_of}
-use Rattle.plan_text.proofs.Parts.{core_broken, core_ends, owned_here}
+use Rattle.plan_text.proofs.Parts.{core_broken, core_ends}
 use Rattle.plan_text.proofs.cores.put_core.Goals as goal
 
 pub returns-in-Err : goal.returns-in-Err
 returns-in-Err g c = core_broken _ _ (names_of c.args.vcpus.now) c.args.rows.now c.args.core _
     c.in-Err.fault c.put_core_line.ensures c.in-Err.is
 
-pub put_row-requires-clause-owned : goal.put_row-requires-clause-owned
-put_row-requires-clause-owned g c =
-    owned_here (length c.args.vcpus.now) c.args.rows.now c.args.core c.index-rows-core.result
-    c.segments.result.now c.requires.owned c.requires.core c.index-rows-core.is
-    c.segments.ensures.cells c.segments.ensures.rises
+pub put_row-requires : goal.put_row-requires
+put_row-requires g c = c.segments.ensures.rises
 
 pub returns : goal.returns
 returns g c =

@@ -1,7 +1,7 @@
 use Rattle.std.proofs.Common.{Ok}
 use Rattle.tab_io.specs.Outside.{Writes}
 use Rattle.plan_text.specs.PlanText.{names_of, texts_below}
-use Rattle.plan_text.specs.Owners.{line_at}
+use Rattle.plan_text.specs.MaximalSegments.{line_at}
 use Rattle.plan_text.proofs.cores.put_row.Given as goal
 
 -- the texts of the numbers below came

@@ -1,5 +1,5 @@
 use Rattle.std.proofs.Common.{ap, sym, ◌∙◌, length, arith}
-use Rattle.plan_text.proofs.Parts.{as_many_homes, owners_below}
+use Rattle.plan_text.proofs.Parts.{as_many_homes}
 use Rattle.plan_text.proofs.write.write_plan.Goals as goal
 
 pub put_plan-requires : goal.put_plan-requires
@@ -15,9 +15,6 @@ put_plan-requires g c =
       few = omega (arith, tasks, c.items-tasks.ensures.few);
       housed = homes ∙ (housed ∙ sym tasks);
       few_rows = omega (arith, rows, c.items-rows.ensures.few);
-      owned = rw (c.items-rows.ensures.same, vcpus)
-          (owners_below _ c.args.plan.now.tasks c.args.plan.now.tables.rows c.requires.vcpus
-          c.args.plan.now.owned);
     }
 
 pub returns : goal.returns

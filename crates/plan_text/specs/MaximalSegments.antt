@@ -1,20 +1,9 @@
--- What the writer of a row needs of its owners, and where a maximal segment ends.
-use Rattle.std.specs.Prelude.{◌≡◌, ℕ, suc, ◌<◌, Bool, true, not, nat_eq, List, [], Option, Some, None, if◌then◌else◌, slice_get}
-use Rattle.std.specs.Option.{ForSome, option_eq}
-use Rattle.table_form.specs.Rows.{Row}
-use Rattle.table_form.specs.Serves.{owner_at}
+-- Where a maximal segment of a row ends, and the line that stands for it.
+use Rattle.std.specs.Prelude.{ℕ, suc, Bool, true, not, nat_eq, List, [], Option, Some, None, if◌then◌else◌, slice_get}
+use Rattle.std.specs.Option.{option_eq}
 use Rattle.table_form.specs.Stretches.{stretch_of}
 use Rattle.table_form.specs.declared.segment.Segment.{Segment}
 use Rattle.plan_text.specs.PlanText.{segment_line}
-
--- each cell is idle or of one of the first n vCPUs
-abbrev pub OwnersBelow : ℕ → List Row → Type 0
-OwnersBelow n rows = (c place v : ℕ) → owner_at rows c place ≡ Some v → v < n
-
--- the same of segments
-abbrev pub AreOwnedBelow : ℕ → List Segment → Type 0
-AreOwnedBelow n segments = (k : ℕ) (s : Segment) → slice_get segments k ≡ Some s
-    → ForSome s.owner (λ v. v < n)
 
 -- a segment isn't followed by one of the same owner
 abbrev pub is_last_of : Option Segment → Option Segment → Bool
