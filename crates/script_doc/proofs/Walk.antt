@@ -1,6 +1,6 @@
 -- Steps that are read line by line.
 use Rattle.std.proofs.Common.{◌≡◌, ℕ, ◌+◌, true, false, List, [], ◌∷◌, ◌++◌, length, map, refl, sym, ap, ◌∙◌, subst, append_assoc, arith}
-use Rattle.std.proofs.lemmas.List.Elements.{All-append}
+use Rattle.std.proofs.lemmas.List.Elements.{All-append, All-head, All-tail}
 use Rattle.std.proofs.lemmas.List.{append-nil, length-map, map-append}
 use Rattle.std.specs.List.{All}
 use Rattle.tab_words.specs.Lines.{lines_of}
@@ -112,3 +112,22 @@ one_line_each cores rows steps lines are =
     ∙ (length-map rows (λ (row : Row). row.number)
     ∙ (sym (length-map rows (λ (row : Row). row.words))
     ∙ (ap length are.written ∙ length-map steps step_words)))
+
+step_or_none : (cores : ℕ) (front : List Row) (row : Row) (back : List Row) (steps : List Step)
+    → map (λ (row : Row). row.words) (front ++ row ∷ back) ≡ map step_words steps
+    → All (IsWithin cores) steps → IsNoStep cores row.words → ⊥
+step_or_none cores [] row back [] written within none = absurd cc
+step_or_none cores [] row back (step ∷ steps) written within none =
+    none step (record { written = cc; within = All-head (IsWithin cores) step steps within })
+step_or_none cores (first ∷ front) row back [] written within none = absurd cc
+step_or_none cores (first ∷ front) row back (step ∷ steps) written within none =
+    let rest : map (λ (row : Row). row.words) (front ++ row ∷ back) ≡ map step_words steps = cc in
+    step_or_none cores front row back steps rest (All-tail (IsWithin cores) step steps within) none
+
+-- rows that are steps have no bad line
+pub bad_or_steps : (cores : ℕ) (rows : List Row) (line : ℕ) (steps : List Step) (lines : List ℕ)
+    → IsFirstBadLine cores rows line → AreSteps cores rows steps lines → ⊥
+bad_or_steps cores rows line steps lines bad are =
+    step_or_none cores bad.front bad.row bad.back steps
+    (subst (λ (rs : List Row). map (λ (row : Row). row.words) rs ≡ map step_words steps)
+    bad.whole are.written) are.within bad.fault

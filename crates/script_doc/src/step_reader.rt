@@ -1,4 +1,4 @@
-ghost use Rattle.std.specs.Prelude.{◌≡◌, ℕ, ◌<◌, ◌≤◌, ◌^◌, [], ◌∷◌, length, decimal, IfOk, IsErrOf, MatchOption};
+ghost use Rattle.std.specs.Prelude.{◌≡◌, ℕ, ◌<◌, ◌≤◌, ◌^◌, [], ◌∷◌, length, decimal, IfOk, IsErr, IsErrOf, MatchOption};
 ghost use Rattle.tab_core.specs.declared.TheConstants.{MAX_CORES};
 ghost use Rattle.tab_words.specs.Words.{words_of};
 ghost use Rattle.script_doc.specs.Rows.{rows_of};
@@ -54,6 +54,7 @@ pub fn read_steps(alloc: Global, bytes: &[u8], cores: u32) -> Result<StepList, S
     ensures ok { IfOk result (λ list. AreSteps cores (rows_of bytes.now) list.steps list.lines) }
     ensures bad_line { (line : ℕ) → IsErrOf result (StepsFault.BadLine line)
         → IsFirstBadLine cores (rows_of bytes.now) line }
+    ensures due { (line : ℕ) → IsFirstBadLine cores (rows_of bytes.now) line → IsErr result }
 {
     let mut steps = Vec::new(alloc);
     let mut numbers = Vec::new(alloc);

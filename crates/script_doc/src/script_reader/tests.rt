@@ -42,7 +42,7 @@ fn edits_in(event: &Event) -> &[Edit] {
 fn reads_events_of_known_vcpus(rt: HostRuntime) -> Result<(), Fail> {
     let host = host_of(rt.alloc())?;
     let text =
-        b"# all forms\n0 wake a\n\n0  block b \n  102599   change leave b set a 1 1000000000000 set b 1000000 0";
+        b"# all\n0 wake a\n\n0  block b \n  102599   change leave b set a 1 1000000000000 set b 1000000 0";
     let script = read_script(rt.alloc(), text, &host, 1)?;
     let events = script.events();
     let [first, second, third] = events else {

@@ -3,7 +3,7 @@ use Rattle.std.proofs.lemmas.Grind.{common_steps}
 use Rattle.tab_words.specs.Words.{words_of}
 use Rattle.script_doc.specs.Rows.{is_skipped, rows_of}
 use Rattle.script_doc.specs.Steps.{IsFirstBadLine, IsNoStep}
-use Rattle.script_doc.proofs.Walk.{AreRead, all_read, bad_line, more_read, skipped_read}
+use Rattle.script_doc.proofs.Walk.{AreRead, all_read, bad_line, bad_or_steps, more_read, skipped_read}
 use Rattle.script_doc.proofs.step_reader.read_steps.Goals as goal
 
 pub returns-in_default-clause-bad_line : goal.returns-in_default-clause-bad_line
@@ -52,3 +52,11 @@ returns-clause-ok c =
     subst (AreRead c.args.cores c.args.bytes.now c.loop-line.number c.loop-line.steps.items
     c.loop-line.numbers.items) c.in-None.ensures.steps.0 c.loop-line.invariant in
     rw (c.of.ensures, c.of-2.ensures) (all_read _ _ _ _ _ at)
+
+pub returns-clause-due : goal.returns-clause-due
+returns-clause-due c line bad =
+    let at : AreRead c.args.cores c.args.bytes.now c.loop-line.number c.loop-line.steps.items
+    c.loop-line.numbers.items [] =
+    subst (AreRead c.args.cores c.args.bytes.now c.loop-line.number c.loop-line.steps.items
+    c.loop-line.numbers.items) c.in-None.ensures.steps.0 c.loop-line.invariant in
+    absurd (bad_or_steps _ _ _ _ _ bad (all_read _ _ _ _ _ at))
