@@ -69,7 +69,9 @@ plan_is_of : (host : Host) (events : List Event) (latest : Latest) (numbers : Li
     → IsPlanOf host plan
 plan_is_of host events latest numbers runnable made k plan at =
     let lt : k < length latest.plans.items =
-    (let within = slice_get_within (map plan_view latest.plans.items) k plan at in let size = length-map latest.plans.items plan_view in omega arith) in
+    (let within = slice_get_within (map plan_view latest.plans.items) k plan at in
+    let size = length-map latest.plans.items plan_view in
+    omega arith) in
     let used = made.used k lt in
     plan_of_kept host events latest.plans.items numbers runnable used.0
     (made.kept used.0 used.1) k plan used.2 at
@@ -180,7 +182,9 @@ pub outcomes_few : (host : Host) (events : List Event) (latest : Latest) (number
     (runnable : List (List Bool)) → IsMade host events (length events) latest numbers runnable
     → changes_in events ≤ MAX_CHANGES → length latest.outcomes.items ≤ MAX_CHANGES
 outcomes_few host events latest numbers runnable made few =
-    (let counts = few_outcomes host events (length events) (known_of latest) made.known in let many = counts.0 in omega (arith, few))
+    let counts = few_outcomes host events (length events) (known_of latest) made.known in
+    let many = counts.0 in
+    omega (arith, few)
 
 -- the loop has come to the end of the script
 pub made_at_end : (host : Host) (events script : List Event) (n : ℕ) (latest : Latest)

@@ -1,11 +1,10 @@
 -- The edited host is determined, and no edit leaves the host as it was.
-use Rattle.std.proofs.Common.{◌≡◌, ℕ, ◌≤◌, Bool, List, [], ◌∷◌, length, map, Option, refl, ap, subst, sym, ◌∙◌}
+use Rattle.std.proofs.Common.{◌≡◌, List, [], ◌∷◌, length, map, refl, ap, sym, ◌∙◌}
 use Rattle.std.proofs.lemmas.List.{length-map}
 use Rattle.tab_core.proofs.Alike.{same_host, same_vcpu}
 use Rattle.tab_core.specs.Edits.{IsEdited, reservations_of}
 use Rattle.tab_core.specs.declared.edit.Edit.{Edit}
 use Rattle.tab_core.specs.declared.host.Host.{Host}
-use Rattle.tab_core.specs.declared.reservation.Reservation.{Reservation}
 use Rattle.tab_core.specs.declared.vcpu.Vcpu.{Vcpu}
 
 same_vcpus : (us ws : List Vcpu) → map (λ vcpu. vcpu.name) us ≡ map (λ vcpu. vcpu.name) ws

@@ -3,6 +3,7 @@ pub mod Edits
 pub mod Flags
 pub mod Lists
 pub mod Making
+pub mod Named
 pub mod Next
 pub mod Refusals
 pub mod Shape

@@ -177,4 +177,6 @@ pub few_plans : (host : Host) (events : List Event) (n : ℕ) (latest : Latest)
     → IsKnownAfter host events n (known_of latest) → changes_in events ≤ MAX_CHANGES
     → length latest.plans.items < 2 ^ 32
 few_plans host events n latest known few =
-    (let counts = few_outcomes host events n (known_of latest) known in let number = counts.1 in omega (arith, few))
+    let counts = few_outcomes host events n (known_of latest) known in
+    let number = counts.1 in
+    omega (arith, few)

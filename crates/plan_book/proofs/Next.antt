@@ -15,7 +15,7 @@ use Rattle.plan_make.specs.Planned.{IsFirstWithoutRoom, IsPlanned}
 use Rattle.plan_make.specs.declared.fault.PlanFault.{PlanFault}
 use Rattle.plan_make.specs.declared.fault.PlanFault.TheVariants as plan
 use Rattle.plan_book.specs.After.{IsKnownAtFirst, IsRefused, IsTaken, IsUnplanned, Known, runnable_at_first}
-use Rattle.plan_book.specs.Faults.{outcome_told}
+use Rattle.plan_book.specs.Faults.{outcome_of_fault}
 use Rattle.plan_book.specs.Steps.{known_of, plan_of}
 use Rattle.plan_book.specs.declared.latest.Latest.{Latest}
 use Rattle.plan_book.specs.declared.outcome.Outcome.{Outcome}
@@ -24,7 +24,7 @@ use Rattle.plan_book.proofs.Edits.{unedited}
 use Rattle.plan_book.proofs.Lists.{index_or_is, push_new}
 
 -- a refusal that is an outcome has its cause
-pub told_unplanned : (host : Host) (fault : PlanFault) (told : Outcome) → outcome_told fault ≡ Some told
+pub told_unplanned : (host : Host) (fault : PlanFault) (told : Outcome) → outcome_of_fault fault ≡ Some told
     → ((vcpu : ℕ) → fault ≡ plan.NoPeriod vcpu → IsFirstWithoutPeriod host.vcpus vcpu)
     → ((vcpu rest : ℕ) (over : List Over) → fault ≡ plan.NoRoom vcpu rest over
     → IsFirstWithoutRoom host vcpu rest over)

@@ -95,9 +95,13 @@ changes_more events n event at =
         → get_or events n event ≡ event →
         changes_in (take n events) + cond (is_change event.act) 1 0 ≡ changes_in (take (n + 1) events)
     by_case true is lt here =
-        (let more = count_by_more_yes (λ (e : Event). is_change e.act) events n event lt (ap (λ (e : Event). is_change e.act) here ∙ is) in rw is (sym more))
+        let more = count_by_more_yes (λ (e : Event). is_change e.act) events n event lt
+        (ap (λ (e : Event). is_change e.act) here ∙ is) in
+        rw is (sym more)
     by_case false is lt here =
-        (let more = count_by_more_no (λ (e : Event). is_change e.act) events n event lt (ap (λ (e : Event). is_change e.act) here ∙ is) in rw is (omega (arith, more)))
+        let more = count_by_more_no (λ (e : Event). is_change e.act) events n event lt
+        (ap (λ (e : Event). is_change e.act) here ∙ is) in
+        rw is (omega (arith, more))
 
 has_outcomes_in : (host : Host) (events : List Event) (n : ℕ) (known : Known)
     → IsKnownAfter host events n known → HasOutcomes (changes_in (take n events)) known

@@ -1,10 +1,12 @@
 -- What a plan book says: the course of a script for a host, and what became of each change of reservations.
-use Rattle.std.specs.Prelude.{◌≡◌, ℕ, List, length, map}
+use Rattle.std.specs.Prelude.{◌≡◌, ℕ, ◌<◌, List, length, map}
+use Rattle.std.specs.List.{All}
 use Rattle.tab_core.specs.declared.host.Host.{Host}
 use Rattle.table_form.specs.Courses.{CourseView, plan_after, plan_number_after, runnable_after}
 use Rattle.script_doc.specs.declared.event.Event.{Event}
 use Rattle.plan_book.specs.After.{IsKnownAfter, Known}
 use Rattle.plan_book.specs.declared.outcome.Outcome.{Outcome}
+use Rattle.plan_book.specs.declared.outcome.Outcome.TheVariants.{Planned, NoPeriod, NoRoom}
 
 -- the course, and the outcomes of the script's changes in their order
 pub record BookView : Type 0 where
@@ -13,6 +15,16 @@ pub record BookView : Type 0 where
 
 abbrev pub book_view : CourseView → List Outcome → BookView
 book_view course outcomes = record { course = course; outcomes = outcomes }
+
+-- the vCPU that the outcome names, if it names one, is below this count
+abbrev pub NamesVcpuBelow : ℕ → Outcome → Type 0
+NamesVcpuBelow count Planned = Unit {0}
+NamesVcpuBelow count (NoPeriod vcpu) = vcpu < count
+NamesVcpuBelow count (NoRoom vcpu) = vcpu < count
+
+-- each vCPU that the outcomes name is below this count
+abbrev pub NameVcpusBelow : ℕ → List Outcome → Type 0
+NameVcpusBelow count outcomes = All (NamesVcpuBelow count) outcomes
 
 -- the ticks of events
 abbrev pub ticks_of : List Event → List ℕ

@@ -14,7 +14,7 @@ fault_of_plan (plan.NoRoom vcpu rest over) = book.NoRoom vcpu rest over
 fault_of_plan plan.NoMemory = book.NoMemory
 
 -- a refusal of a changed host's plan, as the change's outcome; want of memory is none
-abbrev pub outcome_told : PlanFault → Option Outcome
-outcome_told (plan.NoPeriod vcpu) = Some (outcome.NoPeriod vcpu)
-outcome_told (plan.NoRoom vcpu rest over) = Some (outcome.NoRoom vcpu)
-outcome_told plan.NoMemory = None
+abbrev pub outcome_of_fault : PlanFault → Option Outcome
+outcome_of_fault (plan.NoPeriod vcpu) = Some (outcome.NoPeriod vcpu)
+outcome_of_fault (plan.NoRoom vcpu rest over) = Some (outcome.NoRoom vcpu)
+outcome_of_fault plan.NoMemory = None

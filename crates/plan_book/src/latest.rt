@@ -1,5 +1,6 @@
 ghost use Rattle.std.specs.Prelude.{◌≡◌, ◌⊎◌, ◌<◌, ◌≤◌, ◌^◌, [], ◌∷◌, ◌++◌, IfErr, IfOk, List, OnOk, Option, length, slice_set};
 ghost use Rattle.tab_core.specs.Edits.{AreEditsOf, IsEdited};
+ghost use Rattle.tab_core.specs.declared.TheConstants.{MAX_VCPUS};
 ghost use Rattle.tab_core.specs.declared.periodic.Periodic.{Periodic};
 ghost use Rattle.period_choice.specs.Tasks.{AreTasksOf};
 ghost use Rattle.worst_fit.specs.Bound.{IsWithinBound};
@@ -8,7 +9,7 @@ ghost use Rattle.table_form.specs.Views.{plan_view};
 ghost use Rattle.plan_make.specs.Planned.{IsPlanned};
 ghost use Rattle.script_doc.specs.Events.{IsWithin};
 ghost use Rattle.plan_book.specs.After.{Follows, IsKnownAtFirst, IsRefused, IsTaken, IsUnplanned, runnable_at_first};
-ghost use Rattle.plan_book.specs.Faults.{outcome_told};
+ghost use Rattle.plan_book.specs.Faults.{outcome_of_fault};
 ghost use Rattle.plan_book.specs.Steps.{Grows, IsHostFault, known_of};
 
 use crate::fault::BookFault;
@@ -156,7 +157,7 @@ fn planned<R: Threads + Sync>(
 
 // The outcome that a refusal of the host's plan is, but for want of memory.
 fn outcome_of(fault: &PlanFault) -> Option<Outcome>
-    ensures { result ≡ outcome_told fault.now }
+    ensures { result ≡ outcome_of_fault fault.now }
 {
     match fault {
         PlanFault::NoPeriod { vcpu } => Some(Outcome::NoPeriod { vcpu: *vcpu }),
@@ -167,7 +168,7 @@ fn outcome_of(fault: &PlanFault) -> Option<Outcome>
 
 // The vCPUs that want to run as the run begins.
 fn runnable_of(vcpus: &[Vcpu]) -> VcpuSet
-    requires { length vcpus.now ≤ 256 }
+    requires { length vcpus.now ≤ MAX_VCPUS }
     ensures { result ≡ runnable_at_first vcpus.now }
 {
     let mut set = VcpuSet::empty();

@@ -9,7 +9,7 @@ ghost use Rattle.worst_fit.specs.Bound.{IsWithinBound};
 ghost use Rattle.plan_make.specs.Planned.{IsFirstWithoutRoom, IsPlanned};
 ghost use Rattle.script_doc.specs.Script.{AreInRun, AreWithin, changes_in};
 ghost use Rattle.plan_book.specs.After.{IsKnownAfter, Known};
-ghost use Rattle.plan_book.specs.Books.{IsBookOf, ticks_of};
+ghost use Rattle.plan_book.specs.Books.{IsBookOf, NameVcpusBelow, ticks_of};
 
 use crate::book::PlanBook;
 use crate::counts::Counts;
@@ -25,7 +25,8 @@ use table_form::Course;
 ///
 /// A wake or a block sets the runnable flag of its vCPU. A change is planned for the host after
 /// all planned changes before it: where the changed host has a plan, the host and its plan become
-/// these, and otherwise nothing changes and the outcome tells why.
+/// these, and otherwise nothing changes and the outcome tells why. An outcome names only a vCPU of
+/// the host.
 ///
 /// But for want of memory, `NoPeriod` comes exactly where a vCPU of the host itself has no period,
 /// and `NoRoom` exactly where each has one but one has no room. Want of memory in planning a change
@@ -43,6 +44,7 @@ pub fn make_book<R: Threads + Sync>(
     ensures only { IfOk result (λ _. (n : ℕ) (known other : Known) → IsKnownAfter host.now script.now n known
         → IsKnownAfter host.now script.now n other → other ≡ known) }
     ensures changes { IfOk result (λ book. length book.outcomes ≡ changes_in script.now) }
+    ensures named { IfOk result (λ book. NameVcpusBelow (length host.now.vcpus) book.outcomes) }
     ensures fits_host { IfOk result (λ _. (n : ℕ) (known : Known) → IsKnownAfter host.now script.now n known
         → IsPlanFor known.host known.plan) }
     ensures vcpus { IfOk result (λ book. (n : ℕ) → n ≤ length script.now

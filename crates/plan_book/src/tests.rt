@@ -105,7 +105,8 @@ const NO_ROOM_A: Outcome = Outcome::NoRoom { vcpu: VcpuNo(0) };
 #[test]
 fn each_count_has_its_plan_and_set(rt: HostRuntime) -> Result<(), Fail> {
     let host = host_of(rt.alloc(), patient(500_000), None)?;
-    // a script, the outcomes of its changes, and for each count the plan's number, who has a task and who is runnable
+    // a script, the outcomes of its changes, and for each count the plan's number, who has a task and
+    // who is runnable
     let cases: [(&[u8], &[Outcome], &[(u32, [bool; 2], [bool; 2])]); 9] = [
         (b"", &[], &[(0, A, A)]),
         (

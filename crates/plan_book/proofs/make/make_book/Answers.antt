@@ -5,10 +5,11 @@ use Rattle.table_form.specs.CourseViews.{course_view}
 use Rattle.table_form.specs.Courses.{FitsRounds, IsCourseForm, plan_after}
 use Rattle.plan_make.proofs.Exact.{planned_or_refused}
 use Rattle.plan_make.proofs.Refusals.{planned_or_without_period}
-use Rattle.plan_book.specs.Books.{BookView, IsBookOf, ticks_of}
+use Rattle.plan_book.specs.Books.{BookView, IsBookOf, NameVcpusBelow, ticks_of}
 use Rattle.plan_book.specs.Steps.{known_of}
 use Rattle.plan_book.proofs.Courses.{book_is, count_of_vcpus, fits_known, fits_rounds, form_of, is_book, made_at_end, outcomes_few}
 use Rattle.plan_book.proofs.Making.{few_plans, known_next, made_first, made_next, next_within}
+use Rattle.plan_book.proofs.Named.{named_below}
 use Rattle.plan_book.proofs.Refusals.{no_memory_for_book}
 use Rattle.plan_book.proofs.Shape.{all_outcomes}
 use Rattle.plan_book.proofs.Unique.{known_unique}
@@ -119,6 +120,16 @@ returns-clause-changes g c =
     c.loop-event.invariant same c.loop-event.auto.event-index-end c.loop-event-test.false in
     ap (λ (book : BookView). length book.outcomes) c.of.ensures
     ∙ all_outcomes c.args.host.now script (known_of c.loop-event.latest) made.known
+
+pub returns-clause-named : goal.returns-clause-named
+returns-clause-named g c =
+    let same = c.events-events.ensures.same in
+    let host = c.args.host.now in
+    let script = c.args.script.now in
+    let made = made_at_end host _ script c.loop-event.event-index c.loop-event.latest _ _
+    c.loop-event.invariant same c.loop-event.auto.event-index-end c.loop-event-test.false in
+    subst (λ (book : BookView). NameVcpusBelow (length host.vcpus) book.outcomes) (sym c.of.ensures)
+    (named_below host script (length script) (known_of c.loop-event.latest) made.known)
 
 pub returns-clause-fits_host : goal.returns-clause-fits_host
 returns-clause-fits_host g c =
