@@ -84,7 +84,9 @@ entries_few course rounds p c log kept at due =
     let k = log_kept course rounds p c log kept at in
     elim (cases_lt (log.clock / ROUND) (length log.entries.items)) [
       | inl more ↦
-          absurd (let was = entered_below log.entries.items (log.clock / ROUND) k.numbered more in let isnt = (deciding rounds (core_of log) due).not_entered in cc)
+          let was = entered_below log.entries.items (log.clock / ROUND) k.numbered more in
+          let isnt = (deciding rounds (core_of log) due).not_entered in
+          absurd cc
       | inr le ↦ le
     ]
 

@@ -53,7 +53,9 @@ later_from from to [] k s chain ticks h = absurd cc
 later_from from to (t ∷ ts) zero s chain ticks h =
     (let e : t ≡ s = cc in let q = ap (λ (y : Stint). y.from) e in omega (arith, chain.0))
 later_from from to (t ∷ ts) (suc k) s chain ticks h =
-    (let rest = later_from t.end to ts k s chain.1 (λ j u g. ticks (suc j) u g) h in let some = ticks 0 t refl in omega (arith, chain.0))
+    let rest = later_from t.end to ts k s chain.1 (λ j u g. ticks (suc j) u g) h in
+    let some = ticks 0 t refl in
+    omega (arith, chain.0)
 
 one_stint : (from to : ℕ) (ss : List Stint) (j k x : ℕ) (s t : Stint) → Chain from ss to
     → ((i : ℕ) (u : Stint) → slice_get ss i ≡ Some u → u.from < u.end) → slice_get ss j ≡ Some s
@@ -62,9 +64,15 @@ one_stint : (from to : ℕ) (ss : List Stint) (j k x : ℕ) (s t : Stint) → Ch
 one_stint from to [] j k x s t chain ticks h g a b a' b' = absurd cc
 one_stint from to (u ∷ us) zero zero x s t chain ticks h g a b a' b' = cc
 one_stint from to (u ∷ us) zero (suc k) x s t chain ticks h g a b a' b' =
-    absurd (let e : u ≡ s = cc in let q = ap (λ (y : Stint). y.end) e in let late = later_from u.end to us k t chain.1 (λ i v r. ticks (suc i) v r) g in omega arith)
+    let e : u ≡ s = cc in
+    let q = ap (λ (y : Stint). y.end) e in
+    let late = later_from u.end to us k t chain.1 (λ i v r. ticks (suc i) v r) g in
+    absurd (omega arith)
 one_stint from to (u ∷ us) (suc j) zero x s t chain ticks h g a b a' b' =
-    absurd (let e : u ≡ t = cc in let q = ap (λ (y : Stint). y.end) e in let late = later_from u.end to us j s chain.1 (λ i v r. ticks (suc i) v r) h in omega arith)
+    let e : u ≡ t = cc in
+    let q = ap (λ (y : Stint). y.end) e in
+    let late = later_from u.end to us j s chain.1 (λ i v r. ticks (suc i) v r) h in
+    absurd (omega arith)
 one_stint from to (u ∷ us) (suc j) (suc k) x s t chain ticks h g a b a' b' =
     one_stint u.end to us j k x s t chain.1 (λ i v r. ticks (suc i) v r) h g a b a' b'
 

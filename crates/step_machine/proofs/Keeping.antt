@@ -224,7 +224,9 @@ entries_so_far : (course : CourseView) (rounds posted : ℕ) (decided : List ℕ
 entries_so_far course rounds posted decided c core k due start =
     elim (cases_lt (round_of core) (length core.entries)) [
       | inl more ↦
-          absurd (let was = entered_below core.entries (round_of core) k.numbered more in let isnt = (deciding rounds core due).not_entered in cc)
+          let was = entered_below core.entries (round_of core) k.numbered more in
+          let isnt = (deciding rounds core due).not_entered in
+          absurd cc
       | inr le ↦ omega (arith, k.reach)
     ]
 
@@ -284,7 +286,10 @@ wins_keep course rounds c old new p k =
             (λ x g w. elim (push_split core.entries r e x g) [
               | inl was ↦ was
               | inr is ↦
-                  absurd (let lt = within old.decided r d before in let at = is.0 in let first = p.first in omega arith)
+                  let lt = within old.decided r d before in
+                  let at = is.0 in
+                  let first = p.first in
+                  absurd (omega arith)
             ]) (k.one_won r d before)
         | inr new ↦ (let at : r ≡ length core.entries = new.0 ∙ p.first ∙ sym len in record {
           winner = c;
@@ -299,7 +304,10 @@ wins_keep course rounds c old new p k =
           only = λ i x f g q w. elim (set_split old.cores c i changed x g) [
             | inl is ↦ is.0
             | inr other ↦
-                absurd (let lt = within x.entries r f q in let most = (k.cores i x other.1).counted in let r-is = new.0 in omega arith)
+                let lt = within x.entries r f q in
+                let most = (k.cores i x other.1).counted in
+                let r-is = new.0 in
+                absurd (omega arith)
           ];
         })
       ];
@@ -312,14 +320,23 @@ wins_keep course rounds c old new p k =
         ]
         | inr g-new ↦ elim (push_split old.decided r p.seen a h) [
           | inl h-old ↦
-              (let le = sight.counts r a h-old (let first = p.first in let start = p.start in let at = g-new.0 in omega arith) in let is = g-new.1 in omega arith)
+              let first = p.first in
+              let start = p.start in
+              let at = g-new.0 in
+              let le = sight.counts r a h-old (omega arith) in
+              let is = g-new.1 in
+              omega arith
           | inr h-new ↦ absurd (let at = g-new.0 in let at' = h-new.0 in omega arith)
         ]
       ];
       fresh = λ r d h. elim (push_split old.decided r p.seen d h) [
         | inl before ↦ k.fresh r d before
         | inr new ↦
-            (let at : core.clock ≡ r * ROUND = (let first = p.first in let start = p.start in let here-is = new.0 in omega arith) in rw (← new.1, ← at) sight.fresh)
+            let first = p.first in
+            let start = p.start in
+            let here-is = new.0 in
+            let at : core.clock ≡ r * ROUND = omega arith in
+            rw (← new.1, ← at) sight.fresh
       ];
       decided_posted = λ r d h. elim (push_split old.decided r p.seen d h) [
         | inl before ↦ k.decided_posted r d before
@@ -407,11 +424,14 @@ runs_keep course rounds c old new ok p k =
             (set_split old.cores c e changed y g) [
               | inl y-is ↦ (let clock-y = ap (λ (z : CoreState). z.clock) y-is.1 in omega arith)
               | inr y-old ↦
-                  (let near = p.near e y y-old.1 (λ same_core. y-old.0 (sym (some_same c e same_core))) in omega arith)
+                  let near = p.near e y y-old.1 (λ same_core. y-old.0 (sym (some_same c e same_core))) in
+                  omega arith
             ])
         | inr x-old ↦ elim (set_split old.cores c e changed y g) [
           | inl y-is ↦
-              (let clock-y = ap (λ (z : CoreState). z.clock) y-is.1 in let near = k.near d c x core x-old.1 p.at in omega (arith, bounds.0))
+              let clock-y = ap (λ (z : CoreState). z.clock) y-is.1 in
+              let near = k.near d c x core x-old.1 p.at in
+              omega (arith, bounds.0)
           | inr y-old ↦ k.near d e x y x-old.1 y-old.1
         ]
       ];

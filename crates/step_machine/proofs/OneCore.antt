@@ -79,7 +79,8 @@ eligible_alike plan c x y runnable v alike e = record {
   ready = e.ready;
   no_owner = λ q. e.no_owner (alike.owner ∙ q);
   here = λ d ne q.
-      (let away = alike.back v (record { home = e.home; other = d; elsewhere = ne; stands = q }) in e.here away.other away.elsewhere away.stands);
+      let away = alike.back v (record { home = e.home; other = d; elsewhere = ne; stands = q }) in
+      e.here away.other away.elsewhere away.stands;
 }
 
 pub eligible_back : (plan : PlanView) (c x y : ℕ) (runnable : List Bool) (v : ℕ)

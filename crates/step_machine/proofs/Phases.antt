@@ -35,7 +35,8 @@ differ a b h e = grind (arith, nat_tests)
 
 pub deciding : (rounds : ℕ) (core : CoreState) → phase_of rounds core ≡ to_decide → Deciding rounds core
 deciding rounds core h =
-    (let f = decide_cases (core.clock == rounds * ROUND) core.seen (has_entered core) h in record { unfinished = differ _ _ f.0; not_entered = f.1 })
+    let f = decide_cases (core.clock == rounds * ROUND) core.seen (has_entered core) h in
+    record { unfinished = differ _ _ f.0; not_entered = f.1 }
 
 pub running : (rounds : ℕ) (core : CoreState) → phase_of rounds core ≡ to_run → core.clock ≢ rounds * ROUND
 running rounds core h =

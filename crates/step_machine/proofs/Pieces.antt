@@ -36,7 +36,8 @@ won_after cores c r count core changed at stays back one = record {
   winner = one.winner;
   won_by = elim (cases_eq one.winner c) [
     | inl is ↦
-        (let found : one.won_by.core ≡ core = same (slice_get cores c) one.won_by.core core (subst (λ (d : ℕ). slice_get cores d ≡ Some one.won_by.core) is one.won_by.at) at in
+        (let found : one.won_by.core ≡ core = same (slice_get cores c) one.won_by.core core
+        (subst (λ (d : ℕ). slice_get cores d ≡ Some one.won_by.core) is one.won_by.at) at in
         record {
           core = changed;
           at = rw is (set_here cores c changed core at);
@@ -59,7 +60,8 @@ won_after cores c r count core changed at stays back one = record {
   ];
   only = λ d x e h g w. elim (set_split cores c d changed x h) [
     | inl here ↦
-        (let old : slice_get core.entries r ≡ Some e = back e (subst (λ (y : CoreState). slice_get y.entries r ≡ Some e) (sym here.1) g) w in
+        (let old : slice_get core.entries r ≡ Some e = back e
+        (subst (λ (y : CoreState). slice_get y.entries r ≡ Some e) (sym here.1) g) w in
         here.0 ∙ one.only c core e at old w)
     | inr before ↦ one.only d x e before.1 g w
   ];

@@ -94,7 +94,10 @@ see_now course rounds s c core low phase has =
       new = record s { cores = slice_set s.cores c changed };
       moves = record { core = core; at = low.at; due = λ e. absurd (cc); has = has; becomes = refl };
       changes = λ e. cores_differ s.cores c core changed low.at
-          (λ q. (let seen = ap (λ (x : CoreState). x.seen) q in let none = see_cases (core.clock == rounds * ROUND) core.seen (has_entered core) phase in absurd (cc))) (ap (λ (x : State). x.cores) e);
+          (λ q.
+          let seen = ap (λ (x : CoreState). x.seen) q in
+          let none = see_cases (core.clock == rounds * ROUND) core.seen (has_entered core) phase in
+          absurd (cc)) (ap (λ (x : State). x.cores) e);
     }
 
 some_seen : (o : Option ℕ) → o ≢ None → (n : ℕ) × (o ≡ Some n)
@@ -103,7 +106,9 @@ some_seen (Some n) h = (n, refl)
 
 entries_differ : (core : CoreState) (e : Entry) → enters core e ≢ core
 entries_differ core e q =
-    (let n = ap (λ (x : CoreState). length x.entries) q in let m = length-append core.entries (e ∷ []) in omega arith)
+    let n = ap (λ (x : CoreState). length x.entries) q in
+    let m = length-append core.entries (e ∷ []) in
+    omega arith
 
 pub decide_now : (course : CourseView) (rounds : ℕ) (s : State) (c : ℕ) (core : CoreState)
     → Kept course rounds s → IsLeastClock s c core → phase_of rounds core ≡ to_decide
@@ -113,7 +118,9 @@ decide_now course rounds s c core kept low due =
     let found = some_seen core.seen (has_seen rounds core (inl due)) in
     let few : length core.entries ≤ round_of core = elim (cases_lt (round_of core) (length core.entries)) [
       | inl more ↦
-          absurd (let was = entered_below core.entries (round_of core) k.numbered more in let isnt = (deciding rounds core due).not_entered in cc)
+          let was = entered_below core.entries (round_of core) k.numbered more in
+          let isnt = (deciding rounds core due).not_entered in
+          absurd cc
       | inr le ↦ le
     ] in
     let start : core.clock ≡ round_of core * ROUND = omega (arith, k.reach) in
@@ -170,7 +177,9 @@ decide_now course rounds s c core kept low due =
 
 stints_differ : (core : CoreState) (st : Stint) → runs core st ≢ core
 stints_differ core st q =
-    (let n = ap (λ (x : CoreState). length x.stints) q in let m = length-append core.stints (st ∷ []) in omega arith)
+    let n = ap (λ (x : CoreState). length x.stints) q in
+    let m = length-append core.stints (st ∷ []) in
+    omega arith
 
 pub run_now : (course : CourseView) (rounds : ℕ) (s : State) (c : ℕ) (core : CoreState) (st : Stint)
     → IsCourse course → IsLeastClock s c core → IsNextStint course rounds c core st

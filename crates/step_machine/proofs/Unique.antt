@@ -194,7 +194,8 @@ run_one course rounds c s (Behind (Core d) t) Done n m p q =
     absurd (low_or_near course.lag s.cores (Some c) p.0.stint.end d t
     (subst (λ (x : Stint). IsNear course.lag s.cores (Some c) x.end) is.1 q.near) p.0.low))
 run_one course rounds c s (Behind (Core d) t) (Behind (Core e) u) n m p q =
-    (let is = stint_same course rounds c s p.0.core q.0.core p.0.stint q.0.stint p.0.at q.0.at p.0.next q.0.next in
+    (let is = stint_same course rounds c s p.0.core q.0.core p.0.stint q.0.stint p.0.at q.0.at
+    p.0.next q.0.next in
     let low = one_low course.lag s.cores (Some c) q.0.stint.end d t e u
     (subst (λ (x : Stint). IsTooLow course.lag s.cores (Some c) x.end d t) is.1 p.0.low)
     q.0.low in

@@ -20,7 +20,9 @@ remainder t p some =
 
 not_less : (t p q k : ℕ) → q * t ≤ p → p < k * t + t → k < q → ⊥
 not_less t p q k low high lt =
-    (let le : suc k * t ≤ q * t = mul-le-mul_right t (omega arith) in let more = suc-mul k t in absurd (omega arith))
+    let le : suc k * t ≤ q * t = mul-le-mul_right t (omega arith) in
+    let more = suc-mul k t in
+    absurd (omega arith)
 
 -- the number of the period that holds a place
 quotient : (t p q : ℕ) → 1 ≤ t → q * t ≤ p → p < q * t + t → p / t ≡ q
@@ -39,7 +41,9 @@ quotient_small : (t m p : ℕ) → 1 ≤ t → t * m ≡ ROUND → p < ROUND →
 quotient_small t m p some whole lt = elim (cases_lt (p / t) m) [
   | inl less ↦ less
   | inr more ↦
-      absurd (let le : m * t ≤ p / t * t = mul-le-mul_right t more in let parts = remainder t p some in omega arith)
+      let le : m * t ≤ p / t * t = mul-le-mul_right t more in
+      let parts = remainder t p some in
+      absurd (omega arith)
 ]
 
 period_of : Option Periodic → ℕ
@@ -105,7 +109,9 @@ blocks course s v a l ok g = record {
       (omega (arith, at.base_is, at.low), omega (arith, at.base_is, at.span_is, at.high)));
   cost_one =
       λ x low high.
-      (let held = g.held x low high in let at = at_tick course s.decided v x held.0 held.1 in let task : Periodic = held.0 in
+      (let held = g.held x low high in
+      let at = at_tick course s.decided v x held.0 held.1 in
+      let task : Periodic = held.0 in
       (omega (arith, at.cost_is, task.costs), omega (arith, at.cost_is, at.span_is, task.within)));
   offered = λ x low high.
       let held = g.held x low high in

@@ -2,7 +2,9 @@
 //!
 //! `World::apply` is exactly the relation `Answers` of `specs/Answers.antt`, and every world keeps
 //! what `Kept` of `table_form/specs/Kept.antt` lists. The laws say what follows for every list of
-//! steps: no vCPU runs on two cores at one tick, no core idles while somebody may run there.
+//! steps: all cores use one plan in a round, no vCPU runs on two cores at one tick, each is offered
+//! its cost in each of its periods and waits no longer between offers than its period and cost
+//! allow, and no core idles while somebody may run there.
 #![tactic(auto)]
 
 mod answer;

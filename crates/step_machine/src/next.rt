@@ -22,6 +22,7 @@ pub(crate) fn next_step(course: &Course, rounds: u32, progress: &Progress) -> Op
     ensures some { IfSome result (λ step. IsNextStep course.now rounds (state_of progress.now) step) }
     ensures none { IfNone result (IsWhole course.now rounds (state_of progress.now)) }
 {
+    // the course keeps what its type says
     let _lag = course.lag();
     let c = lowest(&progress.logs);
     let log = &progress.logs[c];
@@ -42,6 +43,7 @@ pub(crate) fn next_step(course: &Course, rounds: u32, progress: &Progress) -> Op
         }
         Phase::Decide => Some(Step::Decide(CoreNo(c as u32))),
         Phase::Run => {
+            // the stint that is found shows that there is one
             let _next = next_stint(course, rounds, progress, c);
             Some(Step::Run(CoreNo(c as u32)))
         }

@@ -16,6 +16,9 @@ use table_form::Course;
 
 /// The world after the steps, if each of them is done. Otherwise it is refused at the first that
 /// isn't, with the answer to that step.
+///
+/// The rounds are 1 to 10,000 and hold every event, and a core that a step names is below the
+/// course's cores. There are less than 2^32 steps, and each core gets room for as many stints.
 pub fn replay<'a>(
     alloc: Global,
     course: &'a Course,
@@ -40,6 +43,7 @@ pub fn replay<'a>(
             });
         };
     }
+    // the world keeps what its type says
     let _posted = world.posted();
     Ok(world)
 }

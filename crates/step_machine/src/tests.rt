@@ -177,16 +177,24 @@ fn a_stint_waits_for_the_other_core(rt: HostRuntime) -> Result<(), Fail> {
     Ok(())
 }
 
-// A core sees first, and then enters its round. The lowest core comes first.
+// A core sees, then enters its round, then runs; a step out of turn is told what comes first.
 #[test]
-fn a_core_sees_first(rt: HostRuntime) -> Result<(), Fail> {
-    let course = idle_course(rt.alloc(), 1000, 1000, None)?;
-    let mut world = World::make(rt.alloc(), &course, 1, 2)?;
-    let early = world.apply(Step::Run(CoreNo(0)));
-    assert_eq!(rt; early, Answer::NotNow { phase: Phase::See });
-    assert_eq!(rt; world.next(), Some(Step::See(CoreNo(0))));
-    assert_eq!(rt; world.apply(Step::See(CoreNo(0))), Answer::Done);
-    assert_eq!(rt; world.next(), Some(Step::Decide(CoreNo(0))));
-    assert_eq!(rt; world.clock(CoreNo(0)), 0);
+fn a_core_sees_enters_and_runs(rt: HostRuntime) -> Result<(), Fail> {
+    let course = idle_course(rt.alloc(), 102_600, 102_600, None)?;
+    let mut world = World::make(rt.alloc(), &course, 1, 8)?;
+    let core = CoreNo(0);
+    let not_now = |phase| Answer::NotNow { phase };
+    assert_eq!(rt; world.apply(Step::Run(core)), not_now(Phase::See));
+    assert_eq!(rt; world.next(), Some(Step::See(core)));
+    assert_eq!(rt; world.apply(Step::See(core)), Answer::Done);
+    assert_eq!(rt; world.apply(Step::Run(core)), not_now(Phase::Decide));
+    assert_eq!(rt; world.next(), Some(Step::Decide(core)));
+    assert_eq!(rt; world.apply(Step::Decide(core)), Answer::Done);
+    assert_eq!(rt; world.apply(Step::Decide(core)), not_now(Phase::Run));
+    assert_eq!(rt; world.apply(Step::Post), not_now(Phase::AllPosted));
+    assert_eq!(rt; world.apply(Step::Run(core)), Answer::Done);
+    assert_eq!(rt; world.clock(core), 102_600);
+    assert_eq!(rt; world.apply(Step::See(core)), not_now(Phase::Finished));
+    assert_eq!(rt; world.next(), Some(Step::See(CoreNo(1))));
     Ok(())
 }

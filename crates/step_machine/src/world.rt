@@ -38,15 +38,20 @@ impl<'a> Model for World<'a> {
 
     ghost Value = { WorldView };
 
-    ghost view = { λ w. record { course = w.course.now; rounds = w.rounds; spare = w.spare; state = state_of w.progress } };
+    ghost view = { λ w. record {
+      course = w.course.now;
+      rounds = w.rounds;
+      spare = w.spare;
+      state = state_of w.progress;
+    } };
 
     ghost invariant = { λ w. IsWorld w.course.now w.rounds w.spare w.progress };
 }
 
 impl World<'_> {
-    /// The opening state of a run of so many rounds, with room for so many steps.
+    /// The opening state of a run of so many rounds, 1 to 10,000, with room for so many steps.
     ///
-    /// Each event's tick lies in the run.
+    /// Each event's tick lies in the run. Fails only for want of memory.
     pub fn make(
         alloc: Global,
         course: &Course,
@@ -81,7 +86,8 @@ impl World<'_> {
     /// Takes the step if it is due and nothing lacks, and answers `Done`. Otherwise it answers why
     /// not, and leaves the state as it was.
     ///
-    /// Each call lowers by one for how many more steps there is room. The answer is `NotNow`
+    /// There is room for a step, and a core that the step names is below the course's cores. Each
+    /// call lowers by one for how many more steps there is room. The answer is `NotNow`
     /// exactly where the step isn't due, and `Behind` exactly where it is due and has to wait: the
     /// law `a_step_has_one_answer` says that no other answer is right.
     pub fn apply(&mut self, step: Step) -> Answer
@@ -100,7 +106,8 @@ impl World<'_> {
     /// A step that is allowed now and changes the state, of the lowest core of least clock or of
     /// the controller. None exactly where the run is whole.
     pub fn next(&self) -> Option<Step>
-        ensures some { IfSome result (λ step. IsNextStep self.now.course self.now.rounds self.now.state step) }
+        ensures some { IfSome result
+            (λ step. IsNextStep self.now.course self.now.rounds self.now.state step) }
         ensures none { IfNone result (IsWhole self.now.course self.now.rounds self.now.state) }
     {
         next_step(self.course, self.rounds, &self.progress)

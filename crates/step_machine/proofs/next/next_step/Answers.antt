@@ -31,7 +31,9 @@ next_stint-next-requires-clause-due c =
     let at = slice_get_read p.logs.items (length p.logs.items) i log refl lt c.index-log.ensures in
     let low = least_clock p i log at (rw c.deref.ensures.value at c.lowest-c.ensures.least) in
     λ core h.
-    (let is = same (slice_get (cores_of p.logs.items) i) (core_of log) core (core_at p.logs.items i log at) h in rw (← is) (is_run _ (sym c.phase_at.ensures ∙ c.in-Run.is)))
+    let is = same (slice_get (cores_of p.logs.items) i) (core_of log) core
+    (core_at p.logs.items i log at) h in
+    rw (← is) (is_run _ (sym c.phase_at.ensures ∙ c.in-Run.is))
 
 pub returns-then-progress-count-clause-none : goal.returns-then-progress-count-clause-none
 returns-then-progress-count-clause-none c =
