@@ -1,22 +1,23 @@
-ghost use Rattle.std.specs.Prelude.{ℕ, ◌+◌, ◌<◌, List, length};
+ghost use Rattle.std.specs.Prelude.{◌+◌, ◌<◌, List, length};
 ghost use Rattle.script_doc.specs.declared.step.Step.{Step as StepValue};
 ghost use Rattle.replay_text.specs.Counting.{AreCounts};
 
 use script_doc::Step;
+use tab_core::MAX_CORES;
 
 // How many decides and runs of each core came so far.
 #[derive(Clone, Copy, Debug)]
 pub(crate) struct Counts {
-    pub(crate) entries: [usize; 32],
-    pub(crate) stints: [usize; 32],
+    pub(crate) entries: [usize; MAX_CORES as usize],
+    pub(crate) stints: [usize; MAX_CORES as usize],
 }
 
 pub(crate) fn no_counts() -> Counts
     ensures { (steps : List StepValue) → AreCounts steps 0 result }
 {
     Counts {
-        entries: [0; 32],
-        stints: [0; 32],
+        entries: [0; MAX_CORES as usize],
+        stints: [0; MAX_CORES as usize],
     }
 }
 

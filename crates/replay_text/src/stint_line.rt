@@ -4,9 +4,10 @@ ghost use Rattle.tab_io.specs.Outside.{Writes};
 ghost use Rattle.table_form.specs.Choice.{is_shared, runs_other};
 ghost use Rattle.table_form.specs.Courses.{plan_after};
 ghost use Rattle.table_form.specs.Serves.{owner_at};
-ghost use Rattle.plan_text.specs.PlanText.{names_of, owner_word};
+ghost use Rattle.plan_text.specs.PlanText.{names_of};
 ghost use Rattle.replay_text.specs.StintLine.{how_word, stint_line};
 
+use plan_text::owner_in;
 use tab_core::{CoreNo, ROUND, Stint, Vcpu, VcpuNo};
 use tab_io::{Sink, WriteFault};
 use tab_words::{TextPiece, put_pieces};
@@ -28,7 +29,7 @@ pub fn put_stint<K: Sink>(
     ensures { Writes (K.state sink.old) (K.state sink.new)
         (stint_line (names_of vcpus.now) course.now core stint.now) result }
 {
-    let name = name_in(vcpus, &stint.ran);
+    let name = owner_in(vcpus, &stint.ran);
     let how = how_of(course, core, stint);
     put_pieces(
         sink,
@@ -50,19 +51,6 @@ pub fn put_stint<K: Sink>(
             TextPiece::Text(b"\n"),
         ],
     )
-}
-
-// The name of the vCPU that ran, or `-` where none did.
-fn name_in<'a>(vcpus: &'a [Vcpu], ran: &Option<VcpuNo>) -> &'a [u8]
-    ensures { result.now ≡ owner_word (names_of vcpus.now) ran.now }
-{
-    let Some(vcpu) = ran else {
-        return b"-";
-    };
-    match vcpus.get(vcpu.index()) {
-        Some(found) => found.name.bytes(),
-        None => &[],
-    }
 }
 
 fn how_of(course: &Course, core: CoreNo, stint: &Stint) -> &'static [u8]

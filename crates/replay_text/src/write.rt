@@ -49,7 +49,8 @@ fn put_steps<K: Sink>(
 ) -> Result<(), WriteFault>
     requires { IsRunOf course.now steps.now state.now }
     ensures { Writes (K.state sink.old) (K.state sink.new)
-        (texts_below (step_text (names_of vcpus.now) course.now state.now steps.now) (length steps.now)) result }
+        (texts_below (step_text (names_of vcpus.now) course.now state.now steps.now)
+        (length steps.now)) result }
 {
     let mut counts = no_counts();
     for at in 0..steps.len() {
