@@ -19,7 +19,7 @@ task_has_period None t is lacks = lacks
 task_has_period (Some r) None is lacks = is
 task_has_period (Some r) (Some task) is lacks = lacks (task.period, is.admissible)
 
-no_vcpu_lacks : (vcpus : List Vcpu) (tasks : List (Option Periodic)) (v : ℕ)
+pub no_vcpu_lacks : (vcpus : List Vcpu) (tasks : List (Option Periodic)) (v : ℕ)
     → AreTasksOf vcpus tasks → IsFirstWithoutPeriod vcpus v → ⊥
 no_vcpu_lacks vcpus tasks v are first =
     let within : v < length tasks =

@@ -209,7 +209,7 @@ due_answered words old new input given
     (status.Usage place) text command is consumed told within works h =
     absurd (no_fault words command place is h.0)
 due_answered words old new input given status.ReadFault text command is consumed told within works
-    h = absurd (works h.because.0)
+    h = absurd (works h.because.1)
 due_answered words old new input given status.TooLong text command is consumed told within works h =
     let low = read_within old.rest new.rest input given consumed told in
     absurd (omega (arith, low, within, h.because))

@@ -51,7 +51,7 @@ due_for : (words : List (List ℕ)) (command : Command) (old new : SourceView) (
 due_for words command old new input (status.Usage place) text are no_help no_version h =
     absurd (no_usage command input place text h.1)
 due_for words command old new input status.ReadFault text are no_help no_version h =
-    record { command = command; words_are = are; says = h.0; because = (h.1, h.2) }
+    record { command = command; words_are = are; says = h.0; because = (h.1, h.2, h.3) }
 due_for words command old new input status.TooLong text are no_help no_version h =
     record { command = command; words_are = are; says = h.0; because = h.1 }
 due_for words command old new input status.NoMemory text are no_help no_version h =

@@ -5,6 +5,7 @@ pub mod CheckReply
 pub mod Clauses
 pub mod Complete
 pub mod Due
+pub mod PlanChecks
 pub mod ReplayClauses
 pub mod ReplayLine
 pub mod ReplayReply

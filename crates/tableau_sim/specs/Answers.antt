@@ -44,7 +44,8 @@ abbrev pub IsDue : List (List ℕ) → SourceView → SourceView → List ℕ �
 IsDue words old new input (status.Usage place) text = IsFaultAt words place × (input ≡ [])
     × (text ≡ line_of [] (status.Usage place))
 IsDue words old new input status.ReadFault text =
-    Stopped words status.ReadFault text (Rose old.faults new.faults × (old.sound ≡ true → ⊥))
+    Stopped words status.ReadFault text
+    ((length input ≤ INPUT_LIMIT) × Rose old.faults new.faults × (old.sound ≡ true → ⊥))
 IsDue words old new input status.TooLong text =
     Stopped words status.TooLong text (length input ≡ INPUT_LIMIT + 1)
 IsDue words old new input status.NoMemory text = Stopped words status.NoMemory text (Unit {0})

@@ -89,7 +89,7 @@ pub record RepliedToHost (section : List ℕ) (found : Reply) : Type 0 where
 -- what is due for a command after these bytes were read
 abbrev pub IsDueFor : Command → SourceView → SourceView → List ℕ → Status → List ℕ → Type 0
 IsDueFor command old new input status.ReadFault text = (text ≡ line_of [] status.ReadFault)
-    × Rose old.faults new.faults × (old.sound ≡ true → ⊥)
+    × (length input ≤ INPUT_LIMIT) × Rose old.faults new.faults × (old.sound ≡ true → ⊥)
 IsDueFor command old new input status.TooLong text = (text ≡ line_of [] status.TooLong)
     × (length input ≡ INPUT_LIMIT + 1)
 IsDueFor command old new input status.NoMemory text = text ≡ line_of [] status.NoMemory

@@ -4,7 +4,7 @@ use Rattle.tab_core.specs.declared.host.Host.{Host}
 use Rattle.tab_core.specs.declared.over.Over.{Over}
 use Rattle.host_doc.specs.Document.{IsHostText}
 use Rattle.tableau_sim.specs.Hosts.{IsHostFault}
-use Rattle.table_form.specs.Plans.{PlanView}
+use Rattle.table_form.specs.Plans.{IsPlan, IsPlanFor, PlanView}
 use Rattle.period_choice.specs.Tasks.{IsFirstWithoutPeriod}
 use Rattle.plan_make.specs.Planned.{IsPlanned, IsFirstWithoutRoom}
 use Rattle.plan_text.specs.PlanText.{names_of, plan_text}
@@ -12,12 +12,15 @@ use Rattle.tableau_sim.specs.declared.status.Status.{Status}
 use Rattle.tableau_sim.specs.declared.status.Status.TheVariants as status
 use Rattle.tableau_sim.specs.Lines.{line_of}
 
--- the section is a host, which has this plan, and the text is the plan's
+-- the section is a host, which has this plan, and the text is the plan's; the plan gives each of the
+-- host's tasks its cost in each of its periods, and has each vCPU on one core at a time
 pub record Plans (section text : List ℕ) : Type 0 where
   pub host : Host
   pub is_host : IsHostText section host
   pub plan : PlanView
   pub planned : IsPlanned host plan
+  pub keeps : IsPlan plan
+  pub is_for : IsPlanFor host plan
   pub says : text ≡ plan_text (names_of host.vcpus) plan
 
 -- the section is a host whose vCPU of this number is the lowest without a period

@@ -39,13 +39,15 @@ pub fn tableau<R: Threads + Sync, S: Source, K: Sink>(
     ensures answers { Answers (texts words.now) (S.state input.old) (S.state input.new)
         (K.state output.old) (K.state output.new) result }
 
-    // `plan`: the text is that of the plan that the definitions give for the host that was read.
+    // `plan`: the text is that of the plan that the definitions give for the host that was read. It
+    // serves the host's tasks and has each vCPU on one core at a time.
     ensures plan { IsCommand (texts words.now) Command.Plan → result ≡ Status.Ok
         → PlanIsOut (S.state input.old) (S.state input.new) (K.state output.old) (K.state output.new) }
     // `replay`: the text is that of a run by exactly the steps that were read, each of them allowed,
     // in the course that the definitions give for the host and the script that were read.
-    ensures replay { (rounds : ℕ) → IsCommand (texts words.now) (Command.Replay rounds) → result ≡ Status.Ok
-        → ReplayIsOut rounds (S.state input.old) (S.state input.new) (K.state output.old) (K.state output.new) }
+    ensures replay { (rounds : ℕ) → IsCommand (texts words.now) (Command.Replay rounds)
+        → result ≡ Status.Ok → ReplayIsOut rounds (S.state input.old) (S.state input.new)
+        (K.state output.old) (K.state output.new) }
     // `check`: the sections are a host and the text of tables that serve its tasks and are apart.
     ensures check { IsCommand (texts words.now) Command.Check → result ≡ Status.Ok
         → CheckIsOut (S.state input.old) (S.state input.new) (K.state output.old) (K.state output.new) }
@@ -69,9 +71,11 @@ pub fn tableau<R: Threads + Sync, S: Source, K: Sink>(
     ensures bad_step { (line : ℕ) → result ≡ Status.BadStep line
         → StepIsBad (texts words.now) (S.state input.old) (S.state input.new) line }
     ensures no_period { (vcpu : ℕ) → result ≡ Status.NoPeriod vcpu
-        → NoPeriodIsOut (texts words.now) (S.state input.old) (S.state input.new) (K.state output.old) (K.state output.new) vcpu }
+        → NoPeriodIsOut (texts words.now) (S.state input.old) (S.state input.new)
+        (K.state output.old) (K.state output.new) vcpu }
     ensures no_room { (vcpu rest : ℕ) (over : List Over) → result ≡ Status.NoRoom vcpu rest over
-        → NoRoomIsOut (texts words.now) (S.state input.old) (S.state input.new) (K.state output.old) (K.state output.new) vcpu rest over }
+        → NoRoomIsOut (texts words.now) (S.state input.old) (S.state input.new)
+        (K.state output.old) (K.state output.new) vcpu rest over }
     ensures step_refused { (line : ℕ) (answer : Answer) → result ≡ Status.StepRefused line answer
         → StepIsRefused (texts words.now) (S.state input.old) (S.state input.new) line answer }
     ensures bad_plan_line { (line : ℕ) → result ≡ Status.BadPlanLine line

@@ -124,7 +124,8 @@ fn state_after(
     requires names { (k : ℕ) (step : StepValue) → slice_get steps.now k ≡ Some step
         → NamesCore course.now step }
     ensures ok { IfOk result (λ state. IsRunOf course.now steps.now state) }
-    ensures leads { IfOk result (λ state. Leads course.now rounds (opening course.now.cores) steps.now state) }
+    ensures leads { IfOk result (λ state.
+        Leads course.now rounds (opening course.now.cores) steps.now state) }
     ensures kept { IfOk result (λ state. Kept course.now rounds state) }
     ensures refused { IfErr result (λ fault. IsFaultOf course.now rounds steps.now fault) }
 {
