@@ -1,5 +1,6 @@
 #!/usr/bin/env python3
-"""Writes the inputs of bench/run into a folder: NAME.COMMAND.txt, where COMMAND is the words with `_` for a space.
+"""Writes the inputs of bench/run into a folder: NAME.COMMAND.txt, where COMMAND is the words with `_`
+for a space.
 
 Usage: inputs.py PROGRAM FOLDER
 """
@@ -28,7 +29,8 @@ def host(cores, vcpus, **keys):
 
 def plan_of(text):
     """The plan text's lines, and each core's segments as (end, owner)."""
-    lines = subprocess.run([PROGRAM, "plan"], input=text, capture_output=True, text=True, check=True).stdout.splitlines()
+    told = subprocess.run([PROGRAM, "plan"], input=text, capture_output=True, text=True, check=True)
+    lines = told.stdout.splitlines()
     rows = []
     for line in lines:
         words = line.split(" ")
@@ -49,7 +51,8 @@ def plans():
     write("split16.plan", host(16, [(f"v{n}", 660_000, 100_000_000) for n in range(24)]))
     write("split32.plan", host(32, [(f"v{n}", 663_000, 100_000_000) for n in range(48)]))
     write("noroom.plan", host(32, [(f"v{n}", 990_000, 100_000_000) for n in range(33)]))
-    slivers = [(f"long{n}", 500_000, 102_702_600) for n in range(32)] + [(f"short{n}", 100_000, 180_180) for n in range(32)]
+    slivers = [(f"long{n}", 500_000, 102_702_600) for n in range(32)]
+    slivers += [(f"short{n}", 100_000, 180_180) for n in range(32)]
     write("slivers.plan", host(32, slivers, sliver=11))
     write("slivers-left.plan", host(32, slivers, sliver=0))
 
