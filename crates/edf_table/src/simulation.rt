@@ -44,8 +44,8 @@ fn miss_of(overload: Overload) -> EdfFault
     EdfFault::Miss { from, to, demand }
 }
 
-// The row of pieces that fit.
-fn build_row(alloc: Global, pieces: &[Piece]) -> Result<CoreTable, AllocError>
+/// The row of pieces that fit, by earliest deadline first: `simulate` where it is known that they do.
+pub fn build_row(alloc: Global, pieces: &[Piece]) -> Result<CoreTable, AllocError>
     requires distinct { DistinctVcpus pieces.now }
     requires fits { Fits (jobs_of pieces.now) }
     ensures row { IfOk result (λ row. row ≡ edf_row (jobs_of pieces.now)) }
@@ -57,19 +57,8 @@ fn build_row(alloc: Global, pieces: &[Piece]) -> Result<CoreTable, AllocError>
     let mut tick = 0;
     while tick < ROUND {
         let turn = run_turn(pieces, &mut given, tick);
-        push_cells(&mut row, &turn.owner, turn.end - tick)?;
+        row.push_run(turn.owner, turn.end - tick)?;
         tick = turn.end;
     }
     Ok(row.finish())
-}
-
-// Appends so many cells of one owner.
-fn push_cells(row: &mut RowBuilder, owner: &Option<VcpuNo>, count: u32) -> Result<(), AllocError>
-    requires { length row.old + count ≤ ROUND }
-    ensures { OnOk result (row.new ≡ row.old ++ replicate count owner.now) }
-{
-    for _ in 0..count {
-        row.push(*owner)?;
-    }
-    Ok(())
 }

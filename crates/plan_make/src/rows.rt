@@ -8,9 +8,9 @@ ghost use Rattle.cd_split.specs.Cores.{pieces_on};
 ghost use Rattle.plan_make.specs.Allotted.{AreRowsOf, IsRowOf};
 
 use cd_split::CorePieces;
-use edf_table::{EdfFault, simulate};
-use std::alloc::{AllocError, Global};
-use std::thread::{Threads, map_indices};
+use edf_table::build_row;
+use std::alloc::Global;
+use std::thread::Threads;
 use tab_core::{CoreNo, NoMemory};
 use table_form::{CoreTable, Rows};
 
@@ -20,16 +20,13 @@ fn row_of(alloc: Global, cores: &CorePieces, core: usize) -> Result<CoreTable, N
     requires few { length cores.now ≤ MAX_CORES }
     ensures { IfOk result (IsRowOf core (pieces_on cores.now core)) }
 {
-    match simulate(alloc, cores.of_core(CoreNo(core as u32))) {
-        Ok(row) => Ok(row),
-        Err(EdfFault::NoMemory) => Err(AllocError),
-        Err(EdfFault::Miss { .. }) => unreachable!(),
-    }
+    let row = build_row(alloc, cores.of_core(CoreNo(core as u32)))?;
+    Ok(row)
 }
 
 // What is made of each core: its row, or want of memory for it.
 fn make_each<R: Threads + Sync>(
-    rt: &R,
+    _rt: &R,
     alloc: Global,
     cores: &CorePieces,
 ) -> Result<Vec<Result<CoreTable, NoMemory>>, NoMemory>
@@ -39,7 +36,11 @@ fn make_each<R: Threads + Sync>(
         → IfOk (slice_index_or made.items core d) (IsRowOf core (pieces_on cores.now core))) }
 {
     let count = cores.cores() as usize;
-    map_indices(rt, alloc, count, &|core| row_of(alloc, cores, core))
+    let mut made = Vec::with_capacity(alloc, count)?;
+    for core in 0..count {
+        made.push(row_of(alloc, cores, core))?;
+    }
+    Ok(made)
 }
 
 // The rows, if each was made.

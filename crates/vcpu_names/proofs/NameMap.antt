@@ -3,6 +3,9 @@ use Rattle.std.proofs.Common.{◌≡◌, ◌≢◌, ℕ, ◌+◌, ◌<◌, ◌�
 use Rattle.std.proofs.lemmas.Grind.{common_steps}
 use Rattle.std.proofs.lemmas.List.{take_more}
 use Rattle.std.proofs.lemmas.Map.Text.{btree_map_updates_str}
+use Rattle.std.proofs.lemmas.Option.{slice_get-map, slice_get_within, get_or_from_slice_get}
+use Rattle.std.specs.List.{slice_get}
+use Rattle.std.specs.Option.{option_map}
 use Rattle.std.proofs.lemmas.Slice.Eq.{bytes_eq-Decides}
 use Rattle.std.specs.BTreeMap.{Updates}
 use Rattle.std.specs.Cmp.Lexicographic.{slice_cmp}
@@ -124,3 +127,15 @@ good_in_whole vcpus end numbers past has =
     let size = length-names_of vcpus in
     let whole : take end (names_of vcpus) ≡ names_of vcpus = grind (arith, common_steps) in
     subst AreNames whole (all_good (take end (names_of vcpus)) numbers has)
+
+-- a vCPU that is found at its number has its name there
+pub named : (vcpus : List Vcpu) (at : ℕ) (v : Vcpu) (name : List ℕ) → slice_get vcpus at ≡ Some v
+    → v.name ≡ name → IsName v.name
+    → (at < length (names_of vcpus)) × (name_at (names_of vcpus) at ≡ name) × IsName name
+named vcpus at v name is same good =
+    let held : slice_get (names_of vcpus) at ≡ Some v.name =
+    slice_get-map (λ (x : Vcpu). x.name) vcpus at ∙ ap (option_map (λ (x : Vcpu). x.name)) is in (
+      slice_get_within (names_of vcpus) at v.name held,
+      get_or_from_slice_get (names_of vcpus) at v.name [] held ∙ same,
+      subst IsName same good,
+    )

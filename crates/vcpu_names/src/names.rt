@@ -13,7 +13,12 @@ use tab_core::{Vcpu, VcpuNo};
 pub struct Names<'a> {
     vcpus: &'a [Vcpu],
     numbers: BTreeMap<&'a [u8], VcpuNo, Global>,
+    // at a name's place the number of a vCPU that may have it
+    hints: Vec<u8>,
 }
+
+// How many places there are for hints, a power of two.
+const PLACES: usize = 2048;
 
 impl<'a> Model for Names<'a> {
     ghost use Rattle.std.specs.Prelude.{ℕ, List};
@@ -34,6 +39,7 @@ impl<'a> Names<'a> {
         ensures names { IfOk result (λ names. names ≡ names_of vcpus.now) }
         ensures good { IfOk result (λ names. AreNames names) }
     {
+        let hints = hints_of(alloc, vcpus)?;
         let mut numbers = BTreeMap::new(alloc);
         for (index, vcpu) in vcpus.iter().enumerate() {
             if numbers
@@ -43,7 +49,11 @@ impl<'a> Names<'a> {
                 return Err(AllocError);
             }
         }
-        Ok(Names { vcpus, numbers })
+        Ok(Names {
+            vcpus,
+            numbers,
+            hints,
+        })
     }
 
     /// The number of the vCPU of this name. None exactly where no vCPU has it.
@@ -52,6 +62,71 @@ impl<'a> Names<'a> {
             × IsName name.now) }
         ensures unknown { IfNone result (IsUnknown self.now name.now) }
     {
+        let place = place_of(name);
+        if let Some(vcpu) = hinted(self.vcpus, &self.hints, place, name) {
+            return Some(vcpu);
+        }
+        if let Some(vcpu) = hinted(self.vcpus, &self.hints, place ^ 1, name) {
+            return Some(vcpu);
+        }
+        self.found_in_map(name)
+    }
+
+    // The same by the map alone.
+    fn found_in_map(&self, name: &[u8]) -> Option<VcpuNo>
+        ensures known { IfSome result (λ vcpu. (vcpu < length self.now) × (name_at self.now vcpu ≡ name.now)
+            × IsName name.now) }
+        ensures unknown { IfNone result (IsUnknown self.now name.now) }
+    {
         self.numbers.get(name).copied()
     }
+}
+
+// The place of a name's hint.
+fn place_of(name: &[u8]) -> usize
+    ensures { result < 2048 }
+{
+    let mut sum = 0u32;
+    for byte in name {
+        sum = sum.wrapping_mul(0x9E37_79B1).wrapping_add(u32::from(*byte));
+    }
+    (sum.wrapping_mul(0x9E37_79B1) >> 21) as usize
+}
+
+// The vCPU that the hint at the place names, if that has this name.
+fn hinted(vcpus: &[Vcpu], hints: &[u8], place: usize, name: &[u8]) -> Option<VcpuNo>
+    ensures { IfSome result (λ vcpu. (vcpu < length (names_of vcpus.now))
+        × (name_at (names_of vcpus.now) vcpu ≡ name.now) × IsName name.now) }
+{
+    if place >= hints.len() {
+        return None;
+    }
+    let at = usize::from(hints[place]);
+    if at >= vcpus.len() {
+        return None;
+    }
+    let held = vcpus[at].name.bytes();
+    if held == name {
+        Some(VcpuNo(at as u32))
+    } else {
+        None
+    }
+}
+
+// A hint for each name, at its place or, where that is taken, at the one beside it.
+fn hints_of(alloc: Global, vcpus: &[Vcpu]) -> Result<Vec<u8>, AllocError>
+    requires { length vcpus.now ≤ MAX_VCPUS }
+{
+    let mut hints = vec![in alloc; 0u8; PLACES]?;
+    for (index, vcpu) in vcpus.iter().enumerate() {
+        let place = place_of(vcpu.name.bytes());
+        if place < hints.len() {
+            if hints[place] == 0 {
+                hints[place] = index as u8;
+            } else if (place ^ 1) < hints.len() {
+                hints[place ^ 1] = index as u8;
+            }
+        }
+    }
+    Ok(hints)
 }

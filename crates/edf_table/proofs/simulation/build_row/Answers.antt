@@ -26,8 +26,8 @@ run_turn-turn-requires-clause-met c =
     fits_met c.args.pieces.now c.loop-tick.given c.loop-tick.tick c.requires.distinct
     c.loop-tick.invariant.counted c.loop-tick.invariant.met c.requires.fits (omega arith)
 
-pub push_cells-requires : goal.push_cells-requires
-push_cells-requires c =
+pub push_run-requires-clause-room : goal.push_run-requires-clause-room
+push_run-requires-clause-room c =
     let len = row_length (jobs_of c.args.pieces.now) c.loop-tick.row c.loop-tick.tick
     c.loop-tick.invariant.row_is in omega (
       arith,
@@ -46,11 +46,11 @@ loop-tick-preserved c =
       in_round = c.run_turn-turn.ensures.in_round;
       counted = c.run_turn-turn.ensures.counted;
       met = c.run_turn-turn.ensures.met;
-      row_is = subst (λ e. c.push_cells.new.row ≡ map owner_of (edf_cells js e)) at
-          (row_along js c.loop-tick.row c.push_cells.new.row c.loop-tick.tick n owner
+      row_is = subst (λ e. c.push_run.new.self ≡ map owner_of (edf_cells js e)) at
+          (row_along js c.loop-tick.row c.push_run.new.self c.loop-tick.tick n owner
           c.loop-tick.invariant.row_is
           (subst (λ e. GoesTo js c.loop-tick.tick e owner) (sym at) c.run_turn-turn.ensures.goes)
-          c.in_ok-push_cells.ensures);
+          c.in_ok-push_run.ensures.ok);
     }
 
 pub finish-requires : goal.finish-requires
