@@ -7,8 +7,10 @@
 
 mod choice;
 mod fault;
+mod laws;
 mod tasks;
 
 pub use choice::choose;
 pub use fault::TaskFault;
+pub use laws::a_gap_is_within_the_latency;
 pub use tasks::tasks_of;

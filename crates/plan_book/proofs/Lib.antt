@@ -4,6 +4,7 @@ pub mod Flags
 pub mod Lists
 pub mod Making
 pub mod Named
+pub mod Planned
 pub mod Next
 pub mod Refusals
 pub mod Shape

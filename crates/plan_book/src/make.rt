@@ -47,6 +47,10 @@ pub fn make_book<R: Threads + Sync>(
     ensures named { IfOk result (λ book. NameVcpusBelow (length host.now.vcpus) book.outcomes) }
     ensures fits_host { IfOk result (λ _. (n : ℕ) (known : Known) → IsKnownAfter host.now script.now n known
         → IsPlanFor known.host known.plan) }
+    ensures planned_after { IfOk result (λ _. (n : ℕ) (known : Known) → IsKnownAfter host.now script.now n known
+        → IsPlanned known.host known.plan) }
+    ensures chosen { IfOk result (λ book. (n : ℕ) (known : Known) → IsKnownAfter host.now script.now n known
+        → AreTasksOf known.host.vcpus (plan_after book.course n).tasks) }
     ensures vcpus { IfOk result (λ book. (n : ℕ) → n ≤ length script.now
         → length (plan_after book.course n).tasks ≡ length host.now.vcpus) }
     ensures rounds { IfOk result (λ book. (rounds : ℕ) → 1 ≤ rounds → rounds ≤ MAX_ROUNDS

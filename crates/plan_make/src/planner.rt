@@ -34,6 +34,7 @@ pub fn plan<R: Threads + Sync>(rt: &R, alloc: Global, host: &Host) -> Result<Pla
     ensures only { IfOk result (λ plan. (other : PlanView) → IsPlanned host.now other
         → other ≡ plan_view plan) }
     ensures fits_host { IfOk result (λ plan. IsPlanFor host.now (plan_view plan)) }
+    ensures chosen { IfOk result (λ plan. AreTasksOf host.now.vcpus plan.tasks) }
     ensures no_period { (vcpu : ℕ) → IsErrOf result (PlanFault.NoPeriod vcpu)
         → IsFirstWithoutPeriod host.now.vcpus vcpu }
     ensures without_period { (vcpu : ℕ) → IsFirstWithoutPeriod host.now.vcpus vcpu → IsErr result }

@@ -9,6 +9,8 @@ pub mod OneCore
 pub mod Phases
 pub mod Pieces
 pub mod Progressing
+pub mod Promised
+pub mod Rounds
 pub mod Running
 pub mod Serving
 pub mod Shown

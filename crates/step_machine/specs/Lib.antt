@@ -4,6 +4,7 @@ pub mod Logs
 pub mod Next
 pub mod Picks
 pub mod Progresses
+pub mod Promises
 pub mod Refusals
 pub mod Runs
 pub mod Worlds

@@ -1,9 +1,9 @@
-ghost use Rattle.std.specs.Prelude.{◌≡◌, ℕ, List};
+ghost use Rattle.std.specs.Prelude.{◌≡◌, ◌<◌, ℕ, List, Some, slice_get};
 ghost use Rattle.tab_core.specs.declared.stint.Stint.{Stint as StintValue};
 ghost use Rattle.script_doc.specs.declared.step.Step.{Step};
 ghost use Rattle.table_form.specs.Busy.{IsBusy};
 ghost use Rattle.table_form.specs.Courses.{CourseView, IsCourse};
-ghost use Rattle.table_form.specs.Kept.{Kept};
+ghost use Rattle.table_form.specs.Kept.{IsWhole, Kept};
 ghost use Rattle.table_form.specs.Offered.{HasShortGaps, IsServed};
 ghost use Rattle.table_form.specs.State.{State, CoreState, opening};
 ghost use Rattle.table_form.specs.Steps.{IsNextStint};
@@ -11,6 +11,8 @@ ghost use Rattle.table_form.specs.Together.{RunsOnOneCore};
 ghost use Rattle.step_machine.specs.declared.answer.Answer.{Answer};
 ghost use Rattle.step_machine.specs.Answers.{Answers};
 ghost use Rattle.step_machine.specs.Runs.{Leads};
+ghost use Rattle.step_machine.specs.Answers.{Moves};
+ghost use Rattle.step_machine.specs.Promises.{KeepsPromises};
 
 /// Whatever steps are taken, what is kept holds in the end.
 pub fn every_run_is_kept()
@@ -57,4 +59,27 @@ pub fn a_step_has_one_answer()
     ensures { (course : CourseView) (rounds : ℕ) (s : State) (step : Step) (a b : Answer)
         (new other : State) → Answers course rounds s step a new
         → Answers course rounds s step b other → (a ≡ b) × (new ≡ other) }
+{}
+
+/// Before the first step what is kept holds.
+pub fn the_opening_is_kept()
+    ensures { (course : CourseView) (rounds : ℕ) → Kept course rounds (opening course.cores) }
+{}
+
+/// Every allowed step keeps it.
+pub fn a_step_keeps()
+    ensures { (course : CourseView) (rounds : ℕ) (old new : State) (step : Step) → IsCourse course
+        → Kept course rounds old → Moves course rounds old step new → Kept course rounds new }
+{}
+
+/// A state that keeps it keeps all promises, however it came about.
+pub fn a_kept_run_keeps_its_promises()
+    ensures { (course : CourseView) (rounds : ℕ) (s : State) → IsCourse course → Kept course rounds s
+        → KeepsPromises course rounds s }
+{}
+
+/// A run that is whole has entered each of its rounds.
+pub fn a_whole_run_entered_each_round()
+    ensures { (course : CourseView) (rounds : ℕ) (s : State) → IsCourse course → Kept course rounds s
+        → IsWhole course rounds s → (r : ℕ) → r < rounds → (d : ℕ) × (slice_get s.decided r ≡ Some d) }
 {}

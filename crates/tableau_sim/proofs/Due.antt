@@ -16,7 +16,7 @@ use Rattle.tableau_sim.specs.declared.reply.Reply.{Reply}
 use Rattle.tableau_sim.specs.declared.reply.Reply.TheVariants as reply
 use Rattle.tableau_sim.specs.declared.status.Status.{Status}
 use Rattle.tableau_sim.specs.declared.status.Status.TheVariants as status
-use Rattle.tableau_sim.specs.Answers.{HasRead, IsDue, IsWholeInput}
+use Rattle.tableau_sim.specs.Answers.{HasRead, IsDue, IsWholeInput, ReadsInput}
 use Rattle.tableau_sim.specs.Found.{Found, FoundInInput, IsDueFor, RepliedToHost, plan_status, status_of, text_of}
 use Rattle.tableau_sim.specs.Replies.{Replies}
 
@@ -44,6 +44,13 @@ reads_all (called.Replay rounds) new input no_help no_version h = h
 reads_all called.Help new input no_help no_version h = absurd (no_help refl)
 reads_all called.Version new input no_help no_version h = absurd (no_version refl)
 
+reading : (command : Command) → command ≢ called.Help → command ≢ called.Version → ReadsInput command
+reading called.Plan no_help no_version = tt {0}
+reading called.Check no_help no_version = tt {0}
+reading (called.Replay rounds) no_help no_version = tt {0}
+reading called.Help no_help no_version = absurd (no_help refl)
+reading called.Version no_help no_version = absurd (no_version refl)
+
 due_for : (words : List (List ℕ)) (command : Command) (old new : SourceView) (input : List ℕ)
     (due : Status) (text : List ℕ)
     → IsCommand words command → command ≢ called.Help → command ≢ called.Version
@@ -51,11 +58,11 @@ due_for : (words : List (List ℕ)) (command : Command) (old new : SourceView) (
 due_for words command old new input (status.Usage place) text are no_help no_version h =
     absurd (no_usage command input place text h.1)
 due_for words command old new input status.ReadFault text are no_help no_version h =
-    record { command = command; words_are = are; says = h.0; because = (h.1, h.2, h.3) }
+    record { command = command; words_are = are; reads_input = reading command no_help no_version; says = h.0; because = (h.1, h.2, h.3) }
 due_for words command old new input status.TooLong text are no_help no_version h =
-    record { command = command; words_are = are; says = h.0; because = h.1 }
+    record { command = command; words_are = are; reads_input = reading command no_help no_version; says = h.0; because = h.1 }
 due_for words command old new input status.NoMemory text are no_help no_version h =
-    record { command = command; words_are = are; says = h; because = tt {0} }
+    record { command = command; words_are = are; reads_input = reading command no_help no_version; says = h; because = tt {0} }
 due_for words command old new input status.WriteFault text are no_help no_version h =
     absurd (no_write_fault command input text h.1)
 due_for words command old new input status.Ok text are no_help no_version h =

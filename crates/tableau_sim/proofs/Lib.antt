@@ -11,3 +11,4 @@ pub mod ReplayLine
 pub mod ReplayReply
 pub mod Sequels
 pub mod Told
+pub mod Waiting

@@ -31,10 +31,17 @@ pub record Answered (words : List (List ℕ)) (new : SourceView) (input : List �
   pub read : HasRead command new input
   pub replies : Replies command input due text
 
+-- the command reads its input, and takes memory for it
+abbrev pub ReadsInput : Command → Type 0
+ReadsInput command.Help = ⊥
+ReadsInput command.Version = ⊥
+ReadsInput command = Unit {0}
+
 -- what the status of a command that reads its input rests on, when it comes before the reply
 pub record Stopped (words : List (List ℕ)) (due : Status) (text : List ℕ) (cause : Type 0) : Type 0 where
   pub command : Command
   pub words_are : IsCommand words command
+  pub reads_input : ReadsInput command
   pub says : text ≡ line_of [] due
   pub because : cause
 

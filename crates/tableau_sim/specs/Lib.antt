@@ -17,3 +17,4 @@ pub mod ReplayOutcomes
 pub mod ReplayParts
 pub mod ReplayReplies
 pub mod Replies
+pub mod Waits

@@ -1,8 +1,9 @@
 -- The reply of `replay` to its three sections.
 use Rattle.std.specs.Prelude.{◌≡◌, ℕ, List, [], Some, slice_get}
 use Rattle.tab_core.specs.declared.over.Over.{Over}
-use Rattle.table_form.specs.Courses.{CourseView}
-use Rattle.table_form.specs.Kept.{Kept}
+use Rattle.table_form.specs.Courses.{CourseView, IsCourse}
+use Rattle.step_machine.specs.Promises.{KeepsPromises}
+use Rattle.tableau_sim.specs.Waits.{WaitsWithinLatency}
 use Rattle.table_form.specs.State.{State, opening}
 use Rattle.period_choice.specs.Tasks.{IsFirstWithoutPeriod}
 use Rattle.plan_make.specs.Planned.{IsFirstWithoutRoom}
@@ -30,7 +31,9 @@ pub record Replays (rounds : ℕ) (sections : List (List ℕ)) (text : List ℕ)
   pub course_is : IsCourseOf parts.host parts.events course
   pub state : State
   pub leads : Leads course rounds (opening course.cores) parts.steps state
-  pub kept : Kept course rounds state
+  pub course_kept : IsCourse course
+  pub promises : KeepsPromises course rounds state
+  pub waits : WaitsWithinLatency parts.host parts.events course state
   pub made : HasMadeAll parts.steps state
   pub says : text ≡ replay_text (names_of parts.host.vcpus) course parts.steps state
 

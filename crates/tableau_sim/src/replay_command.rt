@@ -1,5 +1,5 @@
 ghost use Rattle.std.specs.Prelude.{◌≡◌, ◌<◌, ◌≤◌, ◌^◌, ℕ, [], All, IfErr, IfOk, List, Some, length, slice_get, slice_index_or};
-ghost use Rattle.table_form.specs.Courses.{FitsRounds};
+ghost use Rattle.table_form.specs.Courses.{FitsRounds, IsCourse};
 ghost use Rattle.table_form.specs.Kept.{Kept};
 ghost use Rattle.table_form.specs.State.{opening};
 ghost use Rattle.script_doc.specs.Script.{AreInRun, AreWithin};
@@ -127,8 +127,11 @@ fn state_after(
     ensures leads { IfOk result (λ state.
         Leads course.now rounds (opening course.now.cores) steps.now state) }
     ensures kept { IfOk result (λ state. Kept course.now rounds state) }
+    ensures course_kept { IsCourse course.now }
     ensures refused { IfErr result (λ fault. IsFaultOf course.now rounds steps.now fault) }
 {
+    // the course keeps what its type says
+    let _count = course.count();
     match replay(alloc, course, rounds, steps) {
         Ok(world) => Ok(world.into_state()),
         Err(fault) => Err(fault),

@@ -10,6 +10,9 @@ use Rattle.plan_book.specs.Steps.{known_of}
 use Rattle.plan_book.proofs.Courses.{book_is, count_of_vcpus, fits_known, fits_rounds, form_of, is_book, made_at_end, outcomes_few}
 use Rattle.plan_book.proofs.Making.{few_plans, known_next, made_first, made_next, next_within}
 use Rattle.plan_book.proofs.Named.{named_below}
+use Rattle.plan_book.proofs.Planned.{known_planned}
+use Rattle.period_choice.specs.Tasks.{AreTasksOf}
+use Rattle.table_form.specs.Plans.{PlanView}
 use Rattle.plan_book.proofs.Refusals.{no_memory_for_book}
 use Rattle.plan_book.proofs.Shape.{all_outcomes}
 use Rattle.plan_book.proofs.Unique.{known_unique}
@@ -138,6 +141,15 @@ returns-clause-fits_host g c =
     let made = made_at_end c.args.host.now _ script c.loop-event.event-index c.loop-event.latest _ _
     c.loop-event.invariant same c.loop-event.auto.event-index-end c.loop-event-test.false in
     fits_known c.args.host.now script c.loop-event.latest _ _ made
+
+pub returns-clause-planned_after : goal.returns-clause-planned_after
+returns-clause-planned_after g c n known is = known_planned c.args.host.now c.args.script.now n known is
+
+pub returns-clause-chosen : goal.returns-clause-chosen
+returns-clause-chosen g c n known is =
+    let shown = (returns-clause-ok g c).after n known is in
+    subst (λ (p : PlanView). AreTasksOf known.host.vcpus p.tasks) (sym shown.plan)
+    ((known_planned c.args.host.now c.args.script.now n known is).is_start.tasks_are)
 
 pub returns-clause-vcpus : goal.returns-clause-vcpus
 returns-clause-vcpus g c n le =

@@ -1,6 +1,9 @@
 use Rattle.std.proofs.Common.{ap, length, sym, ◌∙◌, Err, refl}
 use Rattle.table_form.specs.Courses.{CourseView}
 use Rattle.replay_text.proofs.Within.{all_made}
+use Rattle.step_machine.proofs.Waiting.{short_gaps}
+use Rattle.step_machine.proofs.Promised.{promised}
+use Rattle.tableau_sim.proofs.Waiting.{waits}
 use Rattle.tableau_sim.proofs.ReplayReply.{book_refused, course_of, each_names_core, place_in, step_refused}
 use Rattle.tableau_sim.proofs.replay_command.replay_of_parts.Goals as goal
 
@@ -37,7 +40,16 @@ returns-in-Ok-state_after g c = λ sections read.
         course_is = course_of c.args.host c.args.script c.in-Ok.book c.in-Ok.ensures.ok c.in-Ok.ensures.known;
         state = c.in-Ok-state_after.state;
         leads = rw (c.course.ensures, c.items.ensures) at c.in-Ok-state_after.ensures.leads;
-        kept = rw c.course.ensures at c.in-Ok-state_after.ensures.kept;
+        course_kept = rw c.course.ensures at c.in-Ok-state_after.ensures.course_kept;
+        promises = promised c.in-Ok.book.course c.args.rounds c.in-Ok-state_after.state
+            (rw c.course.ensures at c.in-Ok-state_after.ensures.course_kept)
+            (rw c.course.ensures at c.in-Ok-state_after.ensures.kept);
+        waits = waits c.args.host c.args.script c.in-Ok.book.course c.args.rounds
+            c.in-Ok-state_after.state
+            (course_of c.args.host c.args.script c.in-Ok.book c.in-Ok.ensures.ok c.in-Ok.ensures.known)
+            (rw c.course.ensures at c.in-Ok-state_after.ensures.kept)
+            (short_gaps c.in-Ok.book.course c.in-Ok-state_after.state
+            (rw c.course.ensures at c.in-Ok-state_after.ensures.course_kept));
         made = all_made c.in-Ok.book.course c.args.list.steps c.in-Ok-state_after.state
             (rw (c.course.ensures, c.items.ensures) at c.in-Ok-state_after.ensures.ok);
         says = refl;
