@@ -5,8 +5,8 @@ use Rattle.std.proofs.Math.Nat.{mul-le-mul_left, div-mul-le_self}
 use Rattle.std.proofs.lemmas.Nat.{le-div}
 use Rattle.tab_core.specs.declared.TheConstants.{ROUND}
 use Rattle.tab_core.specs.Period.{IsPeriod}
-use Rattle.table_form.specs.Jobs.{Job, Subtask, job_of, first_jobs, jobs_of_subtask}
-use Rattle.table_form.specs.Demand.{demand_in, is_inside}
+use Rattle.table_form.specs.Planning.Jobs.{Job, Subtask, job_of, first_jobs, jobs_of_subtask}
+use Rattle.table_form.specs.Planning.Demand.{demand_in, is_inside}
 use Rattle.edf_table.specs.Beside.{FitsBeside, tight}
 use Rattle.edf_table.specs.Overloads.{IsReported}
 use Rattle.edf_table.proofs.Pieces.{first_jobs-suc, first_jobs-zero}

@@ -6,8 +6,8 @@ use Rattle.tab_core.specs.declared.TheConstants.{ROUND}
 use Rattle.tab_core.specs.declared.piece.Piece.{Piece}
 use Rattle.tab_core.specs.Period.{IsPeriod}
 use Rattle.tab_core.proofs.Periods.{period_facts}
-use Rattle.table_form.specs.Jobs.{Subtask, job_of, subtask_of, first_jobs, jobs_of, jobs_of_subtask}
-use Rattle.table_form.specs.Demand.{demand_in, is_inside, Fits}
+use Rattle.table_form.specs.Planning.Jobs.{Subtask, job_of, subtask_of, first_jobs, jobs_of, jobs_of_subtask}
+use Rattle.table_form.specs.Planning.Demand.{demand_in, is_inside, Fits}
 use Rattle.edf_table.specs.Load.{load}
 use Rattle.edf_table.proofs.Pieces.{first_jobs-suc, first_jobs-zero, jobs_of-cons, jobs_of-nil}
 use Rattle.edf_table.proofs.Whole.{demand_in-append, demand_in-none, demand_in-one}

@@ -7,8 +7,8 @@ use Rattle.edf_table.specs.Beside.{remainder, tight}
 use Rattle.std.proofs.lemmas.List.Elements.{All-nil, All-cons, All-contains, All-contains_itself, All-filter, All-weaker, filter_passes}
 use Rattle.std.proofs.lemmas.List.Sums.{sum_by-cons}
 use Rattle.tab_core.specs.declared.piece.Piece.{Piece}
-use Rattle.table_form.specs.Jobs.{Subtask}
-use Rattle.table_form.specs.Demand.{Fits}
+use Rattle.table_form.specs.Planning.Jobs.{Subtask}
+use Rattle.table_form.specs.Planning.Demand.{Fits}
 use Rattle.cd_split.specs.Cores.{pieces_on, HaveRoomFor}
 use Rattle.cd_split.specs.Shares.{AreOf, FitTheirCores, FollowOn, StandApart}
 use Rattle.cd_split.specs.Splitting.{FitsWith, IsPieceOf, Splits, without}

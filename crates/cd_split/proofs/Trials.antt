@@ -4,9 +4,9 @@ use Rattle.std.proofs.lemmas.Grind.{common_steps}
 use Rattle.std.proofs.lemmas.Option.{gets}
 use Rattle.std.proofs.lemmas.List.{append-nil, append_assoc}
 use Rattle.tab_core.specs.declared.piece.Piece.{Piece}
-use Rattle.table_form.specs.Jobs.{jobs_of, jobs_of_subtask, subtask_of}
-use Rattle.table_form.specs.Demand.{Fits}
-use Rattle.table_form.specs.Windows.{DistinctVcpus}
+use Rattle.table_form.specs.Planning.Jobs.{jobs_of, jobs_of_subtask, subtask_of}
+use Rattle.table_form.specs.Planning.Demand.{Fits}
+use Rattle.table_form.specs.Planning.Windows.{DistinctVcpus}
 use Rattle.edf_table.proofs.Pieces.{jobs_of-nil}
 use Rattle.edf_table.proofs.Whole.{demand_in-none}
 use Rattle.edf_table.specs.Overloads.{IsOverloadOf}

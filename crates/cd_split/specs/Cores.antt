@@ -2,9 +2,9 @@
 use Rattle.std.specs.Prelude.{◌≡◌, ◌≢◌, ℕ, ◌≤◌, List, [], ◌∷◌, ◌++◌, All, length, slice_index_or}
 use Rattle.tab_core.specs.declared.TheConstants.{MAX_CORES}
 use Rattle.tab_core.specs.declared.piece.Piece.{Piece}
-use Rattle.table_form.specs.Jobs.{jobs_of}
-use Rattle.table_form.specs.Demand.{Fits}
-use Rattle.table_form.specs.Windows.{DistinctVcpus}
+use Rattle.table_form.specs.Planning.Jobs.{jobs_of}
+use Rattle.table_form.specs.Planning.Demand.{Fits}
+use Rattle.table_form.specs.Planning.Windows.{DistinctVcpus}
 
 -- the pieces on a core
 abbrev pub pieces_on : List (List Piece) → ℕ → List Piece

@@ -1,7 +1,7 @@
 -- What the search for a core and for a cut finds: private to this crate.
 use Rattle.std.specs.Prelude.{◌≡◌, ◌⊎◌, ℕ, ◌<◌, ◌≤◌, List, ◌++◌, Contains, length, slice_index_or}
 use Rattle.tab_core.specs.declared.piece.Piece.{Piece}
-use Rattle.table_form.specs.Jobs.{Job, Subtask, jobs_of_subtask, subtask_of}
+use Rattle.table_form.specs.Planning.Jobs.{Job, Subtask, jobs_of_subtask, subtask_of}
 use Rattle.edf_table.specs.Beside.{remainder, tight}
 use Rattle.edf_table.specs.Overloads.{IsOverloadOf}
 use Rattle.edf_table.specs.declared.overload.Overload.{Overload}

@@ -1,7 +1,7 @@
 -- What the pieces of a split vCPU keep.
 use Rattle.std.specs.Prelude.{◌≡◌, ℕ, ◌<◌, List, [], ◌∷◌, Some, All, length, slice_get}
 use Rattle.tab_core.specs.declared.piece.Piece.{Piece}
-use Rattle.table_form.specs.Jobs.{subtask_of}
+use Rattle.table_form.specs.Planning.Jobs.{subtask_of}
 use Rattle.cd_split.specs.Cores.{pieces_on, HaveRoomFor}
 
 -- each piece fits beside the pieces on its core

@@ -7,7 +7,7 @@ use Rattle.std.specs.List.{AllZip, range_with_len}
 use Rattle.tab_core.specs.declared.over.Over.{Over}
 use Rattle.tab_core.specs.declared.periodic.Periodic.{Periodic}
 use Rattle.tab_core.specs.declared.piece.Piece.{Piece}
-use Rattle.table_form.specs.Jobs.{Subtask, jobs_of, jobs_of_subtask, subtask_of}
+use Rattle.table_form.specs.Planning.Jobs.{Subtask, jobs_of, jobs_of_subtask, subtask_of}
 use Rattle.edf_table.specs.Beside.{FitsBeside, remainder, tight}
 use Rattle.edf_table.specs.Overloads.{IsReported}
 use Rattle.edf_table.specs.Load.{load}

@@ -1,8 +1,8 @@
 ghost use Rattle.std.specs.Prelude.{◌≡◌, ◌<◌, ◌≤◌, ◌++◌, [], ◌∷◌, All, IfOk, OnErr, OnOk, length, replicate, slice_set};
 ghost use Rattle.tab_core.specs.declared.TheConstants.{MAX_CORES};
-ghost use Rattle.table_form.specs.Demand.{Fits};
-ghost use Rattle.table_form.specs.Jobs.{jobs_of};
-ghost use Rattle.table_form.specs.Windows.{DistinctVcpus};
+ghost use Rattle.table_form.specs.Planning.Demand.{Fits};
+ghost use Rattle.table_form.specs.Planning.Jobs.{jobs_of};
+ghost use Rattle.table_form.specs.Planning.Windows.{DistinctVcpus};
 ghost use Rattle.cd_split.specs.Cores.{HaveRoomFor, LackVcpu, pieces_on};
 
 use crate::one_core::OneCore;

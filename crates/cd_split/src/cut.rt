@@ -1,9 +1,9 @@
 ghost use Rattle.std.specs.Prelude.{◌≡◌, ℕ, ◌-◌, ◌<◌, ◌≤◌, IfOk, List, MatchOption};
 ghost use Rattle.tab_core.specs.declared.TheConstants.{ROUND};
 ghost use Rattle.edf_table.specs.Beside.{FitsBeside, tight};
-ghost use Rattle.table_form.specs.Windows.{DistinctVcpus};
+ghost use Rattle.table_form.specs.Planning.Windows.{DistinctVcpus};
 ghost use Rattle.edf_table.specs.Load.{load as load_in};
-ghost use Rattle.table_form.specs.Jobs.{Job};
+ghost use Rattle.table_form.specs.Planning.Jobs.{Job};
 ghost use Rattle.cd_split.specs.Cores.{LackVcpu};
 ghost use Rattle.cd_split.specs.Search.{IsOverloadWith, IsTooMuch};
 ghost use Rattle.cd_split.specs.Splitting.{FitsWith, IsGreatestCut};

@@ -1,7 +1,7 @@
 ghost use Rattle.std.specs.Prelude.{◌≡◌, ◌++◌, [], ◌∷◌, OnErr, OnOk};
-ghost use Rattle.table_form.specs.Demand.{Fits};
-ghost use Rattle.table_form.specs.Jobs.{jobs_of};
-ghost use Rattle.table_form.specs.Windows.{DistinctVcpus};
+ghost use Rattle.table_form.specs.Planning.Demand.{Fits};
+ghost use Rattle.table_form.specs.Planning.Jobs.{jobs_of};
+ghost use Rattle.table_form.specs.Planning.Windows.{DistinctVcpus};
 ghost use Rattle.cd_split.specs.Cores.{HaveRoomFor, LackVcpu};
 
 use std::alloc::Global;

@@ -1,7 +1,7 @@
 ghost use Rattle.std.specs.Prelude.{◌≡◌, ◌++◌, [], ◌∷◌, IfOk, MatchOption};
-ghost use Rattle.table_form.specs.Jobs.{jobs_of, jobs_of_subtask, subtask_of};
+ghost use Rattle.table_form.specs.Planning.Jobs.{jobs_of, jobs_of_subtask, subtask_of};
 ghost use Rattle.edf_table.specs.Overloads.{IsOverloadOf};
-ghost use Rattle.table_form.specs.Windows.{DistinctVcpus};
+ghost use Rattle.table_form.specs.Planning.Windows.{DistinctVcpus};
 ghost use Rattle.cd_split.specs.Cores.{LackVcpu};
 ghost use Rattle.cd_split.specs.Splitting.{FitsWith};
 

@@ -1,6 +1,6 @@
 -- Stretches in front of others.
 use Rattle.std.proofs.Common.{◌≡◌, ◌≢◌, ℕ, List, [], ◌∷◌, ◌++◌, refl, ap, subst, sym, ◌∙◌, inl, inr}
-use Rattle.table_form.specs.Stretches.{Stretch, put_front}
+use Rattle.table_form.specs.Inside.Stretches.{Stretch, put_front}
 use Rattle.coalesce.specs.Passing.{AreMaximal, BeginsOther, put_before}
 use Rattle.coalesce.proofs.Maximal.{front_begins, front_cases, front_differs, front_joins, front_stays, front_twice, maximal_front, same_first}
 

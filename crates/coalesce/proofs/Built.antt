@@ -11,7 +11,7 @@ use Rattle.std.proofs.lemmas.Option.{same_Some, slice_get-get_or}
 use Rattle.tab_core.specs.VcpuSets.{has_vcpu}
 use Rattle.tab_core.specs.declared.TheConstants.{MAX_VCPUS}
 use Rattle.tab_core.specs.declared.piece.Piece.{Piece}
-use Rattle.table_form.specs.Drafts.{HaveOwnCores, pieces_at}
+use Rattle.table_form.specs.Planning.Drafts.{HaveOwnCores, pieces_at}
 use Rattle.table_form.proofs.Filters.{slice_get-filter}
 use Rattle.coalesce.specs.Joining.{has_single_piece}
 use Rattle.coalesce.specs.Passing.{IsTableOf}

@@ -3,8 +3,8 @@ use Rattle.std.proofs.Common.{◌≡◌, ◌≢◌, ℕ, zero, suc, ◌+◌, ◌
 use Rattle.std.specs.List.{count_by}
 use Rattle.std.proofs.lemmas.Bool.{eqb-true}
 use Rattle.std.proofs.lemmas.List.Sums.{sum_by-append, sum_by-cons}
-use Rattle.table_form.specs.Rows.{Row}
-use Rattle.table_form.specs.Serves.{cells_within, is_cell_of}
+use Rattle.table_form.specs.Tables.Rows.{Row}
+use Rattle.table_form.specs.Tables.Serves.{cells_within, is_cell_of}
 
 -- how many of a row's first cells are the vCPU's
 pub cells_before : ℕ → Row → ℕ → ℕ

@@ -4,7 +4,7 @@ use Rattle.std.proofs.Math.Seq.{get_or-append_seam, set-append_seam}
 use Rattle.std.proofs.lemmas.List.{map-append, length-map}
 use Rattle.std.specs.Prelude.{IsTrue}
 use Rattle.tab_core.specs.declared.piece.Piece.{Piece}
-use Rattle.table_form.specs.Stretches.{Stretch, stretch_of}
+use Rattle.table_form.specs.Inside.Stretches.{Stretch, stretch_of}
 use Rattle.table_form.specs.declared.segment.Segment.{Segment}
 use Rattle.coalesce.specs.Joining.{CanSwap}
 use Rattle.coalesce.specs.Passing.{AreMaximal, BeginsOther, CanSwapLast, EndBelow, EndsWith, put_before}

@@ -3,7 +3,7 @@ use Rattle.std.proofs.Common.{◌≡◌, ℕ, suc, ◌+◌, ◌-◌, ◌<◌, �
 use Rattle.std.proofs.Math.Seq.{drop-cons}
 use Rattle.std.proofs.lemmas.List.{nil_from_length}
 use Rattle.tab_core.specs.declared.TheConstants.{ROUND}
-use Rattle.table_form.specs.Stretches.{Stretch, stretch_of}
+use Rattle.table_form.specs.Inside.Stretches.{Stretch, stretch_of}
 use Rattle.table_form.specs.declared.segment.Segment.{Segment}
 use Rattle.coalesce.specs.Joining.{filled, filled_after, given, is_given}
 use Rattle.coalesce.specs.Passing.{AreMaximal, put_before}

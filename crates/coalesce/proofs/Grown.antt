@@ -4,9 +4,9 @@ use Rattle.std.specs.List.{count_by}
 use Rattle.std.proofs.lemmas.Bool.{and_parts, cases_lt, false≢true}
 use Rattle.std.proofs.lemmas.List.{length-replicate}
 use Rattle.std.proofs.lemmas.List.Sums.{sum_by-cons}
-use Rattle.table_form.specs.Rows.{Row}
-use Rattle.table_form.specs.Serves.{cells_within, is_cell_of}
-use Rattle.table_form.specs.Stretches.{Stretch}
+use Rattle.table_form.specs.Tables.Rows.{Row}
+use Rattle.table_form.specs.Tables.Serves.{cells_within, is_cell_of}
+use Rattle.table_form.specs.Inside.Stretches.{Stretch}
 use Rattle.coalesce.specs.Joining.{filled_after, given, is_given}
 use Rattle.coalesce.specs.Passing.{AreMaximal}
 use Rattle.coalesce.proofs.Filled.{filled_after_maximal, given_end}

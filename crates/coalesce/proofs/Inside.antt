@@ -5,9 +5,9 @@ use Rattle.std.proofs.Math.Nat.{mul-le-mul_left}
 use Rattle.std.proofs.lemmas.Bool.{cases_eq, cases_lt}
 use Rattle.std.proofs.lemmas.Option.{same_Some}
 use Rattle.tab_core.specs.declared.piece.Piece.{Piece}
-use Rattle.table_form.specs.Rows.{Row}
-use Rattle.table_form.specs.Stretches.{Stretch}
-use Rattle.table_form.specs.Windows.{DistinctVcpus, ServesWindows}
+use Rattle.table_form.specs.Tables.Rows.{Row}
+use Rattle.table_form.specs.Inside.Stretches.{Stretch}
+use Rattle.table_form.specs.Planning.Windows.{DistinctVcpus, ServesWindows}
 use Rattle.coalesce.specs.Joining.{NoBegin, NoEnd, SwapsLeftmost, SwapsTo}
 use Rattle.coalesce.specs.Joining.SwapsTo.{Again, Done}
 use Rattle.coalesce.specs.Passing.{AreMaximal}

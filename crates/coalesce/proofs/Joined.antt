@@ -3,9 +3,9 @@ use Rattle.std.proofs.Common.{◌≡◌, ℕ, zero, suc, ◌+◌, ◌-◌, ◌�
 use Rattle.std.proofs.lemmas.Option.{same_Some}
 use Rattle.tab_core.specs.declared.TheConstants.{ROUND}
 use Rattle.tab_core.specs.declared.piece.Piece.{Piece}
-use Rattle.table_form.specs.Drafts.{pieces_at}
-use Rattle.table_form.specs.Rows.{Row, cells_from}
-use Rattle.table_form.specs.Stretches.{Stretch, put_front, stretch_of, stretches_from}
+use Rattle.table_form.specs.Planning.Drafts.{pieces_at}
+use Rattle.table_form.specs.Tables.Rows.{Row, cells_from}
+use Rattle.table_form.specs.Inside.Stretches.{Stretch, put_front, stretch_of, stretches_from}
 use Rattle.table_form.specs.declared.segment.Segment.{Segment}
 use Rattle.coalesce.specs.Joining.{AreJoined, IsJoined, SwapsTo, filled, filled_after, given, has_single_piece, is_given}
 use Rattle.coalesce.specs.Passing.{AreMaximal}

@@ -1,8 +1,8 @@
 -- A joined row has as many cells as the row that was joined.
 use Rattle.std.proofs.Common.{◌≡◌, ℕ, Bool, List, [], ◌∷◌, length, subst, sym, ◌∙◌, arith}
 use Rattle.tab_core.specs.declared.piece.Piece.{Piece}
-use Rattle.table_form.specs.Rows.{Row}
-use Rattle.table_form.specs.Stretches.{Stretch, stretches_from}
+use Rattle.table_form.specs.Tables.Rows.{Row}
+use Rattle.table_form.specs.Inside.Stretches.{Stretch, stretches_from}
 use Rattle.coalesce.specs.Joining.{IsJoined}
 use Rattle.coalesce.specs.Passing.{AreMaximal}
 use Rattle.coalesce.proofs.Filled.{filled_maximal}

@@ -4,8 +4,8 @@ use Rattle.std.specs.Option.{option_eq}
 use Rattle.std.proofs.lemmas.List.{replicate-append-replicate}
 use Rattle.std.proofs.lemmas.Bool.{and_from, eq-eqb, false≢true, le-leb, lt-ltb}
 use Rattle.tab_core.specs.declared.TheConstants.{ROUND}
-use Rattle.table_form.specs.Rows.{Row, RisesTo, bad_place, cells_from}
-use Rattle.table_form.specs.Stretches.{Stretch, put_front, stretch_of, stretches_from}
+use Rattle.table_form.specs.Tables.Rows.{Row, RisesTo, bad_place, cells_from}
+use Rattle.table_form.specs.Inside.Stretches.{Stretch, put_front, stretch_of, stretches_from}
 use Rattle.table_form.specs.declared.segment.Segment.{Segment}
 use Rattle.table_form.proofs.RowLemmas.{cells-cons, cells-nil, rises_from_parts, rises_here, same_owner}
 use Rattle.table_form.proofs.StretchLemmas.{same_as_itself, stretches-cons, stretches-nil, stretches-replicate}

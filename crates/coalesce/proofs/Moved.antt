@@ -3,8 +3,8 @@ use Rattle.std.proofs.Common.{◌≡◌, ℕ, zero, suc, ◌+◌, ◌-◌, ◌<�
 use Rattle.std.proofs.lemmas.Bool.{cases_lt}
 use Rattle.std.proofs.lemmas.List.{length-replicate}
 use Rattle.tab_core.specs.declared.piece.Piece.{Piece}
-use Rattle.table_form.specs.Rows.{Row}
-use Rattle.table_form.specs.Stretches.{Stretch, put_front}
+use Rattle.table_form.specs.Tables.Rows.{Row}
+use Rattle.table_form.specs.Inside.Stretches.{Stretch, put_front}
 use Rattle.coalesce.specs.Joining.{SwapsLeftmost, swapped}
 use Rattle.coalesce.specs.Passing.{AreMaximal}
 use Rattle.coalesce.proofs.Counts.{AreMoved}

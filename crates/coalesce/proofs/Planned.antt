@@ -9,12 +9,12 @@ use Rattle.std.proofs.lemmas.Option.{same_Some, slice_get-get_or, slice_get_with
 use Rattle.tab_core.specs.declared.TheConstants.{ROUND}
 use Rattle.tab_core.specs.declared.periodic.Periodic.{Periodic}
 use Rattle.tab_core.specs.declared.piece.Piece.{Piece}
-use Rattle.table_form.specs.Drafts.{HaveOwnCores, IsDraft, KeepInWindows, has_in_window, pieces_at}
-use Rattle.table_form.specs.Homes.{are_housed}
-use Rattle.table_form.specs.Plans.{IsPlan}
-use Rattle.table_form.specs.Rows.{Row}
-use Rattle.table_form.specs.Serves.{cell_of, cells_within, flat, owner_at}
-use Rattle.table_form.specs.Stretches.{stretches_from}
+use Rattle.table_form.specs.Planning.Drafts.{HaveOwnCores, IsDraft, KeepInWindows, has_in_window, pieces_at}
+use Rattle.table_form.specs.Tables.Homes.{are_housed}
+use Rattle.table_form.specs.Tables.Plans.{IsPlan}
+use Rattle.table_form.specs.Tables.Rows.{Row}
+use Rattle.table_form.specs.Tables.Serves.{cell_of, cells_within, flat, owner_at}
+use Rattle.table_form.specs.Inside.Stretches.{stretches_from}
 use Rattle.table_form.proofs.Drafting.{distinct_at, found_in, on_core, window_of}
 use Rattle.table_form.proofs.Filters.{slice_get-filter}
 use Rattle.table_form.proofs.Supplies.{cells_within-le}

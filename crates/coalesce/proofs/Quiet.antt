@@ -2,7 +2,7 @@
 -- leftmost swap.
 use Rattle.std.proofs.Common.{◌≡◌, ℕ, ◌≤◌, List, [], ◌∷◌, ◌++◌, refl, ap, subst, sym, ◌∙◌, inl, inr, arith, append_assoc}
 use Rattle.tab_core.specs.declared.piece.Piece.{Piece}
-use Rattle.table_form.specs.Stretches.{Stretch, put_front}
+use Rattle.table_form.specs.Inside.Stretches.{Stretch, put_front}
 use Rattle.coalesce.specs.Joining.{CanSwap, NoSwap}
 use Rattle.coalesce.specs.Passing.{put_before}
 use Rattle.coalesce.proofs.Before.{before_last}

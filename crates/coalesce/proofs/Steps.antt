@@ -8,8 +8,8 @@ use Rattle.std.proofs.lemmas.List.{nil_from_length}
 use Rattle.std.proofs.lemmas.Option.{get_or_from_slice_get, slice_get_within}
 use Rattle.tab_core.specs.declared.TheConstants.{ROUND}
 use Rattle.tab_core.specs.declared.piece.Piece.{Piece}
-use Rattle.table_form.specs.Rows.{RisesTo, cells_from}
-use Rattle.table_form.specs.Stretches.{Stretch, put_front, stretch_of, stretches_from}
+use Rattle.table_form.specs.Tables.Rows.{RisesTo, cells_from}
+use Rattle.table_form.specs.Inside.Stretches.{Stretch, put_front, stretch_of, stretches_from}
 use Rattle.table_form.specs.declared.segment.Segment.{Segment}
 use Rattle.table_form.proofs.RowLemmas.{cells-nil, length-cells_from, rises_parts, same_owner}
 use Rattle.table_form.proofs.StretchLemmas.{same_as_itself, stretches-nil, stretches-segment}

@@ -1,7 +1,7 @@
 -- What swaps keep: the stretches stay maximal, and there are fewer of them.
 use Rattle.std.proofs.Common.{◌≡◌, ℕ, ◌+◌, ◌-◌, ◌<◌, ◌≤◌, List, [], ◌∷◌, ◌++◌, length, refl, ap, subst, sym, ◌∙◌, inl, inr, arith, length-append}
 use Rattle.tab_core.specs.declared.piece.Piece.{Piece}
-use Rattle.table_form.specs.Stretches.{Stretch, put_front}
+use Rattle.table_form.specs.Inside.Stretches.{Stretch, put_front}
 use Rattle.coalesce.specs.Joining.{CanSwap, SwapsLeftmost, SwapsTo, swapped}
 use Rattle.coalesce.specs.Joining.SwapsTo.{Again, Done}
 use Rattle.coalesce.specs.Passing.{AreMaximal, BeginsOther}

@@ -7,7 +7,7 @@ use Rattle.std.proofs.Common.{inl, inr}
 use Rattle.std.proofs.lemmas.Option.{slice_get-get_or}
 use Rattle.tab_core.specs.declared.TheConstants.{MAX_VCPUS}
 use Rattle.tab_core.specs.declared.piece.Piece.{Piece}
-use Rattle.table_form.specs.Stretches.{Stretch}
+use Rattle.table_form.specs.Inside.Stretches.{Stretch}
 use Rattle.table_form.proofs.RowLemmas.{same_owner}
 use Rattle.coalesce.specs.Joining.{CanSwap, NoBegin, NoEnd}
 use Rattle.coalesce.specs.Passing.{IsTableOf}

@@ -3,9 +3,9 @@ use Rattle.std.proofs.Common.{◌≡◌, ℕ, Bool, List, [], ◌∷◌, ◌++�
 use Rattle.std.proofs.lemmas.List.{ext_get_or}
 use Rattle.std.proofs.lemmas.Option.{slice_get-get_or}
 use Rattle.tab_core.specs.declared.piece.Piece.{Piece}
-use Rattle.table_form.specs.Drafts.{pieces_at}
-use Rattle.table_form.specs.Rows.{Row}
-use Rattle.table_form.specs.Stretches.{Stretch, stretches_from}
+use Rattle.table_form.specs.Planning.Drafts.{pieces_at}
+use Rattle.table_form.specs.Tables.Rows.{Row}
+use Rattle.table_form.specs.Inside.Stretches.{Stretch, stretches_from}
 use Rattle.coalesce.specs.Joining.{AreJoined, CanSwap, IsJoined, NoSwap, has_single_piece, SwapsLeftmost, SwapsTo, filled, swapped}
 use Rattle.coalesce.specs.Joining.SwapsTo.{Again, Done}
 use Rattle.coalesce.proofs.Maximal.{same_row}

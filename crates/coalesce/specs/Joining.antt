@@ -4,9 +4,9 @@
 -- workloads", EuroSys 2018; the two rules are this project's own.
 use Rattle.std.specs.Prelude.{◌≡◌, ℕ, ◌+◌, ◌-◌, ◌*◌, ◌<◌, ◌==◌, ◌&&◌, Bool, false, nat_lt, if◌then◌else◌, List, [], ◌∷◌, ◌++◌, Option, Some, None, count_by, length, slice_get}
 use Rattle.tab_core.specs.declared.piece.Piece.{Piece}
-use Rattle.table_form.specs.Drafts.{pieces_at}
-use Rattle.table_form.specs.Rows.{Row}
-use Rattle.table_form.specs.Stretches.{Stretch, put_front, stretches_from}
+use Rattle.table_form.specs.Planning.Drafts.{pieces_at}
+use Rattle.table_form.specs.Tables.Rows.{Row}
+use Rattle.table_form.specs.Inside.Stretches.{Stretch, put_front, stretches_from}
 
 -- no window of the vCPU's piece begins strictly between the two ticks
 abbrev pub NoBegin : List Piece → ℕ → ℕ → ℕ → Type 0

@@ -2,7 +2,7 @@
 use Rattle.std.specs.Prelude.{◌≡◌, ◌≢◌, ℕ, ◌<◌, List, [], ◌∷◌, ◌++◌, Option, Some, length, slice_get}
 use Rattle.tab_core.specs.declared.TheConstants.{MAX_VCPUS, ROUND}
 use Rattle.tab_core.specs.declared.piece.Piece.{Piece}
-use Rattle.table_form.specs.Stretches.{Stretch, put_front}
+use Rattle.table_form.specs.Inside.Stretches.{Stretch, put_front}
 use Rattle.coalesce.specs.Joining.{CanSwap, NoSwap, SwapsTo}
 
 -- the first of the stretches, if there is one, has another owner

@@ -1,7 +1,7 @@
 ghost use Rattle.std.specs.Prelude.{◌≡◌, ℕ, ◌-◌, ◌<◌, ◌≤◌, IfOk, map};
 ghost use Rattle.tab_core.specs.VcpuSets.{has_vcpu};
 ghost use Rattle.tab_core.specs.declared.TheConstants.{ROUND};
-ghost use Rattle.table_form.specs.Stretches.{stretch_of};
+ghost use Rattle.table_form.specs.Inside.Stretches.{stretch_of};
 ghost use Rattle.coalesce.specs.Joining.{filled, given};
 ghost use Rattle.coalesce.specs.Passing.{AreMaximal};
 

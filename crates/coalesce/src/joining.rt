@@ -2,10 +2,10 @@ ghost use Rattle.std.specs.Prelude.{◌≡◌, ℕ, ◌+◌, ◌*◌, ◌/◌, �
 ghost use Rattle.tab_core.specs.VcpuSets.{has_vcpu};
 ghost use Rattle.tab_core.specs.declared.TheConstants.{MAX_CORES, MAX_VCPUS, ROUND};
 ghost use Rattle.tab_core.specs.declared.piece.Piece.{Piece};
-ghost use Rattle.table_form.specs.Drafts.{HaveOwnCores, pieces_at};
-ghost use Rattle.table_form.specs.Rows.{Row, RisesTo, cells_from};
-ghost use Rattle.table_form.specs.Serves.{cells_within};
-ghost use Rattle.table_form.specs.Stretches.{stretches_from};
+ghost use Rattle.table_form.specs.Planning.Drafts.{HaveOwnCores, pieces_at};
+ghost use Rattle.table_form.specs.Tables.Rows.{Row, RisesTo, cells_from};
+ghost use Rattle.table_form.specs.Tables.Serves.{cells_within};
+ghost use Rattle.table_form.specs.Inside.Stretches.{stretches_from};
 ghost use Rattle.coalesce.specs.Joining.{AreJoined, IsJoined};
 ghost use Rattle.coalesce.specs.Passing.{IsTableOf};
 

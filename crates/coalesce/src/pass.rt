@@ -1,8 +1,8 @@
 ghost use Rattle.std.specs.Prelude.{◌≡◌, ℕ, suc, ◌+◌, ◌-◌, ◌<◌, ◌≤◌, ◌↔◌, Bool, IsTrue, List, [], ◌∷◌, ◌++◌, IfOk, OnOk, Some, drop, length, map, slice_get};
 ghost use Rattle.tab_core.specs.declared.TheConstants.{MAX_VCPUS, ROUND};
 ghost use Rattle.tab_core.specs.declared.piece.Piece.{Piece};
-ghost use Rattle.table_form.specs.Rows.{RisesTo, cells_from};
-ghost use Rattle.table_form.specs.Stretches.{Stretch, stretch_of, stretches_from};
+ghost use Rattle.table_form.specs.Tables.Rows.{RisesTo, cells_from};
+ghost use Rattle.table_form.specs.Inside.Stretches.{Stretch, stretch_of, stretches_from};
 ghost use Rattle.table_form.specs.declared.segment.Segment.{Segment};
 ghost use Rattle.coalesce.specs.Joining.{SwapsTo};
 ghost use Rattle.coalesce.specs.Passing.{AreMaximal, BeginsOther, CanSwapLast, EndBelow, EndsWith, IsPassed, IsTableOf, StandInRow, put_before};

@@ -1,7 +1,7 @@
 ghost use Rattle.std.specs.Prelude.{◌≡◌, ℕ, ◌+◌, ◌*◌, ◌<◌, ◌≤◌, ◌↔◌, IsTrue, List, length};
 ghost use Rattle.tab_core.specs.declared.TheConstants.{MAX_VCPUS, ROUND};
 ghost use Rattle.tab_core.specs.declared.piece.Piece.{Piece};
-ghost use Rattle.table_form.specs.Stretches.{stretch_of};
+ghost use Rattle.table_form.specs.Inside.Stretches.{stretch_of};
 ghost use Rattle.coalesce.specs.Joining.{CanSwap, NoBegin, NoEnd};
 ghost use Rattle.coalesce.specs.Passing.{IsTableOf};
 

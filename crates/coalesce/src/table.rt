@@ -1,6 +1,6 @@
 ghost use Rattle.std.specs.Prelude.{◌≡◌, ℕ, IfOk};
 ghost use Rattle.tab_core.specs.VcpuSets.{has_vcpu};
-ghost use Rattle.table_form.specs.Drafts.{HaveOwnCores, pieces_at};
+ghost use Rattle.table_form.specs.Planning.Drafts.{HaveOwnCores, pieces_at};
 ghost use Rattle.coalesce.specs.Joining.{has_single_piece};
 ghost use Rattle.coalesce.specs.Passing.{IsTableOf};
 

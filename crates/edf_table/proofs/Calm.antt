@@ -5,10 +5,10 @@ use Rattle.std.proofs.lemmas.Bool.{cases_eq, cases_lt, and_from, le-leb, lt-leb,
 use Rattle.std.proofs.lemmas.List.{set-get_or, map-append, replicate-append-replicate}
 use Rattle.tab_core.specs.declared.TheConstants.{ROUND}
 use Rattle.tab_core.specs.declared.piece.Piece.{Piece}
-use Rattle.table_form.specs.EdfRow.{edf_cells, owner_of}
-use Rattle.table_form.specs.Jobs.{Job, jobs_of}
+use Rattle.table_form.specs.Planning.EdfRow.{edf_cells, owner_of}
+use Rattle.table_form.specs.Planning.Jobs.{Job, jobs_of}
 use Rattle.edf_table.specs.Progress.{IsCalm, AreCalm, GoesTo, IsCounted, MetBefore, IsMostUrgent, IsDueFirst, ServedBelow, cell, window_no, is_ready, due_at}
-use Rattle.table_form.specs.Windows.{DistinctVcpus}
+use Rattle.table_form.specs.Planning.Windows.{DistinctVcpus}
 use Rattle.edf_table.proofs.Cells.{edf_cells-suc}
 use Rattle.edf_table.proofs.Steps.{counted_idle, counted_run, idle_cell_any, met_more_any, one_more}
 use Rattle.edf_table.proofs.Turns.{begun, not_later, ready_parts, some_period, urgent_cell}

@@ -1,8 +1,8 @@
 -- The cells of the row, one more at a time.
 use Rattle.std.proofs.Common.{◌≡◌, ℕ, zero, suc, ◌+◌, cond, List, [], ◌∷◌, ◌++◌, length, Option, refl, arith, length-append}
 use Rattle.std.proofs.lemmas.List.Sums.{sum_by_push}
-use Rattle.table_form.specs.Jobs.{Job}
-use Rattle.table_form.specs.EdfRow.{cells_of, is_run_of, edf_cells, first_pending}
+use Rattle.table_form.specs.Planning.Jobs.{Job}
+use Rattle.table_form.specs.Planning.EdfRow.{cells_of, is_run_of, edf_cells, first_pending}
 
 -- one more cell
 pub cells_of-push : (j : Job) (cells : List (Option Job)) (c : Option Job)

@@ -1,8 +1,8 @@
 -- How many cells a job has had by a tick.
 use Rattle.std.proofs.Common.{◌≡◌, ℕ, zero, suc, ◌+◌, ◌-◌, ◌<◌, ◌≤◌, true, cond, eqb, ltb, leb, List, [], ◌∷◌, Option, Some, None, refl, ap, subst, sym, ◌∙◌, inl, inr, arith, add-zero, add-suc}
 use Rattle.std.proofs.lemmas.Bool.{cases_Bool, false≢true, and_parts, leb-true, ltb-true, eqb-true}
-use Rattle.table_form.specs.Jobs.{Job}
-use Rattle.table_form.specs.EdfRow.{cells_of, is_run_of, is_pending, edf_cells}
+use Rattle.table_form.specs.Planning.Jobs.{Job}
+use Rattle.table_form.specs.Planning.EdfRow.{cells_of, is_run_of, is_pending, edf_cells}
 use Rattle.edf_table.specs.Progress.{Among, cell, had}
 use Rattle.edf_table.proofs.Cells.{cells_of-push, cells_of-none, edf_cells-suc, edf_cells-zero}
 use Rattle.edf_table.proofs.First.{IsFirst, first_pending_is}

@@ -5,9 +5,9 @@ use Rattle.std.specs.List.{sum_by}
 use Rattle.std.proofs.lemmas.List.Sums.{sum_by-cons}
 use Rattle.std.proofs.lemmas.Bool.{cases_Bool, cases_lt, false≢true, and_parts, and_from, leb-true, le-leb, lt-ltb, eqb-true, ltb-true}
 use Rattle.std.proofs.lemmas.Bool.Decides.{nat_tests}
-use Rattle.table_form.specs.Jobs.{Job}
-use Rattle.table_form.specs.Demand.{is_inside, demand_in}
-use Rattle.table_form.specs.EdfRow.{cells_of, is_run_of, is_same_job, is_pending, edf_cells}
+use Rattle.table_form.specs.Planning.Jobs.{Job}
+use Rattle.table_form.specs.Planning.Demand.{is_inside, demand_in}
+use Rattle.table_form.specs.Planning.EdfRow.{cells_of, is_run_of, is_same_job, is_pending, edf_cells}
 use Rattle.edf_table.specs.Progress.{Among, cell, had}
 use Rattle.edf_table.proofs.Sums.{sum_le, sum_lt, sum_zero, sum_le_add}
 use Rattle.edf_table.proofs.Cells.{cells_of-push, edf_cells-suc}

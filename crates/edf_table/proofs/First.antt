@@ -2,8 +2,8 @@
 use Rattle.std.proofs.Common.{◌≡◌, ℕ, ◌<◌, ◌≤◌, Bool, true, false, cond, List, [], ◌∷◌, Option, Some, None, refl, ap, subst, sym, ◌∙◌, inl, inr, ◌⊎◌, arith}
 use Rattle.std.proofs.lemmas.Bool.{false≢true}
 use Rattle.std.proofs.lemmas.Bool.Decides.{nat_tests}
-use Rattle.table_form.specs.Jobs.{Job}
-use Rattle.table_form.specs.EdfRow.{is_pending, comes_before, sooner, first_pending}
+use Rattle.table_form.specs.Planning.Jobs.{Job}
+use Rattle.table_form.specs.Planning.EdfRow.{is_pending, comes_before, sooner, first_pending}
 use Rattle.edf_table.specs.Progress.{Among}
 
 -- b is not after a in the order of jobs, as a fact on numbers

@@ -6,10 +6,10 @@ use Rattle.std.proofs.lemmas.List.{get_or_append_left, length-map}
 use Rattle.std.proofs.lemmas.Option.{slice_get-get_or, slice_get-map}
 use Rattle.tab_core.specs.declared.TheConstants.{ROUND}
 use Rattle.tab_core.specs.declared.piece.Piece.{Piece}
-use Rattle.table_form.specs.EdfRow.{edf_cells, edf_row, owner_of}
-use Rattle.table_form.specs.Jobs.{Job, jobs_of}
+use Rattle.table_form.specs.Planning.EdfRow.{edf_cells, edf_row, owner_of}
+use Rattle.table_form.specs.Planning.Jobs.{Job, jobs_of}
 use Rattle.edf_table.specs.Progress.{MetBefore, cell, had}
-use Rattle.table_form.specs.Windows.{IsInWindow}
+use Rattle.table_form.specs.Planning.Windows.{IsInWindow}
 use Rattle.edf_table.proofs.Cells.{edf_cells-suc, length-edf_cells}
 use Rattle.edf_table.proofs.Counts.{had_le_had}
 use Rattle.edf_table.proofs.First.{IsFirst, first_pending_is}

@@ -7,10 +7,10 @@ use Rattle.std.proofs.Math.Nat.{mul-le-mul_left}
 use Rattle.tab_core.specs.declared.TheConstants.{ROUND}
 use Rattle.tab_core.specs.declared.piece.Piece.{Piece}
 use Rattle.tab_core.proofs.Periods.{period_facts}
-use Rattle.table_form.specs.Jobs.{Job, job_of, subtask_of, jobs_of}
-use Rattle.table_form.specs.Demand.{demand_in, Fits, IsOverloaded}
+use Rattle.table_form.specs.Planning.Jobs.{Job, job_of, subtask_of, jobs_of}
+use Rattle.table_form.specs.Planning.Demand.{demand_in, Fits, IsOverloaded}
 use Rattle.edf_table.specs.Progress.{IsCounted, MetBefore, SomeMissed, ServedBelow, IsMissedAt, IsFirstEnd, had}
-use Rattle.table_form.specs.Windows.{DistinctVcpus}
+use Rattle.table_form.specs.Planning.Windows.{DistinctVcpus}
 use Rattle.edf_table.specs.Progress.{demand_from}
 use Rattle.edf_table.proofs.Criterion.{met_fits, miss_overloads}
 use Rattle.edf_table.proofs.Steps.{met_more_any}

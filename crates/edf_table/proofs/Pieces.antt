@@ -6,10 +6,10 @@ use Rattle.std.proofs.lemmas.Option.{slice_get-get_or}
 use Rattle.tab_core.specs.declared.TheConstants.{ROUND}
 use Rattle.tab_core.specs.declared.piece.Piece.{Piece}
 use Rattle.tab_core.proofs.Periods.{period_facts}
-use Rattle.table_form.specs.Jobs.{Job, Subtask, job_of, subtask_of, first_jobs, jobs_of}
-use Rattle.table_form.specs.EdfRow.{first_pending}
+use Rattle.table_form.specs.Planning.Jobs.{Job, Subtask, job_of, subtask_of, first_jobs, jobs_of}
+use Rattle.table_form.specs.Planning.EdfRow.{first_pending}
 use Rattle.edf_table.specs.Progress.{Among}
-use Rattle.table_form.specs.Windows.{DistinctVcpus}
+use Rattle.table_form.specs.Planning.Windows.{DistinctVcpus}
 use Rattle.edf_table.proofs.Counts.{Distinct}
 
 among_left : (xs ys : List Job) (j : Job) → Among xs j → Among (xs ++ ys) j

@@ -6,8 +6,8 @@ use Rattle.std.proofs.lemmas.Bool.Decides.{nat_tests}
 use Rattle.tab_core.specs.declared.TheConstants.{ROUND}
 use Rattle.tab_core.specs.Period.{IsPeriod}
 use Rattle.tab_core.proofs.Periods.{period_facts}
-use Rattle.table_form.specs.Jobs.{Job, Subtask, job_of, first_jobs}
-use Rattle.table_form.specs.Demand.{demand_in, is_inside}
+use Rattle.table_form.specs.Planning.Jobs.{Job, Subtask, job_of, first_jobs}
+use Rattle.table_form.specs.Planning.Demand.{demand_in, is_inside}
 use Rattle.edf_table.proofs.Pieces.{first_jobs-suc, first_jobs-zero}
 use Rattle.edf_table.proofs.Whole.{demand_in-append, demand_in-one, demand_in-none}
 use Rattle.edf_table.specs.Beside.{FitsBeside, tight}

@@ -5,8 +5,8 @@ use Rattle.std.proofs.lemmas.List.Sums.{sum_by-append}
 use Rattle.std.proofs.lemmas.Bool.{cases_eq, cases_lt, lt-leb, cases_Bool, and_parts, and_from, leb-true, le-leb, eqb-true, eq-eqb}
 use Rattle.tab_core.specs.declared.TheConstants.{ROUND}
 use Rattle.tab_core.specs.declared.piece.Piece.{Piece}
-use Rattle.table_form.specs.Jobs.{Job, Subtask, job_of, subtask_of, first_jobs, jobs_of}
-use Rattle.table_form.specs.Demand.{IsOverloaded, demand_in, is_inside}
+use Rattle.table_form.specs.Planning.Jobs.{Job, Subtask, job_of, subtask_of, first_jobs, jobs_of}
+use Rattle.table_form.specs.Planning.Demand.{IsOverloaded, demand_in, is_inside}
 use Rattle.edf_table.specs.Progress.{Among, NoBegin}
 use Rattle.edf_table.specs.Progress.{demand_from}
 use Rattle.edf_table.proofs.Sums.{sum_le, sum_zero}

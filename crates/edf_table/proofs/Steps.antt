@@ -8,10 +8,10 @@ use Rattle.std.proofs.lemmas.Bool.{cases_eq, cases_lt, and_from, eq-eqb, ne_eqb,
 use Rattle.std.proofs.lemmas.Option.{slice_get-get_or}
 use Rattle.tab_core.specs.declared.TheConstants.{ROUND}
 use Rattle.tab_core.specs.declared.piece.Piece.{Piece}
-use Rattle.table_form.specs.Jobs.{Job, job_of, subtask_of, jobs_of}
-use Rattle.table_form.specs.EdfRow.{is_run_of, is_same_job, edf_cells, edf_row, owner_of}
+use Rattle.table_form.specs.Planning.Jobs.{Job, job_of, subtask_of, jobs_of}
+use Rattle.table_form.specs.Planning.EdfRow.{is_run_of, is_same_job, edf_cells, edf_row, owner_of}
 use Rattle.edf_table.specs.Progress.{IsCounted, MetBefore, IsMostUrgent, ServedBelow, cell, had, window_no, is_ready}
-use Rattle.table_form.specs.Windows.{DistinctVcpus}
+use Rattle.table_form.specs.Planning.Windows.{DistinctVcpus}
 use Rattle.edf_table.proofs.Counts.{had-suc, had-zero, had_le_had}
 use Rattle.edf_table.proofs.Pieces.{job_among, job_place, same_multiple, no_jobs, none_of_none}
 use Rattle.edf_table.proofs.Turns.{urgent_cell, idle_cell, some_period, ready_parts, earlier_is_over, in_round}

@@ -2,7 +2,7 @@
 use Rattle.std.proofs.Common.{◌≡◌, ℕ, ◌+◌, ◌<◌, ◌≤◌, List, [], ◌∷◌, refl, subst, sym, inl, inr, arith}
 use Rattle.std.specs.List.{sum_by}
 use Rattle.std.proofs.lemmas.List.Sums.{sum_by-cons}
-use Rattle.table_form.specs.Jobs.{Job}
+use Rattle.table_form.specs.Planning.Jobs.{Job}
 use Rattle.edf_table.specs.Progress.{Among}
 
 pub sum_le : (f g : Job → ℕ) (js : List Job) → ((j : Job) → Among js j → f j ≤ g j)

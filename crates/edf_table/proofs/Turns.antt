@@ -5,10 +5,10 @@ use Rattle.std.proofs.lemmas.Bool.{cases_lt, false≢true, and_parts, and_from, 
 use Rattle.tab_core.specs.declared.TheConstants.{ROUND}
 use Rattle.tab_core.specs.declared.piece.Piece.{Piece}
 use Rattle.tab_core.proofs.Periods.{period_facts}
-use Rattle.table_form.specs.Jobs.{Job, job_of, subtask_of, jobs_of}
-use Rattle.table_form.specs.EdfRow.{is_pending, edf_cells}
+use Rattle.table_form.specs.Planning.Jobs.{Job, job_of, subtask_of, jobs_of}
+use Rattle.table_form.specs.Planning.EdfRow.{is_pending, edf_cells}
 use Rattle.edf_table.specs.Progress.{Among, IsCounted, MetBefore, IsMostUrgent, cell, had, window_no, is_ready}
-use Rattle.table_form.specs.Windows.{DistinctVcpus}
+use Rattle.table_form.specs.Planning.Windows.{DistinctVcpus}
 use Rattle.edf_table.proofs.Counts.{Distinct, distinct_same, had_le_had}
 use Rattle.edf_table.proofs.First.{IsFirst, NotAfter, first_pending_is}
 use Rattle.edf_table.proofs.Pieces.{job_among, job_place, jobs_of_distinct}

@@ -7,8 +7,8 @@ use Rattle.std.proofs.Math.Nat.{mul-le-mul_left}
 use Rattle.tab_core.specs.declared.TheConstants.{ROUND}
 use Rattle.tab_core.specs.declared.piece.Piece.{Piece}
 use Rattle.tab_core.proofs.Periods.{period_facts}
-use Rattle.table_form.specs.Jobs.{Job, Subtask, job_of, subtask_of, first_jobs, jobs_of}
-use Rattle.table_form.specs.Demand.{demand_in, is_inside, Fits}
+use Rattle.table_form.specs.Planning.Jobs.{Job, Subtask, job_of, subtask_of, first_jobs, jobs_of}
+use Rattle.table_form.specs.Planning.Demand.{demand_in, is_inside, Fits}
 use Rattle.edf_table.specs.Load.{AllWhole, IsWhole, load}
 use Rattle.edf_table.proofs.Pieces.{first_jobs-suc, first_jobs-zero, jobs_of-cons, jobs_of-nil}
 

@@ -9,11 +9,11 @@ use Rattle.std.proofs.lemmas.Bool.{cases_Bool, cases_eq, cases_lt, false≢true,
 use Rattle.tab_core.specs.declared.TheConstants.{ROUND}
 use Rattle.tab_core.specs.declared.piece.Piece.{Piece}
 use Rattle.tab_core.proofs.Periods.{period_facts}
-use Rattle.table_form.specs.Jobs.{Job, Subtask, job_of, subtask_of, first_jobs, jobs_of}
-use Rattle.table_form.specs.EdfRow.{is_run_of, is_same_job, edf_cells, edf_row, owner_of}
-use Rattle.table_form.specs.Serves.{is_cell_of, cells_within}
+use Rattle.table_form.specs.Planning.Jobs.{Job, Subtask, job_of, subtask_of, first_jobs, jobs_of}
+use Rattle.table_form.specs.Planning.EdfRow.{is_run_of, is_same_job, edf_cells, edf_row, owner_of}
+use Rattle.table_form.specs.Tables.Serves.{is_cell_of, cells_within}
 use Rattle.edf_table.specs.Progress.{Among, MetBefore, cell, had}
-use Rattle.table_form.specs.Windows.{DistinctVcpus}
+use Rattle.table_form.specs.Planning.Windows.{DistinctVcpus}
 use Rattle.edf_table.proofs.Sums.{sum_lt, sum_zero}
 use Rattle.edf_table.proofs.Cells.{edf_cells-suc, edf_cells-zero, length-edf_cells}
 use Rattle.edf_table.proofs.First.{IsFirst, first_pending_is}

@@ -2,8 +2,8 @@
 -- Source: the C=D scheme of A. Burns, R. I. Davis, P. Wang, F. Zhang, "Partitioned EDF scheduling
 -- for multiprocessors using a C=D task splitting scheme", Real-Time Systems 48, 2012.
 use Rattle.std.specs.Prelude.{ℕ, ◌+◌, List, ◌++◌}
-use Rattle.table_form.specs.Jobs.{Job, Subtask, jobs_of_subtask}
-use Rattle.table_form.specs.Demand.{Fits}
+use Rattle.table_form.specs.Planning.Jobs.{Job, Subtask, jobs_of_subtask}
+use Rattle.table_form.specs.Planning.Demand.{Fits}
 
 -- a subtask without slack: its deadline comes as soon as its cost can be done
 abbrev pub tight : ℕ → ℕ → ℕ → ℕ → Subtask

@@ -1,7 +1,7 @@
 -- What a refusal tells: the reported overloaded interval and its demand.
 use Rattle.std.specs.Prelude.{◌≡◌, ℕ, List}
-use Rattle.table_form.specs.Jobs.{Job}
-use Rattle.table_form.specs.Demand.{demand_in, IsFirstOverload}
+use Rattle.table_form.specs.Planning.Jobs.{Job}
+use Rattle.table_form.specs.Planning.Demand.{demand_in, IsFirstOverload}
 use Rattle.edf_table.specs.declared.overload.Overload.{Overload}
 use Rattle.edf_table.specs.declared.fault.EdfFault.{EdfFault}
 use Rattle.edf_table.specs.declared.fault.EdfFault.TheVariants.{Miss, NoMemory}

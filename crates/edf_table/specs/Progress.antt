@@ -3,9 +3,9 @@ use Rattle.std.specs.List.{sum_by}
 use Rattle.std.specs.Prelude.{◌==◌, if◌then◌else◌, ◌≡◌, ℕ, ◌+◌, ◌-◌, ◌*◌, ◌/◌, ◌<◌, ◌≤◌, ◌&&◌, ◌⊎◌, Bool, true, nat_le, nat_lt, min, List, [], ◌∷◌, length, slice_index, slice_index_or, Option, MatchOption, false}
 use Rattle.tab_core.specs.declared.TheConstants.{ROUND}
 use Rattle.tab_core.specs.declared.piece.Piece.{Piece}
-use Rattle.table_form.specs.Jobs.{Job, job_of, subtask_of, jobs_of}
-use Rattle.table_form.specs.Demand.{IsOverloaded}
-use Rattle.table_form.specs.EdfRow.{cells_of, edf_cells, first_pending, owner_of}
+use Rattle.table_form.specs.Planning.Jobs.{Job, job_of, subtask_of, jobs_of}
+use Rattle.table_form.specs.Planning.Demand.{IsOverloaded}
+use Rattle.table_form.specs.Planning.EdfRow.{cells_of, edf_cells, first_pending, owner_of}
 
 -- the job is one of the list
 abbrev pub Among : List Job → Job → Type 0

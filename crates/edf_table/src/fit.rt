@@ -1,9 +1,9 @@
 ghost use Rattle.std.specs.Prelude.{◌≡◌, IfNone, IfSome, true, false};
-ghost use Rattle.table_form.specs.Demand.{Fits};
-ghost use Rattle.table_form.specs.Jobs.{jobs_of};
+ghost use Rattle.table_form.specs.Planning.Demand.{Fits};
+ghost use Rattle.table_form.specs.Planning.Jobs.{jobs_of};
 ghost use Rattle.edf_table.specs.Overloads.{IsOverloadOf};
 ghost use Rattle.edf_table.specs.Progress.{IsFirstEnd};
-ghost use Rattle.table_form.specs.Windows.{DistinctVcpus};
+ghost use Rattle.table_form.specs.Planning.Windows.{DistinctVcpus};
 
 use crate::light::are_whole_and_light;
 use crate::overload::{Overload, last_overload};

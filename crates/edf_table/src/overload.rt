@@ -1,9 +1,9 @@
 ghost use Rattle.std.specs.Prelude.{◌≡◌, ◌+◌, ◌<◌, ℕ, ◌*◌, ◌/◌, ◌^◌, ◌≤◌, length};
 ghost use Rattle.tab_core.specs.declared.TheConstants.{ROUND};
-ghost use Rattle.table_form.specs.Jobs.{first_jobs, jobs_of, subtask_of};
+ghost use Rattle.table_form.specs.Planning.Jobs.{first_jobs, jobs_of, subtask_of};
 ghost use Rattle.edf_table.specs.Overloads.{IsOverloadOf};
 ghost use Rattle.edf_table.specs.Progress.{IsFirstEnd, NoBegin, demand_from};
-ghost use Rattle.table_form.specs.Windows.{DistinctVcpus};
+ghost use Rattle.table_form.specs.Planning.Windows.{DistinctVcpus};
 
 use tab_core::{Piece, ROUND};
 

@@ -1,11 +1,11 @@
 ghost use Rattle.std.specs.Prelude.{◌≡◌, ◌+◌, ◌++◌, ◌≤◌, IfErr, IfOk, OnOk, length, replicate};
 ghost use Rattle.edf_table.specs.declared.fault.EdfFault.TheVariants.{Miss};
 ghost use Rattle.tab_core.specs.declared.TheConstants.{ROUND};
-ghost use Rattle.table_form.specs.Demand.{Fits};
-ghost use Rattle.table_form.specs.EdfRow.{edf_row};
-ghost use Rattle.table_form.specs.Jobs.{jobs_of};
+ghost use Rattle.table_form.specs.Planning.Demand.{Fits};
+ghost use Rattle.table_form.specs.Planning.EdfRow.{edf_row};
+ghost use Rattle.table_form.specs.Planning.Jobs.{jobs_of};
 ghost use Rattle.edf_table.specs.Overloads.{IsFaultOf};
-ghost use Rattle.table_form.specs.Windows.{DistinctVcpus, KeepsToWindows, ServesWindows};
+ghost use Rattle.table_form.specs.Planning.Windows.{DistinctVcpus, KeepsToWindows, ServesWindows};
 
 use crate::fault::EdfFault;
 use crate::fit::find_overload;

@@ -1,6 +1,6 @@
 ghost use Rattle.std.specs.Prelude.{◌≡◌, ◌≤◌};
 ghost use Rattle.tab_core.specs.Period.{IsPeriod};
-ghost use Rattle.table_form.specs.Windows.{DistinctVcpus};
+ghost use Rattle.table_form.specs.Planning.Windows.{DistinctVcpus};
 
 use crate::{EdfFault, Overload, find_overload, fits, simulate};
 use std::test::Fail;

@@ -5,14 +5,14 @@ use Rattle.std.proofs.lemmas.Option.{slice_get_within}
 use Rattle.std.specs.Prelude.{slice_get, slice_index}
 use Rattle.tab_core.specs.declared.TheConstants.{MAX_CHANGES, MAX_EVENTS, MAX_ROUNDS}
 use Rattle.tab_core.specs.declared.host.Host.{Host}
-use Rattle.table_form.specs.CourseViews.{course_view}
-use Rattle.table_form.specs.Courses.{CourseView, FitsRounds, IsCourseForm, no_plan, plan_after}
-use Rattle.table_form.specs.Plans.{IsPlanFor, PlanView}
-use Rattle.table_form.specs.Views.{plan_view}
+use Rattle.table_form.specs.Running.CourseViews.{course_view}
+use Rattle.table_form.specs.Running.Courses.{CourseView, FitsRounds, IsCourseForm, no_plan, plan_after}
+use Rattle.table_form.specs.Tables.Plans.{IsPlanFor, PlanView}
+use Rattle.table_form.specs.Tables.Views.{plan_view}
 use Rattle.table_form.specs.declared.plan.Plan.{Plan}
 use Rattle.script_doc.specs.Script.{AreInRun, NeverFall, changes_in}
 use Rattle.script_doc.specs.declared.event.Event.{Event}
-use Rattle.plan_book.specs.After.{IsKnownAfter, Known}
+use Rattle.plan_book.specs.After.{IsKnownAfter, BookState}
 use Rattle.plan_book.specs.Books.{BookView, IsBookOf, Shows, book_view, ticks_of}
 use Rattle.plan_book.specs.Steps.{IsKept, IsMade, known_of}
 use Rattle.plan_book.specs.declared.latest.Latest.{Latest}
@@ -113,7 +113,7 @@ form_of host events latest numbers runnable made order few =
 -- it shows what is known
 shows : (host : Host) (events : List Event) (latest : Latest) (numbers : List ℕ)
     (runnable : List (List Bool)) → IsMade host events (length events) latest numbers runnable
-    → (n : ℕ) (known : Known) → IsKnownAfter host events n known
+    → (n : ℕ) (known : BookState) → IsKnownAfter host events n known
     → Shows (course_of host events latest.plans.items numbers runnable) n known
 shows host events latest numbers runnable made n known is =
     let kept = made.kept n (known_within host events n known is) in
@@ -138,16 +138,16 @@ is_book host events latest numbers runnable made = record {
   quantum = refl;
   ticks = refl;
   after = shows host events latest numbers runnable made;
-  outcomes = λ known is. ap (λ (k : Known). k.outcomes)
+  outcomes = λ known is. ap (λ (k : BookState). k.outcomes)
       (known_unique host events (length events) (known_of latest) known made.known is);
 }
 
 pub fits_known : (host : Host) (events : List Event) (latest : Latest) (numbers : List ℕ)
     (runnable : List (List Bool)) → IsMade host events (length events) latest numbers runnable
-    → (n : ℕ) (known : Known) → IsKnownAfter host events n known → IsPlanFor known.host known.plan
+    → (n : ℕ) (known : BookState) → IsKnownAfter host events n known → IsPlanFor known.host known.plan
 fits_known host events latest numbers runnable made n known is =
     let kept = made.kept n (known_within host events n known is) in
-    subst (λ (k : Known). IsPlanFor k.host k.plan)
+    subst (λ (k : BookState). IsPlanFor k.host k.plan)
     (known_unique host events n kept.known known kept.is is) kept.fits
 
 pub count_of_vcpus : (host : Host) (events : List Event) (latest : Latest) (numbers : List ℕ)

@@ -6,14 +6,14 @@ use Rattle.std.proofs.lemmas.Option.{slice_get-get_or}
 use Rattle.std.specs.Prelude.{slice_get}
 use Rattle.tab_core.specs.declared.TheConstants.{MAX_CHANGES}
 use Rattle.tab_core.specs.declared.host.Host.{Host}
-use Rattle.table_form.specs.Courses.{no_plan}
-use Rattle.table_form.specs.Plans.{IsPlanFor, PlanView}
-use Rattle.table_form.specs.Views.{plan_view}
+use Rattle.table_form.specs.Running.Courses.{no_plan}
+use Rattle.table_form.specs.Tables.Plans.{IsPlanFor, PlanView}
+use Rattle.table_form.specs.Tables.Views.{plan_view}
 use Rattle.table_form.specs.declared.plan.Plan.{Plan}
 use Rattle.script_doc.specs.Events.{IsWithin}
 use Rattle.script_doc.specs.Script.{AreWithin, changes_in}
 use Rattle.script_doc.specs.declared.event.Event.{Event}
-use Rattle.plan_book.specs.After.{Follows, IsKnownAfter, IsKnownAtFirst}
+use Rattle.plan_book.specs.After.{Applies, IsKnownAfter, IsKnownAtFirst}
 use Rattle.plan_book.specs.Steps.{Grows, IsKept, IsMade, known_of, plan_of}
 use Rattle.plan_book.specs.declared.latest.Latest.{Latest}
 use Rattle.plan_book.proofs.Lists.{push_new, push_old, there}
@@ -114,7 +114,7 @@ used_next plans more numbers n numbered (inr (p, pushed)) used k lt = by_size (c
 -- what is known after one event more
 pub known_next : (host : Host) (events : List Event) (n : ℕ) (event : Event) (old new : Latest)
     → IsKnownAfter host events n (known_of old) → n < length events → event ≡ get_or events n event
-    → Follows (known_of old) event.act (known_of new) → IsKnownAfter host events (n + 1) (known_of new)
+    → Applies (known_of old) event.act (known_of new) → IsKnownAfter host events (n + 1) (known_of new)
 known_next host events n event old new known lt is follows =
     let at : slice_get events n ≡ Some event = slice_get-get_or events n event lt ∙ ap Some (sym is) in
     let next : suc n ≡ n + 1 = omega arith in
@@ -124,7 +124,7 @@ known_next host events n event old new known lt is follows =
 pub made_next : (host : Host) (events : List Event) (n : ℕ) (event : Event) (old new : Latest)
     (numbers numbers' : List ℕ) (runnable runnable' : List (List Bool)) →
     IsMade host events n old numbers runnable → n < length events → event ≡ get_or events n event
-    → Follows (known_of old) event.act (known_of new)
+    → Applies (known_of old) event.act (known_of new)
     → Grows old.plans.items new.plans.items → IsPlanFor new.host (known_of new).plan
     → numbers' ≡ numbers ++ (known_of new).number ∷ [] → runnable' ≡ runnable ++ new.runnable ∷ []
     → IsMade host events (n + 1) new numbers' runnable'

@@ -6,7 +6,7 @@ use Rattle.tab_core.specs.declared.host.Host.{Host}
 use Rattle.script_doc.specs.declared.event.Act.{Act}
 use Rattle.script_doc.specs.declared.event.Act.TheVariants.{Wake, Block, Change}
 use Rattle.script_doc.specs.declared.event.Event.{Event}
-use Rattle.plan_book.specs.After.{Follows, IsKnownAfter, IsUnplanned, Known}
+use Rattle.plan_book.specs.After.{Applies, IsKnownAfter, IsUnplanned, BookState}
 use Rattle.plan_book.specs.Books.{NameVcpusBelow, NamesVcpuBelow}
 use Rattle.plan_book.specs.declared.outcome.Outcome.{Outcome}
 use Rattle.plan_book.specs.declared.outcome.Outcome.TheVariants.{Planned, NoPeriod, NoRoom}
@@ -23,13 +23,13 @@ unplanned_below host (NoRoom vcpu) (rest, over, first) =
     let size = first.is_start.tasks_are.as_many in
     omega arith
 
-named_follow : (count : ℕ) (known : Known) (act : Act) (next : Known)
-    → length known.host.vcpus ≡ count → NameVcpusBelow count known.outcomes → Follows known act next
+named_follow : (count : ℕ) (known : BookState) (act : Act) (next : BookState)
+    → length known.host.vcpus ≡ count → NameVcpusBelow count known.outcomes → Applies known act next
     → NameVcpusBelow count next.outcomes
 named_follow count known (Wake vcpu) next size named follows =
-    subst (NameVcpusBelow count) (sym (ap (λ (k : Known). k.outcomes) follows)) named
+    subst (NameVcpusBelow count) (sym (ap (λ (k : BookState). k.outcomes) follows)) named
 named_follow count known (Block vcpu) next size named follows =
-    subst (NameVcpusBelow count) (sym (ap (λ (k : Known). k.outcomes) follows)) named
+    subst (NameVcpusBelow count) (sym (ap (λ (k : BookState). k.outcomes) follows)) named
 named_follow count known (Change edits) next size named (inl taken) =
     subst (NameVcpusBelow count) (sym taken.outcomes)
     (All-push (NamesVcpuBelow count) known.outcomes Planned named tt)
@@ -37,11 +37,11 @@ named_follow count known (Change edits) next size named (inr refused) =
     let same = same_count known.host edits refused.host refused.edited ∙ size in
     let below = subst (λ n. NamesVcpuBelow n refused.outcome) same
     (unplanned_below refused.host refused.outcome refused.unplanned) in
-    subst (NameVcpusBelow count) (sym (ap (λ (k : Known). k.outcomes) refused.becomes))
+    subst (NameVcpusBelow count) (sym (ap (λ (k : BookState). k.outcomes) refused.becomes))
     (All-push (NamesVcpuBelow count) known.outcomes refused.outcome named below)
 
 -- whatever is known has only such outcomes
-pub named_below : (host : Host) (events : List Event) (n : ℕ) (known : Known)
+pub named_below : (host : Host) (events : List Event) (n : ℕ) (known : BookState)
     → IsKnownAfter host events n known → NameVcpusBelow (length host.vcpus) known.outcomes
 named_below host events zero known is =
     subst (NameVcpusBelow (length host.vcpus)) (sym is.no_outcome) (λ k outcome lt. absurd (omega arith))

@@ -6,15 +6,15 @@ use Rattle.tab_core.specs.Edits.{IsEdited}
 use Rattle.tab_core.specs.declared.edit.Edit.{Edit}
 use Rattle.tab_core.specs.declared.host.Host.{Host}
 use Rattle.tab_core.specs.declared.over.Over.{Over}
-use Rattle.table_form.specs.Courses.{no_plan}
-use Rattle.table_form.specs.Plans.{IsPlanFor, PlanView}
-use Rattle.table_form.specs.Views.{plan_view}
+use Rattle.table_form.specs.Running.Courses.{no_plan}
+use Rattle.table_form.specs.Tables.Plans.{IsPlanFor, PlanView}
+use Rattle.table_form.specs.Tables.Views.{plan_view}
 use Rattle.table_form.specs.declared.plan.Plan.{Plan}
 use Rattle.period_choice.specs.Tasks.{IsFirstWithoutPeriod}
 use Rattle.plan_make.specs.Planned.{IsFirstWithoutRoom, IsPlanned}
 use Rattle.plan_make.specs.declared.fault.PlanFault.{PlanFault}
 use Rattle.plan_make.specs.declared.fault.PlanFault.TheVariants as plan
-use Rattle.plan_book.specs.After.{IsKnownAtFirst, IsRefused, IsTaken, IsUnplanned, Known, runnable_at_first}
+use Rattle.plan_book.specs.After.{IsKnownAtFirst, IsRefused, IsTaken, IsUnplanned, BookState, runnable_at_first}
 use Rattle.plan_book.specs.Faults.{outcome_of_fault}
 use Rattle.plan_book.specs.Steps.{known_of, plan_of}
 use Rattle.plan_book.specs.declared.latest.Latest.{Latest}
@@ -90,7 +90,7 @@ pub fits_taken : (old new : Latest) (p : Plan) → new.plans.items ≡ old.plans
     → IsPlanFor new.host (plan_view p) → IsPlanFor new.host (known_of new).plan
 fits_taken old new p plans fits = subst (IsPlanFor new.host) (sym (last_is new old.plans.items p plans)) fits
 
-abbrev known_with : Known → List Outcome → Known
+abbrev known_with : BookState → List Outcome → BookState
 known_with known outcomes = record known { outcomes = outcomes }
 
 -- a refusal is told, and all else stays

@@ -5,16 +5,16 @@ use Rattle.plan_make.specs.Planned.{IsPlanned}
 use Rattle.script_doc.specs.declared.event.Act.{Act}
 use Rattle.script_doc.specs.declared.event.Act.TheVariants.{Wake, Block, Change}
 use Rattle.script_doc.specs.declared.event.Event.{Event}
-use Rattle.plan_book.specs.After.{Follows, IsKnownAfter, Known}
+use Rattle.plan_book.specs.After.{Applies, IsKnownAfter, BookState}
 
-follows_planned : (before : Known) (act : Act) (next : Known) → IsPlanned before.host before.plan
-    → Follows before act next → IsPlanned next.host next.plan
+follows_planned : (before : BookState) (act : Act) (next : BookState) → IsPlanned before.host before.plan
+    → Applies before act next → IsPlanned next.host next.plan
 follows_planned before (Wake vcpu) next planned is = rw is planned
 follows_planned before (Block vcpu) next planned is = rw is planned
 follows_planned before (Change edits) next planned (inl taken) = taken.planned
 follows_planned before (Change edits) next planned (inr refused) = rw refused.becomes planned
 
-pub known_planned : (host : Host) (events : List Event) (n : ℕ) (known : Known)
+pub known_planned : (host : Host) (events : List Event) (n : ℕ) (known : BookState)
     → IsKnownAfter host events n known → IsPlanned known.host known.plan
 known_planned host events zero known is = rw is.host_is is.planned
 known_planned host events (suc n) known is =

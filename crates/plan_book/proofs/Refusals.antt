@@ -1,7 +1,7 @@
 -- Of the refusals of the host itself only want of memory is left where it has a plan.
 use Rattle.std.proofs.Common.{◌≡◌, refl}
 use Rattle.tab_core.specs.declared.host.Host.{Host}
-use Rattle.table_form.specs.Plans.{PlanView}
+use Rattle.table_form.specs.Tables.Plans.{PlanView}
 use Rattle.plan_make.specs.Planned.{IsPlanned}
 use Rattle.plan_make.proofs.Exact.{planned_or_refused}
 use Rattle.plan_make.proofs.Refusals.{planned_or_without_period}

@@ -10,7 +10,7 @@ use Rattle.script_doc.specs.Script.{changes_in}
 use Rattle.script_doc.specs.declared.event.Act.{Act}
 use Rattle.script_doc.specs.declared.event.Act.TheVariants.{Wake, Block, Change}
 use Rattle.script_doc.specs.declared.event.Event.{Event}
-use Rattle.plan_book.specs.After.{Follows, IsKnownAfter, Known}
+use Rattle.plan_book.specs.After.{Applies, IsKnownAfter, BookState}
 use Rattle.plan_book.proofs.Edits.{same_count}
 
 -- the cores and the count of vCPUs are the same
@@ -18,17 +18,17 @@ pub record SameShape (a b : Host) : Type 0 where
   pub cores : a.cores ≡ b.cores
   pub vcpus : length a.vcpus ≡ length b.vcpus
 
-shape_follows : (known : Known) (act : Act) (next : Known) → Follows known act next
+shape_follows : (known : BookState) (act : Act) (next : BookState) → Applies known act next
     → SameShape next.host known.host
 shape_follows known (Wake vcpu) next follows =
     record {
-      cores = ap (λ (k : Known). k.host.cores) follows;
-      vcpus = ap (λ (k : Known). length k.host.vcpus) follows;
+      cores = ap (λ (k : BookState). k.host.cores) follows;
+      vcpus = ap (λ (k : BookState). length k.host.vcpus) follows;
     }
 shape_follows known (Block vcpu) next follows =
     record {
-      cores = ap (λ (k : Known). k.host.cores) follows;
-      vcpus = ap (λ (k : Known). length k.host.vcpus) follows;
+      cores = ap (λ (k : BookState). k.host.cores) follows;
+      vcpus = ap (λ (k : BookState). length k.host.vcpus) follows;
     }
 shape_follows known (Change edits) next (inl taken) =
     record {
@@ -37,11 +37,11 @@ shape_follows known (Change edits) next (inl taken) =
     }
 shape_follows known (Change edits) next (inr refused) =
     record {
-      cores = ap (λ (k : Known). k.host.cores) refused.becomes;
-      vcpus = ap (λ (k : Known). length k.host.vcpus) refused.becomes;
+      cores = ap (λ (k : BookState). k.host.cores) refused.becomes;
+      vcpus = ap (λ (k : BookState). length k.host.vcpus) refused.becomes;
     }
 
-pub same_shape : (host : Host) (events : List Event) (n : ℕ) (known : Known)
+pub same_shape : (host : Host) (events : List Event) (n : ℕ) (known : BookState)
     → IsKnownAfter host events n known → SameShape known.host host
 same_shape host events zero known is =
     record {
@@ -54,34 +54,34 @@ same_shape host events (suc n) known is =
     record { cores = here.cores ∙ before.cores; vcpus = here.vcpus ∙ before.vcpus }
 
 -- no more is known than after all events
-pub known_within : (host : Host) (events : List Event) (n : ℕ) (known : Known)
+pub known_within : (host : Host) (events : List Event) (n : ℕ) (known : BookState)
     → IsKnownAfter host events n known → n ≤ length events
 known_within host events zero known is = omega arith
 known_within host events (suc n) known is = (let lt = slice_get_within events n is.1 is.3 in omega arith)
 
 -- an outcome for each change, and at most as many planned ones
-pub record HasOutcomes (count : ℕ) (known : Known) : Type 0 where
+pub record HasOutcomes (count : ℕ) (known : BookState) : Type 0 where
   pub outcomes : length known.outcomes ≡ count
   pub number : known.number ≤ count
 
-outcomes_follow : (known : Known) (act : Act) (next : Known) (count : ℕ) → HasOutcomes count known
-    → Follows known act next → HasOutcomes (count + cond (is_change act) 1 0) next
+outcomes_follow : (known : BookState) (act : Act) (next : BookState) (count : ℕ) → HasOutcomes count known
+    → Applies known act next → HasOutcomes (count + cond (is_change act) 1 0) next
 outcomes_follow known (Wake vcpu) next count has follows = record {
-  outcomes = ap (λ (k : Known). length k.outcomes) follows ∙ omega (arith, has.outcomes);
-  number = (let is = ap (λ (k : Known). k.number) follows in omega (arith, has.number));
+  outcomes = ap (λ (k : BookState). length k.outcomes) follows ∙ omega (arith, has.outcomes);
+  number = (let is = ap (λ (k : BookState). k.number) follows in omega (arith, has.number));
 }
 outcomes_follow known (Block vcpu) next count has follows = record {
-  outcomes = ap (λ (k : Known). length k.outcomes) follows ∙ omega (arith, has.outcomes);
-  number = (let is = ap (λ (k : Known). k.number) follows in omega (arith, has.number));
+  outcomes = ap (λ (k : BookState). length k.outcomes) follows ∙ omega (arith, has.outcomes);
+  number = (let is = ap (λ (k : BookState). k.number) follows in omega (arith, has.number));
 }
 outcomes_follow known (Change edits) next count has (inl taken) = record {
   outcomes = ap length taken.outcomes ∙ length-append known.outcomes _ ∙ omega (arith, has.outcomes);
   number = omega (arith, has.number, taken.number);
 }
 outcomes_follow known (Change edits) next count has (inr refused) = record {
-  outcomes = ap (λ (k : Known). length k.outcomes) refused.becomes ∙ length-append known.outcomes _
+  outcomes = ap (λ (k : BookState). length k.outcomes) refused.becomes ∙ length-append known.outcomes _
       ∙ omega (arith, has.outcomes);
-  number = (let is = ap (λ (k : Known). k.number) refused.becomes in omega (arith, has.number));
+  number = (let is = ap (λ (k : BookState). k.number) refused.becomes in omega (arith, has.number));
 }
 
 changes_more : (events : List Event) (n : ℕ) (event : Event) → slice_get events n ≡ Some event
@@ -103,7 +103,7 @@ changes_more events n event at =
         (ap (λ (e : Event). is_change e.act) here ∙ is) in
         rw is (omega (arith, more))
 
-has_outcomes_in : (host : Host) (events : List Event) (n : ℕ) (known : Known)
+has_outcomes_in : (host : Host) (events : List Event) (n : ℕ) (known : BookState)
     → IsKnownAfter host events n known → HasOutcomes (changes_in (take n events)) known
 has_outcomes_in host events zero known is =
     record { outcomes = ap length is.no_outcome; number = omega (arith, is.number_is) }
@@ -115,7 +115,7 @@ has_outcomes_in host events (suc n) known is =
     (has_outcomes_in host events n is.0 is.2) is.4)
 
 -- so there are at most as many as there are changes
-pub few_outcomes : (host : Host) (events : List Event) (n : ℕ) (known : Known)
+pub few_outcomes : (host : Host) (events : List Event) (n : ℕ) (known : BookState)
     → IsKnownAfter host events n known
     → (length known.outcomes ≤ changes_in events) × (known.number ≤ changes_in events)
 few_outcomes host events n known is =
@@ -125,7 +125,7 @@ few_outcomes host events n known is =
     (omega (arith, has.outcomes), omega (arith, has.number))
 
 -- and after all events as many
-pub all_outcomes : (host : Host) (events : List Event) (known : Known)
+pub all_outcomes : (host : Host) (events : List Event) (known : BookState)
     → IsKnownAfter host events (length events) known → length known.outcomes ≡ changes_in events
 all_outcomes host events known is = (has_outcomes_in host events (length events) known is).outcomes
     ∙ ap changes_in (take-length events)

@@ -2,24 +2,24 @@
 use Rattle.std.proofs.Common.{◌≡◌, ◌⊎◌, inl, inr, ℕ, zero, suc, Bool, List, [], ◌∷◌, ◌++◌, ap, subst, sym, ◌∙◌}
 use Rattle.tab_core.specs.declared.edit.Edit.{Edit}
 use Rattle.tab_core.specs.declared.host.Host.{Host}
-use Rattle.table_form.specs.Plans.{PlanView}
+use Rattle.table_form.specs.Tables.Plans.{PlanView}
 use Rattle.plan_make.specs.Planned.{IsPlanned}
 use Rattle.plan_make.proofs.Exact.{planned_or_refused, planned_unique}
 use Rattle.plan_make.proofs.Refusals.{one_without_period, one_without_room, planned_or_without_period, room_or_without_period}
 use Rattle.script_doc.specs.declared.event.Act.{Act}
 use Rattle.script_doc.specs.declared.event.Act.TheVariants.{Wake, Block, Change}
 use Rattle.script_doc.specs.declared.event.Event.{Event}
-use Rattle.plan_book.specs.After.{Follows, IsKnownAfter, IsKnownAtFirst, IsRefused, IsTaken, IsUnplanned, Known}
+use Rattle.plan_book.specs.After.{Applies, IsKnownAfter, IsKnownAtFirst, IsRefused, IsTaken, IsUnplanned, BookState}
 use Rattle.plan_book.specs.declared.outcome.Outcome.{Outcome}
 use Rattle.plan_book.specs.declared.outcome.Outcome.TheVariants.{Planned, NoPeriod, NoRoom}
 use Rattle.plan_book.proofs.Edits.{edited_unique}
 use Rattle.plan_book.proofs.Lists.{same}
 
-abbrev known_with : Host → PlanView → ℕ → List Bool → List Outcome → Known
+abbrev known_with : Host → PlanView → ℕ → List Bool → List Outcome → BookState
 known_with host plan number runnable outcomes =
     record { host = host; plan = plan; number = number; runnable = runnable; outcomes = outcomes }
 
-same_known : (a b : Known) → a.host ≡ b.host → a.plan ≡ b.plan → a.number ≡ b.number
+same_known : (a b : BookState) → a.host ≡ b.host → a.plan ≡ b.plan → a.number ≡ b.number
     → a.runnable ≡ b.runnable → a.outcomes ≡ b.outcomes → a ≡ b
 same_known a b host plan number runnable outcomes =
     ap (λ h. known_with h a.plan a.number a.runnable a.outcomes) host
@@ -28,7 +28,7 @@ same_known a b host plan number runnable outcomes =
     ∙ ap (λ r. known_with b.host b.plan b.number r a.outcomes) runnable
     ∙ ap (known_with b.host b.plan b.number b.runnable) outcomes
 
-first_unique : (host : Host) (a b : Known) → IsKnownAtFirst host a → IsKnownAtFirst host b → a ≡ b
+first_unique : (host : Host) (a b : BookState) → IsKnownAtFirst host a → IsKnownAtFirst host b → a ≡ b
 first_unique host a b of_a of_b =
     same_known a b (of_a.host_is ∙ sym of_b.host_is)
     (planned_unique host a.plan b.plan of_a.planned of_b.planned)
@@ -58,7 +58,7 @@ planned_or_unplanned host plan (NoPeriod vcpu) planned unplanned =
 planned_or_unplanned host plan (NoRoom vcpu) planned unplanned =
     planned_or_refused host plan vcpu unplanned.0 unplanned.1 planned unplanned.2
 
-taken_unique : (known : Known) (edits : List Edit) (a b : Known) → IsTaken known edits a
+taken_unique : (known : BookState) (edits : List Edit) (a b : BookState) → IsTaken known edits a
     → IsTaken known edits b → a ≡ b
 taken_unique known edits a b of_a of_b =
     let host = edited_unique known.host edits a.host b.host of_a.edited of_b.edited in
@@ -67,7 +67,7 @@ taken_unique known edits a b of_a of_b =
     same_known a b host plan (of_a.number ∙ sym of_b.number) (of_a.runnable ∙ sym of_b.runnable)
     (of_a.outcomes ∙ sym of_b.outcomes)
 
-refused_unique : (known : Known) (edits : List Edit) (a b : Known) → IsRefused known edits a
+refused_unique : (known : BookState) (edits : List Edit) (a b : BookState) → IsRefused known edits a
     → IsRefused known edits b → a ≡ b
 refused_unique known edits a b of_a of_b =
     let host = edited_unique known.host edits of_a.host of_b.host of_a.edited of_b.edited in
@@ -78,14 +78,14 @@ refused_unique known edits a b of_a of_b =
     (known.outcomes ++ o ∷ [])) outcome
     ∙ sym of_b.becomes
 
-taken_or_refused : (known : Known) (edits : List Edit) (a b : Known) → IsTaken known edits a
+taken_or_refused : (known : BookState) (edits : List Edit) (a b : BookState) → IsTaken known edits a
     → IsRefused known edits b → ⊥
 taken_or_refused known edits a b taken refused =
     let host = edited_unique known.host edits a.host refused.host taken.edited refused.edited in
     planned_or_unplanned refused.host a.plan refused.outcome
     (subst (λ h. IsPlanned h a.plan) host taken.planned) refused.unplanned
 
-changed_unique : (known : Known) (edits : List Edit) (a b : Known)
+changed_unique : (known : BookState) (edits : List Edit) (a b : BookState)
     → IsTaken known edits a ⊎ IsRefused known edits a
     → IsTaken known edits b ⊎ IsRefused known edits b → a ≡ b
 changed_unique known edits a b (inl of_a) (inl of_b) = taken_unique known edits a b of_a of_b
@@ -93,17 +93,17 @@ changed_unique known edits a b (inl of_a) (inr of_b) = absurd (taken_or_refused 
 changed_unique known edits a b (inr of_a) (inl of_b) = absurd (taken_or_refused known edits b a of_b of_a)
 changed_unique known edits a b (inr of_a) (inr of_b) = refused_unique known edits a b of_a of_b
 
-follows_unique : (known : Known) (act : Act) (a b : Known) → Follows known act a → Follows known act b → a ≡ b
+follows_unique : (known : BookState) (act : Act) (a b : BookState) → Applies known act a → Applies known act b → a ≡ b
 follows_unique known (Wake vcpu) a b of_a of_b = of_a ∙ sym of_b
 follows_unique known (Block vcpu) a b of_a of_b = of_a ∙ sym of_b
 follows_unique known (Change edits) a b of_a of_b = changed_unique known edits a b of_a of_b
 
-pub known_unique : (host : Host) (events : List Event) (n : ℕ) (a b : Known)
+pub known_unique : (host : Host) (events : List Event) (n : ℕ) (a b : BookState)
     → IsKnownAfter host events n a → IsKnownAfter host events n b → a ≡ b
 known_unique host events zero a b of_a of_b = first_unique host a b of_a of_b
 known_unique host events (suc n) a b of_a of_b =
     let before = known_unique host events n of_a.0 of_b.0 of_a.2 of_b.2 in
     let event = same _ of_a.1 of_b.1 of_a.3 of_b.3 in
-    let of_a' = subst (λ (e : Event). Follows of_b.0 e.act a) event
-    (subst (λ k. Follows k of_a.1.act a) before of_a.4) in
+    let of_a' = subst (λ (e : Event). Applies of_b.0 e.act a) event
+    (subst (λ k. Applies k of_a.1.act a) before of_a.4) in
     follows_unique of_b.0 of_b.1.act a b of_a' of_b.4

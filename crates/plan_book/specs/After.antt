@@ -8,7 +8,7 @@ use Rattle.tab_core.specs.declared.host.Host.{Host}
 use Rattle.tab_core.specs.declared.over.Over.{Over}
 use Rattle.tab_core.specs.declared.vcpu.Vcpu.{Vcpu}
 use Rattle.tab_core.specs.Edits.{IsEdited}
-use Rattle.table_form.specs.Plans.{PlanView}
+use Rattle.table_form.specs.Tables.Plans.{PlanView}
 use Rattle.period_choice.specs.Tasks.{IsFirstWithoutPeriod}
 use Rattle.plan_make.specs.Planned.{IsFirstWithoutRoom, IsPlanned}
 use Rattle.script_doc.specs.declared.event.Act.{Act}
@@ -18,7 +18,7 @@ use Rattle.plan_book.specs.declared.outcome.Outcome.{Outcome}
 use Rattle.plan_book.specs.declared.outcome.Outcome.TheVariants.{Planned, NoPeriod, NoRoom}
 
 -- the host, its plan with its number, the runnable vCPUs, and the outcome of each change so far
-pub record Known : Type 0 where
+pub record BookState : Type 0 where
   pub host : Host
   pub plan : PlanView
   pub number : ℕ
@@ -30,7 +30,7 @@ abbrev pub runnable_at_first : List Vcpu → List Bool
 runnable_at_first vcpus = map (λ vcpu. vcpu.runnable) vcpus ++ replicate (MAX_VCPUS - length vcpus) false
 
 -- before the first event there are the host and its plan, which is number 0
-pub record IsKnownAtFirst (host : Host) (known : Known) : Type 0 where
+pub record IsKnownAtFirst (host : Host) (known : BookState) : Type 0 where
   pub host_is : known.host ≡ host
   pub planned : IsPlanned host known.plan
   pub number_is : known.number ≡ 0
@@ -45,7 +45,7 @@ IsUnplanned host (NoRoom vcpu) = (rest : ℕ) × (over : List Over) × IsFirstWi
 
 -- a change is planned: its edits make a host that has a plan, these are the host and the plan from
 -- then on, and the plan has the next number
-pub record IsTaken (known : Known) (edits : List Edit) (next : Known) : Type 0 where
+pub record IsTaken (known : BookState) (edits : List Edit) (next : BookState) : Type 0 where
   pub edited : IsEdited known.host edits next.host
   pub planned : IsPlanned next.host next.plan
   pub number : next.number ≡ known.number + 1
@@ -53,7 +53,7 @@ pub record IsTaken (known : Known) (edits : List Edit) (next : Known) : Type 0 w
   pub outcomes : next.outcomes ≡ known.outcomes ++ Planned ∷ []
 
 -- a change is refused: its edits make a host that has no plan, and nothing changes
-pub record IsRefused (known : Known) (edits : List Edit) (next : Known) : Type 0 where
+pub record IsRefused (known : BookState) (edits : List Edit) (next : BookState) : Type 0 where
   pub host : Host
   pub edited : IsEdited known.host edits host
   pub outcome : Outcome
@@ -62,14 +62,14 @@ pub record IsRefused (known : Known) (edits : List Edit) (next : Known) : Type 0
 
 -- what an event makes of it; a wake or a block sets the flag of its vCPU alone, whether that is
 -- admitted or not
-abbrev pub Follows : Known → Act → Known → Type 0
-Follows known (Wake vcpu) next = next ≡ record known { runnable = slice_set known.runnable vcpu true }
-Follows known (Block vcpu) next = next ≡ record known { runnable = slice_set known.runnable vcpu false }
-Follows known (Change edits) next = IsTaken known edits next ⊎ IsRefused known edits next
+abbrev pub Applies : BookState → Act → BookState → Type 0
+Applies known (Wake vcpu) next = next ≡ record known { runnable = slice_set known.runnable vcpu true }
+Applies known (Block vcpu) next = next ≡ record known { runnable = slice_set known.runnable vcpu false }
+Applies known (Change edits) next = IsTaken known edits next ⊎ IsRefused known edits next
 
 -- what is known after the first n events of a script for a host
-abbrev pub IsKnownAfter : Host → List Event → ℕ → Known → Type 0
+abbrev pub IsKnownAfter : Host → List Event → ℕ → BookState → Type 0
 IsKnownAfter host events zero known = IsKnownAtFirst host known
 IsKnownAfter host events (suc n) known =
-    (before : Known) × (event : Event) × IsKnownAfter host events n before
-    × (slice_get events n ≡ Some event) × Follows before event.act known
+    (before : BookState) × (event : Event) × IsKnownAfter host events n before
+    × (slice_get events n ≡ Some event) × Applies before event.act known

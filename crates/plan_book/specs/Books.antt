@@ -2,9 +2,9 @@
 use Rattle.std.specs.Prelude.{◌≡◌, ℕ, ◌<◌, List, length, map}
 use Rattle.std.specs.List.{All}
 use Rattle.tab_core.specs.declared.host.Host.{Host}
-use Rattle.table_form.specs.Courses.{CourseView, plan_after, plan_number_after, runnable_after}
+use Rattle.table_form.specs.Running.Courses.{CourseView, plan_after, plan_number_after, runnable_after}
 use Rattle.script_doc.specs.declared.event.Event.{Event}
-use Rattle.plan_book.specs.After.{IsKnownAfter, Known}
+use Rattle.plan_book.specs.After.{IsKnownAfter, BookState}
 use Rattle.plan_book.specs.declared.outcome.Outcome.{Outcome}
 use Rattle.plan_book.specs.declared.outcome.Outcome.TheVariants.{Planned, NoPeriod, NoRoom}
 
@@ -31,7 +31,7 @@ abbrev pub ticks_of : List Event → List ℕ
 ticks_of events = map (λ event. event.tick) events
 
 -- the course has this after the first n events
-pub record Shows (course : CourseView) (n : ℕ) (known : Known) : Type 0 where
+pub record Shows (course : CourseView) (n : ℕ) (known : BookState) : Type 0 where
   pub plan : plan_after course n ≡ known.plan
   pub number : plan_number_after course n ≡ known.number
   pub runnable : runnable_after course n ≡ known.runnable
@@ -42,6 +42,6 @@ pub record IsBookOf (host : Host) (events : List Event) (book : BookView) : Type
   pub lag : book.course.lag ≡ host.lag
   pub quantum : book.course.quantum ≡ host.quantum
   pub ticks : book.course.ticks ≡ ticks_of events
-  pub after : (n : ℕ) (known : Known) → IsKnownAfter host events n known → Shows book.course n known
-  pub outcomes : (known : Known) → IsKnownAfter host events (length events) known
+  pub after : (n : ℕ) (known : BookState) → IsKnownAfter host events n known → Shows book.course n known
+  pub outcomes : (known : BookState) → IsKnownAfter host events (length events) known
       → book.outcomes ≡ known.outcomes

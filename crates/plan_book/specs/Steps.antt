@@ -1,14 +1,14 @@
 -- What the making of a book keeps: private to this crate.
 use Rattle.std.specs.Prelude.{◌≡◌, ◌⊎◌, ℕ, ◌+◌, ◌-◌, ◌<◌, ◌≤◌, Bool, List, [], ◌∷◌, ◌++◌, Some, length, map, slice_get, slice_index_or}
 use Rattle.tab_core.specs.declared.host.Host.{Host}
-use Rattle.table_form.specs.Courses.{no_plan}
-use Rattle.table_form.specs.Plans.{IsPlanFor, PlanView}
-use Rattle.table_form.specs.Views.{plan_view}
+use Rattle.table_form.specs.Running.Courses.{no_plan}
+use Rattle.table_form.specs.Tables.Plans.{IsPlanFor, PlanView}
+use Rattle.table_form.specs.Tables.Views.{plan_view}
 use Rattle.table_form.specs.declared.plan.Plan.{Plan}
 use Rattle.period_choice.specs.Tasks.{IsFirstWithoutPeriod}
 use Rattle.plan_make.specs.Planned.{IsFirstWithoutRoom}
 use Rattle.script_doc.specs.declared.event.Event.{Event}
-use Rattle.plan_book.specs.After.{IsKnownAfter, Known}
+use Rattle.plan_book.specs.After.{IsKnownAfter, BookState}
 use Rattle.plan_book.specs.declared.fault.BookFault.{BookFault}
 use Rattle.plan_book.specs.declared.fault.BookFault.TheVariants.{NoPeriod, NoRoom, NoMemory}
 use Rattle.plan_book.specs.declared.latest.Latest.{Latest}
@@ -18,7 +18,7 @@ abbrev pub plan_of : List Plan → ℕ → PlanView
 plan_of plans number = slice_index_or (map plan_view plans) number no_plan
 
 -- what is known, of which the plan is the last one
-abbrev pub known_of : Latest → Known
+abbrev pub known_of : Latest → BookState
 known_of latest = record {
   host = latest.host;
   plan = plan_of latest.plans.items (length latest.plans.items - 1);
@@ -40,7 +40,7 @@ IsHostFault host NoMemory = Unit {0}
 -- what was known after k events, with its plan among these and its entries in these lists
 pub record IsKept (host : Host) (events : List Event) (plans : List Plan) (numbers : List ℕ)
     (runnable : List (List Bool)) (k : ℕ) : Type 0 where
-  pub known : Known
+  pub known : BookState
   pub is : IsKnownAfter host events k known
   pub fits : IsPlanFor known.host known.plan
   pub plan : slice_get (map plan_view plans) known.number ≡ Some known.plan

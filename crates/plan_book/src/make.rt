@@ -2,13 +2,13 @@ ghost use Rattle.std.specs.Prelude.{◌≡◌, ◌≤◌, ℕ, IfErr, IfOk, IsEr
 ghost use Rattle.tab_core.specs.declared.TheConstants.{MAX_ROUNDS};
 ghost use Rattle.tab_core.specs.declared.over.Over.{Over};
 ghost use Rattle.tab_core.specs.declared.periodic.Periodic.{Periodic};
-ghost use Rattle.table_form.specs.Courses.{FitsRounds, plan_after};
-ghost use Rattle.table_form.specs.Plans.{IsPlanFor, PlanView};
+ghost use Rattle.table_form.specs.Running.Courses.{FitsRounds, plan_after};
+ghost use Rattle.table_form.specs.Tables.Plans.{IsPlanFor, PlanView};
 ghost use Rattle.period_choice.specs.Tasks.{AreTasksOf, IsFirstWithoutPeriod};
 ghost use Rattle.worst_fit.specs.Bound.{IsWithinBound};
 ghost use Rattle.plan_make.specs.Planned.{IsFirstWithoutRoom, IsPlanned};
 ghost use Rattle.script_doc.specs.Script.{AreInRun, AreWithin, changes_in};
-ghost use Rattle.plan_book.specs.After.{IsKnownAfter, Known};
+ghost use Rattle.plan_book.specs.After.{IsKnownAfter, BookState};
 ghost use Rattle.plan_book.specs.Books.{IsBookOf, NameVcpusBelow, ticks_of};
 
 use crate::book::PlanBook;
@@ -40,16 +40,16 @@ pub fn make_book<R: Threads + Sync>(
     requires { AreWithin (length host.now.vcpus) script.now }
     ensures ok { IfOk result (IsBookOf host.now script.now) }
     ensures known { IfOk result (λ _. (n : ℕ) → n ≤ length script.now
-        → (known : Known) × IsKnownAfter host.now script.now n known) }
-    ensures only { IfOk result (λ _. (n : ℕ) (known other : Known) → IsKnownAfter host.now script.now n known
+        → (known : BookState) × IsKnownAfter host.now script.now n known) }
+    ensures only { IfOk result (λ _. (n : ℕ) (known other : BookState) → IsKnownAfter host.now script.now n known
         → IsKnownAfter host.now script.now n other → other ≡ known) }
     ensures changes { IfOk result (λ book. length book.outcomes ≡ changes_in script.now) }
     ensures named { IfOk result (λ book. NameVcpusBelow (length host.now.vcpus) book.outcomes) }
-    ensures fits_host { IfOk result (λ _. (n : ℕ) (known : Known) → IsKnownAfter host.now script.now n known
+    ensures fits_host { IfOk result (λ _. (n : ℕ) (known : BookState) → IsKnownAfter host.now script.now n known
         → IsPlanFor known.host known.plan) }
-    ensures planned_after { IfOk result (λ _. (n : ℕ) (known : Known) → IsKnownAfter host.now script.now n known
+    ensures planned_after { IfOk result (λ _. (n : ℕ) (known : BookState) → IsKnownAfter host.now script.now n known
         → IsPlanned known.host known.plan) }
-    ensures chosen { IfOk result (λ book. (n : ℕ) (known : Known) → IsKnownAfter host.now script.now n known
+    ensures chosen { IfOk result (λ book. (n : ℕ) (known : BookState) → IsKnownAfter host.now script.now n known
         → AreTasksOf known.host.vcpus (plan_after book.course n).tasks) }
     ensures vcpus { IfOk result (λ book. (n : ℕ) → n ≤ length script.now
         → length (plan_after book.course n).tasks ≡ length host.now.vcpus) }

@@ -7,7 +7,7 @@ use Rattle.std.proofs.lemmas.List.Elements.{All-head, All-tail}
 use Rattle.std.proofs.lemmas.List.Sums.{sum_by-set}
 use Rattle.tab_core.specs.declared.piece.Piece.{Piece}
 use Rattle.cd_split.specs.Cores.{pieces_on}
-use Rattle.table_form.specs.Drafts.{cost_on}
+use Rattle.table_form.specs.Planning.Drafts.{cost_on}
 use Rattle.table_form.proofs.Supplies.{cost_on-append, cost_on-nil}
 use Rattle.plan_make.specs.Layout.{with_pieces}
 

@@ -10,7 +10,7 @@ use Rattle.tab_core.specs.declared.periodic.Periodic.{Periodic}
 use Rattle.tab_core.specs.declared.piece.Piece.{Piece}
 use Rattle.worst_fit.specs.Placement.{IsPlaced}
 use Rattle.cd_split.specs.Cores.{LackVcpu, pieces_on}
-use Rattle.table_form.specs.Drafts.{cost_on}
+use Rattle.table_form.specs.Planning.Drafts.{cost_on}
 use Rattle.plan_make.specs.Allotted.{HasTask, WindowsApart}
 use Rattle.cd_split.specs.Splitting.{core_numbers}
 use Rattle.plan_make.specs.Layout.{home_of, with_pieces}

@@ -8,10 +8,10 @@ use Rattle.std.specs.List.{list_any}
 use Rattle.plan_make.specs.Layout.{all_pieces}
 use Rattle.tab_core.specs.declared.periodic.Periodic.{Periodic}
 use Rattle.tab_core.specs.declared.piece.Piece.{Piece}
-use Rattle.table_form.specs.Drafts.{AreOnPieces, HaveOwnCores, HaveOwnWindows, IsDraft, KeepInWindows, has_in_window, is_piece_on, period_in, pieces_at}
-use Rattle.table_form.specs.Rows.{Row}
-use Rattle.table_form.specs.Serves.{cell_of, flat}
-use Rattle.table_form.specs.Windows.{IsInWindow, ServesWindows}
+use Rattle.table_form.specs.Planning.Drafts.{AreOnPieces, HaveOwnCores, HaveOwnWindows, IsDraft, KeepInWindows, has_in_window, is_piece_on, period_in, pieces_at}
+use Rattle.table_form.specs.Tables.Rows.{Row}
+use Rattle.table_form.specs.Tables.Serves.{cell_of, flat}
+use Rattle.table_form.specs.Planning.Windows.{IsInWindow, ServesWindows}
 use Rattle.cd_split.specs.Cores.{pieces_on}
 use Rattle.plan_make.specs.Allotted.{AreRowsOf, HasTask}
 use Rattle.plan_make.specs.Steps.{AreLaidOut, has_piece}

@@ -10,10 +10,10 @@ use Rattle.tab_core.specs.declared.over.Over.{Over}
 use Rattle.tab_core.specs.declared.periodic.Periodic.{Periodic}
 use Rattle.tab_core.specs.declared.piece.Piece.{Piece}
 use Rattle.tab_core.specs.Period.{IsPeriod}
-use Rattle.table_form.specs.EdfRow.{edf_row}
-use Rattle.table_form.specs.Jobs.{Subtask, jobs_of, subtask_of}
-use Rattle.table_form.specs.Plans.{PlanView}
-use Rattle.table_form.specs.Rows.{Row}
+use Rattle.table_form.specs.Planning.EdfRow.{edf_row}
+use Rattle.table_form.specs.Planning.Jobs.{Subtask, jobs_of, subtask_of}
+use Rattle.table_form.specs.Tables.Plans.{PlanView}
+use Rattle.table_form.specs.Tables.Rows.{Row}
 use Rattle.period_choice.proofs.Unique.{tasks_unique}
 use Rattle.worst_fit.specs.Placement.{IsPlacement}
 use Rattle.worst_fit.specs.declared.placed.Placed.{Placed}

@@ -7,7 +7,7 @@ use Rattle.std.proofs.lemmas.List.{append-nil, append_assoc, take_more}
 use Rattle.std.proofs.lemmas.List.Elements.{All-head, All-tail, filter-append}
 use Rattle.std.proofs.lemmas.List.Sums.{sum_by-cons}
 use Rattle.tab_core.specs.declared.piece.Piece.{Piece}
-use Rattle.table_form.specs.Drafts.{cost_on, pieces_at}
+use Rattle.table_form.specs.Planning.Drafts.{cost_on, pieces_at}
 use Rattle.table_form.proofs.Supplies.{cost_on-append, cost_on-nil}
 use Rattle.cd_split.specs.Cores.{pieces_on}
 

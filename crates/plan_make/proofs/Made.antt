@@ -7,10 +7,10 @@ use Rattle.std.proofs.lemmas.Option.{get_or_from_slice_get, slice_get_within}
 use Rattle.std.specs.List.{All}
 use Rattle.std.specs.declared.alloc.AllocError.{AllocError}
 use Rattle.tab_core.specs.declared.piece.Piece.{Piece}
-use Rattle.table_form.specs.EdfRow.{edf_row}
-use Rattle.table_form.specs.Jobs.{jobs_of}
-use Rattle.table_form.specs.Rows.{Row}
-use Rattle.table_form.specs.Windows.{DistinctVcpus}
+use Rattle.table_form.specs.Planning.EdfRow.{edf_row}
+use Rattle.table_form.specs.Planning.Jobs.{jobs_of}
+use Rattle.table_form.specs.Tables.Rows.{Row}
+use Rattle.table_form.specs.Planning.Windows.{DistinctVcpus}
 use Rattle.cd_split.specs.Cores.{pieces_on}
 use Rattle.plan_make.specs.Allotted.{AreRowsOf, IsRowOf}
 

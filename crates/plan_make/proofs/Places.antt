@@ -4,7 +4,7 @@ use Rattle.std.specs.List.{Contains}
 use Rattle.std.proofs.lemmas.Bool.{and_from, cases_eq, lt-ltb}
 use Rattle.std.proofs.lemmas.Option.{slice_get_within}
 use Rattle.tab_core.specs.declared.periodic.Periodic.{Periodic}
-use Rattle.table_form.specs.Homes.{are_housed, is_housed}
+use Rattle.table_form.specs.Tables.Homes.{are_housed, is_housed}
 use Rattle.worst_fit.specs.Placement.{IsAdmitted, IsPlaced, PlacesEach}
 use Rattle.coalesce.proofs.Members.{slice_get-set_other, slice_get-set_same}
 use Rattle.plan_make.proofs.Members.{contains_cases, contains_first, contains_later, contains_none, slice_get_from_contains}

@@ -5,15 +5,15 @@ use Rattle.tab_core.specs.declared.periodic.Periodic.{Periodic}
 use Rattle.tab_core.specs.declared.piece.Piece.{Piece}
 use Rattle.tab_core.specs.declared.reservation.Reservation.{Reservation}
 use Rattle.tab_core.specs.declared.vcpu.Vcpu.{Vcpu}
-use Rattle.table_form.specs.Plans.{is_reserved}
-use Rattle.table_form.specs.Serves.{has_task}
+use Rattle.table_form.specs.Tables.Plans.{is_reserved}
+use Rattle.table_form.specs.Tables.Serves.{has_task}
 use Rattle.period_choice.specs.Tasks.{AreTasksOf, IsFirstWithoutPeriod, IsTaskOf, LacksPeriod}
-use Rattle.table_form.specs.Drafts.{cost_on}
+use Rattle.table_form.specs.Planning.Drafts.{cost_on}
 use Rattle.plan_make.specs.Steps.{AreLaidOut}
 use Rattle.period_choice.specs.declared.fault.TaskFault.{TaskFault}
 use Rattle.period_choice.specs.declared.fault.TaskFault.TheVariants.{NoMemory, NoPeriod}
-use Rattle.table_form.specs.Homes.{HaveHomes}
-use Rattle.table_form.specs.Rows.{Row}
+use Rattle.table_form.specs.Tables.Homes.{HaveHomes}
+use Rattle.table_form.specs.Tables.Rows.{Row}
 use Rattle.plan_make.specs.Faults.{fault_of_tasks}
 use Rattle.plan_make.specs.declared.fault.PlanFault.TheVariants as plan
 use Rattle.plan_make.proofs.Places.{ArePlaced, all_housed}

@@ -6,7 +6,7 @@ use Rattle.tab_core.specs.declared.periodic.Periodic.{Periodic}
 use Rattle.tab_core.specs.declared.piece.Piece.{Piece}
 use Rattle.tab_core.specs.declared.reservation.Reservation.{Reservation}
 use Rattle.tab_core.specs.declared.vcpu.Vcpu.{Vcpu}
-use Rattle.table_form.specs.Plans.{PlanView}
+use Rattle.table_form.specs.Tables.Plans.{PlanView}
 use Rattle.period_choice.specs.Choice.{HasPeriod}
 use Rattle.period_choice.specs.Tasks.{IsFirstWithoutPeriod, LacksPeriod}
 use Rattle.worst_fit.specs.declared.placed.Placed.{Placed}

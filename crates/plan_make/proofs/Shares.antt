@@ -10,7 +10,7 @@ use Rattle.tab_core.specs.declared.piece.Piece.{Piece}
 use Rattle.cd_split.specs.Cores.{HaveRoomFor, LackVcpu, pieces_on}
 use Rattle.cd_split.specs.Shares.{FitTheirCores, FollowOn, StandApart}
 use Rattle.cd_split.specs.Splitting.{Splits}
-use Rattle.table_form.specs.Drafts.{cost_on}
+use Rattle.table_form.specs.Planning.Drafts.{cost_on}
 use Rattle.plan_make.specs.Layout.{home_of, with_pieces}
 use Rattle.plan_make.proofs.Members.{all_at}
 use Rattle.plan_make.proofs.Added.{StandBelow, length-with_pieces, of_core, pieces_on-with_pieces, with_piece, with_pieces_push}

@@ -9,7 +9,7 @@ use Rattle.std.proofs.lemmas.Option.{slice_get-get_or, slice_get_within}
 use Rattle.cd_split.proofs.Lists.{get_or-replicate}
 use Rattle.tab_core.specs.declared.periodic.Periodic.{Periodic}
 use Rattle.tab_core.specs.declared.piece.Piece.{Piece}
-use Rattle.table_form.specs.Jobs.{Subtask, subtask_of}
+use Rattle.table_form.specs.Planning.Jobs.{Subtask, subtask_of}
 use Rattle.worst_fit.specs.Load.{FitsEachCore}
 use Rattle.cd_split.specs.Cores.{HaveRoomFor, LackVcpu, pieces_on}
 use Rattle.plan_make.specs.Layout.{StandWhole, whole, whole_at, wholes_from}

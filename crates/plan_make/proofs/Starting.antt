@@ -7,12 +7,12 @@ use Rattle.std.proofs.lemmas.List.Elements.{All-from_get_or, All-weaker}
 use Rattle.std.proofs.lemmas.List.Sums.{sum_by-append, sum_by-cons, sum_by-le, sum_by-set}
 use Rattle.tab_core.specs.declared.periodic.Periodic.{Periodic}
 use Rattle.tab_core.specs.declared.piece.Piece.{Piece}
-use Rattle.table_form.specs.Jobs.{Subtask, subtask_of}
+use Rattle.table_form.specs.Planning.Jobs.{Subtask, subtask_of}
 use Rattle.worst_fit.specs.Placement.{IsAdmitted, PlacesEach}
 use Rattle.worst_fit.specs.declared.placed.Placed.{Placed}
 use Rattle.cd_split.specs.Cores.{LackVcpu, pieces_on}
 use Rattle.cd_split.specs.declared.fault.SplitFault.{SplitFault}
-use Rattle.table_form.specs.Drafts.{cost_on}
+use Rattle.table_form.specs.Planning.Drafts.{cost_on}
 use Rattle.plan_make.specs.Layout.{StandWhole, whole, whole_at, wholes_from}
 use Rattle.table_form.proofs.Supplies.{cost_on-cons, cost_on-nil}
 use Rattle.plan_make.specs.Steps.{AreAllottedTo, AreLaidOut, IsStuckFault, has_piece}

@@ -8,8 +8,8 @@ use Rattle.std.proofs.lemmas.List.Sums.{sum_by-append, sum_by-cons}
 use Rattle.tab_core.specs.declared.TheConstants.{ROUND}
 use Rattle.tab_core.specs.declared.periodic.Periodic.{Periodic}
 use Rattle.tab_core.specs.declared.piece.Piece.{Piece}
-use Rattle.table_form.specs.Demand.{Fits}
-use Rattle.table_form.specs.Jobs.{Subtask, jobs_of, subtask_of}
+use Rattle.table_form.specs.Planning.Demand.{Fits}
+use Rattle.table_form.specs.Planning.Jobs.{Subtask, jobs_of, subtask_of}
 use Rattle.edf_table.specs.Load.{AllWhole, load}
 use Rattle.edf_table.proofs.Whole.{whole_fits}
 use Rattle.worst_fit.specs.Load.{is_on, load_on, task_demand}

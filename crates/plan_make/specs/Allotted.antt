@@ -2,10 +2,10 @@
 use Rattle.std.specs.Prelude.{◌≡◌, ◌⊎◌, ℕ, ◌≤◌, List, All, Option, Some, length, slice_get}
 use Rattle.tab_core.specs.declared.periodic.Periodic.{Periodic}
 use Rattle.tab_core.specs.declared.piece.Piece.{Piece}
-use Rattle.table_form.specs.Rows.{Row}
-use Rattle.table_form.specs.EdfRow.{edf_row}
-use Rattle.table_form.specs.Jobs.{jobs_of}
-use Rattle.table_form.specs.Windows.{DistinctVcpus, KeepsToWindows, ServesWindows}
+use Rattle.table_form.specs.Tables.Rows.{Row}
+use Rattle.table_form.specs.Planning.EdfRow.{edf_row}
+use Rattle.table_form.specs.Planning.Jobs.{jobs_of}
+use Rattle.table_form.specs.Planning.Windows.{DistinctVcpus, KeepsToWindows, ServesWindows}
 use Rattle.cd_split.specs.Cores.{pieces_on}
 
 -- the piece is of an admitted vCPU and has its period

@@ -7,9 +7,9 @@ use Rattle.tab_core.specs.declared.host.Host.{Host}
 use Rattle.tab_core.specs.declared.over.Over.{Over}
 use Rattle.tab_core.specs.declared.periodic.Periodic.{Periodic}
 use Rattle.tab_core.specs.declared.piece.Piece.{Piece}
-use Rattle.table_form.specs.EdfRow.{edf_row}
-use Rattle.table_form.specs.Jobs.{jobs_of}
-use Rattle.table_form.specs.Plans.{PlanView}
+use Rattle.table_form.specs.Planning.EdfRow.{edf_row}
+use Rattle.table_form.specs.Planning.Jobs.{jobs_of}
+use Rattle.table_form.specs.Tables.Plans.{PlanView}
 use Rattle.period_choice.specs.Tasks.{AreTasksOf}
 use Rattle.worst_fit.specs.Placement.{IsPlacement}
 use Rattle.worst_fit.specs.declared.placed.Placed.{Placed}

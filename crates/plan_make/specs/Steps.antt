@@ -13,7 +13,7 @@ use Rattle.cd_split.specs.Shares.{AreOf, FitTheirCores, FollowOn, StandApart}
 use Rattle.cd_split.specs.Splitting.{Refuses, Splits, core_numbers}
 use Rattle.cd_split.specs.declared.fault.SplitFault.{SplitFault}
 use Rattle.cd_split.specs.declared.fault.SplitFault.TheVariants.{NoMemory, NoRoom}
-use Rattle.table_form.specs.Drafts.{cost_on}
+use Rattle.table_form.specs.Planning.Drafts.{cost_on}
 use Rattle.plan_make.specs.Allotted.{HasTask, WindowsApart}
 use Rattle.plan_make.specs.Layout.{SplitsEach, home_of, with_pieces}
 use Rattle.plan_make.specs.Planned.{IsFirstWithoutRoom, IsStart}

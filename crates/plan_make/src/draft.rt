@@ -1,6 +1,6 @@
 ghost use Rattle.std.specs.Prelude.{◌≡◌, [], IfOk, length, map};
-ghost use Rattle.table_form.specs.EdfRow.{edf_row};
-ghost use Rattle.table_form.specs.Jobs.{jobs_of};
+ghost use Rattle.table_form.specs.Planning.EdfRow.{edf_row};
+ghost use Rattle.table_form.specs.Planning.Jobs.{jobs_of};
 ghost use Rattle.plan_make.specs.Layout.{all_pieces};
 ghost use Rattle.plan_make.specs.Steps.{AreLaidOut};
 

@@ -1,8 +1,8 @@
 ghost use Rattle.std.specs.Prelude.{◌≡◌, ℕ, IfErr, IfOk, IsErr, IsErrOf, List, Option};
 ghost use Rattle.tab_core.specs.declared.over.Over.{Over};
 ghost use Rattle.tab_core.specs.declared.periodic.Periodic.{Periodic};
-ghost use Rattle.table_form.specs.Plans.{IsPlanFor, PlanView};
-ghost use Rattle.table_form.specs.Views.{plan_view};
+ghost use Rattle.table_form.specs.Tables.Plans.{IsPlanFor, PlanView};
+ghost use Rattle.table_form.specs.Tables.Views.{plan_view};
 ghost use Rattle.period_choice.specs.Tasks.{AreTasksOf, IsFirstWithoutPeriod};
 ghost use Rattle.worst_fit.specs.Bound.{IsWithinBound};
 ghost use Rattle.plan_make.specs.Planned.{IsFirstWithoutRoom, IsPlanned};

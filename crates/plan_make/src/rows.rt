@@ -1,9 +1,9 @@
 ghost use Rattle.std.specs.Prelude.{◌≡◌, ℕ, ◌<◌, ◌≤◌, IfOk, Result, length, map, slice_index_or};
 ghost use Rattle.std.specs.declared.alloc.AllocError.{AllocError};
 ghost use Rattle.tab_core.specs.declared.TheConstants.{MAX_CORES};
-ghost use Rattle.table_form.specs.EdfRow.{edf_row};
-ghost use Rattle.table_form.specs.Jobs.{jobs_of};
-ghost use Rattle.table_form.specs.Rows.{Row};
+ghost use Rattle.table_form.specs.Planning.EdfRow.{edf_row};
+ghost use Rattle.table_form.specs.Planning.Jobs.{jobs_of};
+ghost use Rattle.table_form.specs.Tables.Rows.{Row};
 ghost use Rattle.cd_split.specs.Cores.{pieces_on};
 ghost use Rattle.plan_make.specs.Allotted.{AreRowsOf, IsRowOf};
 

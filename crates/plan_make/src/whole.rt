@@ -1,6 +1,6 @@
 ghost use Rattle.std.specs.Prelude.{◌≡◌, ℕ, ◌+◌, ◌<◌, ◌≤◌, IfOk, OnOk, Some, length, slice_get, take};
 ghost use Rattle.tab_core.specs.declared.TheConstants.{MAX_CORES, MAX_VCPUS};
-ghost use Rattle.table_form.specs.Jobs.{subtask_of};
+ghost use Rattle.table_form.specs.Planning.Jobs.{subtask_of};
 ghost use Rattle.worst_fit.specs.Load.{FitsEachCore};
 ghost use Rattle.plan_make.specs.Layout.{StandWhole, whole};
 

@@ -10,8 +10,8 @@ use Rattle.std.specs.Option.{ForSome}
 use Rattle.tab_core.specs.Name.{IsName}
 use Rattle.tab_core.specs.declared.TheConstants.{MAX_CORES, MAX_VCPUS}
 use Rattle.tab_core.specs.declared.periodic.Periodic.{Periodic}
-use Rattle.table_form.specs.Homes.{are_housed}
-use Rattle.table_form.specs.Serves.{has_task}
+use Rattle.table_form.specs.Tables.Homes.{are_housed}
+use Rattle.table_form.specs.Tables.Serves.{has_task}
 use Rattle.table_form.specs.declared.raw_tables.RawTables.{RawTables}
 use Rattle.table_form.specs.declared.segment.Segment.{Segment}
 use Rattle.plan_text.specs.Names.{AreHostNames}

@@ -10,10 +10,10 @@ use Rattle.tab_io.specs.Outside.{Writes}
 use Rattle.tab_io.specs.declared.sink.WriteFault.{WriteFault}
 use Rattle.tab_io.proofs.Writing.{writes_then, writes_broken}
 use Rattle.table_form.specs.declared.segment.Segment.{Segment}
-use Rattle.table_form.specs.Plans.{PlanView}
-use Rattle.table_form.specs.Rows.{Row, cells_from}
-use Rattle.table_form.specs.Serves.{has_task}
-use Rattle.table_form.specs.Homes.{HaveHomes, are_housed, is_housed}
+use Rattle.table_form.specs.Tables.Plans.{PlanView}
+use Rattle.table_form.specs.Tables.Rows.{Row, cells_from}
+use Rattle.table_form.specs.Tables.Serves.{has_task}
+use Rattle.table_form.specs.Tables.Homes.{HaveHomes, are_housed, is_housed}
 use Rattle.plan_text.specs.PlanText.{core_line, core_text, head_line, is_admitted, name_at, names_of, plan_text, row_text, task_text, texts_below, vcpu_text}
 
 pub same_default : {X : Type 0} (xs : List X) (i : ℕ) (x d : X) → i < length xs → x ≡ get_or xs i x

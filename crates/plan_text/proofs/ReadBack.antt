@@ -14,11 +14,11 @@ use Rattle.tab_core.specs.Name.{IsName}
 use Rattle.tab_core.specs.declared.TheConstants.{MAX_CORES, MAX_VCPUS, ROUND}
 use Rattle.tab_core.specs.declared.host.Host.{Host}
 use Rattle.tab_core.specs.declared.periodic.Periodic.{Periodic}
-use Rattle.table_form.specs.Homes.{are_housed, is_housed}
-use Rattle.table_form.specs.Plans.{IsPlan, PlanView}
-use Rattle.table_form.specs.Rows.{Row}
-use Rattle.table_form.specs.Serves.{OwnersHaveTasks, cell_of, flat, has_task}
-use Rattle.table_form.specs.Stretches.{Stretch, put_front, stretch_of, stretches_from}
+use Rattle.table_form.specs.Tables.Homes.{are_housed, is_housed}
+use Rattle.table_form.specs.Tables.Plans.{IsPlan, PlanView}
+use Rattle.table_form.specs.Tables.Rows.{Row}
+use Rattle.table_form.specs.Tables.Serves.{OwnersHaveTasks, cell_of, flat, has_task}
+use Rattle.table_form.specs.Inside.Stretches.{Stretch, put_front, stretch_of, stretches_from}
 use Rattle.table_form.specs.declared.raw_tables.RawTables.{RawTables}
 use Rattle.table_form.specs.declared.segment.Segment.{Segment}
 use Rattle.table_form.proofs.StretchLemmas.{stretches-cons, stretches-nil}

@@ -3,8 +3,8 @@ use Rattle.std.proofs.Common.{sym, ap, refl, ◌∙◌, ◌≡◌, ℕ, suc, Boo
 use Rattle.std.specs.Option.{option_eq}
 use Rattle.tab_core.specs.declared.TheConstants.{ROUND}
 use Rattle.table_form.specs.declared.segment.Segment.{Segment}
-use Rattle.table_form.specs.Rows.{RisesTo, cells_from}
-use Rattle.table_form.specs.Stretches.{stretch_of, stretches_from}
+use Rattle.table_form.specs.Tables.Rows.{RisesTo, cells_from}
+use Rattle.table_form.specs.Inside.Stretches.{stretch_of, stretches_from}
 use Rattle.table_form.proofs.RowLemmas.{rises_parts, cells-nil}
 use Rattle.table_form.proofs.StretchLemmas.{stretches-nil, stretches_join, stretches_part, stretches_last}
 use Rattle.plan_text.specs.PlanText.{row_text, segment_line, texts_below}

@@ -4,7 +4,7 @@ use Rattle.std.proofs.lemmas.Bool.{false≢true}
 use Rattle.std.specs.Option.{ForSome}
 use Rattle.tab_core.specs.Name.{IsName}
 use Rattle.tab_core.specs.declared.periodic.Periodic.{Periodic}
-use Rattle.table_form.specs.Serves.{has_task}
+use Rattle.table_form.specs.Tables.Serves.{has_task}
 use Rattle.vcpu_names.specs.Names.{IsUnknown, name_at}
 use Rattle.plan_text.specs.Names.{AreHostNames}
 use Rattle.plan_text.specs.PlanLines.{Line}

@@ -4,7 +4,7 @@ use Rattle.std.proofs.lemmas.Bool.{and_parts}
 use Rattle.std.proofs.lemmas.Bool.Decides.{nat_tests}
 use Rattle.std.proofs.lemmas.List.{take_all, take_more}
 use Rattle.tab_core.specs.declared.periodic.Periodic.{Periodic}
-use Rattle.table_form.specs.Homes.{are_housed, is_housed}
+use Rattle.table_form.specs.Tables.Homes.{are_housed, is_housed}
 use Rattle.vcpu_names.specs.Names.{name_at}
 use Rattle.plan_text.specs.FirstBad.{IsBegun, IsFirstBad}
 use Rattle.plan_text.specs.PlanLines.{Line, vcpu_lines, vcpu_part, vcpu_words}

@@ -14,7 +14,7 @@ use Rattle.tab_words.specs.Lines.{lines_of}
 use Rattle.tab_words.specs.Words.{words_of}
 use Rattle.tab_words.proofs.FirstLine.{length-lines_of}
 use Rattle.tab_words.proofs.FirstWord.{words_of-last, words_of-nil, words_of-space}
-use Rattle.table_form.specs.Homes.{are_housed}
+use Rattle.table_form.specs.Tables.Homes.{are_housed}
 use Rattle.table_form.specs.declared.raw_tables.RawTables.{RawTables}
 use Rattle.table_form.specs.declared.segment.Segment.{Segment}
 use Rattle.vcpu_names.specs.Names.{AreNames, name_at, names_of}

@@ -16,7 +16,7 @@ use Rattle.tab_words.specs.Lines.{lines_of}
 use Rattle.tab_words.specs.Words.{words_of}
 use Rattle.tab_words.proofs.FirstLine.{lines_of-line}
 use Rattle.tab_words.proofs.FirstWord.{words_of-last, words_of-word}
-use Rattle.table_form.specs.Stretches.{Stretch}
+use Rattle.table_form.specs.Inside.Stretches.{Stretch}
 use Rattle.vcpu_names.specs.Names.{name_at}
 use Rattle.plan_text.specs.PlanLines.{core_words, end_words, head_words, vcpu_words, worded}
 use Rattle.plan_text.specs.PlanText.{owner_word, core_line, head_line, segment_line, task_line}

@@ -1,7 +1,7 @@
 -- Where a maximal segment of a row ends, and the line that stands for it.
 use Rattle.std.specs.Prelude.{ℕ, suc, Bool, true, not, nat_eq, List, [], Option, Some, None, if◌then◌else◌, slice_get}
 use Rattle.std.specs.Option.{option_eq}
-use Rattle.table_form.specs.Stretches.{stretch_of}
+use Rattle.table_form.specs.Inside.Stretches.{stretch_of}
 use Rattle.table_form.specs.declared.segment.Segment.{Segment}
 use Rattle.plan_text.specs.PlanText.{segment_line}
 

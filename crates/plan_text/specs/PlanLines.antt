@@ -8,8 +8,8 @@ use Rattle.tab_words.specs.Lines.{lines_of}
 use Rattle.tab_words.specs.Words.{words_of}
 use Rattle.table_form.specs.declared.raw_tables.RawTables.{RawTables}
 use Rattle.table_form.specs.declared.segment.Segment.{Segment}
-use Rattle.table_form.specs.Homes.{are_housed}
-use Rattle.table_form.specs.Serves.{has_task}
+use Rattle.table_form.specs.Tables.Homes.{are_housed}
+use Rattle.table_form.specs.Tables.Serves.{has_task}
 use Rattle.plan_text.specs.PlanText.{is_admitted, owner_word}
 
 -- a line, as its words

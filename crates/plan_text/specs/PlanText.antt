@@ -1,9 +1,9 @@
 -- The text of a plan: its vCPUs, and each core's maximal segments. The form is this project's own.
 use Rattle.std.specs.Prelude.{ℕ, zero, suc, ◌++◌, Bool, true, false, List, [], codes, count_by, decimal, flat_map, length, Option, Some, None, slice_index_or}
 use Rattle.tab_core.specs.declared.periodic.Periodic.{Periodic}
-use Rattle.table_form.specs.Plans.{PlanView}
-use Rattle.table_form.specs.Rows.{Row}
-use Rattle.table_form.specs.Stretches.{Stretch, stretches_from}
+use Rattle.table_form.specs.Tables.Plans.{PlanView}
+use Rattle.table_form.specs.Tables.Rows.{Row}
+use Rattle.table_form.specs.Inside.Stretches.{Stretch, stretches_from}
 pub use Rattle.vcpu_names.specs.Names.{name_at, names_of}
 
 -- the texts of the numbers below n, one after the other

@@ -4,7 +4,7 @@ use Rattle.std.specs.List.{All}
 use Rattle.tab_words.specs.Words.{words_of}
 use Rattle.tab_core.specs.declared.periodic.Periodic.{Periodic}
 use Rattle.table_form.specs.declared.segment.Segment.{Segment}
-use Rattle.table_form.specs.Homes.{are_housed}
+use Rattle.table_form.specs.Tables.Homes.{are_housed}
 use denote.Ref.{Bor}
 use Rattle.plan_text.specs.PlanLines.{AreFineRows, IsFineSegment, Line, core_lines, end_words, segment_words, vcpu_lines, vcpu_words}
 

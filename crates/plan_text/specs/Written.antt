@@ -3,9 +3,9 @@ use Rattle.std.specs.Prelude.{◌≡◌, ◌≤◌, length, map}
 use Rattle.std.specs.List.{All}
 use Rattle.tab_core.specs.declared.TheConstants.{MAX_VCPUS, ROUND}
 use Rattle.tab_core.specs.declared.host.Host.{Host}
-use Rattle.table_form.specs.Plans.{IsPlan, IsPlanFor, PlanView}
-use Rattle.table_form.specs.Rows.{Row}
-use Rattle.table_form.specs.Stretches.{stretch_of, stretches_from}
+use Rattle.table_form.specs.Tables.Plans.{IsPlan, IsPlanFor, PlanView}
+use Rattle.table_form.specs.Tables.Rows.{Row}
+use Rattle.table_form.specs.Inside.Stretches.{stretch_of, stretches_from}
 use Rattle.table_form.specs.declared.raw_tables.RawTables.{RawTables}
 use Rattle.plan_text.specs.Names.{AreHostNames}
 use Rattle.plan_text.specs.PlanLines.{IsPlanText}

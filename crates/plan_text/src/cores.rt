@@ -1,8 +1,8 @@
 ghost use Rattle.std.specs.Prelude.{◌≡◌, ◌<◌, ◌≤◌, length};
 ghost use Rattle.tab_core.specs.declared.TheConstants.{MAX_CORES, ROUND};
 ghost use Rattle.tab_io.specs.Outside.{Writes};
-ghost use Rattle.table_form.specs.Rows.{RisesTo, cells_from};
-ghost use Rattle.table_form.specs.Stretches.{stretch_of};
+ghost use Rattle.table_form.specs.Tables.Rows.{RisesTo, cells_from};
+ghost use Rattle.table_form.specs.Inside.Stretches.{stretch_of};
 ghost use Rattle.plan_text.specs.PlanText.{core_line, core_text, names_of, row_text, segment_line, texts_below};
 ghost use Rattle.plan_text.specs.MaximalSegments.{ends_maximal, line_at};
 

@@ -2,7 +2,7 @@ ghost use Rattle.std.specs.Prelude.{◌≡◌, ◌≤◌, ℕ, List, Option, len
 ghost use Rattle.tab_core.specs.declared.TheConstants.{MAX_CORES};
 ghost use Rattle.tab_core.specs.declared.host.Host.{Host};
 ghost use Rattle.tab_core.specs.declared.periodic.Periodic.{Periodic};
-ghost use Rattle.table_form.specs.Plans.{PlanView};
+ghost use Rattle.table_form.specs.Tables.Plans.{PlanView};
 ghost use Rattle.table_form.specs.declared.raw_tables.RawTables.{RawTables};
 ghost use Rattle.plan_text.specs.Names.{AreHostNames};
 ghost use Rattle.plan_text.specs.PlanLines.{IsPlanText};

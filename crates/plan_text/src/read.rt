@@ -1,6 +1,6 @@
 ghost use Rattle.std.specs.Prelude.{◌≡◌, ◌↔◌, ◌⊎◌, ◌<◌, ◌≤◌, ◌^◌, IfOk, IsErrOf, IsTrue, Ok, Err, count_by, length, ℕ};
 ghost use Rattle.tab_core.specs.declared.TheConstants.{MAX_CORES, MAX_VCPUS};
-ghost use Rattle.table_form.specs.Homes.{are_housed};
+ghost use Rattle.table_form.specs.Tables.Homes.{are_housed};
 ghost use Rattle.table_form.specs.declared.raw_tables.RawTables.{RawTables};
 ghost use Rattle.plan_text.specs.FirstBad.{IsFirstBad};
 ghost use Rattle.plan_text.specs.Names.{AreHostNames};

@@ -1,7 +1,7 @@
 ghost use Rattle.std.specs.Prelude.{◌≡◌, ◌++◌, ◌+◌, ◌<◌, ◌≤◌, [], ◌∷◌, IfOk, IsErrOf, IsTrue, MatchOption, OnOk, ◌↔◌, ◌^◌, decimal, false, length, map, true, ℕ};
 ghost use Rattle.std.specs.List.{All};
 ghost use Rattle.tab_core.specs.declared.TheConstants.{MAX_CORES, MAX_VCPUS};
-ghost use Rattle.table_form.specs.Serves.{has_task};
+ghost use Rattle.table_form.specs.Tables.Serves.{has_task};
 ghost use Rattle.table_form.specs.declared.segment.Segment.{Segment};
 ghost use Rattle.tab_words.specs.Words.{words_of};
 ghost use Rattle.plan_text.specs.FirstBad.{IsFirstBad};

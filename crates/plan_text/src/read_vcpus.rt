@@ -1,6 +1,6 @@
 ghost use Rattle.std.specs.Prelude.{◌≡◌, ◌++◌, ◌+◌, ◌<◌, ◌≤◌, IfOk, IsErrOf, IsTrue, List, MatchOption, OnOk, decimal, length, true, ℕ};
 ghost use Rattle.tab_core.specs.declared.TheConstants.{MAX_CORES};
-ghost use Rattle.table_form.specs.Homes.{are_housed, is_housed};
+ghost use Rattle.table_form.specs.Tables.Homes.{are_housed, is_housed};
 ghost use Rattle.tab_words.specs.Words.{words_of};
 ghost use Rattle.plan_text.specs.FirstBad.{IsFirstBad};
 ghost use Rattle.plan_text.specs.PlanLines.{vcpu_lines, vcpu_part, vcpu_words};

@@ -6,8 +6,8 @@ use Rattle.std.proofs.lemmas.Option.{get_or_from_slice_get}
 use Rattle.tab_core.specs.declared.TheConstants.{ROUND}
 use Rattle.tab_core.specs.declared.entry.Entry.{Entry}
 use Rattle.tab_core.specs.declared.stint.Stint.{Stint}
-use Rattle.table_form.specs.Courses.{CourseView}
-use Rattle.table_form.specs.State.{State, CoreState, opening, opening_core}
+use Rattle.table_form.specs.Running.Courses.{CourseView}
+use Rattle.table_form.specs.Running.State.{State, CoreState, opening, opening_core}
 use Rattle.script_doc.specs.declared.step.Step.{Step}
 use Rattle.script_doc.specs.declared.step.Step.TheVariants as step
 use Rattle.step_machine.specs.Answers.{Moves, NamesCore}

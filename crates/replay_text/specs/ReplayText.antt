@@ -2,8 +2,8 @@
 use Rattle.std.specs.Prelude.{ℕ, ◌++◌, ◌==◌, Bool, false, List, [], codes, count_by, decimal, length, take, Option, Some, None, slice_get}
 use Rattle.tab_core.specs.declared.entry.Entry.{Entry}
 use Rattle.tab_core.specs.declared.stint.Stint.{Stint}
-use Rattle.table_form.specs.Courses.{CourseView}
-use Rattle.table_form.specs.State.{State}
+use Rattle.table_form.specs.Running.Courses.{CourseView}
+use Rattle.table_form.specs.Running.State.{State}
 use Rattle.script_doc.specs.declared.step.Step.{Step}
 use Rattle.script_doc.specs.declared.step.Step.TheVariants as step
 use Rattle.step_machine.specs.Cores.{core_at}

@@ -1,8 +1,8 @@
 -- The line of a stint. The form is this project's own.
 use Rattle.std.specs.Prelude.{ℕ, ◌++◌, Bool, List, codes, decimal, Option, Some, None, if◌then◌else◌}
 use Rattle.tab_core.specs.declared.stint.Stint.{Stint}
-use Rattle.table_form.specs.Choice.{is_shared}
-use Rattle.table_form.specs.Courses.{CourseView}
+use Rattle.table_form.specs.Running.Choice.{is_shared}
+use Rattle.table_form.specs.Running.Courses.{CourseView}
 use Rattle.plan_text.specs.PlanText.{owner_word}
 
 -- whether the vCPU ran in its own slot or in unused time

@@ -1,9 +1,9 @@
 ghost use Rattle.std.specs.Prelude.{◌≡◌, ◌%◌, ◌<◌, ◌≤◌, Some, length};
 ghost use Rattle.tab_core.specs.declared.TheConstants.{ROUND};
 ghost use Rattle.tab_io.specs.Outside.{Writes};
-ghost use Rattle.table_form.specs.Choice.{is_shared, runs_other};
-ghost use Rattle.table_form.specs.Courses.{plan_after};
-ghost use Rattle.table_form.specs.Serves.{owner_at};
+ghost use Rattle.table_form.specs.Running.Choice.{is_shared, runs_other};
+ghost use Rattle.table_form.specs.Running.Courses.{plan_after};
+ghost use Rattle.table_form.specs.Tables.Serves.{owner_at};
 ghost use Rattle.plan_text.specs.PlanText.{names_of};
 ghost use Rattle.replay_text.specs.StintLine.{how_word, stint_line};
 

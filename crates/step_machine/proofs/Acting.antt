@@ -5,42 +5,42 @@ use Rattle.std.specs.Prelude.{slice_get, slice_index_or, fold, vec_capacity}
 use Rattle.std.proofs.lemmas.Option.{slice_get_read, slice_get_within}
 use Rattle.tab_core.specs.declared.TheConstants.{MAX_ROUNDS, ROUND}
 use Rattle.tab_core.specs.declared.stint.Stint.{Stint}
-use Rattle.table_form.specs.Courses.{CourseView, IsCourse}
-use Rattle.table_form.specs.State.{CoreState}
-use Rattle.table_form.specs.Choice.{last_shared, last_after}
-use Rattle.table_form.specs.Kept.{Kept, CoreKept}
-use Rattle.table_form.specs.Next.{IsLeastClock}
-use Rattle.table_form.specs.Steps.{phase_of}
+use Rattle.table_form.specs.Running.Courses.{CourseView, IsCourse}
+use Rattle.table_form.specs.Running.State.{CoreState}
+use Rattle.table_form.specs.Running.Choice.{last_shared, last_after}
+use Rattle.table_form.specs.Running.Invariant.{StateInvariant, CoreInvariant}
+use Rattle.table_form.specs.Running.Next.{IsLeastClock}
+use Rattle.table_form.specs.Running.Steps.{phase_of}
 use Rattle.step_machine.specs.declared.log.CoreLog.{CoreLog}
 use Rattle.step_machine.specs.declared.progress.Progress.{Progress}
 use Rattle.step_machine.specs.Logs.{core_of, KnowLast, Edits, IsLowestOf}
 use Rattle.step_machine.specs.Progresses.{state_of, HasSpare}
 use Rattle.std.proofs.lemmas.Bool.{cases_lt}
-use Rattle.table_form.specs.Steps.{to_decide}
+use Rattle.table_form.specs.Running.Steps.{to_decide}
 use Rattle.step_machine.proofs.Phases.{deciding, entered_below}
 use Rattle.step_machine.proofs.Lists.{set_split, element_at}
 use Rattle.step_machine.proofs.LogLemmas.{log_at, core_at}
 
-pub logs_count : (course : CourseView) (rounds : ℕ) (p : Progress) → Kept course rounds (state_of p)
+pub logs_count : (course : CourseView) (rounds : ℕ) (p : Progress) → StateInvariant course rounds (state_of p)
     → length p.logs.items ≡ course.cores
 logs_count course rounds p kept = sym (length-map p.logs.items core_of) ∙ kept.size
 
 -- the log that an index finds
 pub log_found : (course : CourseView) (rounds : ℕ) (p : Progress) (c : ℕ) (log : CoreLog)
-    → Kept course rounds (state_of p) → c < course.cores → log ≡ slice_index_or p.logs.items c log
+    → StateInvariant course rounds (state_of p) → c < course.cores → log ≡ slice_index_or p.logs.items c log
     → slice_get p.logs.items c ≡ Some log
 log_found course rounds p c log kept lt is =
     slice_get_read p.logs.items (length p.logs.items) c log refl
     (let n = logs_count course rounds p kept in omega arith) is
 
 pub log_kept : (course : CourseView) (rounds : ℕ) (p : Progress) (c : ℕ) (log : CoreLog)
-    → Kept course rounds (state_of p) → slice_get p.logs.items c ≡ Some log
-    → CoreKept course rounds p.posted p.decided.items c (core_of log)
+    → StateInvariant course rounds (state_of p) → slice_get p.logs.items c ≡ Some log
+    → CoreInvariant course rounds p.posted p.decided.items c (core_of log)
 log_kept course rounds p c log kept at = kept.cores c (core_of log) (core_at p.logs.items c log at)
 
 -- a clock and a lag fit 32 bits
 pub clock_small : (course : CourseView) (rounds : ℕ) (p : Progress) (c : ℕ) (log : CoreLog)
-    → Kept course rounds (state_of p) → IsCourse course → rounds ≤ MAX_ROUNDS
+    → StateInvariant course rounds (state_of p) → IsCourse course → rounds ≤ MAX_ROUNDS
     → slice_get p.logs.items c ≡ Some log → log.clock + course.lag < 2 ^ 32
 clock_small course rounds p c log kept ok few at =
     (let k = log_kept course rounds p c log kept at in omega (arith, k.in_run, ok.form.small_lag))
@@ -70,14 +70,14 @@ last_more course c stints s = fold_push (last_after course c) None stints s
 
 -- the log of a core
 pub log_at_core : (course : CourseView) (rounds : ℕ) (p : Progress) (c : ℕ)
-    → Kept course rounds (state_of p) → c < course.cores
+    → StateInvariant course rounds (state_of p) → c < course.cores
     → (log : CoreLog) × (slice_get p.logs.items c ≡ Some log)
 log_at_core course rounds p c kept lt =
     element_at p.logs.items c (let n = logs_count course rounds p kept in omega arith)
 
 -- a core that is to enter a round has entered those before
 entries_few : (course : CourseView) (rounds : ℕ) (p : Progress) (c : ℕ) (log : CoreLog)
-    → Kept course rounds (state_of p) → slice_get p.logs.items c ≡ Some log
+    → StateInvariant course rounds (state_of p) → slice_get p.logs.items c ≡ Some log
     → phase_of rounds (core_of log) ≡ to_decide →
     length log.entries.items ≤ log.clock / ROUND
 entries_few course rounds p c log kept at due =
@@ -92,7 +92,7 @@ entries_few course rounds p c log kept at due =
 
 -- and is at the round's start
 pub starts_round : (course : CourseView) (rounds : ℕ) (p : Progress) (c : ℕ) (log : CoreLog)
-    → Kept course rounds (state_of p) → slice_get p.logs.items c ≡ Some log
+    → StateInvariant course rounds (state_of p) → slice_get p.logs.items c ≡ Some log
     → phase_of rounds (core_of log) ≡ to_decide →
     (log.clock ≡ log.clock / ROUND * ROUND)
 starts_round course rounds p c log kept at due =
@@ -112,7 +112,7 @@ spare_some rounds n p some spare = record {
 
 -- a core that is to enter a round enters one of the run's, and has room for the entry
 pub round_small : (course : CourseView) (rounds : ℕ) (p : Progress) (c : ℕ) (log : CoreLog)
-    → Kept course rounds (state_of p) → slice_get p.logs.items c ≡ Some log
+    → StateInvariant course rounds (state_of p) → slice_get p.logs.items c ≡ Some log
     → phase_of rounds (core_of log) ≡ to_decide →
     log.clock / ROUND < rounds
 round_small course rounds p c log kept at due =
@@ -122,7 +122,7 @@ round_small course rounds p c log kept at due =
     omega arith
 
 pub entry_room : (course : CourseView) (rounds : ℕ) (p : Progress) (c : ℕ) (log : CoreLog)
-    → Kept course rounds (state_of p) → HasSpare rounds 1 p → slice_get p.logs.items c ≡ Some log
+    → StateInvariant course rounds (state_of p) → HasSpare rounds 1 p → slice_get p.logs.items c ≡ Some log
     → phase_of rounds (core_of log) ≡ to_decide →
     length log.entries.items < vec_capacity log.entries
 entry_room course rounds p c log kept spare at due =

@@ -4,12 +4,12 @@ use Rattle.std.specs.Prelude.{slice_get, MatchOption}
 use Rattle.std.proofs.lemmas.Bool.{cases_lt}
 use Rattle.tab_core.specs.declared.TheConstants.{ROUND}
 use Rattle.tab_core.specs.declared.stint.Stint.{Stint}
-use Rattle.table_form.specs.Plans.{PlanView}
-use Rattle.table_form.specs.Courses.{CourseView, IsCourse, plan_after, runnable_after}
-use Rattle.table_form.specs.State.{State}
-use Rattle.table_form.specs.Choice.{Follows, IsEligible, IsPick, last_shared}
-use Rattle.table_form.specs.Kept.{Kept, Chain}
-use Rattle.table_form.specs.Busy.{IsBusyAt, IsBusy}
+use Rattle.table_form.specs.Tables.Plans.{PlanView}
+use Rattle.table_form.specs.Running.Courses.{CourseView, IsCourse, plan_after, runnable_after}
+use Rattle.table_form.specs.Running.State.{State}
+use Rattle.table_form.specs.Running.Choice.{IsDispatch, IsEligible, IsPick, last_shared}
+use Rattle.table_form.specs.Running.Invariant.{StateInvariant, AreContiguous}
+use Rattle.table_form.specs.Running.Busy.{IsBusyAt, IsBusy}
 use Rattle.step_machine.proofs.Pieces.{stint_bounds}
 use Rattle.step_machine.proofs.OneCore.{picked, stint_within, eligible_alike, eligible_back}
 
@@ -20,7 +20,7 @@ filled_by eligible fills last None to back pick = λ v m. pick v (back v m)
 filled_by eligible fills last (Some v) to back pick = to v (picked eligible last v pick)
 
 busy_at : (course : CourseView) (c : ℕ) (earlier : List Stint) (s : Stint) (x : ℕ)
-    → Follows course c earlier s → s.from ≤ x → x < s.end
+    → IsDispatch course c earlier s → s.from ≤ x → x < s.end
     → IsBusyAt (plan_after course s.used) c (x % ROUND) (runnable_after course s.seen) s.ran
 busy_at course c earlier s x f low lt =
     let plan : PlanView = plan_after course s.used in
@@ -36,7 +36,7 @@ busy_at course c earlier s x f low lt =
     }
 
 -- stints follow one another
-covering : (from to : ℕ) (ss : List Stint) (x : ℕ) → Chain from ss to → from ≤ x → x < to
+covering : (from to : ℕ) (ss : List Stint) (x : ℕ) → AreContiguous from ss to → from ≤ x → x < to
     → (k : ℕ) × (s : Stint) × (slice_get ss k ≡ Some s) × (s.from ≤ x) × (x < s.end)
 covering from to [] x chain low lt = absurd (omega (arith, chain))
 covering from to (s ∷ ss) x chain low lt = elim (cases_lt x s.end) [
@@ -46,7 +46,7 @@ covering from to (s ∷ ss) x chain low lt = elim (cases_lt x s.end) [
       (suc rest.0, rest.1, rest.2, rest.3, rest.4))
 ]
 
-later_from : (from to : ℕ) (ss : List Stint) (k : ℕ) (s : Stint) → Chain from ss to
+later_from : (from to : ℕ) (ss : List Stint) (k : ℕ) (s : Stint) → AreContiguous from ss to
     → ((j : ℕ) (t : Stint) → slice_get ss j ≡ Some t → t.from < t.end) → slice_get ss k ≡ Some s
     → from ≤ s.from
 later_from from to [] k s chain ticks h = absurd cc
@@ -57,7 +57,7 @@ later_from from to (t ∷ ts) (suc k) s chain ticks h =
     let some = ticks 0 t refl in
     omega (arith, chain.0)
 
-one_stint : (from to : ℕ) (ss : List Stint) (j k x : ℕ) (s t : Stint) → Chain from ss to
+one_stint : (from to : ℕ) (ss : List Stint) (j k x : ℕ) (s t : Stint) → AreContiguous from ss to
     → ((i : ℕ) (u : Stint) → slice_get ss i ≡ Some u → u.from < u.end) → slice_get ss j ≡ Some s
     → slice_get ss k ≡ Some t →
     s.from ≤ x → x < s.end → t.from ≤ x → x < t.end → s ≡ t
@@ -77,7 +77,7 @@ one_stint from to (u ∷ us) (suc j) (suc k) x s t chain ticks h g a b a' b' =
     one_stint u.end to us j k x s t chain.1 (λ i v r. ticks (suc i) v r) h g a b a' b'
 
 pub is_busy : (course : CourseView) (rounds : ℕ) (s : State) → IsCourse course
-    → Kept course rounds s → IsBusy course s
+    → StateInvariant course rounds s → IsBusy course s
 is_busy course rounds s ok kept = record {
   busy = λ c x core st at covers. busy_at course c _ st x
       ((kept.cores c core at).chosen covers.place st covers.at) covers.begun covers.going;

@@ -5,15 +5,15 @@ use Rattle.std.proofs.lemmas.Bool.{cases_lt}
 use Rattle.std.specs.Option.{ForSome}
 use denote.Struct.Props.{props}
 use Rattle.tab_core.specs.declared.TheConstants.{MAX_VCPUS, ROUND}
-use Rattle.table_form.specs.Serves.{owner_at}
+use Rattle.table_form.specs.Tables.Serves.{owner_at}
 use Rattle.tab_core.specs.declared.stint.Stint.{Stint}
 use Rattle.tab_core.specs.declared.entry.Entry.{Entry}
-use Rattle.table_form.specs.Plans.{PlanView}
-use Rattle.table_form.specs.Spots.{IsSpanEnd}
-use Rattle.table_form.specs.Courses.{CourseView, plan_after, runnable_after}
-use Rattle.table_form.specs.State.{CoreState}
-use Rattle.table_form.specs.Choice.{Follows, IsEligible, IsPick, IsLeast, IsChoice, owner_runs, last_shared, after_last}
-use Rattle.table_form.specs.Steps.{IsNextStint, round_of}
+use Rattle.table_form.specs.Tables.Plans.{PlanView}
+use Rattle.table_form.specs.Tables.Spots.{IsSpanEnd}
+use Rattle.table_form.specs.Running.Courses.{CourseView, plan_after, runnable_after}
+use Rattle.table_form.specs.Running.State.{CoreState}
+use Rattle.table_form.specs.Running.Choice.{IsDispatch, IsEligible, IsPick, IsLeast, IsChoice, owner_runs, last_shared, after_last}
+use Rattle.table_form.specs.Running.Steps.{IsNextStint, round_of}
 use Rattle.step_machine.proofs.Lists.{same}
 
 no_shorter : (plan : PlanView) (c place e f : ℕ) → IsSpanEnd plan c place e
@@ -70,8 +70,8 @@ one_choice plan c place runnable last x y f g = go (owner_runs (owner_at plan.ro
 
 -- the same counts and the same begin make the same stint
 pub one_follows : (course : CourseView) (c : ℕ) (earlier : List Stint) (s t : Stint)
-    → s.from ≡ t.from → s.seen ≡ t.seen → s.used ≡ t.used → Follows course c earlier s
-    → Follows course c earlier t → (s.ran ≡ t.ran) × (s.end ≡ t.end)
+    → s.from ≡ t.from → s.seen ≡ t.seen → s.used ≡ t.used → IsDispatch course c earlier s
+    → IsDispatch course c earlier t → (s.ran ≡ t.ran) × (s.end ≡ t.end)
 one_follows course c earlier s t from seen used f g =
     let plan : PlanView = plan_after course t.used in
     let place = t.from % ROUND in

@@ -5,14 +5,14 @@ use Rattle.std.proofs.lemmas.Bool.{cases_lt}
 use Rattle.tab_core.specs.declared.TheConstants.{ROUND}
 use Rattle.tab_core.specs.declared.stint.Stint.{Stint}
 use Rattle.tab_core.specs.declared.entry.Entry.{Entry}
-use Rattle.table_form.specs.Courses.{CourseView, IsCourse, tick_at}
-use Rattle.table_form.specs.State.{State, CoreState, IsCore}
+use Rattle.table_form.specs.Running.Courses.{CourseView, IsCourse, tick_at}
+use Rattle.table_form.specs.Running.State.{State, CoreState, IsCore}
 use Rattle.script_doc.specs.declared.step.Step.{Step}
 use Rattle.step_machine.specs.Answers.{Moves}
-use Rattle.table_form.specs.Steps.{phase_of, Posts, Sees, Wins, Joins, Runs, IsNextStint, enters, runs, round_of, HasUpTo}
-use Rattle.table_form.specs.Kept.{StintKept, SightKept, CoreKept, Kept}
+use Rattle.table_form.specs.Running.Steps.{phase_of, Posts, Sees, EntersFirst, EntersAfter, Runs, IsNextStint, enters, runs, round_of, HasUpTo}
+use Rattle.table_form.specs.Running.Invariant.{StintInvariant, SightInvariant, CoreInvariant, StateInvariant}
 use Rattle.script_doc.specs.declared.step.Step.TheVariants as steps
-use Rattle.table_form.specs.Steps.{to_decide}
+use Rattle.table_form.specs.Running.Steps.{to_decide}
 use Rattle.step_machine.proofs.Lists.{set_split, set_here, push_split, push_old, push_new, take_push_old, take_push_new, within, same}
 use Rattle.step_machine.proofs.Phases.{deciding, running, entered_below}
 use Rattle.step_machine.proofs.Pieces.{chain_push, cores_after, won_after, stint_bounds}
@@ -20,7 +20,7 @@ use Rattle.step_machine.proofs.Pieces.{chain_push, cores_after, won_after, stint
 -- Post
 
 stint_posted : (course : CourseView) (posted : ℕ) (decided : List ℕ) (s : Stint)
-    → StintKept course posted decided s → StintKept course (posted + 1) decided s
+    → StintInvariant course posted decided s → StintInvariant course (posted + 1) decided s
 stint_posted course posted decided s k =
     record {
       used = k.used;
@@ -31,7 +31,7 @@ stint_posted course posted decided s k =
     }
 
 sight_posted : (course : CourseView) (posted : ℕ) (decided : List ℕ) (core : CoreState) (n : ℕ)
-    → SightKept course posted decided core n → SightKept course (posted + 1) decided core n
+    → SightInvariant course posted decided core n → SightInvariant course (posted + 1) decided core n
 sight_posted course posted decided core n k =
     record {
       fresh = k.fresh;
@@ -41,9 +41,9 @@ sight_posted course posted decided core n k =
     }
 
 core_posted : (course : CourseView) (rounds posted : ℕ) (decided : List ℕ) (c : ℕ)
-    (core : CoreState) → CoreKept course rounds posted decided c core
+    (core : CoreState) → CoreInvariant course rounds posted decided c core
     → tick_at course posted ≤ core.clock + course.lag →
-    CoreKept course rounds (posted + 1) decided c core
+    CoreInvariant course rounds (posted + 1) decided c core
 core_posted course rounds posted decided c core k near = record {
   chain = k.chain;
   numbered = k.numbered;
@@ -62,8 +62,8 @@ core_posted course rounds posted decided c core k near = record {
 }
 
 pub posts_keep : (course : CourseView) (rounds : ℕ) (old new : State) → Posts course old new
-    → Kept course rounds old → Kept course rounds new
-posts_keep course rounds old new p k = subst (λ (s : State). Kept course rounds s) (sym p.becomes) (record {
+    → StateInvariant course rounds old → StateInvariant course rounds new
+posts_keep course rounds old new p k = subst (λ (s : State). StateInvariant course rounds s) (sym p.becomes) (record {
   size = k.size;
   cores = λ c core h. core_posted course rounds old.posted old.decided c core (k.cores c core h)
       (p.near c core h (λ e. absurd cc));
@@ -78,9 +78,9 @@ posts_keep course rounds old new p k = subst (λ (s : State). Kept course rounds
 -- See
 
 seen_now : (course : CourseView) (rounds posted : ℕ) (decided : List ℕ) (c : ℕ) (core : CoreState)
-    → CoreKept course rounds posted decided c core → HasUpTo course posted core.clock →
+    → CoreInvariant course rounds posted decided c core → HasUpTo course posted core.clock →
     ((r d : ℕ) → slice_get decided r ≡ Some d → d ≤ posted)
-    → CoreKept course rounds posted decided c (record core { seen = Some posted })
+    → CoreInvariant course rounds posted decided c (record core { seen = Some posted })
 seen_now course rounds posted decided c core k has most = record {
   chain = k.chain;
   numbered = k.numbered;
@@ -117,13 +117,13 @@ near_after course s c core changed at clock near = λ d e x y h g.
     (λ j w is. omega (arith, near c j core w at is, clock)) (omega (arith)) e y g) d x h
 
 pub sees_keep : (course : CourseView) (rounds c : ℕ) (old new : State)
-    → Sees course rounds c old new → Kept course rounds old → Kept course rounds new
+    → Sees course rounds c old new → StateInvariant course rounds old → StateInvariant course rounds new
 sees_keep course rounds c old new p k =
     let changed : CoreState = record p.core { seen = Some old.posted } in
-    subst (λ (s : State). Kept course rounds s) (sym p.becomes) (record {
+    subst (λ (s : State). StateInvariant course rounds s) (sym p.becomes) (record {
       size = length-set old.cores c changed ∙ k.size;
       cores = cores_after
-          (λ (d : ℕ) (x : CoreState). CoreKept course rounds old.posted old.decided d x) old.cores c
+          (λ (d : ℕ) (x : CoreState). CoreInvariant course rounds old.posted old.decided d x) old.cores c
           changed k.cores
           (seen_now course rounds old.posted old.decided c p.core
           (k.cores c p.core p.at) p.has k.decided_posted);
@@ -140,10 +140,10 @@ sees_keep course rounds c old new p k =
 
 -- a core is as it was when further rounds are decided that it has not reached
 core_grown : (course : CourseView) (rounds posted : ℕ) (decided more : List ℕ) (c : ℕ)
-    (core : CoreState) → CoreKept course rounds posted decided c core →
+    (core : CoreState) → CoreInvariant course rounds posted decided c core →
     ((r d : ℕ) → slice_get decided r ≡ Some d → slice_get more r ≡ Some d) → length decided ≤ length more →
     ((r d : ℕ) → slice_get more r ≡ Some d → (slice_get decided r ≡ Some d) ⊎ (length decided ≤ r))
-    → CoreKept course rounds posted more c core
+    → CoreInvariant course rounds posted more c core
 core_grown course rounds posted decided more c core k stays len back = record {
   chain = k.chain;
   numbered = k.numbered;
@@ -178,10 +178,10 @@ core_grown course rounds posted decided more c core k stays len back = record {
 
 -- a core enters the next round
 core_entered : (course : CourseView) (rounds posted : ℕ) (decided : List ℕ) (c : ℕ)
-    (core : CoreState) (e : Entry) → CoreKept course rounds posted decided c core →
+    (core : CoreState) (e : Entry) → CoreInvariant course rounds posted decided c core →
     e.round ≡ length core.entries → core.clock ≡ length core.entries * ROUND
     → slice_get decided (length core.entries) ≡ Some e.used → e.seen ≤ posted →
-    CoreKept course rounds posted decided c (enters core e)
+    CoreInvariant course rounds posted decided c (enters core e)
 core_entered course rounds posted decided c core e k round clock used posted_most =
     let grown : length (core.entries ++ e ∷ []) ≡ length core.entries + 1 =
     length-append core.entries (e ∷ []) in
@@ -218,7 +218,7 @@ core_entered course rounds posted decided c core e k round clock used posted_mos
 
 -- a core that has not entered its clock's round has entered those before
 entries_so_far : (course : CourseView) (rounds posted : ℕ) (decided : List ℕ) (c : ℕ)
-    (core : CoreState) → CoreKept course rounds posted decided c core
+    (core : CoreState) → CoreInvariant course rounds posted decided c core
     → phase_of rounds core ≡ to_decide →
     core.clock ≡ round_of core * ROUND → length core.entries ≡ round_of core
 entries_so_far course rounds posted decided c core k due start =
@@ -230,18 +230,18 @@ entries_so_far course rounds posted decided c core k due start =
       | inr le ↦ omega (arith, k.reach)
     ]
 
-pub joins_keep : (course : CourseView) (rounds c : ℕ) (old new : State) → Joins rounds c old new
-    → Kept course rounds old → Kept course rounds new
+pub joins_keep : (course : CourseView) (rounds c : ℕ) (old new : State) → EntersAfter rounds c old new
+    → StateInvariant course rounds old → StateInvariant course rounds new
 joins_keep course rounds c old new p k =
     let core : CoreState = p.core in
     let kept = k.cores c core p.at in
     let len = entries_so_far course rounds old.posted old.decided c core kept p.due p.start in
     let e : Entry = record { round = round_of core; used = p.used; seen = p.seen; won = false } in
     let changed : CoreState = enters core e in
-    subst (λ (s : State). Kept course rounds s) (sym p.becomes) (record {
+    subst (λ (s : State). StateInvariant course rounds s) (sym p.becomes) (record {
       size = length-set old.cores c changed ∙ k.size;
       cores = cores_after
-          (λ (d : ℕ) (x : CoreState). CoreKept course rounds old.posted old.decided d x) old.cores c
+          (λ (d : ℕ) (x : CoreState). CoreInvariant course rounds old.posted old.decided d x) old.cores c
           changed k.cores
           (core_entered course rounds old.posted old.decided c core e kept (sym len)
           (rw len p.start) (rw len p.count) (kept.sight p.seen p.has_seen).seen_posted);
@@ -256,8 +256,8 @@ joins_keep course rounds c old new p k =
       near = near_after course old c core changed p.at refl k.near;
     })
 
-pub wins_keep : (course : CourseView) (rounds c : ℕ) (old new : State) → Wins rounds c old new
-    → Kept course rounds old → Kept course rounds new
+pub wins_keep : (course : CourseView) (rounds c : ℕ) (old new : State) → EntersFirst rounds c old new
+    → StateInvariant course rounds old → StateInvariant course rounds new
 wins_keep course rounds c old new p k =
     let core : CoreState = p.core in
     let kept = k.cores c core p.at in
@@ -267,7 +267,7 @@ wins_keep course rounds c old new p k =
     let changed : CoreState = enters core e in
     let more : List ℕ = old.decided ++ p.seen ∷ [] in
     let grown =
-    λ (d : ℕ) (x : CoreState) (was : CoreKept course rounds old.posted old.decided d
+    λ (d : ℕ) (x : CoreState) (was : CoreInvariant course rounds old.posted old.decided d
     x). core_grown course rounds old.posted old.decided more d x was
     (λ r u h. push_old old.decided r p.seen u h)
     (omega (arith, length-append old.decided (p.seen ∷ [])))
@@ -275,9 +275,9 @@ wins_keep course rounds c old new p k =
     [ inl before ↦ inl before | inr new ↦ inr (omega (arith, new.0)) ]) in
     let here : slice_get more (length core.entries) ≡ Some p.seen =
     rw (len, ← p.first) (push_new old.decided p.seen) in
-    subst (λ (s : State). Kept course rounds s) (sym p.becomes) (record {
+    subst (λ (s : State). StateInvariant course rounds s) (sym p.becomes) (record {
       size = length-set old.cores c changed ∙ k.size;
-      cores = cores_after (λ (d : ℕ) (x : CoreState). CoreKept course rounds old.posted more d x)
+      cores = cores_after (λ (d : ℕ) (x : CoreState). CoreInvariant course rounds old.posted more d x)
           old.cores c changed (λ d x h. grown d x (k.cores d x h))
           (core_entered course rounds old.posted more c core e (grown c core kept) (sym len)
           (rw len p.start) here sight.seen_posted);
@@ -350,9 +350,9 @@ wins_keep course rounds c old new p k =
 -- Run
 
 core_ran : (course : CourseView) (rounds posted : ℕ) (decided : List ℕ) (c : ℕ) (core : CoreState)
-    (s : Stint) → IsCourse course → CoreKept course rounds posted decided c core
+    (s : Stint) → IsCourse course → CoreInvariant course rounds posted decided c core
     → IsNextStint course rounds c core s →
-    CoreKept course rounds posted decided c (runs core s)
+    CoreInvariant course rounds posted decided c (runs core s)
 core_ran course rounds posted decided c core s ok k next =
     let bounds = stint_bounds course c core.stints s ok next.follows in
     let sight = k.sight s.seen next.has_seen in
@@ -398,7 +398,7 @@ core_ran course rounds posted decided c core s ok k next =
     }
 
 pub runs_keep : (course : CourseView) (rounds c : ℕ) (old new : State) → IsCourse course
-    → Runs course rounds c old new → Kept course rounds old → Kept course rounds new
+    → Runs course rounds c old new → StateInvariant course rounds old → StateInvariant course rounds new
 runs_keep course rounds c old new ok p k =
     let core : CoreState = p.core in
     let s : Stint = p.stint in
@@ -406,10 +406,10 @@ runs_keep course rounds c old new ok p k =
     let changed : CoreState = runs core s in
     let bounds = stint_bounds course c core.stints s ok p.next.follows in
     let from : s.from ≡ core.clock = p.next.from in
-    subst (λ (x : State). Kept course rounds x) (sym p.becomes) (record {
+    subst (λ (x : State). StateInvariant course rounds x) (sym p.becomes) (record {
       size = length-set old.cores c changed ∙ k.size;
       cores = cores_after
-          (λ (d : ℕ) (x : CoreState). CoreKept course rounds old.posted old.decided d x) old.cores c
+          (λ (d : ℕ) (x : CoreState). CoreInvariant course rounds old.posted old.decided d x) old.cores c
           changed k.cores
           (core_ran course rounds old.posted old.decided c core s ok kept p.next);
       one_won = λ r d h. won_after old.cores c r d core changed p.at (λ x g. g) (λ x g w. g)
@@ -442,8 +442,8 @@ runs_keep course rounds c old new ok p k =
 
 -- Any step
 pub moves_keep : (course : CourseView) (rounds : ℕ) (old : State) (step : Step) (new : State)
-    → IsCourse course → Moves course rounds old step new → Kept course rounds old
-    → Kept course rounds new
+    → IsCourse course → Moves course rounds old step new → StateInvariant course rounds old
+    → StateInvariant course rounds new
 moves_keep course rounds old steps.Post new ok m k = posts_keep course rounds old new m k
 moves_keep course rounds old (steps.See c) new ok m k = sees_keep course rounds c old new m k
 moves_keep course rounds old (steps.Decide c) new ok m k =

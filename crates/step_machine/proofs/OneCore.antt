@@ -4,15 +4,15 @@ use Rattle.std.specs.Prelude.{slice_get, slice_index, slice_index_or}
 use Rattle.std.proofs.lemmas.Bool.{cases_eq}
 use Rattle.tab_core.specs.declared.TheConstants.{ROUND}
 use Rattle.tab_core.specs.declared.stint.Stint.{Stint}
-use Rattle.table_form.specs.Plans.{PlanView}
-use Rattle.table_form.specs.Serves.{owner_at, Apart}
-use Rattle.table_form.specs.Spots.{SameSpot}
-use Rattle.table_form.specs.Homes.{IsHome}
-use Rattle.table_form.specs.Courses.{CourseView, IsCourse, plan_after, runnable_after, no_plan}
-use Rattle.table_form.specs.State.{State}
-use Rattle.table_form.specs.Choice.{Follows, IsEligible, IsPick, owner_runs, is_shared, last_shared}
-use Rattle.table_form.specs.Kept.{Kept}
-use Rattle.table_form.specs.Together.{RunsOnOneCore}
+use Rattle.table_form.specs.Tables.Plans.{PlanView}
+use Rattle.table_form.specs.Tables.Serves.{owner_at, Apart}
+use Rattle.table_form.specs.Tables.Spots.{SameSpot}
+use Rattle.table_form.specs.Tables.Homes.{IsHome}
+use Rattle.table_form.specs.Running.Courses.{CourseView, IsCourse, plan_after, runnable_after, no_plan}
+use Rattle.table_form.specs.Running.State.{State}
+use Rattle.table_form.specs.Running.Choice.{IsDispatch, IsEligible, IsPick, owner_runs, is_shared, last_shared}
+use Rattle.table_form.specs.Running.Invariant.{StateInvariant}
+use Rattle.table_form.specs.Running.Together.{RunsOnOneCore}
 use Rattle.step_machine.proofs.Lists.{same}
 
 -- one of the list, or what stands for the missing
@@ -64,7 +64,7 @@ pub record Within (course : CourseView) (c : ℕ) (s : Stint) (x : ℕ) : Type 0
   pub alike : SameSpot (plan_after course s.used) c (s.from % ROUND) (x % ROUND)
 
 pub stint_within : (course : CourseView) (c : ℕ) (earlier : List Stint) (s : Stint) (x : ℕ)
-    → Follows course c earlier s → s.from ≤ x → x < s.end → Within course c s x
+    → IsDispatch course c earlier s → s.from ≤ x → x < s.end → Within course c s x
 stint_within course c earlier s x f low lt =
     let places = end_in_span (is_shared course c s) s.from s.end f.span_end course.lag
     course.quantum x f.end low lt f.span.within in
@@ -91,7 +91,7 @@ eligible_back plan c x y runnable v alike e =
 
 -- whom a stint runs stands there at each of its ticks
 pub stint_stands : (course : CourseView) (c : ℕ) (earlier : List Stint) (s : Stint) (x v : ℕ)
-    → Follows course c earlier s → s.from ≤ x → x < s.end → s.ran ≡ Some v
+    → IsDispatch course c earlier s → s.from ≤ x → x < s.end → s.ran ≡ Some v
     → (s.from / ROUND ≡ x / ROUND) × Stands (plan_after course s.used) c (x % ROUND) v
 stint_stands course c earlier s x v f low lt ran = (
   at.round,
@@ -121,7 +121,7 @@ stint_stands course c earlier s x v f low lt ran = (
         fills there.home there.here
 
 pub one_core : (course : CourseView) (rounds : ℕ) (s : State) → IsCourse course
-    → Kept course rounds s → RunsOnOneCore s
+    → StateInvariant course rounds s → RunsOnOneCore s
 one_core course rounds s ok kept = λ x v c d core other st su at at' covers covers' ran ran'.
     let k = kept.cores c core at in
     let k' = kept.cores d other at' in

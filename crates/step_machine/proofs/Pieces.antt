@@ -5,14 +5,14 @@ use Rattle.std.proofs.lemmas.Bool.{cases_eq}
 use Rattle.tab_core.specs.declared.TheConstants.{ROUND}
 use Rattle.tab_core.specs.declared.stint.Stint.{Stint}
 use Rattle.tab_core.specs.declared.entry.Entry.{Entry}
-use Rattle.table_form.specs.Courses.{CourseView, IsCourse}
-use Rattle.table_form.specs.State.{CoreState}
-use Rattle.table_form.specs.Choice.{Follows, is_shared}
-use Rattle.table_form.specs.Kept.{Chain, OneWon}
+use Rattle.table_form.specs.Running.Courses.{CourseView, IsCourse}
+use Rattle.table_form.specs.Running.State.{CoreState}
+use Rattle.table_form.specs.Running.Choice.{IsDispatch, is_shared}
+use Rattle.table_form.specs.Running.Invariant.{AreContiguous, HasOneWinner}
 use Rattle.step_machine.proofs.Lists.{set_split, set_here, set_other, same}
 
-pub chain_push : (from to : ℕ) (ss : List Stint) (s : Stint) → Chain from ss to → s.from ≡ to
-    → Chain from (ss ++ s ∷ []) s.end
+pub chain_push : (from to : ℕ) (ss : List Stint) (s : Stint) → AreContiguous from ss to → s.from ≡ to
+    → AreContiguous from (ss ++ s ∷ []) s.end
 chain_push from to [] s chain at = (at ∙ sym chain, refl)
 chain_push from to (t ∷ ts) s chain at = (chain.0, chain_push t.end to ts s chain.1 at)
 
@@ -31,7 +31,7 @@ pub won_after : (cores : List CoreState) (c r count : ℕ) (core changed : CoreS
     → slice_get cores c ≡ Some core →
     ((e : Entry) → slice_get core.entries r ≡ Some e → slice_get changed.entries r ≡ Some e) →
     ((e : Entry) → slice_get changed.entries r ≡ Some e → e.won ≡ true → slice_get core.entries r ≡ Some e) →
-    OneWon cores r count → OneWon (slice_set cores c changed) r count
+    HasOneWinner cores r count → HasOneWinner (slice_set cores c changed) r count
 won_after cores c r count core changed at stays back one = record {
   winner = one.winner;
   won_by = elim (cases_eq one.winner c) [
@@ -77,7 +77,7 @@ end_bounds false f e span lag quantum is after within l q = (omega arith, omega 
 
 -- a stint has at least one tick, stays in its round and is no longer than the lag
 pub stint_bounds : (course : CourseView) (c : ℕ) (earlier : List Stint) (s : Stint)
-    → IsCourse course → Follows course c earlier s
+    → IsCourse course → IsDispatch course c earlier s
     → (s.from < s.end) × (s.end ≤ (s.from / ROUND + 1) * ROUND) × (s.end ≤ s.from + course.lag)
 stint_bounds course c earlier s ok f =
     end_bounds (is_shared course c s) s.from s.end f.span_end course.lag course.quantum f.end

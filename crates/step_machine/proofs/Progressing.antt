@@ -5,14 +5,14 @@ use Rattle.std.proofs.lemmas.Bool.{cases_lt, eqb-true}
 use Rattle.tab_core.specs.declared.TheConstants.{ROUND}
 use Rattle.tab_core.specs.declared.stint.Stint.{Stint}
 use Rattle.tab_core.specs.declared.entry.Entry.{Entry}
-use Rattle.table_form.specs.Courses.{FitsRounds, CourseView, IsCourse, tick_at}
-use Rattle.table_form.specs.State.{State, CoreState}
-use Rattle.table_form.specs.Steps.{phase_of, phase_unfinished, has_entered, round_of, HasUpTo, IsNextStint, enters, runs}
-use Rattle.table_form.specs.Kept.{Kept, IsWhole}
-use Rattle.table_form.specs.Next.{IsLeastClock}
+use Rattle.table_form.specs.Running.Courses.{FitsRounds, CourseView, IsCourse, tick_at}
+use Rattle.table_form.specs.Running.State.{State, CoreState}
+use Rattle.table_form.specs.Running.Steps.{phase_of, phase_unfinished, has_entered, round_of, HasUpTo, IsNextStint, enters, runs}
+use Rattle.table_form.specs.Running.Invariant.{StateInvariant, IsComplete}
+use Rattle.table_form.specs.Running.Next.{IsLeastClock}
 use Rattle.step_machine.specs.Next.{IsNextStep}
 use Rattle.script_doc.specs.declared.step.Step.TheVariants as steps
-use Rattle.table_form.specs.Steps.{to_see, to_decide, at_end}
+use Rattle.table_form.specs.Running.Steps.{to_see, to_decide, at_end}
 use Rattle.step_machine.proofs.Lists.{set_here, same, element_at}
 use Rattle.step_machine.proofs.Phases.{deciding, entered_below, has_seen}
 use Rattle.step_machine.proofs.Pieces.{stint_bounds}
@@ -111,7 +111,7 @@ entries_differ core e q =
     omega arith
 
 pub decide_now : (course : CourseView) (rounds : ℕ) (s : State) (c : ℕ) (core : CoreState)
-    → Kept course rounds s → IsLeastClock s c core → phase_of rounds core ≡ to_decide
+    → StateInvariant course rounds s → IsLeastClock s c core → phase_of rounds core ≡ to_decide
     → IsNextStep course rounds s (steps.Decide c)
 decide_now course rounds s c core kept low due =
     let k = kept.cores c core low.at in
@@ -206,8 +206,8 @@ run_now course rounds s c core st ok low next =
     }
 
 pub whole_at_end : (course : CourseView) (rounds : ℕ) (s : State) (c : ℕ) (core : CoreState)
-    → Kept course rounds s → IsLeastClock s c core → core.clock ≡ rounds * ROUND
-    → s.posted ≡ length course.ticks → IsWhole course rounds s
+    → StateInvariant course rounds s → IsLeastClock s c core → core.clock ≡ rounds * ROUND
+    → s.posted ≡ length course.ticks → IsComplete course rounds s
 whole_at_end course rounds s c core kept low clock posted = record {
   clocks = λ d other at.
       (let le = low.least d other at in let most = (kept.cores d other at).in_run in omega arith);

@@ -1,13 +1,13 @@
 -- A run that is whole has entered each of its rounds.
 use Rattle.std.proofs.Common.{◌≡◌, ℕ, ◌*◌, ◌<◌, ◌≤◌, Some, length, slice_get, arith}
 use Rattle.tab_core.specs.declared.TheConstants.{ROUND}
-use Rattle.table_form.specs.Courses.{CourseView, IsCourse}
-use Rattle.table_form.specs.Kept.{Kept, IsWhole}
-use Rattle.table_form.specs.State.{State}
+use Rattle.table_form.specs.Running.Courses.{CourseView, IsCourse}
+use Rattle.table_form.specs.Running.Invariant.{StateInvariant, IsComplete}
+use Rattle.table_form.specs.Running.State.{State}
 use Rattle.step_machine.proofs.Lists.{element_at}
 
-pub each_round : (course : CourseView) (rounds : ℕ) (s : State) → IsCourse course → Kept course rounds s
-    → IsWhole course rounds s → (r : ℕ) → r < rounds → (d : ℕ) × (slice_get s.decided r ≡ Some d)
+pub each_round : (course : CourseView) (rounds : ℕ) (s : State) → IsCourse course → StateInvariant course rounds s
+    → IsComplete course rounds s → (r : ℕ) → r < rounds → (d : ℕ) × (slice_get s.decided r ≡ Some d)
 each_round course rounds s ok kept whole r lt =
     let some = ok.form.some_core in
     let size = kept.size in

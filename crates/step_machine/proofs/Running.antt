@@ -2,13 +2,13 @@
 use Rattle.std.proofs.Common.{◌≡◌, ◌≢◌, ℕ, zero, suc, inl, inr, List, [], ◌∷◌, ◌++◌, length, replicate, Some, refl, ap, sym, subst, ◌∙◌, arith}
 use Rattle.std.specs.Prelude.{slice_get}
 use Rattle.tab_core.specs.declared.stint.Stint.{Stint}
-use Rattle.table_form.specs.Courses.{CourseView, IsCourse}
+use Rattle.table_form.specs.Running.Courses.{CourseView, IsCourse}
 use Rattle.script_doc.specs.declared.step.Step.{Step}
 use Rattle.step_machine.specs.declared.answer.Answer.{Answer}
-use Rattle.table_form.specs.State.{State, CoreState, opening, opening_core}
+use Rattle.table_form.specs.Running.State.{State, CoreState, opening, opening_core}
 use Rattle.step_machine.specs.Answers.{Moves, Answers}
-use Rattle.table_form.specs.Kept.{CoreKept, Kept}
-use Rattle.table_form.specs.Choice.{last_shared}
+use Rattle.table_form.specs.Running.Invariant.{CoreInvariant, StateInvariant}
+use Rattle.table_form.specs.Running.Choice.{last_shared}
 use Rattle.step_machine.specs.declared.answer.Answer.TheVariants.{Done, Behind, NotNow}
 use Rattle.step_machine.specs.declared.log.CoreLog.{CoreLog}
 use Rattle.step_machine.specs.Logs.{cores_of, KnowLast, HaveRoom, IsNew, AreNew}
@@ -27,7 +27,7 @@ length-replicate_of : {X : Type 0} (n : ℕ) (x : X) → length (replicate n x) 
 length-replicate_of zero x = refl
 length-replicate_of (suc n) x = ap suc (length-replicate_of n x)
 
-opening_core_kept : (course : CourseView) (rounds c : ℕ) → CoreKept course rounds 0 [] c opening_core
+opening_core_kept : (course : CourseView) (rounds c : ℕ) → CoreInvariant course rounds 0 [] c opening_core
 opening_core_kept course rounds c = record {
   chain = refl;
   numbered = λ k e h. absurd cc;
@@ -44,7 +44,7 @@ opening_core_kept course rounds c = record {
   in_run = omega arith;
 }
 
-pub opening_kept : (course : CourseView) (rounds : ℕ) → Kept course rounds (opening course.cores)
+pub opening_kept : (course : CourseView) (rounds : ℕ) → StateInvariant course rounds (opening course.cores)
 opening_kept course rounds = record {
   size = length-replicate_of course.cores opening_core;
   cores = λ c core h. rw (same_core course.cores c opening_core core h) (opening_core_kept course rounds c);
@@ -60,15 +60,15 @@ opening_kept course rounds = record {
 -- an answer keeps what is kept
 pub answers_keep : (course : CourseView) (rounds : ℕ) (old : State) (step : Step) (answer : Answer)
     (new : State) → IsCourse course → Answers course rounds old step answer new
-    → Kept course rounds old → Kept course rounds new
+    → StateInvariant course rounds old → StateInvariant course rounds new
 answers_keep course rounds old step Done new ok moves kept =
     moves_keep course rounds old step new ok moves kept
 answers_keep course rounds old step (Behind who tick) new ok waits kept = rw waits.1 kept
 answers_keep course rounds old step (NotNow found) new ok waits kept = rw waits.1 kept
 
 pub leads_keep : (course : CourseView) (rounds : ℕ) (old : State) (steps : List Step) (new : State)
-    → IsCourse course → Leads course rounds old steps new → Kept course rounds old
-    → Kept course rounds new
+    → IsCourse course → Leads course rounds old steps new → StateInvariant course rounds old
+    → StateInvariant course rounds new
 leads_keep course rounds old [] new ok leads kept = rw (← leads) kept
 leads_keep course rounds old (step ∷ steps) new ok leads kept =
     leads_keep course rounds leads.0 steps new ok leads.2

@@ -5,10 +5,10 @@ use Rattle.std.proofs.Math.Nat.{mul-le-mul_right, suc-mul}
 use Rattle.tab_core.specs.declared.TheConstants.{ROUND}
 use Rattle.tab_core.specs.declared.periodic.Periodic.{Periodic}
 use Rattle.tab_core.proofs.Periods.{period_facts}
-use Rattle.table_form.specs.Courses.{CourseView, IsCourse, plan_after, no_plan}
-use Rattle.table_form.specs.Offered.{task_by, IsServed}
-use Rattle.table_form.specs.Serves.{Serves, supply, flat}
-use Rattle.table_form.specs.State.{State}
+use Rattle.table_form.specs.Running.Courses.{CourseView, IsCourse, plan_after, no_plan}
+use Rattle.table_form.specs.Running.Offered.{task_by, IsServed}
+use Rattle.table_form.specs.Tables.Serves.{Serves, supply, flat}
+use Rattle.table_form.specs.Running.State.{State}
 use Rattle.step_machine.proofs.OneCore.{apart_after, either}
 use Rattle.step_machine.proofs.Supply.{offers_supply}
 

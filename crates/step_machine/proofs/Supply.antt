@@ -6,10 +6,10 @@ use Rattle.std.proofs.Math.Seq.{take-nil}
 use Rattle.std.proofs.lemmas.Bool.{eqb-true}
 use Rattle.std.proofs.lemmas.List.Sums.{sum_by-cons}
 use Rattle.tab_core.specs.declared.TheConstants.{ROUND}
-use Rattle.table_form.specs.Courses.{CourseView, plan_after}
-use Rattle.table_form.specs.Offered.{some_row_has, is_offered, offers}
-use Rattle.table_form.specs.Rows.{Row}
-use Rattle.table_form.specs.Serves.{Apart, cells_within, supply, owner_at, flat, is_cell_of}
+use Rattle.table_form.specs.Running.Courses.{CourseView, plan_after}
+use Rattle.table_form.specs.Running.Offered.{some_row_has, is_offered, offers}
+use Rattle.table_form.specs.Tables.Rows.{Row}
+use Rattle.table_form.specs.Tables.Serves.{Apart, cells_within, supply, owner_at, flat, is_cell_of}
 use Rattle.step_machine.proofs.Totals.{total}
 
 abbrev pub one : Bool → ℕ

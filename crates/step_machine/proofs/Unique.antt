@@ -3,32 +3,32 @@ use Rattle.std.proofs.Common.{◌≡◌, ℕ, ◌<◌, ◌⊎◌, inl, inr, List
 use Rattle.std.specs.Prelude.{slice_get}
 use Rattle.std.proofs.lemmas.Bool.{cases_lt}
 use Rattle.tab_core.specs.declared.stint.Stint.{Stint}
-use Rattle.table_form.specs.Courses.{CourseView}
+use Rattle.table_form.specs.Running.Courses.{CourseView}
 use Rattle.script_doc.specs.declared.step.Step.{Step}
 use Rattle.step_machine.specs.declared.answer.Phase.{Phase}
 use Rattle.step_machine.specs.declared.answer.Answer.{Answer}
-use Rattle.table_form.specs.State.{State, CoreState}
+use Rattle.table_form.specs.Running.State.{State, CoreState}
 use Rattle.step_machine.specs.Answers.{Answers, shown}
-use Rattle.table_form.specs.Steps.{IsNear, IsTooLow, IsNextStint, Wins, Joins, phase_of, round_of}
+use Rattle.table_form.specs.Running.Steps.{AreWithinLag, IsFirstBehind, IsNextStint, EntersFirst, EntersAfter, phase_of, round_of}
 use Rattle.script_doc.specs.declared.step.Step.TheVariants as steps
-use Rattle.table_form.specs.Steps.{to_decide}
+use Rattle.table_form.specs.Running.Steps.{to_decide}
 use Rattle.tab_core.specs.declared.actor.Actor.TheVariants.{Core, Controller}
 use Rattle.step_machine.specs.declared.answer.Answer.TheVariants.{Done, Behind, NotNow}
 use Rattle.step_machine.proofs.Lists.{same, within}
 use Rattle.step_machine.proofs.Determined.{one_next}
 
 low_or_near : (lag : ℕ) (cores : List CoreState) (skip : Option ℕ) (tick d clock : ℕ)
-    → IsNear lag cores skip tick → IsTooLow lag cores skip tick d clock → ⊥
+    → AreWithinLag lag cores skip tick → IsFirstBehind lag cores skip tick d clock → ⊥
 low_or_near lag cores skip tick d clock near low =
     (let le = near d low.other low.at low.not_skipped in let lt = low.low in absurd (omega arith))
 
 not_lower : (lag : ℕ) (cores : List CoreState) (skip : Option ℕ) (tick d clock e clock' : ℕ)
-    → IsTooLow lag cores skip tick d clock → IsTooLow lag cores skip tick e clock' → d < e → ⊥
+    → IsFirstBehind lag cores skip tick d clock → IsFirstBehind lag cores skip tick e clock' → d < e → ⊥
 not_lower lag cores skip tick d clock e clock' a b lt =
     (let le = b.lowest d a.other lt a.at a.not_skipped in let low = a.low in absurd (omega arith))
 
 one_low : (lag : ℕ) (cores : List CoreState) (skip : Option ℕ) (tick d clock e clock' : ℕ)
-    → IsTooLow lag cores skip tick d clock → IsTooLow lag cores skip tick e clock'
+    → IsFirstBehind lag cores skip tick d clock → IsFirstBehind lag cores skip tick e clock'
     → (d ≡ e) × (clock ≡ clock')
 one_low lag cores skip tick d clock e clock' a b =
     let is : d ≡ e = elim (cases_lt d e) [
@@ -108,7 +108,7 @@ see_one course rounds c s (NotNow f) (Behind Controller t) n m p q =
 see_one course rounds c s (NotNow f) (NotNow g) n m p q =
     (not_now_same f g (p.0.found_is ∙ sym q.0.found_is), p.1 ∙ sym q.1)
 
-win_or_join : (rounds c : ℕ) (s n m : State) → Wins rounds c s n → Joins rounds c s m → ⊥
+win_or_join : (rounds c : ℕ) (s n m : State) → EntersFirst rounds c s n → EntersAfter rounds c s m → ⊥
 win_or_join rounds c s n m p q =
     let is : p.core ≡ q.core = same (slice_get s.cores c) p.core q.core p.at q.at in
     let round = ap (λ (x : CoreState). round_of x) is in
@@ -116,14 +116,14 @@ win_or_join rounds c s n m p q =
     let first = p.first in
     absurd (omega arith)
 
-one_win : (rounds c : ℕ) (s n m : State) → Wins rounds c s n → Wins rounds c s m → n ≡ m
+one_win : (rounds c : ℕ) (s n m : State) → EntersFirst rounds c s n → EntersFirst rounds c s m → n ≡ m
 one_win rounds c s n m p q =
     let is : p.core ≡ q.core = same (slice_get s.cores c) p.core q.core p.at q.at in
     let seen : p.seen ≡ q.seen = same q.core.seen p.seen q.seen
     (subst (λ (x : CoreState). x.seen ≡ Some p.seen) is p.has_seen) q.has_seen in
     p.becomes ∙ (rw (is, seen) refl ∙ sym q.becomes)
 
-one_join : (rounds c : ℕ) (s n m : State) → Joins rounds c s n → Joins rounds c s m → n ≡ m
+one_join : (rounds c : ℕ) (s n m : State) → EntersAfter rounds c s n → EntersAfter rounds c s m → n ≡ m
 one_join rounds c s n m p q =
     let is : p.core ≡ q.core = same (slice_get s.cores c) p.core q.core p.at q.at in
     let seen : p.seen ≡ q.seen = same q.core.seen p.seen q.seen
@@ -133,15 +133,15 @@ one_join rounds c s n m p q =
     q.count in
     p.becomes ∙ (rw (is, seen, used) refl ∙ sym q.becomes)
 
-one_entering : (rounds c : ℕ) (s n m : State) → Wins rounds c s n ⊎ Joins rounds c s n
-    → Wins rounds c s m ⊎ Joins rounds c s m → n ≡ m
+one_entering : (rounds c : ℕ) (s n m : State) → EntersFirst rounds c s n ⊎ EntersAfter rounds c s n
+    → EntersFirst rounds c s m ⊎ EntersAfter rounds c s m → n ≡ m
 one_entering rounds c s n m p q = elim p [
   | inl w ↦ elim q [ inl v ↦ one_win rounds c s n m w v | inr j ↦ absurd (win_or_join rounds c s n m w j) ]
   | inr i ↦ elim q [ inl v ↦ absurd (win_or_join rounds c s m n v i) | inr j ↦ one_join rounds c s n m i j ]
 ]
 
 -- who enters is to decide
-entering_due : (rounds c : ℕ) (s n : State) → Wins rounds c s n ⊎ Joins rounds c s n
+entering_due : (rounds c : ℕ) (s n : State) → EntersFirst rounds c s n ⊎ EntersAfter rounds c s n
     → (core : CoreState) × (slice_get s.cores c ≡ Some core) × (phase_of rounds core ≡ to_decide)
 entering_due rounds c s n p = elim p [ inl w ↦ (w.core, w.at, w.due) | inr j ↦ (j.core, j.at, j.due) ]
 
@@ -185,19 +185,19 @@ run_one course rounds c s Done Done n m p q =
 run_one course rounds c s Done (Behind (Core d) t) n m p q =
     (let is = stint_same course rounds c s p.core q.0.core p.stint q.0.stint p.at q.0.at p.next q.0.next in
     absurd (low_or_near course.lag s.cores (Some c) q.0.stint.end d t
-    (subst (λ (x : Stint). IsNear course.lag s.cores (Some c) x.end) is.1 p.near) q.0.low))
+    (subst (λ (x : Stint). AreWithinLag course.lag s.cores (Some c) x.end) is.1 p.near) q.0.low))
 run_one course rounds c s Done (Behind Controller t) n m p q = absurd q.0
 run_one course rounds c s Done (NotNow f) n m p q =
     absurd (q.0.differs (phases_same rounds c s q.0.core p.core q.0.at p.at ∙ p.next.due))
 run_one course rounds c s (Behind (Core d) t) Done n m p q =
     (let is = stint_same course rounds c s q.core p.0.core q.stint p.0.stint q.at p.0.at q.next p.0.next in
     absurd (low_or_near course.lag s.cores (Some c) p.0.stint.end d t
-    (subst (λ (x : Stint). IsNear course.lag s.cores (Some c) x.end) is.1 q.near) p.0.low))
+    (subst (λ (x : Stint). AreWithinLag course.lag s.cores (Some c) x.end) is.1 q.near) p.0.low))
 run_one course rounds c s (Behind (Core d) t) (Behind (Core e) u) n m p q =
     (let is = stint_same course rounds c s p.0.core q.0.core p.0.stint q.0.stint p.0.at q.0.at
     p.0.next q.0.next in
     let low = one_low course.lag s.cores (Some c) q.0.stint.end d t e u
-    (subst (λ (x : Stint). IsTooLow course.lag s.cores (Some c) x.end d t) is.1 p.0.low)
+    (subst (λ (x : Stint). IsFirstBehind course.lag s.cores (Some c) x.end d t) is.1 p.0.low)
     q.0.low in
     (behind_same d e t u low.0 low.1, p.1 ∙ sym q.1))
 run_one course rounds c s (Behind (Core d) t) (Behind Controller u) n m p q = absurd q.0

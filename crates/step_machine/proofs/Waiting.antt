@@ -5,9 +5,9 @@ use Rattle.std.proofs.lemmas.Bool.{cases_lt}
 use Rattle.tab_core.specs.declared.TheConstants.{ROUND}
 use Rattle.tab_core.specs.declared.periodic.Periodic.{Periodic}
 use Rattle.tab_core.proofs.Periods.{period_facts}
-use Rattle.table_form.specs.Courses.{CourseView, IsCourse}
-use Rattle.table_form.specs.Offered.{is_offered, task_in, IsGap, HasShortGaps}
-use Rattle.table_form.specs.State.{State}
+use Rattle.table_form.specs.Running.Courses.{CourseView, IsCourse}
+use Rattle.table_form.specs.Running.Offered.{is_offered, task_in, IsGap, HasShortGaps}
+use Rattle.table_form.specs.Running.State.{State}
 use Rattle.step_machine.proofs.Gaps.{Blocks, gap}
 use Rattle.step_machine.proofs.Serving.{served, period_fits}
 use Rattle.step_machine.proofs.Supply.{one, offers_total}

@@ -7,9 +7,9 @@ use Rattle.script_doc.specs.declared.step.Step.TheVariants as steps
 use Rattle.tab_core.specs.declared.stint.Stint.{Stint}
 use Rattle.tab_core.specs.declared.actor.Actor.{Actor}
 use Rattle.tab_core.specs.declared.actor.Actor.TheVariants.{Core, Controller}
-use Rattle.table_form.specs.Courses.{CourseView, tick_at}
-use Rattle.table_form.specs.State.{State, CoreState, IsCore}
-use Rattle.table_form.specs.Steps.{CorePhase, to_see, to_decide, to_run, at_end, phase_of, HasUpTo, IsTooLow, Posts, Sees, Wins, Joins, Runs, IsNextStint}
+use Rattle.table_form.specs.Running.Courses.{CourseView, tick_at}
+use Rattle.table_form.specs.Running.State.{State, CoreState, IsCore}
+use Rattle.table_form.specs.Running.Steps.{CorePhase, to_see, to_decide, to_run, at_end, phase_of, HasUpTo, IsFirstBehind, Posts, Sees, EntersFirst, EntersAfter, Runs, IsNextStint}
 use Rattle.step_machine.specs.declared.answer.Answer.{Answer}
 use Rattle.step_machine.specs.declared.answer.Answer.TheVariants.{Done, Behind, NotNow}
 use Rattle.step_machine.specs.declared.answer.Phase.{Phase}
@@ -19,7 +19,7 @@ use Rattle.step_machine.specs.declared.answer.Phase.TheVariants as phases
 abbrev pub Moves : CourseView → ℕ → State → Step → State → Type 0
 Moves course rounds old steps.Post new = Posts course old new
 Moves course rounds old (steps.See c) new = Sees course rounds c old new
-Moves course rounds old (steps.Decide c) new = Wins rounds c old new ⊎ Joins rounds c old new
+Moves course rounds old (steps.Decide c) new = EntersFirst rounds c old new ⊎ EntersAfter rounds c old new
 Moves course rounds old (steps.Run c) new = Runs course rounds c old new
 
 -- the name that an answer gives to a core's phase
@@ -52,7 +52,7 @@ IsNotDue course rounds s (steps.Run c) found = IsOtherPhase rounds c s to_run fo
 -- Post is due, and a core's clock is too low
 pub record PostWaits (course : CourseView) (s : State) (d tick : ℕ) : Type 0 where
   pub due : s.posted < length course.ticks
-  pub low : IsTooLow course.lag s.cores None (tick_at course s.posted) d tick
+  pub low : IsFirstBehind course.lag s.cores None (tick_at course s.posted) d tick
 
 -- See is due, and an event that the core must have isn't posted yet
 pub record SeeWaits (course : CourseView) (rounds c : ℕ) (s : State) (tick : ℕ) : Type 0 where
@@ -68,7 +68,7 @@ pub record RunWaits (course : CourseView) (rounds c : ℕ) (s : State) (d tick :
   pub at : IsCore s c core
   pub stint : Stint
   pub next : IsNextStint course rounds c core stint
-  pub low : IsTooLow course.lag s.cores (Some c) stint.end d tick
+  pub low : IsFirstBehind course.lag s.cores (Some c) stint.end d tick
 
 -- the step is due and has to wait for somebody, whose clock, or whose next event's tick, is the tick
 abbrev pub IsBehind : CourseView → ℕ → State → Step → Actor → ℕ → Type 0

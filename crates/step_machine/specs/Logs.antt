@@ -1,8 +1,8 @@
 -- What the code keeps of each core, and the state that it stands for.
 use Rattle.std.specs.Prelude.{◌≡◌, ℕ, ◌+◌, ◌<◌, ◌≤◌, min, List, Option, Some, None, map, length, slice_get, slice_set, vec_capacity}
-use Rattle.table_form.specs.Choice.{last_shared}
-use Rattle.table_form.specs.Courses.{CourseView}
-use Rattle.table_form.specs.State.{CoreState, opening_core}
+use Rattle.table_form.specs.Running.Choice.{last_shared}
+use Rattle.table_form.specs.Running.Courses.{CourseView}
+use Rattle.table_form.specs.Running.State.{CoreState, opening_core}
 use Rattle.step_machine.specs.declared.log.CoreLog.{CoreLog}
 
 abbrev pub core_of : CoreLog → CoreState

@@ -1,6 +1,6 @@
 -- What the code keeps of a run, and the state that it stands for.
 use Rattle.std.specs.Prelude.{ℕ, ◌+◌, ◌≤◌, min, length, vec_capacity}
-use Rattle.table_form.specs.State.{State}
+use Rattle.table_form.specs.Running.State.{State}
 use Rattle.step_machine.specs.declared.progress.Progress.{Progress}
 use Rattle.step_machine.specs.Logs.{cores_of, HaveRoom}
 

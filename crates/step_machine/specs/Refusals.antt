@@ -1,8 +1,8 @@
 -- Why a list of steps is refused.
 use Rattle.std.specs.Prelude.{◌≡◌, ◌≢◌, ℕ, List, Some, take, slice_get}
 use Rattle.script_doc.specs.declared.step.Step.{Step}
-use Rattle.table_form.specs.Courses.{CourseView}
-use Rattle.table_form.specs.State.{State, opening}
+use Rattle.table_form.specs.Running.Courses.{CourseView}
+use Rattle.table_form.specs.Running.State.{State, opening}
 use Rattle.step_machine.specs.declared.answer.Answer.{Answer}
 use Rattle.step_machine.specs.declared.answer.Answer.TheVariants.{Done}
 use Rattle.step_machine.specs.declared.fault.ReplayFault.{ReplayFault}

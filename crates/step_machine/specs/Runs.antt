@@ -1,8 +1,8 @@
 -- Whole runs of the machine.
 use Rattle.std.specs.Prelude.{◌≡◌, ℕ, List, [], ◌∷◌}
 use Rattle.script_doc.specs.declared.step.Step.{Step}
-use Rattle.table_form.specs.Courses.{CourseView}
-use Rattle.table_form.specs.State.{State}
+use Rattle.table_form.specs.Running.Courses.{CourseView}
+use Rattle.table_form.specs.Running.State.{State}
 use Rattle.step_machine.specs.Answers.{Moves}
 
 -- the steps, each of them allowed, lead from the one state to the other

@@ -1,8 +1,8 @@
 -- A world: a course, how many rounds it runs, and the state so far.
 use Rattle.std.specs.Prelude.{ℕ}
-use Rattle.table_form.specs.Courses.{CourseView, IsCourse, FitsRounds}
-use Rattle.table_form.specs.Kept.{Kept}
-use Rattle.table_form.specs.State.{State}
+use Rattle.table_form.specs.Running.Courses.{CourseView, IsCourse, FitsRounds}
+use Rattle.table_form.specs.Running.Invariant.{StateInvariant}
+use Rattle.table_form.specs.Running.State.{State}
 use Rattle.step_machine.specs.declared.progress.Progress.{Progress}
 use Rattle.step_machine.specs.Logs.{KnowLast}
 use Rattle.step_machine.specs.Progresses.{state_of, HasSpare}
@@ -18,6 +18,6 @@ pub record WorldView : Type 0 where
 pub record IsWorld (course : CourseView) (rounds spare : ℕ) (p : Progress) : Type 0 where
   pub course_kept : IsCourse course
   pub fits : FitsRounds course rounds
-  pub kept : Kept course rounds (state_of p)
+  pub kept : StateInvariant course rounds (state_of p)
   pub room : HasSpare rounds spare p
   pub last : KnowLast course p.logs.items

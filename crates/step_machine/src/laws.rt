@@ -1,13 +1,13 @@
 ghost use Rattle.std.specs.Prelude.{◌≡◌, ◌<◌, ℕ, List, Some, slice_get};
 ghost use Rattle.tab_core.specs.declared.stint.Stint.{Stint as StintValue};
 ghost use Rattle.script_doc.specs.declared.step.Step.{Step};
-ghost use Rattle.table_form.specs.Busy.{IsBusy};
-ghost use Rattle.table_form.specs.Courses.{CourseView, IsCourse};
-ghost use Rattle.table_form.specs.Kept.{IsWhole, Kept};
-ghost use Rattle.table_form.specs.Offered.{HasShortGaps, IsServed};
-ghost use Rattle.table_form.specs.State.{State, CoreState, opening};
-ghost use Rattle.table_form.specs.Steps.{IsNextStint};
-ghost use Rattle.table_form.specs.Together.{RunsOnOneCore};
+ghost use Rattle.table_form.specs.Running.Busy.{IsBusy};
+ghost use Rattle.table_form.specs.Running.Courses.{CourseView, IsCourse};
+ghost use Rattle.table_form.specs.Running.Invariant.{IsComplete, StateInvariant};
+ghost use Rattle.table_form.specs.Running.Offered.{HasShortGaps, IsServed};
+ghost use Rattle.table_form.specs.Running.State.{State, CoreState, opening};
+ghost use Rattle.table_form.specs.Running.Steps.{IsNextStint};
+ghost use Rattle.table_form.specs.Running.Together.{RunsOnOneCore};
 ghost use Rattle.step_machine.specs.declared.answer.Answer.{Answer};
 ghost use Rattle.step_machine.specs.Answers.{Answers};
 ghost use Rattle.step_machine.specs.Runs.{Leads};
@@ -17,7 +17,7 @@ ghost use Rattle.step_machine.specs.Promises.{KeepsPromises};
 /// Whatever steps are taken, what is kept holds in the end.
 pub fn every_run_is_kept()
     ensures { (course : CourseView) (rounds : ℕ) (steps : List Step) (end : State) → IsCourse course
-        → Leads course rounds (opening course.cores) steps end → Kept course rounds end }
+        → Leads course rounds (opening course.cores) steps end → StateInvariant course rounds end }
 {}
 
 /// Whatever steps are taken, no vCPU runs on two cores at one tick.
@@ -63,23 +63,23 @@ pub fn a_step_has_one_answer()
 
 /// Before the first step what is kept holds.
 pub fn the_opening_is_kept()
-    ensures { (course : CourseView) (rounds : ℕ) → Kept course rounds (opening course.cores) }
+    ensures { (course : CourseView) (rounds : ℕ) → StateInvariant course rounds (opening course.cores) }
 {}
 
 /// Every allowed step keeps it.
 pub fn a_step_keeps()
     ensures { (course : CourseView) (rounds : ℕ) (old new : State) (step : Step) → IsCourse course
-        → Kept course rounds old → Moves course rounds old step new → Kept course rounds new }
+        → StateInvariant course rounds old → Moves course rounds old step new → StateInvariant course rounds new }
 {}
 
 /// A state that keeps it keeps all promises, however it came about.
 pub fn a_kept_run_keeps_its_promises()
-    ensures { (course : CourseView) (rounds : ℕ) (s : State) → IsCourse course → Kept course rounds s
+    ensures { (course : CourseView) (rounds : ℕ) (s : State) → IsCourse course → StateInvariant course rounds s
         → KeepsPromises course rounds s }
 {}
 
 /// A run that is whole has entered each of its rounds.
 pub fn a_whole_run_entered_each_round()
-    ensures { (course : CourseView) (rounds : ℕ) (s : State) → IsCourse course → Kept course rounds s
-        → IsWhole course rounds s → (r : ℕ) → r < rounds → (d : ℕ) × (slice_get s.decided r ≡ Some d) }
+    ensures { (course : CourseView) (rounds : ℕ) (s : State) → IsCourse course → StateInvariant course rounds s
+        → IsComplete course rounds s → (r : ℕ) → r < rounds → (d : ℕ) × (slice_get s.decided r ≡ Some d) }
 {}

@@ -1,7 +1,7 @@
 //! The scheduler's core as a pure machine: its state, its four kinds of step, and their replay.
 //!
 //! `World::apply` is exactly the relation `Answers` of `specs/Answers.antt`, and every world keeps
-//! what `Kept` of `table_form/specs/Kept.antt` lists. The laws say what follows for every list of
+//! what `StateInvariant` of `table_form/specs/Running/Invariant.antt` lists. The laws say what follows for every list of
 //! steps: all cores use one plan in a round, no vCPU runs on two cores at one tick, each is offered
 //! its cost in each of its periods and waits no longer between offers than its period and cost
 //! allow, and no core idles while somebody may run there.

@@ -1,7 +1,7 @@
 ghost use Rattle.std.specs.Prelude.{◌≡◌, ◌≢◌, ◌+◌, ◌*◌, ◌/◌, ◌^◌, ◌<◌, ◌≤◌, ◌↔◌, ℕ, false, IsTrue, IfSome, IfNone, Some, length, slice_get};
 ghost use Rattle.tab_core.specs.declared.TheConstants.{MAX_CORES, MAX_ROUNDS};
 ghost use Rattle.tab_core.specs.declared.entry.Entry.{Entry as EntryValue};
-ghost use Rattle.table_form.specs.Steps.{phase_of, IsNear, IsTooLow, HasUpTo};
+ghost use Rattle.table_form.specs.Running.Steps.{phase_of, AreWithinLag, IsFirstBehind, HasUpTo};
 ghost use Rattle.step_machine.specs.declared.log.CoreLog.{CoreLog as LogValue};
 ghost use Rattle.step_machine.specs.Answers.{shown};
 ghost use Rattle.step_machine.specs.Logs.{core_of, cores_of};
@@ -52,8 +52,8 @@ pub(crate) struct Low {
 pub(crate) fn lowest_behind(logs: &[CoreLog], lag: u32, skip: Option<u32>, tick: u32) -> Option<Low>
     requires few { length logs.now ≤ MAX_CORES }
     requires small { (k : ℕ) (log : LogValue) → slice_get logs.now k ≡ Some log → log.clock + lag < 2 ^ 32 }
-    ensures some { IfSome result (λ low. IsTooLow lag (cores_of logs.now) skip tick low.core low.clock) }
-    ensures none { IfNone result (IsNear lag (cores_of logs.now) skip tick) }
+    ensures some { IfSome result (λ low. IsFirstBehind lag (cores_of logs.now) skip tick low.core low.clock) }
+    ensures none { IfNone result (AreWithinLag lag (cores_of logs.now) skip tick) }
 {
     for d in 0..logs.len() {
         let log = &logs[d];

@@ -12,7 +12,7 @@ pub struct MachineState {
 }
 
 impl Model for MachineState {
-    ghost use Rattle.table_form.specs.State.{State};
+    ghost use Rattle.table_form.specs.Running.State.{State};
     ghost use Rattle.step_machine.specs.Progresses.{state_of};
 
     ghost Value = { State };

@@ -1,6 +1,6 @@
 ghost use Rattle.std.specs.Prelude.{◌+◌, ◌<◌, ◌≤◌, IfSome, IfNone, length};
-ghost use Rattle.table_form.specs.Courses.{FitsRounds};
-ghost use Rattle.table_form.specs.Kept.{Kept, IsWhole};
+ghost use Rattle.table_form.specs.Running.Courses.{FitsRounds};
+ghost use Rattle.table_form.specs.Running.Invariant.{StateInvariant, IsComplete};
 ghost use Rattle.step_machine.specs.Logs.{KnowLast, IsLowestOf};
 ghost use Rattle.step_machine.specs.Next.{IsNextStep};
 ghost use Rattle.step_machine.specs.Progresses.{state_of};
@@ -17,10 +17,10 @@ use table_form::Course;
 // A step that is allowed now, where the run isn't whole.
 pub(crate) fn next_step(course: &Course, rounds: u32, progress: &Progress) -> Option<Step>
     requires fits { FitsRounds course.now rounds }
-    requires kept { Kept course.now rounds (state_of progress.now) }
+    requires kept { StateInvariant course.now rounds (state_of progress.now) }
     requires known { KnowLast course.now progress.now.logs.items }
     ensures some { IfSome result (λ step. IsNextStep course.now rounds (state_of progress.now) step) }
-    ensures none { IfNone result (IsWhole course.now rounds (state_of progress.now)) }
+    ensures none { IfNone result (IsComplete course.now rounds (state_of progress.now)) }
 {
     // the course keeps what its type says
     let _lag = course.lag();

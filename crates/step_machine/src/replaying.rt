@@ -1,8 +1,8 @@
 ghost use Rattle.std.specs.Prelude.{◌≡◌, ◌^◌, ◌<◌, ℕ, Some, IfOk, IfErr, length, slice_get};
 ghost use Rattle.script_doc.specs.declared.step.Step.{Step};
-ghost use Rattle.table_form.specs.Courses.{FitsRounds};
-ghost use Rattle.table_form.specs.Kept.{Kept};
-ghost use Rattle.table_form.specs.State.{opening};
+ghost use Rattle.table_form.specs.Running.Courses.{FitsRounds};
+ghost use Rattle.table_form.specs.Running.Invariant.{StateInvariant};
+ghost use Rattle.table_form.specs.Running.State.{opening};
 ghost use Rattle.step_machine.specs.Answers.{NamesCore};
 ghost use Rattle.step_machine.specs.Refusals.{IsFaultOf};
 ghost use Rattle.step_machine.specs.Runs.{Leads};
@@ -30,7 +30,7 @@ pub fn replay<'a>(
     requires names { (k : ℕ) (step : Step) → slice_get steps.now k ≡ Some step → NamesCore course.now step }
     ensures course { IfOk result (λ w. (w.course ≡ course.now) × (w.rounds ≡ rounds)) }
     ensures ok { IfOk result (λ w. Leads course.now rounds (opening course.now.cores) steps.now w.state) }
-    ensures kept { IfOk result (λ w. Kept course.now rounds w.state) }
+    ensures kept { IfOk result (λ w. StateInvariant course.now rounds w.state) }
     ensures refused { IfErr result (λ fault. IsFaultOf course.now rounds steps.now fault) }
 {
     let mut world = World::make(alloc, course, rounds, steps.len() as u32)?;

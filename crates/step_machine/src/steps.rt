@@ -1,9 +1,9 @@
 ghost use Rattle.std.specs.Prelude.{◌≡◌, ◌⊎◌, ◌+◌, ◌<◌, ◌≤◌, ℕ, Some, slice_get};
 ghost use Rattle.tab_core.specs.declared.TheConstants.{MAX_ROUNDS};
 ghost use Rattle.script_doc.specs.declared.step.Step.{Step};
-ghost use Rattle.table_form.specs.Kept.{Kept};
-ghost use Rattle.table_form.specs.State.{CoreState};
-ghost use Rattle.table_form.specs.Steps.{Wins, Joins, to_decide, phase_of, round_of};
+ghost use Rattle.table_form.specs.Running.Invariant.{StateInvariant};
+ghost use Rattle.table_form.specs.Running.State.{CoreState};
+ghost use Rattle.table_form.specs.Running.Steps.{EntersFirst, EntersAfter, to_decide, phase_of, round_of};
 ghost use Rattle.step_machine.specs.Answers.{Answers};
 ghost use Rattle.step_machine.specs.Logs.{cores_of, KnowLast};
 ghost use Rattle.step_machine.specs.Progresses.{state_of, HasSpare};
@@ -20,7 +20,7 @@ use table_form::Course;
 // Posts the next event, if no clock is too low.
 pub(crate) fn post(course: &Course, rounds: u32, progress: &mut Progress) -> Answer
     requires few { rounds ≤ MAX_ROUNDS }
-    requires kept { Kept course.now rounds (state_of progress.old) }
+    requires kept { StateInvariant course.now rounds (state_of progress.old) }
     ensures answer { Answers course.now rounds (state_of progress.old) Step.Post result
         (state_of progress.new) }
     ensures spare { (n : ℕ) → HasSpare rounds (n + 1) progress.old → HasSpare rounds n progress.new }
@@ -48,7 +48,7 @@ pub(crate) fn post(course: &Course, rounds: u32, progress: &mut Progress) -> Ans
 pub(crate) fn see(course: &Course, rounds: u32, progress: &mut Progress, c: usize) -> Answer
     requires few { rounds ≤ MAX_ROUNDS }
     requires core { c < course.now.cores }
-    requires kept { Kept course.now rounds (state_of progress.old) }
+    requires kept { StateInvariant course.now rounds (state_of progress.old) }
     ensures answer { Answers course.now rounds (state_of progress.old) (Step.See c) result
         (state_of progress.new) }
     ensures spare { (n : ℕ) → HasSpare rounds (n + 1) progress.old → HasSpare rounds n progress.new }
@@ -74,7 +74,7 @@ pub(crate) fn see(course: &Course, rounds: u32, progress: &mut Progress, c: usiz
 pub(crate) fn decide(course: &Course, rounds: u32, progress: &mut Progress, c: usize) -> Answer
     requires few { rounds ≤ MAX_ROUNDS }
     requires core { c < course.now.cores }
-    requires kept { Kept course.now rounds (state_of progress.old) }
+    requires kept { StateInvariant course.now rounds (state_of progress.old) }
     requires spare { HasSpare rounds 1 progress.old }
     ensures answer { Answers course.now rounds (state_of progress.old) (Step.Decide c) result
         (state_of progress.new) }
@@ -95,12 +95,12 @@ pub(crate) fn decide(course: &Course, rounds: u32, progress: &mut Progress, c: u
 fn enter(course: &Course, rounds: u32, progress: &mut Progress, c: usize, round: u32, seen: u32)
     requires few { rounds ≤ MAX_ROUNDS }
     requires core { c < course.now.cores }
-    requires kept { Kept course.now rounds (state_of progress.old) }
+    requires kept { StateInvariant course.now rounds (state_of progress.old) }
     requires spare { HasSpare rounds 1 progress.old }
     requires due { (core : CoreState) → slice_get (cores_of progress.old.logs.items) c ≡ Some core
         → (phase_of rounds core ≡ to_decide) × (core.seen ≡ Some seen) × (round ≡ round_of core) }
-    ensures answer { Wins rounds c (state_of progress.old) (state_of progress.new)
-        ⊎ Joins rounds c (state_of progress.old) (state_of progress.new) }
+    ensures answer { EntersFirst rounds c (state_of progress.old) (state_of progress.new)
+        ⊎ EntersAfter rounds c (state_of progress.old) (state_of progress.new) }
     ensures spare { (n : ℕ) → HasSpare rounds (n + 1) progress.old → HasSpare rounds n progress.new }
     ensures last { KnowLast course.now progress.old.logs.items → KnowLast course.now progress.new.logs.items }
 {
@@ -135,7 +135,7 @@ fn enter(course: &Course, rounds: u32, progress: &mut Progress, c: usize, round:
 pub(crate) fn run(course: &Course, rounds: u32, progress: &mut Progress, c: usize) -> Answer
     requires few { rounds ≤ MAX_ROUNDS }
     requires core { c < course.now.cores }
-    requires kept { Kept course.now rounds (state_of progress.old) }
+    requires kept { StateInvariant course.now rounds (state_of progress.old) }
     requires spare { HasSpare rounds 1 progress.old }
     requires known { KnowLast course.now progress.old.logs.items }
     ensures answer { Answers course.now rounds (state_of progress.old) (Step.Run c) result

@@ -1,10 +1,10 @@
 ghost use Rattle.std.specs.Prelude.{◌≡◌, ◌⊎◌, ◌+◌, ◌-◌, ◌%◌, ◌^◌, ◌<◌, ◌≤◌, ℕ, true, false, if◌then◌else◌, min, Some, length, slice_get};
 ghost use Rattle.tab_core.specs.declared.TheConstants.{MAX_ROUNDS, ROUND};
 ghost use Rattle.tab_core.specs.declared.entry.Entry.{Entry as EntryValue};
-ghost use Rattle.table_form.specs.Choice.{last_after, owner_runs, runs_other};
-ghost use Rattle.table_form.specs.Kept.{Kept};
-ghost use Rattle.table_form.specs.State.{CoreState};
-ghost use Rattle.table_form.specs.Steps.{to_decide, to_run, phase_of, IsNextStint};
+ghost use Rattle.table_form.specs.Running.Choice.{last_after, owner_runs, runs_other};
+ghost use Rattle.table_form.specs.Running.Invariant.{StateInvariant};
+ghost use Rattle.table_form.specs.Running.State.{CoreState};
+ghost use Rattle.table_form.specs.Running.Steps.{to_decide, to_run, phase_of, IsNextStint};
 ghost use Rattle.step_machine.specs.declared.log.CoreLog.{CoreLog as LogValue};
 ghost use Rattle.step_machine.specs.Logs.{core_of, cores_of, KnowLast};
 ghost use Rattle.step_machine.specs.Picks.{PicksFrom};
@@ -28,7 +28,7 @@ pub(crate) struct Next {
 pub(crate) fn next_stint(course: &Course, rounds: u32, progress: &Progress, c: usize) -> Next
     requires few { rounds ≤ MAX_ROUNDS }
     requires core { c < course.now.cores }
-    requires kept { Kept course.now rounds (state_of progress.now) }
+    requires kept { StateInvariant course.now rounds (state_of progress.now) }
     requires known { KnowLast course.now progress.now.logs.items }
     requires due { (core : CoreState) → slice_get (cores_of progress.now.logs.items) c ≡ Some core
         → phase_of rounds core ≡ to_run }

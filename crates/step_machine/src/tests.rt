@@ -1,8 +1,8 @@
 ghost use Rattle.std.specs.Prelude.{ℕ, ◌≡◌, ◌+◌, ◌*◌, ◌<◌, ◌≤◌, IfOk, IsTrue, Some, length, slice_get, slice_index};
 ghost use Rattle.tab_core.specs.declared.TheConstants.{MAX_CORES, ROUND};
 ghost use Rattle.script_doc.specs.declared.step.Step.{Step as StepValue};
-ghost use Rattle.table_form.specs.Courses.{CourseView};
-ghost use Rattle.table_form.specs.Serves.{owner_at};
+ghost use Rattle.table_form.specs.Running.Courses.{CourseView};
+ghost use Rattle.table_form.specs.Tables.Serves.{owner_at};
 ghost use Rattle.step_machine.specs.Answers.{NamesCore};
 
 use crate::answer::{Answer, Phase};

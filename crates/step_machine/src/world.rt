@@ -1,9 +1,9 @@
 ghost use Rattle.std.specs.Prelude.{◌≡◌, ◌+◌, ◌<◌, ◌≤◌, ℕ, min, Some, IfOk, IfSome, IfNone, slice_get};
 ghost use Rattle.tab_core.specs.declared.TheConstants.{MAX_ROUNDS};
 ghost use Rattle.script_doc.specs.declared.step.Step.{Step};
-ghost use Rattle.table_form.specs.Courses.{FitsRounds};
-ghost use Rattle.table_form.specs.Kept.{Kept, IsWhole};
-ghost use Rattle.table_form.specs.State.{CoreState, opening};
+ghost use Rattle.table_form.specs.Running.Courses.{FitsRounds};
+ghost use Rattle.table_form.specs.Running.Invariant.{StateInvariant, IsComplete};
+ghost use Rattle.table_form.specs.Running.State.{CoreState, opening};
 ghost use Rattle.step_machine.specs.Answers.{Answers, NamesCore};
 ghost use Rattle.step_machine.specs.Logs.{KnowLast, IsNew, AreNew};
 ghost use Rattle.step_machine.specs.Next.{IsNextStep};
@@ -66,7 +66,7 @@ impl World<'_> {
               spare = turns;
               state = opening course.now.cores;
             }) }
-        ensures kept { IfOk result (λ w. Kept w.course w.rounds w.state) }
+        ensures kept { IfOk result (λ w. StateInvariant w.course w.rounds w.state) }
     {
         let decided = Vec::with_capacity(alloc, lesser(turns, rounds) as usize)?;
         let logs = new_logs(alloc, course.cores(), rounds, turns)?;
@@ -96,7 +96,7 @@ impl World<'_> {
         ensures answer { Answers self.old.course self.old.rounds self.old.state step result self.new.state }
         ensures spare { self.new.spare + 1 ≡ self.old.spare }
         ensures same { (self.new.course ≡ self.old.course) × (self.new.rounds ≡ self.old.rounds) }
-        ensures kept { Kept self.new.course self.new.rounds self.new.state }
+        ensures kept { StateInvariant self.new.course self.new.rounds self.new.state }
     {
         let answer = take_step(self.course, self.rounds, &mut self.progress, step);
         self.spare -= 1;
@@ -108,7 +108,7 @@ impl World<'_> {
     pub fn next(&self) -> Option<Step>
         ensures some { IfSome result
             (λ step. IsNextStep self.now.course self.now.rounds self.now.state step) }
-        ensures none { IfNone result (IsWhole self.now.course self.now.rounds self.now.state) }
+        ensures none { IfNone result (IsComplete self.now.course self.now.rounds self.now.state) }
     {
         next_step(self.course, self.rounds, &self.progress)
     }
@@ -116,7 +116,7 @@ impl World<'_> {
     /// How many events are posted.
     pub fn posted(&self) -> u32
         ensures posted { result ≡ self.now.state.posted }
-        ensures kept { Kept self.now.course self.now.rounds self.now.state }
+        ensures kept { StateInvariant self.now.course self.now.rounds self.now.state }
     {
         self.progress.posted
     }
@@ -169,7 +169,7 @@ impl World<'_> {
 fn take_step(course: &Course, rounds: u32, progress: &mut Progress, step: Step) -> Answer
     requires few { rounds ≤ MAX_ROUNDS }
     requires core { NamesCore course.now step }
-    requires kept { Kept course.now rounds (state_of progress.old) }
+    requires kept { StateInvariant course.now rounds (state_of progress.old) }
     requires spare { HasSpare rounds 1 progress.old }
     requires known { KnowLast course.now progress.old.logs.items }
     ensures answer { Answers course.now rounds (state_of progress.old) step result (state_of progress.new) }

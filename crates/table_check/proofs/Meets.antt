@@ -4,7 +4,7 @@ use Rattle.std.proofs.lemmas.Bool.{cases_lt}
 use Rattle.std.proofs.lemmas.Option.{slice_get_within, same_Some}
 use Rattle.tab_core.specs.declared.TheConstants.{ROUND}
 use Rattle.table_form.specs.declared.segment.Segment.{Segment}
-use Rattle.table_form.specs.Rows.{cells_from, RisesTo}
+use Rattle.table_form.specs.Tables.Rows.{cells_from, RisesTo}
 use Rattle.table_form.proofs.RowLemmas.{length-cells_from}
 use Rattle.table_check.specs.Meetings.{MeetsAt, MeetNoneBefore}
 use Rattle.table_check.proofs.Sweep.{GoesOnFrom, next_parts, owner_now}

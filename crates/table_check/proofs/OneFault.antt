@@ -4,8 +4,8 @@ use Rattle.std.proofs.lemmas.Bool.{cases_lt}
 use Rattle.std.proofs.lemmas.Option.{none-some, same_Some}
 use Rattle.tab_core.specs.declared.periodic.Periodic.{Periodic}
 use Rattle.table_form.specs.declared.segment.Segment.{Segment}
-use Rattle.table_form.specs.Rows.{Row}
-use Rattle.table_form.specs.Serves.{Apart, supply}
+use Rattle.table_form.specs.Tables.Rows.{Row}
+use Rattle.table_form.specs.Tables.Serves.{Apart, supply}
 use Rattle.table_check.specs.Clashes.{IsClash, IsFirstClash}
 use Rattle.table_check.specs.Faults.{HasCheckFault}
 use Rattle.table_check.specs.Shapes.{HaveGoodShapes, IsFirstBad, bad_at, rows_of}

@@ -6,8 +6,8 @@ use Rattle.std.proofs.lemmas.List.Elements.{All-head, All-tail}
 use Rattle.std.proofs.lemmas.Option.{none-some, same_Some, slice_get-map}
 use Rattle.tab_core.specs.declared.periodic.Periodic.{Periodic}
 use Rattle.table_form.specs.declared.segment.Segment.{Segment}
-use Rattle.table_form.specs.Rows.{Row, cells_from}
-use Rattle.table_form.specs.Serves.{OwnersHaveTasks, cell_of, has_task}
+use Rattle.table_form.specs.Tables.Rows.{Row, cells_from}
+use Rattle.table_form.specs.Tables.Serves.{OwnersHaveTasks, cell_of, has_task}
 use Rattle.table_form.proofs.RowLemmas.{cells-cons, cells-nil}
 use Rattle.table_check.specs.Shapes.{AreOfTasks, AreOwnedByTasks, rows_of}
 use Rattle.table_check.proofs.Pairs.{flat_some}

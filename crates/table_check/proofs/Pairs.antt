@@ -2,8 +2,8 @@
 use Rattle.std.proofs.Common.{◌≡◌, ◌⊎◌, ℕ, ◌+◌, ◌<◌, ◌≤◌, List, length, get_or, slice_get, Option, Some, None, IsSomeAnd, refl, ap, subst, sym, ◌∙◌, inl, inr, arith}
 use Rattle.std.proofs.lemmas.Bool.{cases_lt, cases_eq}
 use Rattle.std.proofs.lemmas.Option.{none-some, slice_get_past, slice_get_read}
-use Rattle.table_form.specs.Rows.{Row}
-use Rattle.table_form.specs.Serves.{Apart, cell_of, flat, owner_at}
+use Rattle.table_form.specs.Tables.Rows.{Row}
+use Rattle.table_form.specs.Tables.Serves.{Apart, cell_of, flat, owner_at}
 use Rattle.table_check.specs.Clashes.{IsClash, IsClashBefore, IsEarlierPair, IsFirstBefore, IsFirstClash, IsLeastClash}
 use Rattle.table_check.specs.Meetings.{MeetsAt, MeetNoneBefore}
 use Rattle.table_check.specs.declared.clash.Clash.{Clash}

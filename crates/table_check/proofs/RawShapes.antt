@@ -4,7 +4,7 @@ use Rattle.std.proofs.lemmas.Bool.{cases_eq, cases_lt}
 use Rattle.std.proofs.lemmas.List.{map-append}
 use Rattle.std.proofs.lemmas.Option.{slice_get_past}
 use Rattle.table_form.specs.declared.segment.Segment.{Segment}
-use Rattle.table_form.specs.Rows.{bad_place, cells_from}
+use Rattle.table_form.specs.Tables.Rows.{bad_place, cells_from}
 use Rattle.table_check.specs.Shapes.{HaveGoodShapes, bad_at, bad_in, rows_of}
 
 -- the first core's shapes are good, and so is that of the next one

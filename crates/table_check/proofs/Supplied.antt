@@ -8,8 +8,8 @@ use Rattle.std.proofs.lemmas.List.Sums.{sum_by_more}
 use Rattle.tab_core.specs.declared.TheConstants.{MAX_CORES, ROUND}
 use Rattle.tab_core.specs.declared.periodic.Periodic.{Periodic}
 use Rattle.tab_core.proofs.Periods.{period_facts}
-use Rattle.table_form.specs.Rows.{Row}
-use Rattle.table_form.specs.Serves.{Serves, cells_within, supply}
+use Rattle.table_form.specs.Tables.Rows.{Row}
+use Rattle.table_form.specs.Tables.Serves.{Serves, cells_within, supply}
 use Rattle.table_check.specs.Counters.{AreAtMost, CountSupply, GrowBy, IsFirstLow, count_at}
 use Rattle.table_check.specs.Shortages.{IsFirstShort}
 use Rattle.table_check.specs.declared.counters.TheConstants.{MAX_PERIODS}

@@ -10,8 +10,8 @@ use Rattle.tab_core.specs.declared.TheConstants.{ROUND}
 use Rattle.tab_core.specs.declared.periodic.Periodic.{Periodic}
 use Rattle.tab_core.proofs.Periods.{period_facts}
 use Rattle.table_form.specs.declared.segment.Segment.{Segment}
-use Rattle.table_form.specs.Rows.{Row, RisesTo, cells_from}
-use Rattle.table_form.specs.Serves.{cells_within, is_cell_of, supply}
+use Rattle.table_form.specs.Tables.Rows.{Row, RisesTo, cells_from}
+use Rattle.table_form.specs.Tables.Serves.{cells_within, is_cell_of, supply}
 use Rattle.table_form.proofs.RowLemmas.{length-cells_from}
 use Rattle.table_check.specs.Counters.{AreAtMost, GrowBy, ticks_given, ticks_shared}
 use Rattle.table_check.proofs.Sweep.{GoesOnFrom, cells_now, end_in_round, next_parts}

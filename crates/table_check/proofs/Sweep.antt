@@ -6,7 +6,7 @@ use Rattle.std.proofs.lemmas.Bool.{cases_lt, cases_eq, eq-eqb, ne_eqb}
 use Rattle.std.proofs.lemmas.List.{nil_from_length}
 use Rattle.tab_core.specs.declared.TheConstants.{ROUND}
 use Rattle.table_form.specs.declared.segment.Segment.{Segment}
-use Rattle.table_form.specs.Rows.{Row, cells_from, RisesTo}
+use Rattle.table_form.specs.Tables.Rows.{Row, cells_from, RisesTo}
 use Rattle.table_form.proofs.RowLemmas.{rises_parts, rises_from_parts, rises_none, cells-cons, length-cells_from}
 
 -- from the tick on, the row's cells are those of the segments from the place on

@@ -1,7 +1,7 @@
 -- Where a vCPU stands in the rows of two cores at one tick.
 use Rattle.std.specs.Prelude.{◌≡◌, ◌⊎◌, ℕ, ◌<◌, ◌≤◌, List, Option, Some, None}
-use Rattle.table_form.specs.Rows.{Row}
-use Rattle.table_form.specs.Serves.{owner_at}
+use Rattle.table_form.specs.Tables.Rows.{Row}
+use Rattle.table_form.specs.Tables.Serves.{owner_at}
 use Rattle.table_check.specs.declared.clash.Clash.{Clash}
 
 -- the vCPU stands at the tick in the rows of both cores, the lower one first

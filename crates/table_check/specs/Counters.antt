@@ -3,8 +3,8 @@
 use Rattle.std.specs.Prelude.{◌≡◌, ℕ, ◌+◌, ◌-◌, ◌*◌, ◌/◌, ◌<◌, ◌≤◌, min, max, List, Option, Some, None, slice_get, slice_index, if◌then◌else◌}
 use Rattle.tab_core.specs.declared.TheConstants.{ROUND}
 use Rattle.tab_core.specs.declared.periodic.Periodic.{Periodic}
-use Rattle.table_form.specs.Rows.{Row}
-use Rattle.table_form.specs.Serves.{is_cell_of, supply}
+use Rattle.table_form.specs.Tables.Rows.{Row}
+use Rattle.table_form.specs.Tables.Serves.{is_cell_of, supply}
 use Rattle.table_check.specs.declared.counters.TheConstants.{MAX_PERIODS}
 
 -- the counter of the vCPU's period

@@ -2,8 +2,8 @@
 -- then shortages.
 use Rattle.std.specs.Prelude.{◌≡◌, ℕ, List, Option, Some}
 use Rattle.tab_core.specs.declared.periodic.Periodic.{Periodic}
-use Rattle.table_form.specs.Rows.{bad_place}
-use Rattle.table_form.specs.Serves.{Apart, Serves}
+use Rattle.table_form.specs.Tables.Rows.{bad_place}
+use Rattle.table_form.specs.Tables.Serves.{Apart, Serves}
 use Rattle.table_form.specs.declared.segment.Segment.{Segment}
 use Rattle.table_check.specs.Clashes.{IsFirstClash}
 use Rattle.table_check.specs.Shapes.{HaveGoodShapes, IsFirstBad, rows_of}

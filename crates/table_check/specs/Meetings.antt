@@ -1,6 +1,6 @@
 -- Where two rows have one owner at one tick.
 use Rattle.std.specs.Prelude.{◌≡◌, ℕ, ◌≤◌, Option, Some, None, slice_get}
-use Rattle.table_form.specs.Rows.{Row}
+use Rattle.table_form.specs.Tables.Rows.{Row}
 use Rattle.table_check.specs.declared.meeting.Meeting.{Meeting}
 
 -- the vCPU stands at the tick in both rows

@@ -2,8 +2,8 @@
 use Rattle.std.specs.Prelude.{◌≡◌, ℕ, ◌<◌, true, List, Option, Some, None, All, map, slice_get}
 use Rattle.std.specs.Option.{ForSome}
 use Rattle.tab_core.specs.declared.periodic.Periodic.{Periodic}
-use Rattle.table_form.specs.Rows.{Row, bad_place, cells_from}
-use Rattle.table_form.specs.Serves.{has_task}
+use Rattle.table_form.specs.Tables.Rows.{Row, bad_place, cells_from}
+use Rattle.table_form.specs.Tables.Serves.{has_task}
 use Rattle.table_form.specs.declared.segment.Segment.{Segment}
 
 -- the row of each core

@@ -2,8 +2,8 @@
 use Rattle.std.specs.Prelude.{◌≡◌, ℕ, ◌+◌, ◌*◌, ◌/◌, ◌<◌, ◌≤◌, List, Option, Some, None, slice_get}
 use Rattle.tab_core.specs.declared.TheConstants.{ROUND}
 use Rattle.tab_core.specs.declared.periodic.Periodic.{Periodic}
-use Rattle.table_form.specs.Rows.{Row}
-use Rattle.table_form.specs.Serves.{Serves, supply}
+use Rattle.table_form.specs.Tables.Rows.{Row}
+use Rattle.table_form.specs.Tables.Serves.{Serves, supply}
 use Rattle.table_check.specs.declared.shortage.Shortage.{Shortage}
 
 -- in its period of this number the rows give the vCPU `got` ticks, less than the `cost` of its task

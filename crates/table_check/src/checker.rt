@@ -1,7 +1,7 @@
 ghost use Rattle.std.specs.Prelude.{◌≡◌, ◌⊎◌, ◌≤◌, IfErr, IfOk, IsErr, IsTrue, length};
 ghost use Rattle.tab_core.specs.declared.TheConstants.{MAX_CORES};
-ghost use Rattle.table_form.specs.Homes.{are_housed};
-ghost use Rattle.table_form.specs.Views.{plan_view};
+ghost use Rattle.table_form.specs.Tables.Homes.{are_housed};
+ghost use Rattle.table_form.specs.Tables.Views.{plan_view};
 ghost use Rattle.table_check.specs.Faults.{AreGood, HasCheckFault};
 ghost use Rattle.table_check.specs.Shapes.{AreOwnedByTasks, rows_of};
 

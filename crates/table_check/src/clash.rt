@@ -1,6 +1,6 @@
 ghost use Rattle.std.specs.Prelude.{◌≡◌, ◌+◌, ◌<◌, ◌≤◌, true, false, Some, IfNone, IfSome, IsSomeAnd, length};
 ghost use Rattle.tab_core.specs.declared.TheConstants.{MAX_CORES};
-ghost use Rattle.table_form.specs.Serves.{Apart};
+ghost use Rattle.table_form.specs.Tables.Serves.{Apart};
 ghost use Rattle.table_check.specs.Clashes.{IsFirstBefore, IsFirstClash};
 ghost use Rattle.table_check.specs.declared.clash.Clash.{Clash};
 

@@ -1,7 +1,7 @@
 ghost use Rattle.std.specs.Prelude.{◌≡◌, ◌+◌, ◌*◌, ◌^◌, ◌<◌, ◌≤◌, ◌-◌, IfOk, Some, length, slice_get};
 ghost use Rattle.tab_core.specs.declared.TheConstants.{MAX_CORES, MAX_VCPUS, ROUND};
-ghost use Rattle.table_form.specs.Rows.{RisesTo, cells_from};
-ghost use Rattle.table_form.specs.Serves.{cells_within};
+ghost use Rattle.table_form.specs.Tables.Rows.{RisesTo, cells_from};
+ghost use Rattle.table_form.specs.Tables.Serves.{cells_within};
 ghost use Rattle.table_check.specs.Counters.{AreAtMost, CountSupply, GrowBy, ticks_given};
 ghost use Rattle.table_check.specs.declared.counters.TheConstants.{MAX_PERIODS};
 

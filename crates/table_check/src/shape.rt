@@ -1,6 +1,6 @@
 ghost use Rattle.std.specs.Prelude.{◌≡◌, ◌⊎◌, ◌<◌, ◌≤◌, IfErr, IfOk, None, length};
 ghost use Rattle.tab_core.specs.declared.TheConstants.{MAX_CORES};
-ghost use Rattle.table_form.specs.Rows.{bad_place, cells_from};
+ghost use Rattle.table_form.specs.Tables.Rows.{bad_place, cells_from};
 ghost use Rattle.table_check.specs.Faults.{IsRowFault, IsShapeFault};
 ghost use Rattle.table_check.specs.Shapes.{HaveGoodShapes, rows_of};
 

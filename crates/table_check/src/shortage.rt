@@ -1,6 +1,6 @@
 ghost use Rattle.std.specs.Prelude.{◌≡◌, ◌+◌, ◌*◌, ◌≤◌, IfOk, List, length};
 ghost use Rattle.tab_core.specs.declared.TheConstants.{MAX_CORES, MAX_VCPUS};
-ghost use Rattle.table_form.specs.Rows.{Row};
+ghost use Rattle.table_form.specs.Tables.Rows.{Row};
 ghost use Rattle.table_check.specs.Counters.{CountSupply, IsFirstLow};
 ghost use Rattle.table_check.specs.Shortages.{IsShortageOf};
 ghost use Rattle.table_check.specs.declared.counters.TheConstants.{MAX_PERIODS};

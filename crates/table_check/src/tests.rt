@@ -1,8 +1,8 @@
 ghost use Rattle.std.specs.Prelude.{◌≡◌, ◌≤◌, true, IfOk, IsTrue, length};
 ghost use Rattle.std.specs.Option.{ForSome};
 ghost use Rattle.tab_core.specs.declared.TheConstants.{MAX_VCPUS};
-ghost use Rattle.table_form.specs.Homes.{is_housed};
-ghost use Rattle.table_form.specs.Serves.{has_task};
+ghost use Rattle.table_form.specs.Tables.Homes.{is_housed};
+ghost use Rattle.table_form.specs.Tables.Serves.{has_task};
 ghost use Rattle.table_check.specs.Shapes.{AreOfTasks, AreOwnedByTasks};
 
 use crate::check;

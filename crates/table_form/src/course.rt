@@ -1,7 +1,7 @@
 ghost use Rattle.std.specs.Prelude.{◌≡◌, ◌<◌, ◌≤◌, length};
-ghost use Rattle.table_form.specs.CourseViews.{course_view};
-ghost use Rattle.table_form.specs.Courses.{IsCourse, IsCourseForm, plan_after, plan_number_after, runnable_after, tick_at};
-ghost use Rattle.table_form.specs.Views.{plan_view};
+ghost use Rattle.table_form.specs.Running.CourseViews.{course_view};
+ghost use Rattle.table_form.specs.Running.Courses.{IsCourse, IsCourseForm, plan_after, plan_number_after, runnable_after, tick_at};
+ghost use Rattle.table_form.specs.Tables.Views.{plan_view};
 
 use crate::plan::Plan;
 use std::marker::Model;
@@ -21,8 +21,8 @@ pub struct Course {
 }
 
 impl Model for Course {
-    ghost use Rattle.table_form.specs.CourseViews.{course_view};
-    ghost use Rattle.table_form.specs.Courses.{CourseView, IsCourse};
+    ghost use Rattle.table_form.specs.Running.CourseViews.{course_view};
+    ghost use Rattle.table_form.specs.Running.Courses.{CourseView, IsCourse};
 
     ghost Value = { CourseView };
 

@@ -1,5 +1,5 @@
 -- Each wait of a kept run is within the greater of two latencies.
-use Rattle.std.proofs.Common.{◌≡◌, ℕ, suc, ◌+◌, ◌-◌, ◌*◌, ◌/◌, ◌<◌, ◌≤◌, max, List, Option, Some, None, length, slice_get, refl, ap, subst, sym, ◌∙◌, arith}
+use Rattle.std.proofs.Common.{◌≡◌, ℕ, suc, ◌+◌, ◌-◌, ◌*◌, ◌/◌, ◌≤◌, max, List, Option, Some, None, length, slice_get, refl, ap, subst, ◌∙◌, arith}
 use Rattle.std.proofs.lemmas.List.{length-map}
 use Rattle.tab_core.specs.declared.TheConstants.{ROUND, TICK_NS}
 use Rattle.tab_core.specs.declared.host.Host.{Host}
@@ -8,18 +8,17 @@ use Rattle.tab_core.specs.declared.reservation.Reservation.{Reservation}
 use Rattle.tab_core.specs.declared.vcpu.Vcpu.{Vcpu}
 use Rattle.period_choice.specs.Choice.{IsChosen}
 use Rattle.period_choice.specs.Tasks.{AreTasksOf, IsTaskOf}
-use Rattle.table_form.specs.Courses.{CourseView, plan_after}
-use Rattle.table_form.specs.Kept.{Kept}
-use Rattle.table_form.specs.Offered.{HasShortGaps, IsGap, task_by, task_in}
-use Rattle.table_form.specs.Plans.{PlanView}
-use Rattle.table_form.specs.Serves.{flat}
-use Rattle.table_form.specs.State.{State}
+use Rattle.table_form.specs.Running.Courses.{CourseView, plan_after}
+use Rattle.table_form.specs.Running.Invariant.{StateInvariant}
+use Rattle.table_form.specs.Running.Offered.{HasShortGaps, task_by, task_in}
+use Rattle.table_form.specs.Tables.Plans.{PlanView}
+use Rattle.table_form.specs.Tables.Serves.{flat}
+use Rattle.table_form.specs.Running.State.{State}
 use Rattle.script_doc.specs.declared.event.Event.{Event}
-use Rattle.plan_book.specs.After.{IsKnownAfter, Known}
 use Rattle.plan_book.proofs.Planned.{known_planned}
 use Rattle.step_machine.proofs.Lists.{element_at, within}
-use Rattle.tableau_sim.specs.Courses.{IsCourseOf, ShowsAfter}
-use Rattle.tableau_sim.specs.Waits.{IsReservedIn, IsWithinLatency, WaitsWithinLatency}
+use Rattle.tableau_sim.specs.Courses.{IsCourseOf}
+use Rattle.tableau_sim.specs.Waits.{IsReservedIn, WaitsWithinLatency}
 
 short_wait : (r t : Reservation) (first last : Periodic) (ticks : ℕ) → IsChosen r first → IsChosen t last
     → ticks + first.cost + last.cost ≤ first.period + last.period
@@ -97,14 +96,14 @@ in_round host events course decided r v task of few is =
     }
 
 pub waits : (host : Host) (events : List Event) (course : CourseView) (rounds : ℕ) (s : State)
-    → IsCourseOf host events course → Kept course rounds s → HasShortGaps course s
+    → IsCourseOf host events course → StateInvariant course rounds s → HasShortGaps course s
     → WaitsWithinLatency host events course s
 waits host events course rounds s of kept gaps = λ v a l gap.
     let few : (q d : ℕ) → slice_get s.decided q ≡ Some d → d ≤ length events = λ q d at.
-        (let posted = kept.decided_posted q d at in
-        let most = kept.posted_most in
-        let count = ap length of.ticks ∙ length-map events (λ (event : Event). event.tick) in
-        omega arith) in
+    (let posted = kept.decided_posted q d at in
+    let most = kept.posted_most in
+    let count = ap length of.ticks ∙ length-map events (λ (event : Event). event.tick) in
+    omega arith) in
     let some = gap.some_ticks in
     let at_a = gap.held a (omega arith) (omega arith) in
     let at_l = gap.held l (omega arith) (omega arith) in

@@ -1,7 +1,7 @@
 ghost use Rattle.std.specs.Prelude.{◌≡◌, ◌<◌, ◌≤◌, ◌^◌, ℕ, [], All, IfErr, IfOk, List, Some, length, slice_get, slice_index_or};
-ghost use Rattle.table_form.specs.Courses.{FitsRounds, IsCourse};
-ghost use Rattle.table_form.specs.Kept.{Kept};
-ghost use Rattle.table_form.specs.State.{opening};
+ghost use Rattle.table_form.specs.Running.Courses.{FitsRounds, IsCourse};
+ghost use Rattle.table_form.specs.Running.Invariant.{StateInvariant};
+ghost use Rattle.table_form.specs.Running.State.{opening};
 ghost use Rattle.script_doc.specs.Script.{AreInRun, AreWithin};
 ghost use Rattle.script_doc.specs.Steps.{IsWithin};
 ghost use Rattle.script_doc.specs.declared.step.Step.{Step as StepValue};
@@ -10,45 +10,23 @@ ghost use Rattle.step_machine.specs.Refusals.{IsFaultOf};
 ghost use Rattle.step_machine.specs.Runs.{Leads};
 ghost use Rattle.tab_words.specs.declared.command.TheConstants.{MOST_ROUNDS};
 ghost use Rattle.replay_text.specs.RunsOf.{IsRunOf};
-ghost use Rattle.tableau_sim.specs.Found.{Replied};
-ghost use Rattle.tableau_sim.specs.ReplayFound.{IsPlaceIn, RepliedToSections, book_status, replay_status, script_status, steps_status};
-ghost use Rattle.tableau_sim.specs.ReplayParts.{HasParts};
+ghost use Rattle.tableau_sim.specs.Found.{Makes};
+ghost use Rattle.tableau_sim.specs.Replay.{HasParts, Replays};
 
-use crate::find::INPUT_LIMIT;
-use crate::reply::{Reply, refusal};
+use crate::reply::{Reply, Stop, Text, refused};
 use crate::status::Status;
-use host_doc::{HostFault, read_host};
-use plan_book::{BookFault, make_book};
-use script_doc::{Script, ScriptFault, Step, StepList, StepsFault, read_script, read_steps};
+use crate::stops::{host_of, stop_of_book, stop_of_script};
+use plan_book::make_book;
+use script_doc::{Script, Step, StepList, StepsFault, read_script, read_steps};
 use std::alloc::Global;
 use std::thread::Threads;
 use step_machine::{MachineState, ReplayFault, replay};
 use tab_core::Host;
-use tab_words::{Command, Sections, cut_sections};
+use tab_words::Sections;
 use table_form::Course;
 
-// The reply of `replay` to its input.
-pub(crate) fn replay_reply<R: Threads + Sync>(
-    rt: &R,
-    alloc: Global,
-    rounds: u32,
-    input: &[u8],
-) -> Reply
-    requires within { length input.now ≤ INPUT_LIMIT }
-    requires some { 1 ≤ rounds }
-    requires few { rounds ≤ MOST_ROUNDS }
-    ensures { Replied (Command.Replay rounds) input.now result }
-{
-    let sections = cut_sections(input);
-    let found = sections.count();
-    if found != 3 {
-        return refusal(Status::BadSections { found, wanted: 3 }, None);
-    }
-    replay_of_sections(rt, alloc, rounds, &sections)
-}
-
 // The reply of `replay` to its three sections.
-fn replay_of_sections<R: Threads + Sync>(
+pub(crate) fn replay_reply<R: Threads + Sync>(
     rt: &R,
     alloc: Global,
     rounds: u32,
@@ -58,20 +36,20 @@ fn replay_of_sections<R: Threads + Sync>(
     requires short { (i : ℕ) → length (slice_index_or sections.now i []) < 2 ^ 32 }
     requires some { 1 ≤ rounds }
     requires few { rounds ≤ MOST_ROUNDS }
-    ensures { RepliedToSections rounds sections.now result }
+    ensures { Makes (Replays rounds sections.now) result }
 {
-    let host = match read_host(alloc, sections.part(0)) {
+    let host = match host_of(alloc, sections.part(0)) {
         Ok(host) => host,
-        Err(HostFault::NoMemory) => return refusal(Status::NoMemory, None),
-        Err(fault) => return refusal(Status::Host(fault), None),
+        Err(stop) => return Err(stop),
     };
     let script = match read_script(alloc, sections.part(1), &host, rounds) {
         Ok(script) => script,
-        Err(fault) => return refusal(status_of_script(fault), None),
+        Err(fault) => return Err(stop_of_script(fault)),
     };
     let list = match read_steps(alloc, sections.part(2), host.cores) {
         Ok(list) => list,
-        Err(fault) => return refusal(status_of_steps(fault), None),
+        Err(StepsFault::BadLine { line }) => return refused(Status::BadStep { line }, None),
+        Err(StepsFault::NoMemory) => return Err(Stop::NoMemory),
     };
     replay_of_parts(rt, alloc, rounds, host, script, list)
 }
@@ -94,21 +72,25 @@ fn replay_of_parts<R: Threads + Sync>(
     ensures { (sections : List (List ℕ))
         → HasParts rounds sections
         (record { host = host; events = script; steps = list.steps; lines = list.lines })
-        → RepliedToSections rounds sections result }
+        → Makes (Replays rounds sections) result }
 {
     let book = match make_book(rt, alloc, &host, &script) {
         Ok(book) => book,
-        Err(fault) => return refusal(status_of_book(fault), Some(host)),
+        Err(fault) => return Err(stop_of_book(fault, host)),
     };
     let StepList { steps, lines } = list;
     match state_after(alloc, book.course(), rounds, steps.items()) {
-        Ok(state) => Reply::Replay {
+        Ok(state) => Ok(Text::Replay {
             host,
             book,
             steps,
             state,
-        },
-        Err(fault) => refusal(status_of_replay(fault, lines.items()), None),
+        }),
+        Err(ReplayFault::Refused { place, answer }) => {
+            let line = lines.items()[place as usize];
+            refused(Status::StepRefused { line, answer }, None)
+        }
+        Err(ReplayFault::NoMemory) => Err(Stop::NoMemory),
     }
 }
 
@@ -126,7 +108,7 @@ fn state_after(
     ensures ok { IfOk result (λ state. IsRunOf course.now steps.now state) }
     ensures leads { IfOk result (λ state.
         Leads course.now rounds (opening course.now.cores) steps.now state) }
-    ensures kept { IfOk result (λ state. Kept course.now rounds state) }
+    ensures kept { IfOk result (λ state. StateInvariant course.now rounds state) }
     ensures course_kept { IsCourse course.now }
     ensures refused { IfErr result (λ fault. IsFaultOf course.now rounds steps.now fault) }
 {
@@ -135,47 +117,5 @@ fn state_after(
     match replay(alloc, course, rounds, steps) {
         Ok(world) => Ok(world.into_state()),
         Err(fault) => Err(fault),
-    }
-}
-
-fn status_of_script(fault: ScriptFault) -> Status
-    ensures { result ≡ script_status fault }
-{
-    match fault {
-        ScriptFault::NoMemory => Status::NoMemory,
-        _ => Status::Script(fault),
-    }
-}
-
-fn status_of_steps(fault: StepsFault) -> Status
-    ensures { result ≡ steps_status fault }
-{
-    match fault {
-        StepsFault::BadLine { line } => Status::BadStep { line },
-        StepsFault::NoMemory => Status::NoMemory,
-    }
-}
-
-fn status_of_book(fault: BookFault) -> Status
-    ensures { result ≡ book_status fault }
-{
-    match fault {
-        BookFault::NoPeriod { vcpu } => Status::NoPeriod { vcpu },
-        BookFault::NoRoom { vcpu, rest, over } => Status::NoRoom { vcpu, rest, over },
-        BookFault::NoMemory => Status::NoMemory,
-    }
-}
-
-// The status of a refusal of steps that stand on these lines.
-fn status_of_replay(fault: ReplayFault, lines: &[u32]) -> Status
-    requires { IsPlaceIn (length lines.now) fault }
-    ensures { result ≡ replay_status lines.now fault }
-{
-    match fault {
-        ReplayFault::Refused { place, answer } => Status::StepRefused {
-            line: lines[place as usize],
-            answer,
-        },
-        ReplayFault::NoMemory => Status::NoMemory,
     }
 }

@@ -1,7 +1,7 @@
 use Rattle.std.proofs.Common.{◌++◌, arith, subst, inl, inr}
 use Rattle.std.proofs.lemmas.Bool.{cases_lt}
 use Rattle.std.proofs.lemmas.Option.{MatchOption-at_some}
-use Rattle.table_form.specs.Jobs.{jobs_of, jobs_of_subtask, subtask_of}
+use Rattle.table_form.specs.Planning.Jobs.{jobs_of, jobs_of_subtask, subtask_of}
 use Rattle.edf_table.specs.Beside.{tight}
 use Rattle.edf_table.specs.Overloads.{IsOverloadOf}
 use Rattle.cd_split.specs.Search.{IsOverloadWith}

@@ -1,6 +1,6 @@
 use Rattle.std.proofs.Common.{◌≡◌, ◌≤◌, sym, ap, subst, inr, arith}
 use Rattle.std.proofs.lemmas.Option.{MatchOption-at_some, MatchOption-at_none}
-use Rattle.table_form.specs.Jobs.{Subtask, subtask_of}
+use Rattle.table_form.specs.Planning.Jobs.{Subtask, subtask_of}
 use Rattle.edf_table.specs.Beside.{tight}
 use Rattle.cd_split.specs.Cores.{pieces_on}
 use Rattle.cd_split.specs.Search.{IsCutFor, IsTooMuch}

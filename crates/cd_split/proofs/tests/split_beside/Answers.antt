@@ -3,8 +3,8 @@ use Rattle.std.proofs.Math.Nat.{mul-le-mul_left}
 use Rattle.tab_core.specs.declared.TheConstants.{ROUND}
 use Rattle.tab_core.specs.declared.piece.Piece.{Piece}
 use Rattle.tab_core.proofs.Periods.{period_facts}
-use Rattle.table_form.specs.Demand.{Fits}
-use Rattle.table_form.specs.Jobs.{jobs_of}
+use Rattle.table_form.specs.Planning.Demand.{Fits}
+use Rattle.table_form.specs.Planning.Jobs.{jobs_of}
 use Rattle.edf_table.specs.Load.{IsWhole}
 use Rattle.edf_table.proofs.Whole.{whole_fits}
 use Rattle.cd_split.specs.Cores.{pieces_on}

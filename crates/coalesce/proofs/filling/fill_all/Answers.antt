@@ -1,6 +1,6 @@
 use Rattle.std.proofs.Common.{map, ◌∷◌, [], ap, subst, sym, ◌∙◌}
 use Rattle.tab_core.specs.VcpuSets.{has_vcpu}
-use Rattle.table_form.specs.Stretches.{stretch_of}
+use Rattle.table_form.specs.Inside.Stretches.{stretch_of}
 use Rattle.coalesce.specs.Passing.{put_before}
 use Rattle.coalesce.proofs.Filled.{HasFilled, all_filled, one_filled}
 use Rattle.coalesce.proofs.filling.fill_all.Goals as goal

@@ -1,5 +1,5 @@
 use Rattle.std.proofs.Common.{map}
-use Rattle.table_form.specs.Stretches.{stretch_of}
+use Rattle.table_form.specs.Inside.Stretches.{stretch_of}
 use Rattle.coalesce.proofs.Filled.{HasFilled}
 use Rattle.tab_core.specs.VcpuSets.{has_vcpu}
 use Rattle.coalesce.proofs.filling.fill_all.Given as goal

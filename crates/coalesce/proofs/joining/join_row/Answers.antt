@@ -1,8 +1,8 @@
 use Rattle.std.proofs.Common.{map, ap, subst, sym, ◌∙◌, Some, None, ◌≡◌, ℕ, Option}
 use Rattle.tab_core.specs.VcpuSets.{has_vcpu}
 use Rattle.tab_core.specs.declared.TheConstants.{ROUND}
-use Rattle.table_form.specs.Rows.{cells_from}
-use Rattle.table_form.specs.Stretches.{stretch_of}
+use Rattle.table_form.specs.Tables.Rows.{cells_from}
+use Rattle.table_form.specs.Inside.Stretches.{stretch_of}
 use Rattle.coalesce.specs.Joining.{filled}
 use Rattle.coalesce.specs.Passing.{AreMaximal}
 use Rattle.coalesce.proofs.Joined.{row_joined, still_maximal}

@@ -1,7 +1,7 @@
 use Rattle.std.proofs.Common.{Some, ap, subst, sym, ◌+◌, ◌∙◌}
 use Rattle.std.proofs.lemmas.Option.{slice_get-get_or}
 use Rattle.tab_core.specs.VcpuSets.{has_vcpu}
-use Rattle.table_form.specs.Drafts.{pieces_at}
+use Rattle.table_form.specs.Planning.Drafts.{pieces_at}
 use Rattle.coalesce.specs.Joining.{IsJoined, has_single_piece}
 use Rattle.coalesce.specs.Passing.{IsTableOf}
 use Rattle.coalesce.proofs.Joined.{JoinedSoFar, joined_by, one_joined}

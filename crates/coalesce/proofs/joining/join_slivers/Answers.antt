@@ -1,6 +1,6 @@
 use Rattle.std.proofs.Common.{subst, sym, ◌∙◌}
-use Rattle.table_form.specs.DraftViews.{draft_facts}
-use Rattle.table_form.specs.Drafts.{IsDraft, pieces_at}
+use Rattle.table_form.specs.Planning.DraftViews.{draft_facts}
+use Rattle.table_form.specs.Planning.Drafts.{IsDraft, pieces_at}
 use Rattle.coalesce.specs.Joining.{has_single_piece}
 use Rattle.coalesce.proofs.Joined.{joined_as, no_more_segments}
 use Rattle.coalesce.proofs.Planned.{grown_rows, jobs_served, joined_is_plan}

@@ -1,7 +1,7 @@
 use Rattle.std.proofs.Common.{map, ◌∷◌, [], ap, subst, sym, ◌∙◌, arith}
 use Rattle.std.proofs.lemmas.Bool.{false≢true}
 use Rattle.std.proofs.lemmas.List.{map-append}
-use Rattle.table_form.specs.Stretches.{stretch_of}
+use Rattle.table_form.specs.Inside.Stretches.{stretch_of}
 use Rattle.coalesce.specs.Passing.{EndsWith}
 use Rattle.coalesce.proofs.Ends.{appends, replaces, set_last, some_end}
 use Rattle.coalesce.proofs.pass.append.Goals as goal

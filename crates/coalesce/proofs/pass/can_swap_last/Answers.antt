@@ -1,5 +1,5 @@
 use Rattle.std.proofs.Common.{ap, ◌-◌, length, arith}
-use Rattle.table_form.specs.Stretches.{stretch_of}
+use Rattle.table_form.specs.Inside.Stretches.{stretch_of}
 use Rattle.coalesce.proofs.Ends.{last_two_can, two_rise}
 use Rattle.coalesce.proofs.pass.can_swap_last.Goals as goal
 

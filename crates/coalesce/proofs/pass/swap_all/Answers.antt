@@ -1,7 +1,7 @@
 use Rattle.std.proofs.Common.{map, Some, ap, subst, sym, ◌∙◌}
 use Rattle.std.proofs.lemmas.Bool.{false≢true}
 use Rattle.std.proofs.lemmas.Option.{slice_get-get_or}
-use Rattle.table_form.specs.Stretches.{stretch_of}
+use Rattle.table_form.specs.Inside.Stretches.{stretch_of}
 use Rattle.coalesce.proofs.Steps.{HasPassed, all_passed, below_next, none_passed, one_comes, one_passed_over, some_segment}
 use Rattle.coalesce.proofs.pass.swap_all.Goals.{then-ends_stretch+in_ok-take_next, else-ends_stretch}
 use Rattle.coalesce.proofs.pass.swap_all.Goals as goal

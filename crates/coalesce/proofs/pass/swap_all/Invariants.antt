@@ -1,5 +1,5 @@
 use Rattle.std.proofs.Common.{map}
-use Rattle.table_form.specs.Stretches.{stretch_of}
+use Rattle.table_form.specs.Inside.Stretches.{stretch_of}
 use Rattle.coalesce.proofs.Steps.{HasPassed}
 use Rattle.coalesce.proofs.pass.swap_all.Given as goal
 

@@ -1,7 +1,7 @@
 use Rattle.std.proofs.Common.{List, ◌≤◌, ◌∷◌, length, map, subst, sym, ◌∙◌}
 use Rattle.std.proofs.lemmas.Bool.{false≢true}
 use Rattle.std.proofs.lemmas.Result.{on_ok_weaker}
-use Rattle.table_form.specs.Stretches.{stretch_of}
+use Rattle.table_form.specs.Inside.Stretches.{stretch_of}
 use Rattle.table_form.specs.declared.segment.Segment.{Segment}
 use Rattle.coalesce.specs.Passing.{CanSwapLast, IsPassed, StandInRow}
 use Rattle.coalesce.proofs.Ends.{two_ends}

@@ -1,6 +1,6 @@
 use Rattle.std.proofs.Common.{sym, ◌∙◌}
 use Rattle.std.proofs.lemmas.Bool.{false≢true}
-use Rattle.table_form.specs.Stretches.{stretch_of}
+use Rattle.table_form.specs.Inside.Stretches.{stretch_of}
 use Rattle.coalesce.proofs.Tables.{same_unless_differ, swap_needs_begin, swap_needs_end}
 use Rattle.coalesce.proofs.swap.can_swap.Goals as goal
 

@@ -1,7 +1,7 @@
 use Rattle.std.proofs.Common.{set, Some, take, subst, sym, ◌+◌, ◌∙◌}
 use Rattle.std.proofs.lemmas.Bool.{eq-eqb, eqb-true, false≢true}
 use Rattle.coalesce.specs.Passing.{IsTableOf}
-use Rattle.table_form.specs.Drafts.{pieces_at}
+use Rattle.table_form.specs.Planning.Drafts.{pieces_at}
 use Rattle.coalesce.proofs.Built.{next_elsewhere, next_here}
 use Rattle.coalesce.proofs.table.table_of.Goals.{then-eq, else-eq}
 use Rattle.coalesce.proofs.table.table_of.Goals as goal

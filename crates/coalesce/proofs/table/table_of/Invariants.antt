@@ -1,5 +1,5 @@
 use Rattle.std.proofs.Common.{take}
-use Rattle.table_form.specs.Drafts.{pieces_at}
+use Rattle.table_form.specs.Planning.Drafts.{pieces_at}
 use Rattle.coalesce.specs.Passing.{IsTableOf}
 use Rattle.coalesce.proofs.table.table_of.Given as goal
 

@@ -1,8 +1,8 @@
 use Rattle.std.proofs.Common.{◌≡◌, ℕ, zero, suc, ◌-◌, ◌++◌, List, [], ◌∷◌, replicate, slice_get, Option, None, Some, refl, ap, subst, sym, ◌∙◌}
 use Rattle.std.proofs.lemmas.List.{append-nil}
-use Rattle.table_form.specs.Drafts.{IsDraft}
-use Rattle.table_form.specs.Rows.{Row, cells_from}
-use Rattle.table_form.specs.Serves.{owner_at}
+use Rattle.table_form.specs.Planning.Drafts.{IsDraft}
+use Rattle.table_form.specs.Tables.Rows.{Row, cells_from}
+use Rattle.table_form.specs.Tables.Serves.{owner_at}
 use Rattle.table_form.specs.declared.segment.Segment.{Segment}
 use Rattle.table_form.proofs.RowLemmas.{cells-cons, cells-nil}
 use Rattle.coalesce.proofs.Planned.{owner_in_row}

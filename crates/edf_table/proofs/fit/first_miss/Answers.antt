@@ -1,6 +1,6 @@
 use Rattle.std.proofs.Common.{◌≡◌, arith, subst}
 use Rattle.tab_core.specs.declared.TheConstants.{MAX_VCPUS, ROUND}
-use Rattle.table_form.specs.Jobs.{jobs_of}
+use Rattle.table_form.specs.Planning.Jobs.{jobs_of}
 use Rattle.edf_table.specs.Progress.{IsCounted, MetBefore}
 use Rattle.edf_table.proofs.Few.{few_pieces}
 use Rattle.edf_table.proofs.Misses.{all_met_fits, first_end}

@@ -1,6 +1,6 @@
 use Rattle.std.proofs.Common.{◌≤◌, ◌-◌}
 use Rattle.tab_core.specs.declared.TheConstants.{ROUND}
-use Rattle.table_form.specs.Jobs.{jobs_of}
+use Rattle.table_form.specs.Planning.Jobs.{jobs_of}
 use Rattle.edf_table.specs.Progress.{IsCounted, MetBefore}
 use Rattle.edf_table.proofs.fit.first_miss.Given as goal
 

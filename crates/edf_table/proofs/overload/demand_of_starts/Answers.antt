@@ -3,7 +3,7 @@ use Rattle.edf_table.specs.Progress.{demand_from}
 use Rattle.edf_table.proofs.Starts.{demand_from_nothing, demand_from_more}
 use Rattle.tab_core.specs.declared.piece.Piece.{Piece}
 use Rattle.tab_core.specs.declared.TheConstants.{ROUND}
-use Rattle.table_form.specs.Jobs.{first_jobs, subtask_of}
+use Rattle.table_form.specs.Planning.Jobs.{first_jobs, subtask_of}
 use Rattle.std.proofs.Common.{◌/◌, ℕ}
 use Rattle.edf_table.proofs.overload.demand_of_starts.Goals as goal
 

@@ -1,7 +1,7 @@
 use Rattle.std.proofs.Common.{◌≡◌, ◌<◌, ◌-◌, sym, arith, subst, inl, inr}
 use Rattle.std.proofs.lemmas.Bool.{cases_lt}
-use Rattle.table_form.specs.Jobs.{jobs_of}
-use Rattle.table_form.specs.Demand.{demand_in}
+use Rattle.table_form.specs.Planning.Jobs.{jobs_of}
+use Rattle.table_form.specs.Planning.Demand.{demand_in}
 use Rattle.edf_table.proofs.Starts.{demand_empty, demand_back, fits_later}
 use Rattle.edf_table.proofs.Few.{few_pieces}
 use Rattle.edf_table.proofs.overload.last_overload.Goals as goal

@@ -1,6 +1,6 @@
 use Rattle.std.proofs.Common.{◌≡◌, ◌≤◌, ◌-◌, ℕ}
-use Rattle.table_form.specs.Jobs.{jobs_of}
-use Rattle.table_form.specs.Demand.{demand_in, IsOverloaded}
+use Rattle.table_form.specs.Planning.Jobs.{jobs_of}
+use Rattle.table_form.specs.Planning.Demand.{demand_in, IsOverloaded}
 use Rattle.edf_table.proofs.overload.last_overload.Given as goal
 
 abbrev pub invariant-loop-from : goal.invariant-loop-from

@@ -1,9 +1,9 @@
 use Rattle.std.proofs.Common.{◌≡◌, ◌∙◌, ◌*◌, ◌+◌, ◌-◌, map, arith, subst, sym, slice_get, Some}
 use Rattle.std.proofs.lemmas.Option.{slice_get_within}
 use Rattle.tab_core.specs.declared.TheConstants.{MAX_VCPUS, ROUND}
-use Rattle.table_form.specs.EdfRow.{edf_cells, owner_of}
-use Rattle.table_form.specs.Jobs.{jobs_of}
-use Rattle.table_form.specs.Serves.{cells_within}
+use Rattle.table_form.specs.Planning.EdfRow.{edf_cells, owner_of}
+use Rattle.table_form.specs.Planning.Jobs.{jobs_of}
+use Rattle.table_form.specs.Tables.Serves.{cells_within}
 use Rattle.edf_table.specs.Progress.{GoesTo, IsCounted, MetBefore}
 use Rattle.edf_table.proofs.Calm.{row_along}
 use Rattle.edf_table.proofs.Few.{few_pieces}

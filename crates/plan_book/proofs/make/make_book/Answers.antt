@@ -1,8 +1,8 @@
 use Rattle.std.proofs.Common.{◌≡◌, ◌+◌, ◌<◌, List, [], ◌∷◌, ◌++◌, length, get_or, ap, subst, sym, ◌∙◌}
 use Rattle.std.proofs.lemmas.Result.{err_from_is_err_and}
 use Rattle.script_doc.specs.declared.event.Event.{Event}
-use Rattle.table_form.specs.CourseViews.{course_view}
-use Rattle.table_form.specs.Courses.{FitsRounds, IsCourseForm, plan_after}
+use Rattle.table_form.specs.Running.CourseViews.{course_view}
+use Rattle.table_form.specs.Running.Courses.{FitsRounds, IsCourseForm, plan_after}
 use Rattle.plan_make.proofs.Exact.{planned_or_refused}
 use Rattle.plan_make.proofs.Refusals.{planned_or_without_period}
 use Rattle.plan_book.specs.Books.{BookView, IsBookOf, NameVcpusBelow, ticks_of}
@@ -12,7 +12,7 @@ use Rattle.plan_book.proofs.Making.{few_plans, known_next, made_first, made_next
 use Rattle.plan_book.proofs.Named.{named_below}
 use Rattle.plan_book.proofs.Planned.{known_planned}
 use Rattle.period_choice.specs.Tasks.{AreTasksOf}
-use Rattle.table_form.specs.Plans.{PlanView}
+use Rattle.table_form.specs.Tables.Plans.{PlanView}
 use Rattle.plan_book.proofs.Refusals.{no_memory_for_book}
 use Rattle.plan_book.proofs.Shape.{all_outcomes}
 use Rattle.plan_book.proofs.Unique.{known_unique}

@@ -1,7 +1,7 @@
 use Rattle.std.proofs.Common.{Err, ap, length, ◌∙◌}
 use Rattle.std.proofs.lemmas.Result.{err_from_is_err_and}
-use Rattle.table_form.specs.Serves.{has_task}
-use Rattle.table_form.specs.Views.{plan_view}
+use Rattle.table_form.specs.Tables.Serves.{has_task}
+use Rattle.table_form.specs.Tables.Views.{plan_view}
 use Rattle.plan_make.proofs.Exact.{IsMadeOf, layout_is_planned, no_memory_for_layout, planned_or_refused, planned_unique}
 use Rattle.plan_make.proofs.Plans.{no_memory_for_tasks, none_without_period, tasks_admit}
 use Rattle.plan_make.proofs.planner.plan.Given.{Over}

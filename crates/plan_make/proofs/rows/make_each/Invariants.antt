@@ -1,7 +1,7 @@
 use Rattle.std.proofs.Common.{◌≡◌, ◌<◌, ℕ, Result, length, slice_index_or}
 use Rattle.std.specs.Prelude.{IfOk}
 use Rattle.std.specs.declared.alloc.AllocError.{AllocError}
-use Rattle.table_form.specs.Rows.{Row}
+use Rattle.table_form.specs.Tables.Rows.{Row}
 use Rattle.cd_split.specs.Cores.{pieces_on}
 use Rattle.plan_make.specs.Allotted.{IsRowOf}
 use Rattle.plan_make.proofs.rows.make_each.Given as goal

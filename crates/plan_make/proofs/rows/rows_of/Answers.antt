@@ -1,7 +1,7 @@
 use Rattle.std.proofs.Common.{◌∙◌, Ok, Result, ap, length, subst, sym, arith}
 use Rattle.std.proofs.lemmas.List.{length-map}
 use Rattle.std.specs.declared.alloc.AllocError.{AllocError}
-use Rattle.table_form.specs.Rows.{Row}
+use Rattle.table_form.specs.Tables.Rows.{Row}
 use Rattle.plan_make.specs.Allotted.{AreRowsOf}
 use Rattle.plan_make.proofs.Made.{AreMade, are_made, made_of, made_rows}
 use Rattle.plan_make.proofs.rows.rows_of.Given.{Over}

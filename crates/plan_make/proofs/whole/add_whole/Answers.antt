@@ -1,6 +1,6 @@
 use Rattle.std.proofs.Common.{◌+◌, ◌<◌, length, None, Some, refl, ap, subst, sym, ◌∙◌, arith}
 use Rattle.std.proofs.lemmas.Option.{slice_get-get_or}
-use Rattle.table_form.specs.Jobs.{Subtask}
+use Rattle.table_form.specs.Planning.Jobs.{Subtask}
 use Rattle.cd_split.specs.Cores.{HaveRoomFor, LackVcpu, pieces_on}
 use Rattle.plan_make.proofs.Standing.{FirstStand, next_has_room, next_is_new, next_is_none, next_stands, read_none, read_some}
 use Rattle.plan_make.proofs.whole.add_whole.Goals as goal

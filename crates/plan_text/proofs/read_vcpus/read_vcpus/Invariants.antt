@@ -1,5 +1,5 @@
 use Rattle.std.proofs.Common.{◌≡◌, ℕ, ◌++◌, length, take, true}
-use Rattle.table_form.specs.Homes.{are_housed}
+use Rattle.table_form.specs.Tables.Homes.{are_housed}
 use Rattle.plan_text.specs.FirstBad.{IsFirstBad}
 use Rattle.plan_text.specs.PlanLines.{vcpu_lines}
 use Rattle.plan_text.specs.PlanText.{names_of}

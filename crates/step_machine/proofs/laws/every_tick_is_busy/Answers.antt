@@ -1,4 +1,4 @@
-use Rattle.table_form.specs.State.{opening}
+use Rattle.table_form.specs.Running.State.{opening}
 use Rattle.step_machine.proofs.Running.{leads_keep, opening_kept}
 use Rattle.step_machine.proofs.Busying.{is_busy}
 use Rattle.step_machine.proofs.laws.every_tick_is_busy.Goals as goal

@@ -1,4 +1,4 @@
-use Rattle.table_form.specs.State.{opening}
+use Rattle.table_form.specs.Running.State.{opening}
 use Rattle.step_machine.proofs.Running.{leads_keep, opening_kept}
 use Rattle.step_machine.proofs.OneCore.{one_core}
 use Rattle.step_machine.proofs.laws.nobody_runs_twice.Goals as goal

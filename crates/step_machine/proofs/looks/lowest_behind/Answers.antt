@@ -3,7 +3,7 @@ use Rattle.std.specs.Prelude.{slice_get}
 use Rattle.std.proofs.lemmas.Bool.{cases_lt}
 use Rattle.std.proofs.lemmas.Option.{slice_get_read}
 use Rattle.step_machine.specs.declared.log.CoreLog.{CoreLog}
-use Rattle.table_form.specs.State.{CoreState}
+use Rattle.table_form.specs.Running.State.{CoreState}
 use Rattle.step_machine.specs.Logs.{core_of}
 use Rattle.step_machine.proofs.LogLemmas.{log_at, core_at, found_at, core_within}
 use Rattle.step_machine.proofs.looks.lowest_behind.Goals as goal

@@ -1,6 +1,6 @@
 use Rattle.std.proofs.Common.{◌≡◌, ◌≢◌, ℕ, ◌+◌, ◌<◌, ◌≤◌, Some}
 use Rattle.std.specs.Prelude.{slice_get}
-use Rattle.table_form.specs.State.{CoreState}
+use Rattle.table_form.specs.Running.State.{CoreState}
 use Rattle.step_machine.specs.Logs.{cores_of}
 use Rattle.step_machine.proofs.looks.lowest_behind.Given as goal
 

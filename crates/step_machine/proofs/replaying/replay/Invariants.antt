@@ -1,5 +1,5 @@
 use Rattle.std.proofs.Common.{◌≡◌, ◌+◌, length, take}
-use Rattle.table_form.specs.State.{opening}
+use Rattle.table_form.specs.Running.State.{opening}
 use Rattle.step_machine.specs.Runs.{Leads}
 use Rattle.step_machine.proofs.replaying.replay.Given as goal
 

@@ -1,10 +1,10 @@
 use Rattle.std.proofs.Common.{◌≡◌, ◌/◌, ◌%◌, inr, refl, sym, ◌∙◌, arith}
 use Rattle.std.specs.Prelude.{slice_get}
 use Rattle.tab_core.specs.declared.TheConstants.{ROUND}
-use Rattle.table_form.specs.Views.{plan_view}
-use Rattle.table_form.specs.Choice.{IsChoice}
-use Rattle.table_form.specs.Plans.{PlanView}
-use Rattle.table_form.specs.Courses.{plan_after, runnable_after}
+use Rattle.table_form.specs.Tables.Views.{plan_view}
+use Rattle.table_form.specs.Running.Choice.{IsChoice}
+use Rattle.table_form.specs.Tables.Plans.{PlanView}
+use Rattle.table_form.specs.Running.Courses.{plan_after, runnable_after}
 use Rattle.step_machine.specs.Logs.{core_of, cores_of}
 use Rattle.step_machine.proofs.Lists.{same, element_at}
 use Rattle.step_machine.proofs.LogLemmas.{core_at}

@@ -2,7 +2,7 @@ use Rattle.std.proofs.Common.{◌≡◌, ℕ, zero, suc, ◌-◌, List, [], ◌�
 use Rattle.std.specs.Prelude.{slice_get}
 use Rattle.tab_core.specs.declared.TheConstants.{ROUND}
 use Rattle.table_form.specs.declared.segment.Segment.{Segment}
-use Rattle.table_form.specs.Rows.{cells_from, bad_place}
+use Rattle.table_form.specs.Tables.Rows.{cells_from, bad_place}
 use Rattle.table_form.proofs.RowLemmas.{cells-cons, cells-nil}
 use Rattle.step_machine.proofs.tests.idle_row.Goals as goal
 

@@ -1,7 +1,7 @@
 use Rattle.std.proofs.Common.{◌≡◌, ◌⊎◌, ℕ, zero, suc, List, [], ◌∷◌, ◌++◌, length, length-append, Option, Some, None, inl, inr, ap, subst, arith}
 use Rattle.std.specs.Prelude.{slice_get}
-use Rattle.table_form.specs.Rows.{Row}
-use Rattle.table_form.specs.Serves.{owner_at, flat}
+use Rattle.table_form.specs.Tables.Rows.{Row}
+use Rattle.table_form.specs.Tables.Serves.{owner_at, flat}
 use Rattle.step_machine.proofs.tests.idle_rows.Goals as goal
 
 flat_some : (o : Option (Option ℕ)) (v : ℕ) → flat o ≡ Some v → o ≡ Some (Some v)

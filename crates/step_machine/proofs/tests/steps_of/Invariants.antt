@@ -1,7 +1,7 @@
 use Rattle.std.proofs.Common.{◌≡◌, ℕ, length, Some}
 use Rattle.std.specs.Prelude.{slice_get}
 use Rattle.script_doc.specs.declared.step.Step.{Step}
-use Rattle.table_form.specs.Courses.{CourseView}
+use Rattle.table_form.specs.Running.Courses.{CourseView}
 use Rattle.step_machine.specs.Answers.{NamesCore}
 use Rattle.step_machine.proofs.tests.steps_of.Given as goal
 

@@ -1,9 +1,9 @@
 use Rattle.std.proofs.Common.{◌≡◌, inr, subst, sym, ap, ◌∙◌, IsTrue, length, ℕ, List, Option}
 use Rattle.std.proofs.lemmas.List.{length-map}
 use Rattle.tab_core.specs.declared.periodic.Periodic.{Periodic}
-use Rattle.table_form.specs.Homes.{HaveHomes, are_housed}
-use Rattle.table_form.specs.Rows.{Row, cells_from}
-use Rattle.table_form.specs.Serves.{Apart, OwnersHaveTasks, Serves}
+use Rattle.table_form.specs.Tables.Homes.{HaveHomes, are_housed}
+use Rattle.table_form.specs.Tables.Rows.{Row, cells_from}
+use Rattle.table_form.specs.Tables.Serves.{Apart, OwnersHaveTasks, Serves}
 use Rattle.table_check.specs.Shapes.{HaveGoodShapes, rows_of}
 use Rattle.table_check.specs.Shortages.{IsShortageOf}
 use Rattle.table_check.proofs.OneFault.{is_short_fault, one_fault}

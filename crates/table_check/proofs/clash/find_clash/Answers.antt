@@ -1,6 +1,6 @@
 use Rattle.std.proofs.Common.{◌≤◌, Some, None, Option, IfSome, IfNone, List, ℕ, length}
-use Rattle.table_form.specs.Rows.{Row}
-use Rattle.table_form.specs.Serves.{Apart}
+use Rattle.table_form.specs.Tables.Rows.{Row}
+use Rattle.table_form.specs.Tables.Serves.{Apart}
 use Rattle.table_check.specs.Clashes.{IsFirstBefore, IsFirstClash}
 use Rattle.table_check.specs.declared.clash.Clash.{Clash}
 use Rattle.table_check.proofs.Pairs.{apart_if_none, first_of_all, no_pair_yet}

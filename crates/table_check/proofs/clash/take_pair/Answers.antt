@@ -1,4 +1,4 @@
-use Rattle.table_form.specs.Rows.{cells_from}
+use Rattle.table_form.specs.Tables.Rows.{cells_from}
 use Rattle.table_check.proofs.Pairs.{ArePair, are_pair, becomes_first, first_clash, is_clash, no_clash, none_here, stays_sooner}
 use Rattle.table_check.proofs.clash.take_pair.Goals as goal
 

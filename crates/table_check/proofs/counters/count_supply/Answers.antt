@@ -1,8 +1,8 @@
 use Rattle.std.proofs.Common.{◌≡◌, ◌*◌, [], length, replicate, ap, subst, sym, ◌∙◌, rules}
 use Rattle.std.proofs.lemmas.List.{length-replicate}
 use Rattle.table_check.specs.declared.counters.TheConstants.{MAX_PERIODS}
-use Rattle.table_form.specs.Rows.{Row}
-use Rattle.table_form.specs.Serves.{cells_within}
+use Rattle.table_form.specs.Tables.Rows.{Row}
+use Rattle.table_form.specs.Tables.Serves.{cells_within}
 use Rattle.table_check.specs.Counters.{CountSupply, GrowBy}
 use Rattle.table_check.proofs.Supplied.{room_for_row, supplied_all, supplied_more, supplied_none}
 use Rattle.table_check.proofs.counters.count_supply.Goals as goal

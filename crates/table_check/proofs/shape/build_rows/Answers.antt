@@ -1,6 +1,6 @@
 use Rattle.std.proofs.Common.{◌≡◌, List, [], ◌∷◌, ◌++◌, None, take, ap, refl, sym, ◌∙◌}
 use Rattle.std.proofs.lemmas.Option.{slice_get_read}
-use Rattle.table_form.specs.Rows.{Row, bad_place, cells_from}
+use Rattle.table_form.specs.Tables.Rows.{Row, bad_place, cells_from}
 use Rattle.table_check.specs.Shapes.{rows_of}
 use Rattle.table_check.proofs.RawShapes.{good_all, good_more, rows_more}
 use Rattle.table_check.proofs.shape.build_rows.Goals as goal

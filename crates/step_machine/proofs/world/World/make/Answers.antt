@@ -1,6 +1,6 @@
 use Rattle.std.proofs.Common.{length, refl, ap, sym, subst, arith}
-use Rattle.table_form.specs.State.{State}
-use Rattle.table_form.specs.Kept.{Kept}
+use Rattle.table_form.specs.Running.State.{State}
+use Rattle.table_form.specs.Running.Invariant.{StateInvariant}
 use Rattle.step_machine.specs.Logs.{AreNew}
 use Rattle.step_machine.proofs.Running.{new_state, new_know, new_room, opening_kept}
 use Rattle.step_machine.proofs.world.World.make.Goals as goal
@@ -14,7 +14,7 @@ invariant_of-result c =
     record {
       course_kept = c.cores.ensures.kept;
       fits = c.requires;
-      kept = subst (λ (s : State). Kept course c.args.rounds s)
+      kept = subst (λ (s : State). StateInvariant course c.args.rounds s)
           (sym (new_state course.cores c.args.rounds c.args.turns
           (record { posted = 0; decided = c.in_ok-decided.decided; logs = logs }) refl
           c.in_ok-decided.ensures.items new)) (opening_kept course c.args.rounds);
@@ -46,7 +46,7 @@ returns-clause-kept c =
     let logs = c.in_ok-logs.logs in
     let new : AreNew course.cores c.args.rounds c.args.turns logs.items =
     rw c.cores.ensures.cores at c.in_ok-logs.ensures in
-    subst (λ (s : State). Kept course c.args.rounds s)
+    subst (λ (s : State). StateInvariant course c.args.rounds s)
     (sym (new_state course.cores c.args.rounds c.args.turns
     (record { posted = 0; decided = c.in_ok-decided.decided; logs = logs }) refl
     c.in_ok-decided.ensures.items new)) (opening_kept course c.args.rounds)

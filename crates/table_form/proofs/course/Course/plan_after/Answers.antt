@@ -1,6 +1,6 @@
 use Rattle.std.proofs.Common.{refl, ap, ◌∙◌}
-use Rattle.table_form.specs.Courses.{CourseView}
-use Rattle.table_form.specs.CourseViews.{course_view}
+use Rattle.table_form.specs.Running.Courses.{CourseView}
+use Rattle.table_form.specs.Running.CourseViews.{course_view}
 use Rattle.table_form.proofs.CourseLemmas.{rows_of_plan}
 use Rattle.table_form.proofs.course.Course.plan_after.Goals as goal
 

@@ -1,0 +1,59 @@
+-- The ticks that the rounds' plans offer to a vCPU, and how long it may wait between them.
+-- Source: the two promises of a reservation, its cost in each period and its latency, of the
+-- Tableau scheduler (M. Vanga, A. Gujarati, B. B. Brandenburg, EuroSys 2018), here across rounds
+-- whose plans may differ.
+use Rattle.std.specs.Prelude.{◌≡◌, ℕ, zero, suc, ◌+◌, ◌-◌, ◌*◌, ◌/◌, ◌%◌, ◌<◌, ◌≤◌, Bool, false, List, Option, Some, None, slice_get, if◌then◌else◌}
+use Rattle.std.specs.List.{list_any}
+use Rattle.tab_core.specs.declared.TheConstants.{ROUND}
+use Rattle.tab_core.specs.declared.periodic.Periodic.{Periodic}
+use Rattle.table_form.specs.Running.Courses.{CourseView, plan_after}
+use Rattle.table_form.specs.Tables.Rows.{Row}
+use Rattle.table_form.specs.Tables.Serves.{flat, is_cell_of}
+use Rattle.table_form.specs.Running.State.{State}
+
+-- some row has the vCPU at the place
+abbrev pub some_row_has : List Row → ℕ → ℕ → Bool
+some_row_has rows v place = list_any (λ row. is_cell_of v (flat (slice_get row place))) rows
+
+abbrev pub offers_by : CourseView → Option ℕ → ℕ → ℕ → Bool
+offers_by course None v place = false
+offers_by course (Some count) v place = some_row_has (plan_after course count).rows v place
+
+-- the tick is offered to the vCPU: its round was entered, and some row of the round's plan has the
+-- vCPU there, runnable or not
+abbrev pub is_offered : CourseView → List ℕ → ℕ → ℕ → Bool
+is_offered course decided v x = offers_by course (slice_get decided (x / ROUND)) v (x % ROUND)
+
+-- how many of the n ticks from `from` on are offered to the vCPU
+unfoldable pub offers : CourseView → List ℕ → ℕ → ℕ → ℕ → ℕ
+offers course decided v from zero = 0
+offers course decided v from (suc n) =
+    offers course decided v from n + (if is_offered course decided v (from + n) then 1 else 0)
+
+abbrev pub task_by : CourseView → Option ℕ → ℕ → Option Periodic
+task_by course None v = None
+task_by course (Some count) v = flat (slice_get (plan_after course count).tasks v)
+
+-- the vCPU's task in the plan of an entered round, if it has one
+abbrev pub task_in : CourseView → List ℕ → ℕ → ℕ → Option Periodic
+task_in course decided r v = task_by course (slice_get decided r) v
+
+-- each vCPU is offered its cost in each of its periods of each entered round
+abbrev pub IsServed : CourseView → State → Type 0
+IsServed course s = (r v k : ℕ) (task : Periodic) → task_in course s.decided r v ≡ Some task
+    → k < ROUND / task.period →
+    task.cost ≤ offers course s.decided v (r * ROUND + k * task.period) task.period
+
+-- from tick a up to, and without, e the vCPU is offered nothing, though the plan of each of these
+-- rounds has it
+pub record IsGap (course : CourseView) (decided : List ℕ) (v a e : ℕ) : Type 0 where
+  pub some_ticks : a < e
+  pub held : (x : ℕ) → a ≤ x → x < e → (task : Periodic) × (task_in course decided (x / ROUND) v ≡ Some task)
+  pub unoffered : (x : ℕ) → a ≤ x → x < e → is_offered course decided v x ≡ false
+
+-- no gap exceeds the sum of what period and cost differ by, for the tasks of its first and its last tick
+abbrev pub HasShortGaps : CourseView → State → Type 0
+HasShortGaps course s = (v a l : ℕ) (first last : Periodic) → IsGap course s.decided v a (suc l)
+    → task_in course s.decided (a / ROUND) v ≡ Some first
+    → task_in course s.decided (l / ROUND) v ≡ Some last →
+    (suc l - a) + first.cost + last.cost ≤ first.period + last.period
