@@ -43,7 +43,7 @@ pub clock_small : (course : CourseView) (rounds : ℕ) (p : Progress) (c : ℕ) 
     → StateInvariant course rounds (state_of p) → IsCourse course → rounds ≤ MAX_ROUNDS
     → slice_get p.logs.items c ≡ Some log → log.clock + course.lag < 2 ^ 32
 clock_small course rounds p c log kept ok few at =
-    (let k = log_kept course rounds p c log kept at in omega (arith, k.in_run, ok.form.small_lag))
+    (let k = log_kept course rounds p c log kept at in omega (arith, k.clock.in_run, ok.form.small_lag))
 
 pub last_edited : (course : CourseView) (old new : List CoreLog) (c : ℕ) (before : CoreLog)
     (changed : CoreState) (last : Option ℕ) → Edits old new c before changed last
@@ -84,7 +84,7 @@ entries_few course rounds p c log kept at due =
     let k = log_kept course rounds p c log kept at in
     elim (cases_lt (log.clock / ROUND) (length log.entries.items)) [
       | inl more ↦
-          let was = entered_below log.entries.items (log.clock / ROUND) k.numbered more in
+          let was = entered_below log.entries.items (log.clock / ROUND) k.timeline.numbered more in
           let isnt = (deciding rounds (core_of log) due).not_entered in
           absurd cc
       | inr le ↦ le
@@ -98,7 +98,7 @@ pub starts_round : (course : CourseView) (rounds : ℕ) (p : Progress) (c : ℕ)
 starts_round course rounds p c log kept at due =
     let k = log_kept course rounds p c log kept at in
     let few = entries_few course rounds p c log kept at due in
-    omega (arith, k.reach)
+    omega (arith, k.timeline.reach)
 
 pub spare_some : (rounds n : ℕ) (p : Progress) → 1 ≤ n → HasSpare rounds n p → HasSpare rounds 1 p
 spare_some rounds n p some spare = record {
@@ -118,7 +118,7 @@ pub round_small : (course : CourseView) (rounds : ℕ) (p : Progress) (c : ℕ) 
 round_small course rounds p c log kept at due =
     let k = log_kept course rounds p c log kept at in
     let unfinished = (deciding rounds (core_of log) due).unfinished in
-    let low : log.clock < rounds * ROUND = omega (arith, k.in_run) in
+    let low : log.clock < rounds * ROUND = omega (arith, k.clock.in_run) in
     omega arith
 
 pub entry_room : (course : CourseView) (rounds : ℕ) (p : Progress) (c : ℕ) (log : CoreLog)

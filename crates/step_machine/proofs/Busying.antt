@@ -2,13 +2,14 @@
 use Rattle.std.proofs.Common.{◌≡◌, ℕ, zero, suc, ◌%◌, ◌<◌, ◌≤◌, inl, inr, Bool, List, [], ◌∷◌, Option, Some, None, refl, ap, ◌∙◌, arith}
 use Rattle.std.specs.Prelude.{slice_get, MatchOption}
 use Rattle.std.proofs.lemmas.Bool.{cases_lt}
+use Rattle.tab_core.specs.Timelines.{AreContiguous}
 use Rattle.tab_core.specs.declared.TheConstants.{ROUND}
 use Rattle.tab_core.specs.declared.stint.Stint.{Stint}
 use Rattle.table_form.specs.Tables.Plans.{PlanView}
 use Rattle.table_form.specs.Running.Courses.{CourseView, IsCourse, plan_after, runnable_after}
 use Rattle.table_form.specs.Running.State.{State}
 use Rattle.table_form.specs.Running.Choice.{IsDispatch, IsEligible, IsPick, last_shared}
-use Rattle.table_form.specs.Running.Invariant.{StateInvariant, AreContiguous}
+use Rattle.table_form.specs.Running.Invariant.{StateInvariant}
 use Rattle.table_form.specs.Running.Busy.{IsBusyAt, IsBusy}
 use Rattle.step_machine.proofs.Pieces.{stint_bounds}
 use Rattle.step_machine.proofs.OneCore.{picked, stint_within, eligible_alike, eligible_back}
@@ -80,16 +81,16 @@ pub is_busy : (course : CourseView) (rounds : ℕ) (s : State) → IsCourse cour
     → StateInvariant course rounds s → IsBusy course s
 is_busy course rounds s ok kept = record {
   busy = λ c x core st at covers. busy_at course c _ st x
-      ((kept.cores c core at).chosen covers.place st covers.at) covers.begun covers.going;
+      ((kept.cores c core at).stints.each covers.place st covers.at).dispatch covers.begun covers.going;
   fresh = λ c x i core st at covers lt due. (let k = kept.cores c core at in
-      let bounds = stint_bounds course c _ st ok (k.chosen covers.place st covers.at) in
-      (k.stints covers.place st covers.at).fresh.has i lt
+      let bounds = stint_bounds course c _ st ok (k.stints.each covers.place st covers.at).dispatch in
+      (k.stints.each covers.place st covers.at).fresh.has i lt
       (let going = covers.going in omega (arith, bounds.2)));
   covered =
       λ c x core at lt.
-      (let found = covering 0 core.clock core.stints x (kept.cores c core at).chain (omega arith) lt in
+      (let found = covering 0 core.clock core.stints x (kept.cores c core at).timeline.contiguous (omega arith) lt in
       (found.1, record { place = found.0; at = found.2; begun = found.3; going = found.4 }));
   one = λ c x core st su at a b. (let k = kept.cores c core at in
-      one_stint 0 core.clock core.stints a.place b.place x st su k.chain
-      (λ i u h. (k.stints i u h).some_ticks) a.at b.at a.begun a.going b.begun b.going);
+      one_stint 0 core.clock core.stints a.place b.place x st su k.timeline.contiguous
+      (λ i u h. (k.timeline.each i u h).some_ticks) a.at b.at a.begun a.going b.begun b.going);
 }

@@ -126,11 +126,11 @@ one_core course rounds s ok kept = λ x v c d core other st su at at' covers cov
     let k = kept.cores c core at in
     let k' = kept.cores d other at' in
     let a = stint_stands course c _ st x v
-    (k.chosen covers.place st covers.at) covers.begun covers.going ran in
+    (k.stints.each covers.place st covers.at).dispatch covers.begun covers.going ran in
     let b = stint_stands course d _ su x v
-    (k'.chosen covers'.place su covers'.at) covers'.begun covers'.going ran' in
-    let used = (k.stints covers.place st covers.at).used in
-    let used' = (k'.stints covers'.place su covers'.at).used in
+    (k'.stints.each covers'.place su covers'.at).dispatch covers'.begun covers'.going ran' in
+    let used = (kept.table.cores c core at).stints covers.place st covers.at in
+    let used' = (kept.table.cores d other at').stints covers'.place su covers'.at in
     let one : st.used ≡ su.used = same (slice_get s.decided (x / ROUND)) st.used su.used
     (rw (← a.0) used) (rw (← b.0) used') in
     apart_stands (plan_after course su.used) c d (x % ROUND) v (apart_after course ok su.used)

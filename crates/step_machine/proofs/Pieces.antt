@@ -1,15 +1,16 @@
 -- Parts of the proof that a step keeps what is kept.
-use Rattle.std.proofs.Common.{◌≡◌, ℕ, ◌+◌, ◌-◌, ◌*◌, ◌/◌, ◌%◌, ◌<◌, ◌≤◌, inl, inr, min, cond, Bool, true, false, List, [], ◌∷◌, ◌++◌, Some, refl, sym, subst, ◌∙◌, arith}
+use Rattle.std.proofs.Common.{◌≡◌, ℕ, ◌+◌, ◌-◌, ◌*◌, ◌/◌, ◌%◌, ◌<◌, ◌≤◌, inl, inr, min, cond, length, Bool, true, false, List, [], ◌∷◌, ◌++◌, Some, refl, sym, subst, ◌∙◌, arith}
 use Rattle.std.specs.Prelude.{slice_get, slice_set}
-use Rattle.std.proofs.lemmas.Bool.{cases_eq}
+use Rattle.std.proofs.lemmas.Bool.{cases_eq, cases_lt}
+use Rattle.tab_core.specs.Timelines.{AreContiguous}
 use Rattle.tab_core.specs.declared.TheConstants.{ROUND}
 use Rattle.tab_core.specs.declared.stint.Stint.{Stint}
 use Rattle.tab_core.specs.declared.entry.Entry.{Entry}
 use Rattle.table_form.specs.Running.Courses.{CourseView, IsCourse}
 use Rattle.table_form.specs.Running.State.{CoreState}
 use Rattle.table_form.specs.Running.Choice.{IsDispatch, is_shared}
-use Rattle.table_form.specs.Running.Invariant.{AreContiguous, HasOneWinner}
-use Rattle.step_machine.proofs.Lists.{set_split, set_here, set_other, same}
+use Rattle.table_form.specs.Running.OneTable.{HasOneWinner, UsesCounts}
+use Rattle.step_machine.proofs.Lists.{set_split, set_here, set_other, element_at, within, same}
 
 pub chain_push : (from to : ℕ) (ss : List Stint) (s : Stint) → AreContiguous from ss to → s.from ≡ to
     → AreContiguous from (ss ++ s ∷ []) s.end
@@ -66,6 +67,17 @@ won_after cores c r count core changed at stays back one = record {
     | inr before ↦ one.only d x e before.1 g w
   ];
 }
+
+-- a core that uses the rounds' counts has entered only rounds that have one
+pub entered_counted : (decided : List ℕ) (core : CoreState) → UsesCounts decided core
+    → length core.entries ≤ length decided
+entered_counted decided core uses = elim (cases_lt (length decided) (length core.entries)) [
+  | inl more ↦
+      let found = element_at core.entries (length decided) more in
+      let lt = within decided (length decided) found.0.used (uses.entries (length decided) found.0 found.1) in
+      absurd (omega arith)
+  | inr le ↦ le
+]
 
 end_bounds : (b : Bool) (f e span lag quantum : ℕ)
     → e ≡ cond b (min (min (f - f % ROUND + span) (f + lag)) (f + quantum))

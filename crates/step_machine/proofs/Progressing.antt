@@ -15,7 +15,7 @@ use Rattle.script_doc.specs.declared.step.Step.TheVariants as steps
 use Rattle.table_form.specs.Running.Steps.{to_see, to_decide, at_end}
 use Rattle.step_machine.proofs.Lists.{set_here, same, element_at}
 use Rattle.step_machine.proofs.Phases.{deciding, entered_below, has_seen}
-use Rattle.step_machine.proofs.Pieces.{stint_bounds}
+use Rattle.step_machine.proofs.Pieces.{entered_counted, stint_bounds}
 use Rattle.step_machine.proofs.Ticks.{has_from_next}
 
 -- a core that changes changes the cores
@@ -118,12 +118,12 @@ decide_now course rounds s c core kept low due =
     let found = some_seen core.seen (has_seen rounds core (inl due)) in
     let few : length core.entries ≤ round_of core = elim (cases_lt (round_of core) (length core.entries)) [
       | inl more ↦
-          let was = entered_below core.entries (round_of core) k.numbered more in
+          let was = entered_below core.entries (round_of core) k.timeline.numbered more in
           let isnt = (deciding rounds core due).not_entered in
           absurd cc
       | inr le ↦ le
     ] in
-    let start : core.clock ≡ round_of core * ROUND = omega (arith, k.reach) in
+    let start : core.clock ≡ round_of core * ROUND = omega (arith, k.timeline.reach) in
     elim (cases_lt (round_of core) (length s.decided)) [
       | inl lt ↦ (let count = element_at s.decided (round_of core) lt in
           let e : Entry = record { round = round_of core; used = count.0; seen = found.0; won = false } in
@@ -167,7 +167,7 @@ decide_now course rounds s c core kept low due =
                   has_seen = found.1;
                   due = due;
                   start = start;
-                  first = omega (arith, k.reach, k.counted);
+                  first = omega (arith, k.timeline.reach, entered_counted s.decided core (kept.table.cores c core low.at));
                   becomes = refl;
                 });
             changes = λ q. cores_differ s.cores c core (enters core e) low.at
@@ -210,7 +210,7 @@ pub whole_at_end : (course : CourseView) (rounds : ℕ) (s : State) (c : ℕ) (c
     → s.posted ≡ length course.ticks → IsComplete course rounds s
 whole_at_end course rounds s c core kept low clock posted = record {
   clocks = λ d other at.
-      (let le = low.least d other at in let most = (kept.cores d other at).in_run in omega arith);
+      (let le = low.least d other at in let most = (kept.cores d other at).clock.in_run in omega arith);
   posted = posted;
 }
 

@@ -26,8 +26,9 @@ mod world;
 pub use answer::{Answer, Phase};
 pub use fault::ReplayFault;
 pub use laws::{
-    a_kept_run_keeps_its_promises, a_step_has_one_answer, a_step_keeps, a_whole_run_entered_each_round, the_opening_is_kept, every_gap_is_short, every_period_is_served, every_run_is_kept,
-    every_tick_is_busy, next_stint_is_determined, nobody_runs_twice,
+    a_kept_run_keeps_its_promises, a_step_has_one_answer, a_step_keeps,
+    a_whole_run_entered_each_round, every_gap_is_short, every_period_is_served, every_run_is_kept,
+    every_tick_is_busy, next_stint_is_determined, nobody_runs_twice, the_opening_is_kept,
 };
 pub use machine_state::MachineState;
 pub use replaying::replay;

@@ -1,5 +1,6 @@
 pub mod Edits
 pub mod Name
 pub mod Period
+pub mod Timelines
 pub mod VcpuSets
 pub mod Vcpus

@@ -19,7 +19,7 @@ phase_at-requires-clause-numbered c =
     let lt : i < length p.logs.items = rw c.deref.ensures.value at c.lowest-c.ensures.within in
     let at = slice_get_read p.logs.items (length p.logs.items) i log refl lt c.index-log.ensures in
     let low = least_clock p i log at (rw c.deref.ensures.value at c.lowest-c.ensures.least) in
-    (log_kept course c.args.rounds p i log c.requires.kept at).numbered
+    (log_kept course c.args.rounds p i log c.requires.kept at).timeline.numbered
 
 pub next_stint-next-requires-clause-due : goal.next_stint-next-requires-clause-due
 next_stint-next-requires-clause-due c =

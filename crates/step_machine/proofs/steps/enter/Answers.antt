@@ -2,6 +2,7 @@ use Rattle.std.proofs.Common.{inl, inr, [], ◌∷◌, length, refl, ap, arith, 
 use Rattle.std.proofs.lemmas.Option.{slice_get_read}
 use Rattle.step_machine.specs.Logs.{core_of}
 use Rattle.step_machine.proofs.LogLemmas.{core_at, cores_edited, rooms_edited}
+use Rattle.step_machine.proofs.Pieces.{entered_counted}
 use Rattle.step_machine.proofs.Acting.{log_at_core, log_kept, last_edited, starts_round, round_small, entry_room}
 use Rattle.step_machine.proofs.steps.enter.Goals as goal
 
@@ -63,7 +64,14 @@ returns-else-round-len-clause-answer c =
       has_seen = due.1;
       due = due.0;
       start = start;
-      first = omega (arith, kept.counted, kept.reach, kept.ahead, due.2);
+      first = omega (
+        arith,
+        entered_counted p.decided.items (core_of log)
+            (c.requires.kept.table.cores c.args.c (core_of log) (core_at p.logs.items c.args.c log found.1)),
+        kept.timeline.reach,
+        kept.timeline.ahead,
+        due.2,
+      );
       becomes =
           rw (
             cores_edited p.logs.items c.push_entry-else-round-len.new.logs.items c.args.c log _
