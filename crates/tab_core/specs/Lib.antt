@@ -1,3 +1,4 @@
+pub mod Budgets
 pub mod Edits
 pub mod Name
 pub mod Period
