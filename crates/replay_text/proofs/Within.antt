@@ -13,7 +13,7 @@ use Rattle.script_doc.specs.declared.step.Step.TheVariants as step
 use Rattle.step_machine.specs.Answers.{Moves, NamesCore}
 use Rattle.step_machine.specs.Cores.{core_at}
 use Rattle.step_machine.specs.Runs.{Leads}
-use Rattle.step_machine.proofs.Lists.{element_at, within}
+use Rattle.run_promises.proofs.Lists.{element_at, within}
 use Rattle.replay_text.specs.ReplayText.{decides_before, entry_line, is_decide_of, is_run_of, runs_before, step_text, text_behind}
 use Rattle.replay_text.specs.RunsOf.{HasMadeAll, IsRunOf}
 use Rattle.replay_text.specs.StintLine.{stint_line}

@@ -10,15 +10,16 @@ use Rattle.table_form.specs.Running.State.{CoreState}
 use Rattle.table_form.specs.Running.Choice.{last_shared, last_after}
 use Rattle.table_form.specs.Running.Invariant.{StateInvariant, CoreInvariant}
 use Rattle.table_form.specs.Running.Next.{IsLeastClock}
-use Rattle.table_form.specs.Running.Steps.{phase_of}
+use Rattle.table_form.specs.Running.Phases.{phase_of}
 use Rattle.step_machine.specs.declared.log.CoreLog.{CoreLog}
 use Rattle.step_machine.specs.declared.progress.Progress.{Progress}
 use Rattle.step_machine.specs.Logs.{core_of, KnowLast, Edits, IsLowestOf}
 use Rattle.step_machine.specs.Progresses.{state_of, HasSpare}
 use Rattle.std.proofs.lemmas.Bool.{cases_lt}
-use Rattle.table_form.specs.Running.Steps.{to_decide}
+use Rattle.table_form.specs.Running.Phases.{to_decide}
 use Rattle.step_machine.proofs.Phases.{deciding, entered_below}
-use Rattle.step_machine.proofs.Lists.{set_split, element_at}
+use Rattle.run_promises.proofs.Lists.{element_at}
+use Rattle.step_machine.proofs.Lists.{set_split}
 use Rattle.step_machine.proofs.LogLemmas.{log_at, core_at}
 
 pub logs_count : (course : CourseView) (rounds : ℕ) (p : Progress) → StateInvariant course rounds (state_of p)

@@ -10,14 +10,21 @@ use Rattle.table_form.specs.Running.Courses.{CourseView, IsCourse, tick_at}
 use Rattle.table_form.specs.Running.State.{State, CoreState, IsCore}
 use Rattle.script_doc.specs.declared.step.Step.{Step}
 use Rattle.step_machine.specs.Answers.{Moves}
-use Rattle.table_form.specs.Running.Steps.{phase_of, Posts, Sees, EntersFirst, EntersAfter, Runs, IsNextStint, enters, runs, round_of, HasUpTo}
+use Rattle.table_form.specs.Running.Phases.{phase_of, round_of}
+use Rattle.table_form.specs.Running.Posting.{Posts, Sees}
+use Rattle.table_form.specs.Running.Entering.{EntersFirst, EntersAfter, enters}
+use Rattle.table_form.specs.Running.Stints.{Runs, IsNextStint, runs}
+use Rattle.table_form.specs.Running.Waiting.{HasUpTo}
 use Rattle.table_form.specs.Running.Invariant.{StintInvariant, SightInvariant, CoreInvariant, StateInvariant}
 use Rattle.table_form.specs.Running.OneTable.{HasOneTable, UsesCounts}
 use Rattle.script_doc.specs.declared.step.Step.TheVariants as steps
-use Rattle.table_form.specs.Running.Steps.{to_decide}
-use Rattle.step_machine.proofs.Lists.{set_split, set_here, push_split, push_old, push_new, take_push_old, take_push_new, within, same}
+use Rattle.table_form.specs.Running.Phases.{to_decide}
+use Rattle.run_promises.proofs.Lists.{within, same}
+use Rattle.step_machine.proofs.Lists.{set_split, set_here, push_split, push_old, push_new, take_push_old, take_push_new}
 use Rattle.step_machine.proofs.Phases.{deciding, running, entered_below}
-use Rattle.step_machine.proofs.Pieces.{chain_push, cores_after, won_after, entered_counted, stint_bounds}
+use Rattle.run_promises.proofs.ChoiceLemmas.{stint_bounds}
+use Rattle.run_promises.proofs.OneTableLemmas.{entered_counted}
+use Rattle.step_machine.proofs.Pieces.{chain_push, cores_after, won_after}
 
 -- Post
 
@@ -250,19 +257,19 @@ entries_so_far course rounds posted decided c core k due start =
 pub enters_after_keeps : (course : CourseView) (rounds c : ℕ) (old new : State)
     → EntersAfter rounds c old new → StateInvariant course rounds old → StateInvariant course rounds new
 enters_after_keeps course rounds c old new p k =
-    let core : CoreState = p.core in
-    let kept = k.cores c core p.at in
-    let len = entries_so_far course rounds old.posted old.decided c core kept p.due p.start in
-    let e : Entry = record { round = round_of core; used = p.used; seen = p.seen; won = false } in
+    let core : CoreState = p.round.core in
+    let kept = k.cores c core p.round.at in
+    let len = entries_so_far course rounds old.posted old.decided c core kept p.round.due p.round.start in
+    let e : Entry = record { round = round_of core; used = p.used; seen = p.round.seen; won = false } in
     let changed : CoreState = enters core e in
     subst (λ (s : State). StateInvariant course rounds s) (sym p.becomes) (record {
       size = length-set old.cores c changed ∙ k.size;
       table = record {
         cores = cores_after (λ (d : ℕ) (x : CoreState). UsesCounts old.decided x) old.cores c changed
             k.table.cores
-            (uses_entered old.decided core e (k.table.cores c core p.at) (rw len p.count));
+            (uses_entered old.decided core e (k.table.cores c core p.round.at) (rw len p.count));
         one_winner =
-            λ r d h. won_after old.cores c r d core changed p.at (λ x g. push_old core.entries r e x g)
+            λ r d h. won_after old.cores c r d core changed p.round.at (λ x g. push_old core.entries r e x g)
             (λ x g w. elim (push_split core.entries r e x g)
             [ inl was ↦ was | inr is ↦ absurd (let lost = ap (λ (y : Entry). y.won) is.1 in cc) ])
             (k.table.one_winner r d h);
@@ -272,12 +279,12 @@ enters_after_keeps course rounds c old new p k =
           (λ (d : ℕ) (x : CoreState). CoreInvariant course rounds old.posted old.decided d x) old.cores c
           changed k.cores
           (core_entered course rounds old.posted old.decided c core e kept (sym len)
-          (rw len p.start) (deciding rounds core p.due).unfinished
-          (kept.sight p.seen p.has_seen).seen_posted);
+          (rw len p.round.start) (deciding rounds core p.round.due).unfinished
+          (kept.sight p.round.seen p.round.has_seen).seen_posted);
       fresh = k.fresh;
       decided_posted = k.decided_posted;
       posted_most = k.posted_most;
-      near = near_after course old c core changed p.at refl k.near;
+      near = near_after course old c core changed p.round.at refl k.near;
     })
 
 -- all cores still use one plan in a round where a core enters one that had no count
@@ -349,41 +356,41 @@ table_entered old c seen core e k at used saw won first counts clock =
 pub enters_first_keeps : (course : CourseView) (rounds c : ℕ) (old new : State)
     → EntersFirst rounds c old new → StateInvariant course rounds old → StateInvariant course rounds new
 enters_first_keeps course rounds c old new p k =
-    let core : CoreState = p.core in
-    let kept = k.cores c core p.at in
-    let sight = kept.sight p.seen p.has_seen in
-    let len = entries_so_far course rounds old.posted old.decided c core kept p.due p.start in
-    let e : Entry = record { round = round_of core; used = p.seen; seen = p.seen; won = true } in
+    let core : CoreState = p.round.core in
+    let kept = k.cores c core p.round.at in
+    let sight = kept.sight p.round.seen p.round.has_seen in
+    let len = entries_so_far course rounds old.posted old.decided c core kept p.round.due p.round.start in
+    let e : Entry = record { round = round_of core; used = p.round.seen; seen = p.round.seen; won = true } in
     let changed : CoreState = enters core e in
-    let more : List ℕ = old.decided ++ p.seen ∷ [] in
+    let more : List ℕ = old.decided ++ p.round.seen ∷ [] in
     let grown = λ (d : ℕ) (x : CoreState) (at : IsCore old d x). core_grown course rounds old.posted
     old.decided more d x (k.cores d x at) (entered_counted old.decided x (k.table.cores d x at))
-    (λ r u h. elim (push_split old.decided r p.seen u h)
+    (λ r u h. elim (push_split old.decided r p.round.seen u h)
     [ inl before ↦ inl before | inr new ↦ inr (omega (arith, new.0)) ]) in
     subst (λ (s : State). StateInvariant course rounds s) (sym p.becomes) (record {
       size = length-set old.cores c changed ∙ k.size;
-      table = table_entered old c p.seen core e k.table p.at refl refl refl (len ∙ sym p.first)
-          sight.counts (rw len p.start);
+      table = table_entered old c p.round.seen core e k.table p.round.at refl refl refl (len ∙ sym p.first)
+          sight.counts (rw len p.round.start);
       cores = cores_after (λ (d : ℕ) (x : CoreState). CoreInvariant course rounds old.posted more d x)
           old.cores c changed grown
-          (core_entered course rounds old.posted more c core e (grown c core p.at) (sym len)
-          (rw len p.start) (deciding rounds core p.due).unfinished sight.seen_posted);
-      fresh = λ r d h. elim (push_split old.decided r p.seen d h) [
+          (core_entered course rounds old.posted more c core e (grown c core p.round.at) (sym len)
+          (rw len p.round.start) (deciding rounds core p.round.due).unfinished sight.seen_posted);
+      fresh = λ r d h. elim (push_split old.decided r p.round.seen d h) [
         | inl before ↦ k.fresh r d before
         | inr new ↦
             let first = p.first in
-            let start = p.start in
+            let start = p.round.start in
             let here-is = new.0 in
             let at : core.clock ≡ r * ROUND = omega arith in
             rw (← new.1, ← at) sight.fresh
       ];
-      decided_posted = λ r d h. elim (push_split old.decided r p.seen d h) [
+      decided_posted = λ r d h. elim (push_split old.decided r p.round.seen d h) [
         | inl before ↦ k.decided_posted r d before
         | inr new ↦
             (let is = new.1 in let le = sight.seen_posted in omega arith)
       ];
       posted_most = k.posted_most;
-      near = near_after course old c core changed p.at refl k.near;
+      near = near_after course old c core changed p.round.at refl k.near;
     })
 
 -- Run

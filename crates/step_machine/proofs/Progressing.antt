@@ -7,15 +7,20 @@ use Rattle.tab_core.specs.declared.stint.Stint.{Stint}
 use Rattle.tab_core.specs.declared.entry.Entry.{Entry}
 use Rattle.table_form.specs.Running.Courses.{FitsRounds, CourseView, IsCourse, tick_at}
 use Rattle.table_form.specs.Running.State.{State, CoreState}
-use Rattle.table_form.specs.Running.Steps.{phase_of, phase_unfinished, has_entered, round_of, HasUpTo, IsNextStint, enters, runs}
+use Rattle.table_form.specs.Running.Phases.{phase_of, phase_unfinished, has_entered, round_of}
+use Rattle.table_form.specs.Running.Waiting.{HasUpTo}
+use Rattle.table_form.specs.Running.Stints.{IsNextStint, runs}
+use Rattle.table_form.specs.Running.Entering.{enters, EntersRound}
 use Rattle.table_form.specs.Running.Invariant.{StateInvariant, IsComplete}
 use Rattle.table_form.specs.Running.Next.{IsLeastClock}
 use Rattle.step_machine.specs.Next.{IsNextStep}
 use Rattle.script_doc.specs.declared.step.Step.TheVariants as steps
-use Rattle.table_form.specs.Running.Steps.{to_see, to_decide, at_end}
-use Rattle.step_machine.proofs.Lists.{set_here, same, element_at}
+use Rattle.table_form.specs.Running.Phases.{to_see, to_decide, at_end}
+use Rattle.run_promises.proofs.Lists.{same, element_at}
+use Rattle.step_machine.proofs.Lists.{set_here}
 use Rattle.step_machine.proofs.Phases.{deciding, entered_below, has_seen}
-use Rattle.step_machine.proofs.Pieces.{entered_counted, stint_bounds}
+use Rattle.run_promises.proofs.ChoiceLemmas.{stint_bounds}
+use Rattle.run_promises.proofs.OneTableLemmas.{entered_counted}
 use Rattle.step_machine.proofs.Ticks.{has_from_next}
 
 -- a core that changes changes the cores
@@ -123,7 +128,14 @@ decide_now course rounds s c core kept low due =
           absurd cc
       | inr le ↦ le
     ] in
-    let start : core.clock ≡ round_of core * ROUND = omega (arith, k.timeline.reach) in
+    let entering : EntersRound rounds c s = record {
+      core = core;
+      at = low.at;
+      seen = found.0;
+      has_seen = found.1;
+      due = due;
+      start = omega (arith, k.timeline.reach);
+    } in
     elim (cases_lt (round_of core) (length s.decided)) [
       | inl lt ↦ (let count = element_at s.decided (round_of core) lt in
           let e : Entry = record { round = round_of core; used = count.0; seen = found.0; won = false } in
@@ -135,12 +147,7 @@ decide_now course rounds s c core kept low due =
             new = record s { cores = slice_set s.cores c (enters core e) };
             moves = inr
                 (record {
-                  core = core;
-                  at = low.at;
-                  seen = found.0;
-                  has_seen = found.1;
-                  due = due;
-                  start = start;
+                  round = entering;
                   used = count.0;
                   count = count.1;
                   becomes = refl;
@@ -161,12 +168,7 @@ decide_now course rounds s c core kept low due =
             };
             moves = inl
                 (record {
-                  core = core;
-                  at = low.at;
-                  seen = found.0;
-                  has_seen = found.1;
-                  due = due;
-                  start = start;
+                  round = entering;
                   first = omega (arith, k.timeline.reach, entered_counted s.decided core (kept.table.cores c core low.at));
                   becomes = refl;
                 });

@@ -9,7 +9,7 @@ use Rattle.table_form.specs.Running.Choice.{IsDispatch}
 use Rattle.table_form.specs.Running.Courses.{CourseView, tick_at}
 use Rattle.table_form.specs.Running.OneTable.{HasOneTable}
 use Rattle.table_form.specs.Running.State.{State, CoreState, IsCore}
-use Rattle.table_form.specs.Running.Steps.{HasUpTo}
+use Rattle.table_form.specs.Running.Waiting.{HasUpTo}
 
 -- the count is fresh at x: it has every event of tick at most x less the lag, and none of tick
 -- above x and the lag

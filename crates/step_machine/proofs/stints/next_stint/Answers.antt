@@ -6,7 +6,7 @@ use Rattle.table_form.specs.Running.Choice.{IsChoice}
 use Rattle.table_form.specs.Tables.Plans.{PlanView}
 use Rattle.table_form.specs.Running.Courses.{plan_after, runnable_after}
 use Rattle.step_machine.specs.Logs.{core_of, cores_of}
-use Rattle.step_machine.proofs.Lists.{same, element_at}
+use Rattle.run_promises.proofs.Lists.{same, element_at}
 use Rattle.step_machine.proofs.LogLemmas.{core_at}
 use Rattle.step_machine.proofs.Phases.{entered_to_run}
 use Rattle.step_machine.proofs.Acting.{log_found, log_kept}
