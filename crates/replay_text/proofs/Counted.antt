@@ -7,7 +7,9 @@ use Rattle.std.proofs.lemmas.List.Sums.{sum_by-cons}
 use Rattle.tab_core.specs.declared.entry.Entry.{Entry}
 use Rattle.table_form.specs.Running.Courses.{CourseView}
 use Rattle.table_form.specs.Running.State.{State, CoreState, IsCore}
-use Rattle.table_form.specs.Running.Steps.{Posts, Sees, Runs, enters, runs}
+use Rattle.table_form.specs.Running.Posting.{Posts, Sees}
+use Rattle.table_form.specs.Running.Stints.{Runs, runs}
+use Rattle.table_form.specs.Running.Entering.{enters}
 use Rattle.script_doc.specs.declared.step.Step.{Step}
 use Rattle.script_doc.specs.declared.step.Step.TheVariants as step
 use Rattle.step_machine.specs.Answers.{Moves}

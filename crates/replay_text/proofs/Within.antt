@@ -13,7 +13,7 @@ use Rattle.script_doc.specs.declared.step.Step.TheVariants as step
 use Rattle.step_machine.specs.Answers.{Moves, NamesCore}
 use Rattle.step_machine.specs.Cores.{core_at}
 use Rattle.step_machine.specs.Runs.{Leads}
-use Rattle.step_machine.proofs.Lists.{element_at, within}
+use Rattle.run_promises.proofs.Lists.{element_at, within}
 use Rattle.replay_text.specs.ReplayText.{decides_before, entry_line, is_decide_of, is_run_of, runs_before, step_text, text_behind}
 use Rattle.replay_text.specs.RunsOf.{HasMadeAll, IsRunOf}
 use Rattle.replay_text.specs.StintLine.{stint_line}
@@ -129,8 +129,8 @@ pub used_there : (course : CourseView) (steps : List Step) (s : State) (c k : �
     → c < course.cores → slice_get (core_at s c).stints k ≡ Some stint → stint.used ≤ length course.ticks
 used_there course steps s c k stint run low at =
     let there = core_there s c (omega (arith, run.kept.size)) in
-    let kept = (run.kept.cores c (core_at s c) there).stints k stint at in
-    omega (arith, run.kept.decided_posted (stint.from / ROUND) stint.used kept.used, run.kept.posted_most)
+    let used = (run.kept.table.cores c (core_at s c) there).stints k stint at in
+    omega (arith, run.kept.decided_posted (stint.from / ROUND) stint.used used, run.kept.posted_most)
 
 -- what the text of a step is
 pub text_at : (names : List (List ℕ)) (course : CourseView) (s : State) (steps : List Step) (n : ℕ)

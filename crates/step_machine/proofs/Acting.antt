@@ -10,15 +10,16 @@ use Rattle.table_form.specs.Running.State.{CoreState}
 use Rattle.table_form.specs.Running.Choice.{last_shared, last_after}
 use Rattle.table_form.specs.Running.Invariant.{StateInvariant, CoreInvariant}
 use Rattle.table_form.specs.Running.Next.{IsLeastClock}
-use Rattle.table_form.specs.Running.Steps.{phase_of}
+use Rattle.table_form.specs.Running.Phases.{phase_of}
 use Rattle.step_machine.specs.declared.log.CoreLog.{CoreLog}
 use Rattle.step_machine.specs.declared.progress.Progress.{Progress}
 use Rattle.step_machine.specs.Logs.{core_of, KnowLast, Edits, IsLowestOf}
 use Rattle.step_machine.specs.Progresses.{state_of, HasSpare}
 use Rattle.std.proofs.lemmas.Bool.{cases_lt}
-use Rattle.table_form.specs.Running.Steps.{to_decide}
+use Rattle.table_form.specs.Running.Phases.{to_decide}
 use Rattle.step_machine.proofs.Phases.{deciding, entered_below}
-use Rattle.step_machine.proofs.Lists.{set_split, element_at}
+use Rattle.run_promises.proofs.Lists.{element_at}
+use Rattle.step_machine.proofs.Lists.{set_split}
 use Rattle.step_machine.proofs.LogLemmas.{log_at, core_at}
 
 pub logs_count : (course : CourseView) (rounds : ℕ) (p : Progress) → StateInvariant course rounds (state_of p)
@@ -43,7 +44,7 @@ pub clock_small : (course : CourseView) (rounds : ℕ) (p : Progress) (c : ℕ) 
     → StateInvariant course rounds (state_of p) → IsCourse course → rounds ≤ MAX_ROUNDS
     → slice_get p.logs.items c ≡ Some log → log.clock + course.lag < 2 ^ 32
 clock_small course rounds p c log kept ok few at =
-    (let k = log_kept course rounds p c log kept at in omega (arith, k.in_run, ok.form.small_lag))
+    (let k = log_kept course rounds p c log kept at in omega (arith, k.clock.in_run, ok.form.small_lag))
 
 pub last_edited : (course : CourseView) (old new : List CoreLog) (c : ℕ) (before : CoreLog)
     (changed : CoreState) (last : Option ℕ) → Edits old new c before changed last
@@ -84,7 +85,7 @@ entries_few course rounds p c log kept at due =
     let k = log_kept course rounds p c log kept at in
     elim (cases_lt (log.clock / ROUND) (length log.entries.items)) [
       | inl more ↦
-          let was = entered_below log.entries.items (log.clock / ROUND) k.numbered more in
+          let was = entered_below log.entries.items (log.clock / ROUND) k.timeline.numbered more in
           let isnt = (deciding rounds (core_of log) due).not_entered in
           absurd cc
       | inr le ↦ le
@@ -98,7 +99,7 @@ pub starts_round : (course : CourseView) (rounds : ℕ) (p : Progress) (c : ℕ)
 starts_round course rounds p c log kept at due =
     let k = log_kept course rounds p c log kept at in
     let few = entries_few course rounds p c log kept at due in
-    omega (arith, k.reach)
+    omega (arith, k.timeline.reach)
 
 pub spare_some : (rounds n : ℕ) (p : Progress) → 1 ≤ n → HasSpare rounds n p → HasSpare rounds 1 p
 spare_some rounds n p some spare = record {
@@ -118,7 +119,7 @@ pub round_small : (course : CourseView) (rounds : ℕ) (p : Progress) (c : ℕ) 
 round_small course rounds p c log kept at due =
     let k = log_kept course rounds p c log kept at in
     let unfinished = (deciding rounds (core_of log) due).unfinished in
-    let low : log.clock < rounds * ROUND = omega (arith, k.in_run) in
+    let low : log.clock < rounds * ROUND = omega (arith, k.clock.in_run) in
     omega arith
 
 pub entry_room : (course : CourseView) (rounds : ℕ) (p : Progress) (c : ℕ) (log : CoreLog)

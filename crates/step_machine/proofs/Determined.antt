@@ -13,8 +13,9 @@ use Rattle.table_form.specs.Tables.Spots.{IsSpanEnd}
 use Rattle.table_form.specs.Running.Courses.{CourseView, plan_after, runnable_after}
 use Rattle.table_form.specs.Running.State.{CoreState}
 use Rattle.table_form.specs.Running.Choice.{IsDispatch, IsEligible, IsPick, IsLeast, IsChoice, owner_runs, last_shared, after_last}
-use Rattle.table_form.specs.Running.Steps.{IsNextStint, round_of}
-use Rattle.step_machine.proofs.Lists.{same}
+use Rattle.table_form.specs.Running.Stints.{IsNextStint}
+use Rattle.table_form.specs.Running.Phases.{round_of}
+use Rattle.run_promises.proofs.Lists.{same}
 
 no_shorter : (plan : PlanView) (c place e f : ℕ) → IsSpanEnd plan c place e
     → IsSpanEnd plan c place f → e < f → ⊥

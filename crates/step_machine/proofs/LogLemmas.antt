@@ -6,7 +6,8 @@ use Rattle.std.proofs.lemmas.List.{map-set}
 use Rattle.step_machine.specs.declared.log.CoreLog.{CoreLog}
 use Rattle.table_form.specs.Running.State.{CoreState}
 use Rattle.step_machine.specs.Logs.{core_of, cores_of, HasRoom, HaveRoom, Edits}
-use Rattle.step_machine.proofs.Lists.{same, set_split}
+use Rattle.run_promises.proofs.Lists.{same}
+use Rattle.step_machine.proofs.Lists.{set_split}
 
 -- what an index finds is the element
 pub found_at : {X : Type 0} (xs : List X) (i : ℕ) (x y : X) → slice_get xs i ≡ Some y

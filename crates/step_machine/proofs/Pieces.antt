@@ -1,15 +1,14 @@
 -- Parts of the proof that a step keeps what is kept.
-use Rattle.std.proofs.Common.{◌≡◌, ℕ, ◌+◌, ◌-◌, ◌*◌, ◌/◌, ◌%◌, ◌<◌, ◌≤◌, inl, inr, min, cond, Bool, true, false, List, [], ◌∷◌, ◌++◌, Some, refl, sym, subst, ◌∙◌, arith}
+use Rattle.std.proofs.Common.{◌≡◌, ℕ, inl, inr, true, List, [], ◌∷◌, ◌++◌, Some, refl, sym, subst, ◌∙◌}
 use Rattle.std.specs.Prelude.{slice_get, slice_set}
 use Rattle.std.proofs.lemmas.Bool.{cases_eq}
-use Rattle.tab_core.specs.declared.TheConstants.{ROUND}
+use Rattle.tab_core.specs.Timelines.{AreContiguous}
 use Rattle.tab_core.specs.declared.stint.Stint.{Stint}
 use Rattle.tab_core.specs.declared.entry.Entry.{Entry}
-use Rattle.table_form.specs.Running.Courses.{CourseView, IsCourse}
 use Rattle.table_form.specs.Running.State.{CoreState}
-use Rattle.table_form.specs.Running.Choice.{IsDispatch, is_shared}
-use Rattle.table_form.specs.Running.Invariant.{AreContiguous, HasOneWinner}
-use Rattle.step_machine.proofs.Lists.{set_split, set_here, set_other, same}
+use Rattle.table_form.specs.Running.OneTable.{HasOneWinner}
+use Rattle.run_promises.proofs.Lists.{same}
+use Rattle.step_machine.proofs.Lists.{set_split, set_here, set_other}
 
 pub chain_push : (from to : ℕ) (ss : List Stint) (s : Stint) → AreContiguous from ss to → s.from ≡ to
     → AreContiguous from (ss ++ s ∷ []) s.end
@@ -66,19 +65,3 @@ won_after cores c r count core changed at stays back one = record {
     | inr before ↦ one.only d x e before.1 g w
   ];
 }
-
-end_bounds : (b : Bool) (f e span lag quantum : ℕ)
-    → e ≡ cond b (min (min (f - f % ROUND + span) (f + lag)) (f + quantum))
-    (min (f - f % ROUND + span) (f + lag)) →
-    f % ROUND < span → span ≤ ROUND → 1 ≤ lag → 1 ≤ quantum
-    → (f < e) × (e ≤ (f / ROUND + 1) * ROUND) × (e ≤ f + lag)
-end_bounds true f e span lag quantum is after within l q = (omega arith, omega arith, omega arith)
-end_bounds false f e span lag quantum is after within l q = (omega arith, omega arith, omega arith)
-
--- a stint has at least one tick, stays in its round and is no longer than the lag
-pub stint_bounds : (course : CourseView) (c : ℕ) (earlier : List Stint) (s : Stint)
-    → IsCourse course → IsDispatch course c earlier s
-    → (s.from < s.end) × (s.end ≤ (s.from / ROUND + 1) * ROUND) × (s.end ≤ s.from + course.lag)
-stint_bounds course c earlier s ok f =
-    end_bounds (is_shared course c s) s.from s.end f.span_end course.lag course.quantum f.end
-    f.span.after f.span.within ok.form.some_lag ok.form.some_quantum

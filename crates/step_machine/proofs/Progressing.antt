@@ -7,15 +7,20 @@ use Rattle.tab_core.specs.declared.stint.Stint.{Stint}
 use Rattle.tab_core.specs.declared.entry.Entry.{Entry}
 use Rattle.table_form.specs.Running.Courses.{FitsRounds, CourseView, IsCourse, tick_at}
 use Rattle.table_form.specs.Running.State.{State, CoreState}
-use Rattle.table_form.specs.Running.Steps.{phase_of, phase_unfinished, has_entered, round_of, HasUpTo, IsNextStint, enters, runs}
+use Rattle.table_form.specs.Running.Phases.{phase_of, phase_unfinished, has_entered, round_of}
+use Rattle.table_form.specs.Running.Waiting.{HasUpTo}
+use Rattle.table_form.specs.Running.Stints.{IsNextStint, runs}
+use Rattle.table_form.specs.Running.Entering.{enters, EntersRound}
 use Rattle.table_form.specs.Running.Invariant.{StateInvariant, IsComplete}
 use Rattle.table_form.specs.Running.Next.{IsLeastClock}
 use Rattle.step_machine.specs.Next.{IsNextStep}
 use Rattle.script_doc.specs.declared.step.Step.TheVariants as steps
-use Rattle.table_form.specs.Running.Steps.{to_see, to_decide, at_end}
-use Rattle.step_machine.proofs.Lists.{set_here, same, element_at}
+use Rattle.table_form.specs.Running.Phases.{to_see, to_decide, at_end}
+use Rattle.run_promises.proofs.Lists.{same, element_at}
+use Rattle.step_machine.proofs.Lists.{set_here}
 use Rattle.step_machine.proofs.Phases.{deciding, entered_below, has_seen}
-use Rattle.step_machine.proofs.Pieces.{stint_bounds}
+use Rattle.run_promises.proofs.ChoiceLemmas.{stint_bounds}
+use Rattle.run_promises.proofs.OneTableLemmas.{entered_counted}
 use Rattle.step_machine.proofs.Ticks.{has_from_next}
 
 -- a core that changes changes the cores
@@ -118,12 +123,19 @@ decide_now course rounds s c core kept low due =
     let found = some_seen core.seen (has_seen rounds core (inl due)) in
     let few : length core.entries ≤ round_of core = elim (cases_lt (round_of core) (length core.entries)) [
       | inl more ↦
-          let was = entered_below core.entries (round_of core) k.numbered more in
+          let was = entered_below core.entries (round_of core) k.timeline.numbered more in
           let isnt = (deciding rounds core due).not_entered in
           absurd cc
       | inr le ↦ le
     ] in
-    let start : core.clock ≡ round_of core * ROUND = omega (arith, k.reach) in
+    let entering : EntersRound rounds c s = record {
+      core = core;
+      at = low.at;
+      seen = found.0;
+      has_seen = found.1;
+      due = due;
+      start = omega (arith, k.timeline.reach);
+    } in
     elim (cases_lt (round_of core) (length s.decided)) [
       | inl lt ↦ (let count = element_at s.decided (round_of core) lt in
           let e : Entry = record { round = round_of core; used = count.0; seen = found.0; won = false } in
@@ -135,12 +147,7 @@ decide_now course rounds s c core kept low due =
             new = record s { cores = slice_set s.cores c (enters core e) };
             moves = inr
                 (record {
-                  core = core;
-                  at = low.at;
-                  seen = found.0;
-                  has_seen = found.1;
-                  due = due;
-                  start = start;
+                  round = entering;
                   used = count.0;
                   count = count.1;
                   becomes = refl;
@@ -161,13 +168,8 @@ decide_now course rounds s c core kept low due =
             };
             moves = inl
                 (record {
-                  core = core;
-                  at = low.at;
-                  seen = found.0;
-                  has_seen = found.1;
-                  due = due;
-                  start = start;
-                  first = omega (arith, k.reach, k.counted);
+                  round = entering;
+                  first = omega (arith, k.timeline.reach, entered_counted s.decided core (kept.table.cores c core low.at));
                   becomes = refl;
                 });
             changes = λ q. cores_differ s.cores c core (enters core e) low.at
@@ -210,7 +212,7 @@ pub whole_at_end : (course : CourseView) (rounds : ℕ) (s : State) (c : ℕ) (c
     → s.posted ≡ length course.ticks → IsComplete course rounds s
 whole_at_end course rounds s c core kept low clock posted = record {
   clocks = λ d other at.
-      (let le = low.least d other at in let most = (kept.cores d other at).in_run in omega arith);
+      (let le = low.least d other at in let most = (kept.cores d other at).clock.in_run in omega arith);
   posted = posted;
 }
 

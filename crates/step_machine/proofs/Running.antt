@@ -8,6 +8,7 @@ use Rattle.step_machine.specs.declared.answer.Answer.{Answer}
 use Rattle.table_form.specs.Running.State.{State, CoreState, opening, opening_core}
 use Rattle.step_machine.specs.Answers.{Moves, Answers}
 use Rattle.table_form.specs.Running.Invariant.{CoreInvariant, StateInvariant}
+use Rattle.table_form.specs.Running.OneTable.{UsesCounts}
 use Rattle.table_form.specs.Running.Choice.{last_shared}
 use Rattle.step_machine.specs.declared.answer.Answer.TheVariants.{Done, Behind, NotNow}
 use Rattle.step_machine.specs.declared.log.CoreLog.{CoreLog}
@@ -27,29 +28,36 @@ length-replicate_of : {X : Type 0} (n : ℕ) (x : X) → length (replicate n x) 
 length-replicate_of zero x = refl
 length-replicate_of (suc n) x = ap suc (length-replicate_of n x)
 
+-- a core to which nothing happened keeps what is kept of a core
 opening_core_kept : (course : CourseView) (rounds c : ℕ) → CoreInvariant course rounds 0 [] c opening_core
 opening_core_kept course rounds c = record {
-  chain = refl;
-  numbered = λ k e h. absurd cc;
-  reach = omega arith;
-  ahead = omega arith;
-  counted = omega arith;
-  agreed = λ k e h. absurd cc;
-  entries_posted = λ k e h. absurd cc;
-  stints = λ k s h. absurd cc;
-  chosen = λ k s h. absurd cc;
-  risen = λ j k s t le h g. absurd cc;
+  timeline = record {
+    contiguous = refl;
+    numbered = λ k e h. absurd cc;
+    reach = omega arith;
+    ahead = omega arith;
+    each = λ k s h. absurd cc;
+  };
+  clock = record { in_run = omega arith; events = λ i lt. absurd (omega arith) };
+  entries = record { few = omega arith; seen_posted = λ k e h. absurd cc };
+  stints = record { each = λ k s h. absurd cc; risen = λ j k s t le h g. absurd cc };
   sight = λ n h. absurd cc;
-  events = λ i lt. absurd (omega arith);
-  in_run = omega arith;
 }
 
+-- and uses no count
+opening_core_uses : UsesCounts [] opening_core
+opening_core_uses = record { entries = λ r e h. absurd cc; stints = λ k s h. absurd cc }
+
+-- the opening state keeps what is kept
 pub opening_kept : (course : CourseView) (rounds : ℕ) → StateInvariant course rounds (opening course.cores)
 opening_kept course rounds = record {
   size = length-replicate_of course.cores opening_core;
+  table = record {
+    cores = λ c core h. rw (same_core course.cores c opening_core core h) opening_core_uses;
+    one_winner = λ r d h. absurd cc;
+    rises = λ r a b h g. absurd cc;
+  };
   cores = λ c core h. rw (same_core course.cores c opening_core core h) (opening_core_kept course rounds c);
-  one_won = λ r d h. absurd cc;
-  rises = λ r a b h g. absurd cc;
   fresh = λ r d h. absurd cc;
   decided_posted = λ r d h. absurd cc;
   posted_most = omega arith;

@@ -1,6 +1,6 @@
 -- The phase behind the name that an answer gives it.
 use Rattle.std.proofs.Common.{◌≡◌, refl}
-use Rattle.table_form.specs.Running.Steps.{CorePhase, to_see, to_decide, to_run, at_end}
+use Rattle.table_form.specs.Running.Phases.{CorePhase, to_see, to_decide, to_run, at_end}
 use Rattle.step_machine.specs.declared.answer.Phase.TheVariants as phases
 use Rattle.step_machine.specs.Answers.{shown}
 

@@ -9,12 +9,15 @@ use Rattle.step_machine.specs.declared.answer.Phase.{Phase}
 use Rattle.step_machine.specs.declared.answer.Answer.{Answer}
 use Rattle.table_form.specs.Running.State.{State, CoreState}
 use Rattle.step_machine.specs.Answers.{Answers, shown}
-use Rattle.table_form.specs.Running.Steps.{AreWithinLag, IsFirstBehind, IsNextStint, EntersFirst, EntersAfter, phase_of, round_of}
+use Rattle.table_form.specs.Running.Waiting.{AreWithinLag, IsFirstBehind}
+use Rattle.table_form.specs.Running.Stints.{IsNextStint}
+use Rattle.table_form.specs.Running.Entering.{EntersFirst, EntersAfter}
+use Rattle.table_form.specs.Running.Phases.{phase_of, round_of}
 use Rattle.script_doc.specs.declared.step.Step.TheVariants as steps
-use Rattle.table_form.specs.Running.Steps.{to_decide}
+use Rattle.table_form.specs.Running.Phases.{to_decide}
 use Rattle.tab_core.specs.declared.actor.Actor.TheVariants.{Core, Controller}
 use Rattle.step_machine.specs.declared.answer.Answer.TheVariants.{Done, Behind, NotNow}
-use Rattle.step_machine.proofs.Lists.{same, within}
+use Rattle.run_promises.proofs.Lists.{same, within}
 use Rattle.step_machine.proofs.Determined.{one_next}
 
 low_or_near : (lag : ℕ) (cores : List CoreState) (skip : Option ℕ) (tick d clock : ℕ)
@@ -110,25 +113,25 @@ see_one course rounds c s (NotNow f) (NotNow g) n m p q =
 
 win_or_join : (rounds c : ℕ) (s n m : State) → EntersFirst rounds c s n → EntersAfter rounds c s m → ⊥
 win_or_join rounds c s n m p q =
-    let is : p.core ≡ q.core = same (slice_get s.cores c) p.core q.core p.at q.at in
+    let is : p.round.core ≡ q.round.core = same (slice_get s.cores c) p.round.core q.round.core p.round.at q.round.at in
     let round = ap (λ (x : CoreState). round_of x) is in
-    let lt = within s.decided (round_of q.core) q.used q.count in
+    let lt = within s.decided (round_of q.round.core) q.used q.count in
     let first = p.first in
     absurd (omega arith)
 
 one_win : (rounds c : ℕ) (s n m : State) → EntersFirst rounds c s n → EntersFirst rounds c s m → n ≡ m
 one_win rounds c s n m p q =
-    let is : p.core ≡ q.core = same (slice_get s.cores c) p.core q.core p.at q.at in
-    let seen : p.seen ≡ q.seen = same q.core.seen p.seen q.seen
-    (subst (λ (x : CoreState). x.seen ≡ Some p.seen) is p.has_seen) q.has_seen in
+    let is : p.round.core ≡ q.round.core = same (slice_get s.cores c) p.round.core q.round.core p.round.at q.round.at in
+    let seen : p.round.seen ≡ q.round.seen = same q.round.core.seen p.round.seen q.round.seen
+    (subst (λ (x : CoreState). x.seen ≡ Some p.round.seen) is p.round.has_seen) q.round.has_seen in
     p.becomes ∙ (rw (is, seen) refl ∙ sym q.becomes)
 
 one_join : (rounds c : ℕ) (s n m : State) → EntersAfter rounds c s n → EntersAfter rounds c s m → n ≡ m
 one_join rounds c s n m p q =
-    let is : p.core ≡ q.core = same (slice_get s.cores c) p.core q.core p.at q.at in
-    let seen : p.seen ≡ q.seen = same q.core.seen p.seen q.seen
-    (subst (λ (x : CoreState). x.seen ≡ Some p.seen) is p.has_seen) q.has_seen in
-    let used : p.used ≡ q.used = same (slice_get s.decided (round_of q.core)) p.used q.used
+    let is : p.round.core ≡ q.round.core = same (slice_get s.cores c) p.round.core q.round.core p.round.at q.round.at in
+    let seen : p.round.seen ≡ q.round.seen = same q.round.core.seen p.round.seen q.round.seen
+    (subst (λ (x : CoreState). x.seen ≡ Some p.round.seen) is p.round.has_seen) q.round.has_seen in
+    let used : p.used ≡ q.used = same (slice_get s.decided (round_of q.round.core)) p.used q.used
     (subst (λ (x : CoreState). slice_get s.decided (round_of x) ≡ Some p.used) is p.count)
     q.count in
     p.becomes ∙ (rw (is, seen, used) refl ∙ sym q.becomes)
@@ -143,7 +146,10 @@ one_entering rounds c s n m p q = elim p [
 -- who enters is to decide
 entering_due : (rounds c : ℕ) (s n : State) → EntersFirst rounds c s n ⊎ EntersAfter rounds c s n
     → (core : CoreState) × (slice_get s.cores c ≡ Some core) × (phase_of rounds core ≡ to_decide)
-entering_due rounds c s n p = elim p [ inl w ↦ (w.core, w.at, w.due) | inr j ↦ (j.core, j.at, j.due) ]
+entering_due rounds c s n p = elim p [
+  | inl w ↦ (w.round.core, w.round.at, w.round.due)
+  | inr j ↦ (j.round.core, j.round.at, j.round.due)
+]
 
 decide_one : (course : CourseView) (rounds c : ℕ) (s : State) (a b : Answer) (new new' : State)
     → Answers course rounds s (steps.Decide c) a new

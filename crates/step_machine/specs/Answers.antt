@@ -9,7 +9,11 @@ use Rattle.tab_core.specs.declared.actor.Actor.{Actor}
 use Rattle.tab_core.specs.declared.actor.Actor.TheVariants.{Core, Controller}
 use Rattle.table_form.specs.Running.Courses.{CourseView, tick_at}
 use Rattle.table_form.specs.Running.State.{State, CoreState, IsCore}
-use Rattle.table_form.specs.Running.Steps.{CorePhase, to_see, to_decide, to_run, at_end, phase_of, HasUpTo, IsFirstBehind, Posts, Sees, EntersFirst, EntersAfter, Runs, IsNextStint}
+use Rattle.table_form.specs.Running.Phases.{CorePhase, to_see, to_decide, to_run, at_end, phase_of}
+use Rattle.table_form.specs.Running.Waiting.{HasUpTo, IsFirstBehind}
+use Rattle.table_form.specs.Running.Posting.{Posts, Sees}
+use Rattle.table_form.specs.Running.Entering.{EntersFirst, EntersAfter}
+use Rattle.table_form.specs.Running.Stints.{Runs, IsNextStint}
 use Rattle.step_machine.specs.declared.answer.Answer.{Answer}
 use Rattle.step_machine.specs.declared.answer.Answer.TheVariants.{Done, Behind, NotNow}
 use Rattle.step_machine.specs.declared.answer.Phase.{Phase}

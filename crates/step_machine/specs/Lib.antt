@@ -4,7 +4,6 @@ pub mod Logs
 pub mod Next
 pub mod Picks
 pub mod Progresses
-pub mod Promises
 pub mod Refusals
 pub mod Runs
 pub mod Worlds

@@ -1,10 +1,11 @@
 //! The scheduler's core as a pure machine: its state, its four kinds of step, and their replay.
 //!
 //! `World::apply` is exactly the relation `Answers` of `specs/Answers.antt`, and every world keeps
-//! what `StateInvariant` of `table_form/specs/Running/Invariant.antt` lists. The laws say what follows for every list of
-//! steps: all cores use one plan in a round, no vCPU runs on two cores at one tick, each is offered
-//! its cost in each of its periods and waits no longer between offers than its period and cost
-//! allow, and no core idles while somebody may run there.
+//! what `StateInvariant` of `table_form/specs/Running/Invariant.antt` lists. So after every list of
+//! steps the run keeps what `KeepsPromises` of `table_form/specs/Running/Promises.antt` says: all
+//! cores use one plan in a round, no vCPU runs on two cores at one tick, each is offered its cost in
+//! each of its periods and has no gap between offers that exceeds what its budgets leave out, and no
+//! core idles while somebody may run there.
 #![tactic(auto)]
 
 mod answer;
@@ -26,8 +27,8 @@ mod world;
 pub use answer::{Answer, Phase};
 pub use fault::ReplayFault;
 pub use laws::{
-    a_kept_run_keeps_its_promises, a_step_has_one_answer, a_step_keeps, a_whole_run_entered_each_round, the_opening_is_kept, every_gap_is_short, every_period_is_served, every_run_is_kept,
-    every_tick_is_busy, next_stint_is_determined, nobody_runs_twice,
+    a_step_has_one_answer, a_step_keeps, every_run_keeps_its_promises, next_stint_is_determined,
+    the_opening_is_kept,
 };
 pub use machine_state::MachineState;
 pub use replaying::replay;

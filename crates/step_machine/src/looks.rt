@@ -1,7 +1,8 @@
 ghost use Rattle.std.specs.Prelude.{◌≡◌, ◌≢◌, ◌+◌, ◌*◌, ◌/◌, ◌^◌, ◌<◌, ◌≤◌, ◌↔◌, ℕ, false, IsTrue, IfSome, IfNone, Some, length, slice_get};
 ghost use Rattle.tab_core.specs.declared.TheConstants.{MAX_CORES, MAX_ROUNDS};
 ghost use Rattle.tab_core.specs.declared.entry.Entry.{Entry as EntryValue};
-ghost use Rattle.table_form.specs.Running.Steps.{phase_of, AreWithinLag, IsFirstBehind, HasUpTo};
+ghost use Rattle.table_form.specs.Running.Phases.{phase_of};
+ghost use Rattle.table_form.specs.Running.Waiting.{AreWithinLag, IsFirstBehind, HasUpTo};
 ghost use Rattle.step_machine.specs.declared.log.CoreLog.{CoreLog as LogValue};
 ghost use Rattle.step_machine.specs.Answers.{shown};
 ghost use Rattle.step_machine.specs.Logs.{core_of, cores_of};

@@ -1,5 +1,6 @@
 ghost use Rattle.std.specs.Prelude.{◌≡◌, ◌+◌, ◌<◌, ◌≤◌, ℕ, Some, length, slice_get, vec_capacity};
-ghost use Rattle.table_form.specs.Running.Steps.{enters, runs};
+ghost use Rattle.table_form.specs.Running.Entering.{enters};
+ghost use Rattle.table_form.specs.Running.Stints.{runs};
 ghost use Rattle.step_machine.specs.declared.log.CoreLog.{CoreLog as LogValue};
 ghost use Rattle.step_machine.specs.Logs.{core_of, Edits};
 

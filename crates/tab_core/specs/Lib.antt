@@ -1,5 +1,7 @@
+pub mod Budgets
 pub mod Edits
 pub mod Name
 pub mod Period
+pub mod Timelines
 pub mod VcpuSets
 pub mod Vcpus

@@ -1,8 +1,7 @@
--- The ticks that the rounds' plans offer to a vCPU, and how long it may wait between them.
--- Source: the two promises of a reservation, its cost in each period and its latency, of the
--- Tableau scheduler (M. Vanga, A. Gujarati, B. B. Brandenburg, EuroSys 2018), here across rounds
--- whose plans may differ.
-use Rattle.std.specs.Prelude.{◌≡◌, ℕ, zero, suc, ◌+◌, ◌-◌, ◌*◌, ◌/◌, ◌%◌, ◌<◌, ◌≤◌, Bool, false, List, Option, Some, None, slice_get, if◌then◌else◌}
+-- The ticks that the rounds' plans offer to a vCPU.
+-- Source: the promise of a cost in each period of the Tableau scheduler (M. Vanga, A. Gujarati, B. B.
+-- Brandenburg, EuroSys 2018), here across rounds whose plans may differ.
+use Rattle.std.specs.Prelude.{◌≡◌, ℕ, zero, suc, ◌+◌, ◌*◌, ◌/◌, ◌%◌, ◌<◌, ◌≤◌, Bool, false, List, Option, Some, None, slice_get, if◌then◌else◌}
 use Rattle.std.specs.List.{list_any}
 use Rattle.tab_core.specs.declared.TheConstants.{ROUND}
 use Rattle.tab_core.specs.declared.periodic.Periodic.{Periodic}
@@ -43,17 +42,3 @@ abbrev pub IsServed : CourseView → State → Type 0
 IsServed course s = (r v k : ℕ) (task : Periodic) → task_in course s.decided r v ≡ Some task
     → k < ROUND / task.period →
     task.cost ≤ offers course s.decided v (r * ROUND + k * task.period) task.period
-
--- from tick a up to, and without, e the vCPU is offered nothing, though the plan of each of these
--- rounds has it
-pub record IsGap (course : CourseView) (decided : List ℕ) (v a e : ℕ) : Type 0 where
-  pub some_ticks : a < e
-  pub held : (x : ℕ) → a ≤ x → x < e → (task : Periodic) × (task_in course decided (x / ROUND) v ≡ Some task)
-  pub unoffered : (x : ℕ) → a ≤ x → x < e → is_offered course decided v x ≡ false
-
--- no gap exceeds the sum of what period and cost differ by, for the tasks of its first and its last tick
-abbrev pub HasShortGaps : CourseView → State → Type 0
-HasShortGaps course s = (v a l : ℕ) (first last : Periodic) → IsGap course s.decided v a (suc l)
-    → task_in course s.decided (a / ROUND) v ≡ Some first
-    → task_in course s.decided (l / ROUND) v ≡ Some last →
-    (suc l - a) + first.cost + last.cost ≤ first.period + last.period

@@ -4,7 +4,7 @@ use Rattle.std.proofs.lemmas.Option.{slice_get_read}
 use Rattle.step_machine.proofs.Shown.{is_see, is_decide, is_run, is_end}
 use Rattle.step_machine.specs.Logs.{core_of, cores_of}
 use Rattle.step_machine.specs.Progresses.{state_of}
-use Rattle.step_machine.proofs.Lists.{same}
+use Rattle.run_promises.proofs.Lists.{same}
 use Rattle.step_machine.proofs.LogLemmas.{core_at}
 use Rattle.step_machine.proofs.Acting.{log_kept, least_clock}
 use Rattle.step_machine.proofs.Progressing.{post_at_end, post_for_see, see_now, decide_now, run_now, whole_at_end, clock_at_end}
@@ -19,7 +19,7 @@ phase_at-requires-clause-numbered c =
     let lt : i < length p.logs.items = rw c.deref.ensures.value at c.lowest-c.ensures.within in
     let at = slice_get_read p.logs.items (length p.logs.items) i log refl lt c.index-log.ensures in
     let low = least_clock p i log at (rw c.deref.ensures.value at c.lowest-c.ensures.least) in
-    (log_kept course c.args.rounds p i log c.requires.kept at).numbered
+    (log_kept course c.args.rounds p i log c.requires.kept at).timeline.numbered
 
 pub next_stint-next-requires-clause-due : goal.next_stint-next-requires-clause-due
 next_stint-next-requires-clause-due c =

@@ -2,6 +2,7 @@ use Rattle.std.proofs.Common.{inl, inr, [], ◌∷◌, length, refl, ap, arith, 
 use Rattle.std.proofs.lemmas.Option.{slice_get_read}
 use Rattle.step_machine.specs.Logs.{core_of}
 use Rattle.step_machine.proofs.LogLemmas.{core_at, cores_edited, rooms_edited}
+use Rattle.run_promises.proofs.OneTableLemmas.{entered_counted}
 use Rattle.step_machine.proofs.Acting.{log_at_core, log_kept, last_edited, starts_round, round_small, entry_room}
 use Rattle.step_machine.proofs.steps.enter.Goals as goal
 
@@ -13,12 +14,14 @@ returns-then-round-len-clause-answer c =
     let due = c.requires.due (core_of log) (core_at p.logs.items c.args.c log found.1) in
     let edits = c.push_entry.ensures log found.1 in
     inr (record {
-      core = core_of log;
-      at = core_at p.logs.items c.args.c log found.1;
-      seen = c.args.seen;
-      has_seen = due.1;
-      due = due.0;
-      start = starts_round c.args.course.now c.args.rounds p c.args.c log c.requires.kept found.1 due.0;
+      round = record {
+        core = core_of log;
+        at = core_at p.logs.items c.args.c log found.1;
+        seen = c.args.seen;
+        has_seen = due.1;
+        due = due.0;
+        start = starts_round c.args.course.now c.args.rounds p c.args.c log c.requires.kept found.1 due.0;
+      };
       used = c.index-used.result.now;
       count = rw (← due.2) (slice_get_read p.decided.items
           (length p.decided.items) c.args.round c.index-used.result.now refl
@@ -57,13 +60,22 @@ returns-else-round-len-clause-answer c =
     let start = starts_round c.args.course.now c.args.rounds p c.args.c log c.requires.kept found.1 due.0 in
     let kept = log_kept c.args.course.now c.args.rounds p c.args.c log c.requires.kept found.1 in
     inl (record {
-      core = core_of log;
-      at = core_at p.logs.items c.args.c log found.1;
-      seen = c.args.seen;
-      has_seen = due.1;
-      due = due.0;
-      start = start;
-      first = omega (arith, kept.counted, kept.reach, kept.ahead, due.2);
+      round = record {
+        core = core_of log;
+        at = core_at p.logs.items c.args.c log found.1;
+        seen = c.args.seen;
+        has_seen = due.1;
+        due = due.0;
+        start = start;
+      };
+      first = omega (
+        arith,
+        entered_counted p.decided.items (core_of log)
+            (c.requires.kept.table.cores c.args.c (core_of log) (core_at p.logs.items c.args.c log found.1)),
+        kept.timeline.reach,
+        kept.timeline.ahead,
+        due.2,
+      );
       becomes =
           rw (
             cores_edited p.logs.items c.push_entry-else-round-len.new.logs.items c.args.c log _

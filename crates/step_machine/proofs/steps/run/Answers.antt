@@ -3,7 +3,7 @@ use Rattle.std.specs.Prelude.{slice_get}
 use Rattle.step_machine.specs.Answers.{shown}
 use Rattle.step_machine.proofs.Shown.{is_run}
 use Rattle.step_machine.specs.Logs.{core_of, cores_of}
-use Rattle.step_machine.proofs.Lists.{same}
+use Rattle.run_promises.proofs.Lists.{same}
 use Rattle.step_machine.proofs.LogLemmas.{core_at, cores_edited, rooms_edited}
 use Rattle.step_machine.proofs.Acting.{log_found, log_kept, spare_less, clock_small, last_edited, last_more}
 use Rattle.step_machine.proofs.steps.run.Goals as goal
@@ -13,7 +13,7 @@ phase_at-phase-requires-clause-numbered c =
     let at = log_found c.args.course.now c.args.rounds c.args.progress.now c.args.c
     c.index-log.result.now c.requires.kept c.requires.core c.index-log.ensures in
     (log_kept c.args.course.now c.args.rounds c.args.progress.now c.args.c c.index-log.result.now
-    c.requires.kept at).numbered
+    c.requires.kept at).timeline.numbered
 
 pub returns-in_default : goal.returns-in_default
 returns-in_default c =

@@ -11,7 +11,7 @@ phase_at-requires-clause-numbered c =
     let at = log_found c.args.course.now c.args.rounds c.args.progress.now c.args.c
     c.index-log.result.now c.requires.kept c.requires.core c.index-log.ensures in
     (log_kept c.args.course.now c.args.rounds c.args.progress.now c.args.c c.index-log.result.now
-    c.requires.kept at).numbered
+    c.requires.kept at).timeline.numbered
 
 pub returns-in-Finished-clause-answer : goal.returns-in-Finished-clause-answer
 returns-in-Finished-clause-answer c =

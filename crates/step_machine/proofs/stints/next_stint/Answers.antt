@@ -6,7 +6,7 @@ use Rattle.table_form.specs.Running.Choice.{IsChoice}
 use Rattle.table_form.specs.Tables.Plans.{PlanView}
 use Rattle.table_form.specs.Running.Courses.{plan_after, runnable_after}
 use Rattle.step_machine.specs.Logs.{core_of, cores_of}
-use Rattle.step_machine.proofs.Lists.{same, element_at}
+use Rattle.run_promises.proofs.Lists.{same, element_at}
 use Rattle.step_machine.proofs.LogLemmas.{core_at}
 use Rattle.step_machine.proofs.Phases.{entered_to_run}
 use Rattle.step_machine.proofs.Acting.{log_found, log_kept}
@@ -28,7 +28,7 @@ used_in-used-requires c =
     let at = log_found c.args.course.now c.args.rounds p c.args.c log c.requires.kept
     c.requires.core c.index-log.ensures in
     let k = log_kept c.args.course.now c.args.rounds p c.args.c log c.requires.kept at in
-    entered_to_run c.args.rounds (core_of log) k.numbered
+    entered_to_run c.args.rounds (core_of log) k.timeline.numbered
     (c.requires.due (core_of log) (core_at p.logs.items c.args.c log at))
 
 pub plan_after-plan-requires : goal.plan_after-plan-requires
@@ -38,12 +38,13 @@ plan_after-plan-requires c =
     let at = log_found c.args.course.now c.args.rounds p c.args.c log c.requires.kept
     c.requires.core c.index-log.ensures in
     let k = log_kept c.args.course.now c.args.rounds p c.args.c log c.requires.kept at in
-    let lt = entered_to_run c.args.rounds (core_of log) k.numbered
+    let lt = entered_to_run c.args.rounds (core_of log) k.timeline.numbered
     (c.requires.due (core_of log) (core_at p.logs.items c.args.c log at)) in
     let found = element_at log.entries.items (log.clock / ROUND) lt in
     let used = c.used_in-used.ensures found.0 found.1 in
     let most = c.requires.kept.decided_posted (log.clock / ROUND) found.0.used
-    (k.agreed (log.clock / ROUND) found.0 found.1) in
+    ((c.requires.kept.table.cores c.args.c (core_of log) (core_at p.logs.items c.args.c log at)).entries
+    (log.clock / ROUND) found.0 found.1) in
     omega (arith, c.requires.kept.posted_most)
 
 pub runnable_after-requires : goal.runnable_after-requires
@@ -63,7 +64,7 @@ end_of-end-requires-clause-from c =
     let at = log_found c.args.course.now c.args.rounds p c.args.c log c.requires.kept
     c.requires.core c.index-log.ensures in
     let k = log_kept c.args.course.now c.args.rounds p c.args.c log c.requires.kept at in
-    omega (arith, k.in_run)
+    omega (arith, k.clock.in_run)
 
 pub returns-clause-next : goal.returns-clause-next
 returns-clause-next c = λ core h.
@@ -75,7 +76,7 @@ returns-clause-next c = λ core h.
     let k = log_kept course c.args.rounds p c.args.c log c.requires.kept at in
     let due = c.requires.due (core_of log) (core_at p.logs.items c.args.c log at) in
     let found = element_at log.entries.items (log.clock / ROUND)
-    (entered_to_run c.args.rounds (core_of log) k.numbered due) in
+    (entered_to_run c.args.rounds (core_of log) k.timeline.numbered due) in
     let is = same (slice_get (cores_of p.logs.items) c.args.c) (core_of log) core
     (core_at p.logs.items c.args.c log at) h in
     let plan : PlanView = plan_view c.plan_after-plan.result.now in

@@ -1,30 +1,24 @@
--- Each vCPU is offered its cost in each of its periods, and its gaps are short.
-use Rattle.std.proofs.Common.{◌≡◌, ℕ, suc, ◌+◌, ◌*◌, ◌/◌, ◌<◌, ◌≤◌, inl, inr, Option, Some, None, refl, ap, arith}
-use Rattle.std.specs.Prelude.{slice_get, slice_index}
+-- Each vCPU is offered its cost in each of its periods.
+use Rattle.std.proofs.Common.{◌≡◌, ℕ, suc, ◌+◌, ◌*◌, ◌/◌, ◌<◌, ◌≤◌, Option, Some, None, refl, ap, arith}
+use Rattle.std.specs.Prelude.{slice_get}
 use Rattle.std.proofs.Math.Nat.{mul-le-mul_right, suc-mul}
 use Rattle.tab_core.specs.declared.TheConstants.{ROUND}
 use Rattle.tab_core.specs.declared.periodic.Periodic.{Periodic}
 use Rattle.tab_core.proofs.Periods.{period_facts}
-use Rattle.table_form.specs.Running.Courses.{CourseView, IsCourse, plan_after, no_plan}
+use Rattle.table_form.specs.Running.Courses.{CourseView, IsCourse, plan_after}
 use Rattle.table_form.specs.Running.Offered.{task_by, IsServed}
-use Rattle.table_form.specs.Tables.Serves.{Serves, supply, flat}
 use Rattle.table_form.specs.Running.State.{State}
-use Rattle.step_machine.proofs.OneCore.{apart_after, either}
-use Rattle.step_machine.proofs.Supply.{offers_supply}
+use Rattle.table_form.specs.Tables.Serves.{supply, flat}
+use Rattle.run_promises.proofs.CourseLemmas.{apart_after, serves_after}
+use Rattle.run_promises.proofs.OfferedLemmas.{offers_supply}
 
-serves_after : (course : CourseView) → IsCourse course → (n : ℕ)
-    → Serves (plan_after course n).tasks (plan_after course n).rows
-serves_after course ok n = elim (either course.plans (slice_index course.numbers n) no_plan) [
-  | inl at ↦ (ok.plans_kept (slice_index course.numbers n) (plan_after course n) at).serves
-  | inr none ↦ rw none (λ v task h k lt. absurd cc)
-]
-
+-- the two options of a task that is there
 flat_some : {X : Type 0} (o : Option (Option X)) (x : X) → flat o ≡ Some x → o ≡ Some (Some x)
 flat_some None x h = absurd cc
 flat_some (Some o) x h = ap Some h
 
 -- the count of a round in which the vCPU has a task
-task_found : (course : CourseView) (o : Option ℕ) (v : ℕ) (task : Periodic)
+pub task_found : (course : CourseView) (o : Option ℕ) (v : ℕ) (task : Periodic)
     → task_by course o v ≡ Some task
     → (count : ℕ) × (o ≡ Some count)
     × (slice_get (plan_after course count).tasks v ≡ Some (Some task))
@@ -37,6 +31,7 @@ pub period_fits : (t m k : ℕ) → t * m ≡ ROUND → k < m → k * t + t ≤ 
 period_fits t m k whole lt =
     (let le : (suc k) * t ≤ m * t = mul-le-mul_right t (omega arith) in let more = suc-mul k t in omega arith)
 
+-- the promise: the plan gives the cost in cells, and each cell is an offer
 pub served : (course : CourseView) (s : State) → IsCourse course → IsServed course s
 served course s ok = λ r v k task has lt.
     let found = task_found course (slice_get s.decided r) v task has in

@@ -6,14 +6,17 @@ abbrev pub total : (ℕ → ℕ) → ℕ → ℕ
 total f zero = 0
 total f (suc n) = total f n + f n
 
+-- a sum in two parts
 total-split : (f : ℕ → ℕ) (a b : ℕ) → total f (a + b) ≡ total f a + total (λ k. f (a + k)) b
 total-split f a zero = (let e = ap (total f) (add-zero a) in omega arith)
 total-split f a (suc b) = rw add-suc (omega (arith, total-split f a b))
 
+-- nothing but zeros
 total-none : (f : ℕ → ℕ) (n : ℕ) → ((k : ℕ) → k < n → f k ≡ 0) → total f n ≡ 0
 total-none f zero e = refl
 total-none f (suc n) e = omega (arith, total-none f n (λ k h. e k (omega arith)), e n (omega arith))
 
+-- ones at most
 at_most : (f : ℕ → ℕ) (n : ℕ) → ((k : ℕ) → f k ≤ 1) → total f n ≤ n
 at_most f zero one = omega arith
 at_most f (suc n) one = omega (arith, at_most f n one, one n)

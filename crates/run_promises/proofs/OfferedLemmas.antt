@@ -10,11 +10,13 @@ use Rattle.table_form.specs.Running.Courses.{CourseView, plan_after}
 use Rattle.table_form.specs.Running.Offered.{some_row_has, is_offered, offers}
 use Rattle.table_form.specs.Tables.Rows.{Row}
 use Rattle.table_form.specs.Tables.Serves.{Apart, cells_within, supply, owner_at, flat, is_cell_of}
-use Rattle.step_machine.proofs.Totals.{total}
+use Rattle.run_promises.proofs.Totals.{total}
 
+-- 1 where the test passes
 abbrev pub one : Bool → ℕ
 one b = cond b 1 0
 
+-- the row has the vCPU at the place
 abbrev pub stands : ℕ → Row → ℕ → Bool
 stands v row place = is_cell_of v (flat (slice_get row place))
 
@@ -23,6 +25,7 @@ abbrev pub rows_with : ℕ → List Row → ℕ → ℕ
 rows_with v [] place = 0
 rows_with v (row ∷ rows) place = one (stands v row place) + rows_with v rows place
 
+-- the cells of a row, one place further; for `cells_step`
 count_step : (v : ℕ) (xs : Row) (n : ℕ)
     → count_by (λ cell. is_cell_of v cell) (take (suc n) xs)
     ≡ count_by (λ cell. is_cell_of v cell) (take n xs) + one (stands v xs n)
@@ -36,12 +39,14 @@ count_step v (x ∷ xs) (suc n) =
       count_step v xs n,
     )
 
+-- a place behind those that are dropped
 get-drop : (xs : Row) (a n b : ℕ) → b ≡ a + n → slice_get (drop a xs) n ≡ slice_get xs b
 get-drop xs zero n b is = ap (slice_get xs) (omega arith)
 get-drop [] (suc a) n b is = refl
 get-drop (x ∷ xs) (suc a) n zero is = absurd (omega arith)
 get-drop (x ∷ xs) (suc a) n (suc b) is = get-drop xs a n b (omega arith)
 
+-- the cells within an interval grow by the one at its end
 cells_step : (v : ℕ) (row : Row) (from n : ℕ)
     → cells_within v row from (from + suc n)
     ≡ cells_within v row from (from + n) + one (stands v row (from + n))
@@ -54,11 +59,13 @@ cells_step v row from n =
     (take n (drop from row)) + one (is_cell_of v (flat o)))
     (get-drop row from n (from + n) refl))
 
+-- and an empty interval has none
 no_cells : (v : ℕ) (row : Row) (from : ℕ) → cells_within v row from (from + 0) ≡ 0
 unfolding cells_within
 no_cells v row from = (let none : from + 0 - from ≡ 0 = omega arith in rw none refl)
 
-supply_none : (v : ℕ) (rows : List Row) (from : ℕ) → supply v rows from (from + 0) ≡ 0
+-- the supply counts the cells of all rows, so both hold of it; for inductions over an interval
+pub supply_none : (v : ℕ) (rows : List Row) (from : ℕ) → supply v rows from (from + 0) ≡ 0
 unfolding supply
 supply_none v [] from = refl
 supply_none v (row ∷ rows) from =
@@ -69,7 +76,8 @@ supply_none v (row ∷ rows) from =
       supply_none v rows from,
     )
 
-supply_step : (v : ℕ) (rows : List Row) (from n : ℕ)
+-- the supply grows by the rows that have the vCPU at the interval's end
+pub supply_step : (v : ℕ) (rows : List Row) (from n : ℕ)
     → supply v rows from (from + suc n)
     ≡ supply v rows from (from + n) + rows_with v rows (from + n)
 unfolding supply
@@ -83,10 +91,12 @@ supply_step v (row ∷ rows) from n =
       supply_step v rows from n,
     )
 
+-- a cell that has the vCPU names it
 is_cell : (v : ℕ) (o : Option ℕ) → is_cell_of v o ≡ true → o ≡ Some v
 is_cell v None h = absurd cc
 is_cell v (Some w) h = ap Some (sym (eqb-true v w h))
 
+-- no row counts where none has the vCPU
 nowhere : (v : ℕ) (rows : List Row) (place : ℕ) → ((d : ℕ) → owner_at rows d place ≡ Some v → ⊥)
     → rows_with v rows place ≡ 0
 nowhere v [] place none = refl
@@ -102,6 +112,7 @@ nowhere v (row ∷ rows) place none =
     not_here true h = absurd (h refl)
     not_here false h = refl
 
+-- one row more; for `at_most_one`
 one_more : (b rest : Bool) (n : ℕ) → n ≤ one rest → (b ≡ true → n ≡ 0) → one b + n ≤ one (b || rest)
 one_more true rest n le none = (let zero_here = none refl in omega arith)
 one_more false rest n le none = omega arith
@@ -123,12 +134,14 @@ unfolding offers
 offers_total course decided v from zero = refl
 offers_total course decided v from (suc n) = omega (arith, offers_total course decided v from n)
 
+-- the offers grow by the tick at the end
 offers_step : (course : CourseView) (decided : List ℕ) (v from n : ℕ)
     → offers course decided v from (suc n)
     ≡ offers course decided v from n + one (is_offered course decided v (from + n))
 unfolding offers
 offers_step course decided v from n = refl
 
+-- so in a round that was entered the offers are at least the supply of its plan
 pub offers_supply : (course : CourseView) (decided : List ℕ) (v r count start n : ℕ)
     → slice_get decided r ≡ Some count → Apart (plan_after course count).rows → start + n ≤ ROUND →
     supply v (plan_after course count).rows start (start + n) ≤ offers course decided v (r * ROUND + start) n

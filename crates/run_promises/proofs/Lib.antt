@@ -1,0 +1,13 @@
+pub mod Blocks
+pub mod BusyLemmas
+pub mod ChoiceLemmas
+pub mod CourseLemmas
+pub mod GapLemmas
+pub mod Lists
+pub mod OfferedLemmas
+pub mod OneTableLemmas
+pub mod PromiseLemmas
+pub mod ServedLemmas
+pub mod TimelineLemmas
+pub mod TogetherLemmas
+pub mod Totals
