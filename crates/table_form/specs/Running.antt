@@ -6,6 +6,7 @@ pub mod Courses
 pub mod Invariant
 pub mod Next
 pub mod Offered
+pub mod Outlines
 pub mod State
 pub mod Steps
 pub mod Together
