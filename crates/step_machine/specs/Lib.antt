@@ -2,7 +2,6 @@ pub mod Answers
 pub mod Cores
 pub mod Logs
 pub mod Next
-pub mod Picks
 pub mod Progresses
 pub mod Refusals
 pub mod Runs

@@ -9,7 +9,7 @@ use crate::answer::Phase;
 use crate::log::CoreLog;
 use crate::looks::{has_up_to, phase_at};
 use crate::progress::Progress;
-use crate::stints::next_stint;
+use crate::stints::stint_now;
 use script_doc::Step;
 use tab_core::CoreNo;
 use table_form::Course;
@@ -44,7 +44,7 @@ pub(crate) fn next_step(course: &Course, rounds: u32, progress: &Progress) -> Op
         Phase::Decide => Some(Step::Decide(CoreNo(c as u32))),
         Phase::Run => {
             // the stint that is found shows that there is one
-            let _next = next_stint(course, rounds, progress, c);
+            let _next = stint_now(course, rounds, progress, c);
             Some(Step::Run(CoreNo(c as u32)))
         }
         Phase::AllPosted => unreachable!(),

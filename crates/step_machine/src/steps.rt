@@ -13,7 +13,7 @@ use crate::answer::{Answer, Phase};
 use crate::looks::{has_up_to, lowest_behind, phase_at};
 use crate::moves::{push_entry, push_stint, take_count};
 use crate::progress::Progress;
-use crate::stints::{next_stint, seen_by};
+use crate::stints::{seen_by, stint_now};
 use script_doc::Step;
 use tab_core::{Actor, Entry, ROUND};
 use table_form::Course;
@@ -149,7 +149,7 @@ pub(crate) fn run(course: &Course, rounds: u32, progress: &mut Progress, c: usiz
     let Phase::Run = phase else {
         return Answer::NotNow { phase };
     };
-    let next = next_stint(course, rounds, progress, c);
+    let next = stint_now(course, rounds, progress, c);
     match lowest_behind(&progress.logs, course.lag(), Some(c as u32), next.stint.end) {
         Some(low) => Answer::Behind {
             who: Actor::Core(low.core),

@@ -12,6 +12,7 @@ pub mod OneTable
 pub mod Phases
 pub mod Posting
 pub mod Promises
+pub mod Outlines
 pub mod State
 pub mod Stints
 pub mod Together

@@ -1,8 +1,10 @@
 ghost use Rattle.std.specs.Prelude.{◌≡◌, ◌<◌, ◌≤◌, length};
 ghost use Rattle.table_form.specs.Running.CourseViews.{course_view};
 ghost use Rattle.table_form.specs.Running.Courses.{IsCourse, IsCourseForm, plan_after, plan_number_after, runnable_after, tick_at};
+ghost use Rattle.table_form.specs.Running.Outlines.{outline_of};
 ghost use Rattle.table_form.specs.Tables.Views.{plan_view};
 
+use crate::outline::Outline;
 use crate::plan::Plan;
 use std::marker::Model;
 use tab_core::VcpuSet;
@@ -11,26 +13,23 @@ use tab_core::VcpuSet;
 /// set of runnable vCPUs. Contracts see these lists, and the cores, lag and quantum of the host.
 #[derive(Debug, Drop)]
 pub struct Course {
-    cores: u32,
-    lag: u32,
-    quantum: u32,
-    ticks: Vec<u32>,
+    outline: Outline,
     plans: Vec<Plan>,
     numbers: Vec<u32>,
-    runnable: Vec<VcpuSet>,
 }
 
 impl Model for Course {
-    ghost use Rattle.table_form.specs.Running.CourseViews.{course_view};
+    ghost use Rattle.std.specs.Prelude.{map};
     ghost use Rattle.table_form.specs.Running.Courses.{CourseView, IsCourse};
+    ghost use Rattle.table_form.specs.Running.Outlines.{with_plans};
+    ghost use Rattle.table_form.specs.Tables.Views.{plan_view};
 
     ghost Value = { CourseView };
 
-    ghost view = { λ c. course_view c.cores c.lag c.quantum c.ticks.items c.plans.items
-        c.numbers.items c.runnable.items };
+    ghost view = { λ c. with_plans c.outline (map plan_view c.plans.items) c.numbers.items };
 
-    ghost invariant = { λ c. IsCourse (course_view c.cores c.lag c.quantum c.ticks.items
-        c.plans.items c.numbers.items c.runnable.items) };
+    ghost invariant = { λ c. IsCourse
+        (with_plans c.outline (map plan_view c.plans.items) c.numbers.items) };
 }
 
 impl Course {
@@ -53,14 +52,18 @@ impl Course {
             runnable.items }
     {
         Course {
-            cores,
-            lag,
-            quantum,
-            ticks,
+            outline: Outline::of(cores, lag, quantum, ticks, runnable),
             plans,
             numbers,
-            runnable,
         }
+    }
+
+    /// The course without its plans. What every course keeps holds of it.
+    pub fn outline(&self) -> &Outline
+        ensures outline { outline_of self.now ≡ result.now }
+        ensures kept { IsCourse self.now }
+    {
+        &self.outline
     }
 
     /// The tick of an event, which are counted from 0.
@@ -68,7 +71,7 @@ impl Course {
         requires { event < length self.now.ticks }
         ensures { result ≡ tick_at self.now event }
     {
-        self.ticks[event as usize]
+        self.outline.tick_of(event)
     }
 
     /// How many events there are. What every course keeps holds of it.
@@ -76,7 +79,7 @@ impl Course {
         ensures count { result ≡ length self.now.ticks }
         ensures kept { IsCourse self.now }
     {
-        self.ticks.len() as u32
+        self.outline.count()
     }
 
     /// The number of the plan after the first `n` events.
@@ -103,7 +106,7 @@ impl Course {
         requires { n ≤ length self.now.ticks }
         ensures { result.now ≡ runnable_after self.now n }
     {
-        &self.runnable[n as usize]
+        self.outline.runnable_after(n)
     }
 
     /// The host's cores. What every course keeps holds of it.
@@ -111,7 +114,7 @@ impl Course {
         ensures cores { result ≡ self.now.cores }
         ensures kept { IsCourse self.now }
     {
-        self.cores
+        self.outline.cores()
     }
 
     /// How many ticks the clocks of two cores may be apart. What every course keeps holds of it.
@@ -119,7 +122,7 @@ impl Course {
         ensures lag { result ≡ self.now.lag }
         ensures kept { IsCourse self.now }
     {
-        self.lag
+        self.outline.lag()
     }
 
     /// How many ticks a shared pick may run. What every course keeps holds of it.
@@ -127,6 +130,6 @@ impl Course {
         ensures quantum { result ≡ self.now.quantum }
         ensures kept { IsCourse self.now }
     {
-        self.quantum
+        self.outline.quantum()
     }
 }

@@ -21,8 +21,8 @@ phase_at-requires-clause-numbered c =
     let low = least_clock p i log at (rw c.deref.ensures.value at c.lowest-c.ensures.least) in
     (log_kept course c.args.rounds p i log c.requires.kept at).timeline.numbered
 
-pub next_stint-next-requires-clause-due : goal.next_stint-next-requires-clause-due
-next_stint-next-requires-clause-due c =
+pub stint_now-next-requires-clause-due : goal.stint_now-next-requires-clause-due
+stint_now-next-requires-clause-due c =
     let p = c.args.progress.now in
     let log = c.index-log.result.now in
     let i = c.lowest-c.result in
@@ -112,5 +112,5 @@ returns-in-Run-clause-some c =
     let at = slice_get_read p.logs.items (length p.logs.items) i log refl lt c.index-log.ensures in
     let low = least_clock p i log at (rw c.deref.ensures.value at c.lowest-c.ensures.least) in
     run_now course c.args.rounds (state_of p) i
-    (core_of log) c.next_stint-next.result.stint c.lag-lag.ensures.kept low
-    (c.next_stint-next.ensures.next (core_of log) (core_at p.logs.items i log at))
+    (core_of log) c.stint_now-next.result.stint c.lag-lag.ensures.kept low
+    (c.stint_now-next.ensures.next (core_of log) (core_at p.logs.items i log at))

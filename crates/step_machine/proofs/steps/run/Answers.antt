@@ -33,8 +33,8 @@ returns-in_default c =
       last = λ know. know;
     }
 
-pub next_stint-next-requires-clause-due : goal.next_stint-next-requires-clause-due
-next_stint-next-requires-clause-due c = λ core h.
+pub stint_now-next-requires-clause-due : goal.stint_now-next-requires-clause-due
+stint_now-next-requires-clause-due c = λ core h.
     let log = c.index-log.result.now in
     let p = c.args.progress.now in
     let at = log_found c.args.course.now c.args.rounds p c.args.c log c.requires.kept
@@ -58,8 +58,8 @@ returns-in-Some-clause-answer c =
       record {
         core = core_of log;
         at = core_at p.logs.items c.args.c log at;
-        stint = c.next_stint-next.result.stint;
-        next = c.next_stint-next.ensures.next (core_of log) (core_at p.logs.items c.args.c log at);
+        stint = c.stint_now-next.result.stint;
+        next = c.stint_now-next.ensures.next (core_of log) (core_at p.logs.items c.args.c log at);
         low = rw (c.deref.ensures.value, c.lag.ensures.lag) at c.in-Some.ensures.some;
       },
       refl,
@@ -74,12 +74,12 @@ returns-in-None-clause-answer c =
     record {
       core = core_of log;
       at = core_at p.logs.items c.args.c log at;
-      stint = c.next_stint-next.result.stint;
-      next = c.next_stint-next.ensures.next (core_of log) (core_at p.logs.items c.args.c log at);
+      stint = c.stint_now-next.result.stint;
+      next = c.stint_now-next.ensures.next (core_of log) (core_at p.logs.items c.args.c log at);
       near = rw (c.deref.ensures.value, c.lag.ensures.lag) at c.in-None.ensures.none;
       becomes =
           rw (cores_edited p.logs.items c.push_stint.new.logs.items c.args.c log _
-          c.next_stint-next.result.last (c.push_stint.ensures log at)) refl;
+          c.stint_now-next.result.last (c.push_stint.ensures log at)) refl;
     }
 
 pub returns-in-None-clause-spare : goal.returns-in-None-clause-spare
@@ -91,7 +91,7 @@ returns-in-None-clause-spare c = λ n spare.
     record {
       decided = omega (arith, spare.decided);
       logs = rooms_edited c.args.rounds n p.logs.items c.push_stint.new.logs.items c.args.c log _
-          c.next_stint-next.result.last at (c.push_stint.ensures log at) spare.logs;
+          c.stint_now-next.result.last at (c.push_stint.ensures log at) spare.logs;
     }
 
 pub returns-in-None-clause-last : goal.returns-in-None-clause-last
@@ -99,12 +99,12 @@ returns-in-None-clause-last c = λ know.
     let log = c.index-log.result.now in
     let p = c.args.progress.now in
     let course = c.args.course.now in
-    let s = c.next_stint-next.result.stint in
+    let s = c.stint_now-next.result.stint in
     let at = log_found course c.args.rounds p c.args.c log c.requires.kept c.requires.core
     c.index-log.ensures in
     last_edited course p.logs.items c.push_stint.new.logs.items c.args.c log _
-    c.next_stint-next.result.last (c.push_stint.ensures log at)
-    (c.next_stint-next.ensures.last log at
+    c.stint_now-next.result.last (c.push_stint.ensures log at)
+    (c.stint_now-next.ensures.last log at
     ∙ rw (know c.args.c log at) (sym (last_more course c.args.c log.stints.items s))) know
 
 pub returns-in-Some-clause-spare : goal.returns-in-Some-clause-spare

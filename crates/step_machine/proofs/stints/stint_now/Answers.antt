@@ -1,17 +1,17 @@
-use Rattle.std.proofs.Common.{◌≡◌, ◌/◌, ◌%◌, inr, refl, sym, ◌∙◌, arith}
+use Rattle.std.proofs.Common.{◌≡◌, ◌/◌, inr, length, Some, ap, sym, ◌∙◌, arith}
 use Rattle.std.specs.Prelude.{slice_get}
 use Rattle.tab_core.specs.declared.TheConstants.{ROUND}
 use Rattle.table_form.specs.Tables.Views.{plan_view}
-use Rattle.table_form.specs.Running.Choice.{IsChoice}
-use Rattle.table_form.specs.Tables.Plans.{PlanView}
-use Rattle.table_form.specs.Running.Courses.{plan_after, runnable_after}
+use Rattle.table_form.specs.Running.Choice.{IsDispatch, last_after, last_shared}
+use Rattle.table_form.specs.Running.Courses.{CourseView}
+use Rattle.table_form.specs.Running.Outlines.{OutlineView}
+use Rattle.table_form.proofs.CourseLemmas.{in_course}
 use Rattle.step_machine.specs.Logs.{core_of, cores_of}
 use Rattle.run_promises.proofs.Lists.{same, element_at}
 use Rattle.step_machine.proofs.LogLemmas.{core_at}
 use Rattle.step_machine.proofs.Phases.{entered_to_run}
 use Rattle.step_machine.proofs.Acting.{log_found, log_kept}
-use Rattle.second_level.proofs.Choosing.{pick_of_sets}
-use Rattle.step_machine.proofs.stints.next_stint.Goals as goal
+use Rattle.step_machine.proofs.stints.stint_now.Goals as goal
 
 pub seen_by-seen-requires : goal.seen_by-seen-requires
 seen_by-seen-requires c =
@@ -47,18 +47,19 @@ plan_after-plan-requires c =
     (log.clock / ROUND) found.0 found.1) in
     omega (arith, c.requires.kept.posted_most)
 
-pub runnable_after-requires : goal.runnable_after-requires
-runnable_after-requires c =
+pub next_stint-requires-clause-seen : goal.next_stint-requires-clause-seen
+next_stint-requires-clause-seen c =
     let p = c.args.progress.now in
     let log = c.index-log.result.now in
     let at = log_found c.args.course.now c.args.rounds p c.args.c log c.requires.kept
     c.requires.core c.index-log.ensures in
     let k = log_kept c.args.course.now c.args.rounds p c.args.c log c.requires.kept at in
     let most = (k.sight c.seen_by-seen.result c.seen_by-seen.ensures).seen_posted in
+    let ticks = ap (λ (o : OutlineView). length o.ticks) c.outline-outline.ensures.outline in
     omega (arith, c.requires.kept.posted_most)
 
-pub end_of-end-requires-clause-from : goal.end_of-end-requires-clause-from
-end_of-end-requires-clause-from c =
+pub next_stint-requires-clause-from : goal.next_stint-requires-clause-from
+next_stint-requires-clause-from c =
     let p = c.args.progress.now in
     let log = c.index-log.result.now in
     let at = log_found c.args.course.now c.args.rounds p c.args.c log c.requires.kept
@@ -79,38 +80,22 @@ returns-clause-next c = λ core h.
     (entered_to_run c.args.rounds (core_of log) k.timeline.numbered due) in
     let is = same (slice_get (cores_of p.logs.items) c.args.c) (core_of log) core
     (core_at p.logs.items c.args.c log at) h in
-    let plan : PlanView = plan_view c.plan_after-plan.result.now in
-    let spot = c.spot-spot.ensures in
-    let plan-is : plan ≡ plan_after course c.used_in-used.result = c.plan_after-plan.ensures.plan in
-    let ready-is : c.runnable_after.result.now ≡ runnable_after course c.seen_by-seen.result =
-    c.runnable_after.ensures in
-    let choice : IsChoice plan c.args.c
-    (log.clock % ROUND) c.runnable_after.result.now log.last c.choose-ran.result =
-    record {
-      slot = λ runs. c.choose-ran.ensures.slot (rw spot.owner runs) ∙ spot.owner;
-      shared = λ waits. (let from = c.choose-ran.ensures.shared (rw spot.owner waits) in
-          pick_of_sets plan c.args.c (log.clock % ROUND) c.spot-spot.result from.set
-          c.runnable_after.result.now log.last c.choose-ran.result spot from.set_is from.pick);
-    } in
+    let stint = c.next_stint.result.stint in
+    let follows : IsDispatch course c.args.c log.stints.items stint =
+    in_course course c.outline-outline.result.now c.used_in-used.result (plan_view c.plan_after-plan.result.now)
+    (λ (of : CourseView). log.last ≡ last_shared of c.args.c log.stints.items
+    → IsDispatch of c.args.c log.stints.items stint)
+    c.outline-outline.ensures.outline c.plan_after-plan.ensures.plan
+    (λ plans numbers is. c.next_stint.ensures.follows plans numbers is log.stints.items)
+    (c.requires.known c.args.c log at) in
     rw (← is) (record {
       due = due;
-      has_seen = c.seen_by-seen.ensures;
+      has_seen = c.seen_by-seen.ensures ∙ ap Some (sym c.next_stint.ensures.seen);
       entry = found.0;
       entered = found.1;
-      uses = sym (c.used_in-used.ensures found.0 found.1);
-      from = refl;
-      follows = record {
-        choice = rw (← plan-is, ← ready-is, ← (c.requires.known c.args.c log at)) choice;
-        span_end = c.spot-spot.result.end;
-        span = rw (← plan-is) spot.span;
-        end = c.end_of-end.ensures ∙ rw (
-          c.is_other-shared.ensures,
-          c.lag-lag.ensures.lag,
-          c.quantum-quantum.ensures.quantum,
-          spot.owner,
-          ← plan-is,
-        ) refl;
-      };
+      uses = c.next_stint.ensures.used ∙ sym (c.used_in-used.ensures found.0 found.1);
+      from = c.next_stint.ensures.from;
+      follows = follows;
     })
 
 pub returns-clause-last : goal.returns-clause-last
@@ -121,6 +106,7 @@ returns-clause-last c = λ log' h.
     let at = log_found course c.args.rounds p c.args.c log c.requires.kept c.requires.core
     c.index-log.ensures in
     let is = same (slice_get p.logs.items c.args.c) log log' at h in
-    rw (← is) (c.last_pick-last.ensures ∙ rw
-    (c.is_other-shared.ensures, c.spot-spot.ensures.owner, ← c.plan_after-plan.ensures.plan)
-    refl)
+    rw (← is) (in_course course c.outline-outline.result.now c.used_in-used.result
+    (plan_view c.plan_after-plan.result.now)
+    (λ (of : CourseView). c.next_stint.result.last ≡ last_after of c.args.c log.last c.next_stint.result.stint)
+    c.outline-outline.ensures.outline c.plan_after-plan.ensures.plan c.next_stint.ensures.last)
