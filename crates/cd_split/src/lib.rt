@@ -11,7 +11,6 @@ mod fault;
 mod laws;
 mod left;
 mod load;
-mod one_core;
 mod order;
 mod refusal;
 mod search;

@@ -1,9 +1,9 @@
 use Rattle.std.proofs.Common.{◌+◌, ◌∷◌, ◌++◌, [], length, take, arith, ap, sym, subst, ◌∙◌}
 use Rattle.std.specs.List.{AllZip}
-use Rattle.std.proofs.lemmas.List.{take_more}
+use Rattle.std.proofs.lemmas.List.{length_push, take_more}
 use Rattle.cd_split.specs.Inside.Search.{left_of}
 use Rattle.cd_split.specs.Splitting.{IsOverloadWith, rest_of}
-use Rattle.cd_split.proofs.Lists.{zip_push, length-push}
+use Rattle.tab_core.proofs.Lists.{zip_push}
 use Rattle.cd_split.proofs.refusal.overloads_of.Goals as goal
 
 pub loop-core-preserved : goal.loop-core-preserved
@@ -16,7 +16,7 @@ loop-core-preserved c =
     let core = c.core-item.result in
     let Told = IsOverloadWith c.args.cores.now (rest_of (left_of c.args.left.now)) in
     record {
-      as_many = ap length pushed ∙ length-push c.loop-core.overs.items over ∙ ap (λ n. n + 1) before.as_many;
+      as_many = ap length pushed ∙ length_push c.loop-core.overs.items over ∙ ap (λ n. n + 1) before.as_many;
       overloads =
           subst (λ cores. AllZip Told cores c.push.new.self.items)
           (sym (take_more unused i core (omega arith)
