@@ -5,13 +5,16 @@ use Rattle.std.proofs.Math.Nat.{mul-le-mul_left, div-mul-le_self}
 use Rattle.std.proofs.lemmas.Nat.{le-div}
 use Rattle.tab_core.specs.declared.TheConstants.{ROUND}
 use Rattle.tab_core.specs.Period.{IsPeriod}
-use Rattle.table_form.specs.Planning.Jobs.{Job, Subtask, job_of, first_jobs, jobs_of_subtask}
+use Rattle.tab_core.specs.declared.over.Over.{Over}
+use Rattle.tab_core.specs.declared.piece.Piece.{Piece}
+use Rattle.table_form.specs.Planning.Jobs.{Job, Subtask, job_of, first_jobs, jobs_of}
 use Rattle.table_form.specs.Planning.Demand.{demand_in, is_inside}
 use Rattle.edf_table.specs.Beside.{FitsBeside, tight}
-use Rattle.edf_table.specs.Overloads.{IsReported}
 use Rattle.edf_table.proofs.Pieces.{first_jobs-suc, first_jobs-zero}
 use Rattle.edf_table.proofs.Whole.{demand_in-append, demand_in-none, demand_in-one}
 use Rattle.edf_table.proofs.Shorter.{shorter_fits}
+use Rattle.cd_split.specs.Cores.{pieces_on}
+use Rattle.cd_split.specs.Splitting.{FitsWith, IsOverloadWith}
 
 -- where a cut fits, each shorter one does
 pub fits_down : (jobs : List Job) (v x f t d : ℕ) → IsPeriod t → 1 ≤ x → f + (x + d) ≤ t
@@ -99,11 +102,15 @@ insides v x y f t from to (suc n) le =
     ]
 
 -- a cut that lacks less than the interval's excess overloads it too
-pub still_over : (jobs : List Job) (v cost less f t from to demand : ℕ) → 1 ≤ t
-    → IsReported (jobs ++ jobs_of_subtask (tight v cost f t)) from to demand → to - from < demand →
-    cost - (demand - (to - from) - 1) / ((to - from - cost) / t + 1) ≤ less → less ≤ cost
-    → FitsBeside jobs (tight v less f t) → ⊥
-still_over jobs v cost less f t from to demand some reported over near le fits =
+pub still_over : (cores : List (List Piece)) (core v cost less f t : ℕ) (over : Over) → 1 ≤ t
+    → IsOverloadWith cores (tight v cost f t) core over → over.to - over.from < over.demand →
+    cost - (over.demand - (over.to - over.from) - 1) / ((over.to - over.from - cost) / t + 1) ≤ less
+    → less ≤ cost → FitsWith (pieces_on cores core) (tight v less f t) → ⊥
+still_over cores core v cost less f t over some reported much near le fits =
+    let jobs = jobs_of (pieces_on cores core) in
+    let from = over.from in
+    let to = over.to in
+    let demand = over.demand in
     let n = ROUND / t in
     let long = demand_in (first_jobs (tight v cost f t) n) from to in
     let short = demand_in (first_jobs (tight v less f t) n) from to in

@@ -1,5 +1,5 @@
+pub mod CoresLemmas
 pub mod Cuts
-pub mod Lists
 pub mod Loads
 pub mod Orders
 pub mod Shares

@@ -10,13 +10,13 @@ use Rattle.std.proofs.lemmas.Map.Keys.{ge_from_not_lt}
 use Rattle.std.proofs.lemmas.List.Elements.{All-contains, Contains-get_or, at_read}
 use Rattle.std.proofs.lemmas.Bool.{cases_eq, cases_order}
 use Rattle.tab_core.specs.declared.piece.Piece.{Piece}
-use Rattle.cd_split.specs.Order.{IsOrderOf, IsRankIn}
-use Rattle.cd_split.specs.Search.{NoneBefore}
+use Rattle.cd_split.specs.Inside.Order.{IsOrderOf, IsCoreLoad}
+use Rattle.cd_split.specs.Inside.Search.{NoneBefore}
 use Rattle.cd_split.specs.Splitting.{ComesFirst, IsFirstCore}
-use Rattle.cd_split.specs.declared.order.Rank.{Rank}
+use Rattle.cd_split.specs.declared.order.CoreLoad.{CoreLoad}
 
 -- the next core of the order
-pub none_more : (order : List Rank) (unused : List ℕ) (P : ℕ → Type 0) (k : ℕ) (item : Rank)
+pub none_more : (order : List CoreLoad) (unused : List ℕ) (P : ℕ → Type 0) (k : ℕ) (item : CoreLoad)
     → NoneBefore order unused P k → k < length order → item ≡ get_or order k item →
     (Contains unused item.core → P item.core → ⊥) → NoneBefore order unused P (k + 1)
 none_more order unused P k item none lt is here j d below =
@@ -26,23 +26,23 @@ none_more order unused P k item none lt is here j d below =
       | inr ne ↦ none j d (omega arith)
     ]
 
-pub none_found : (cores : List (List Piece)) (order : List Rank) (unused : List ℕ) (P : ℕ → Type 0)
+pub none_found : (cores : List (List Piece)) (order : List CoreLoad) (unused : List ℕ) (P : ℕ → Type 0)
     (k : ℕ) → IsOrderOf cores order → All (λ core. core < length cores) unused →
     length order ≤ k → NoneBefore order unused P k → (core : ℕ) → Contains unused core → P core → ⊥
 none_found cores order unused P k ordered there all none core in_unused holds =
-    let d : Rank = record { load = 0; core = core } in
+    let d : CoreLoad = record { load = 0; core = core } in
     let at = ordered.complete core (All-contains (λ c. c < length cores) unused core there in_unused) in
     let same : core ≡ (get_or order at.0 d).core = sym (at.2 d) in
     none at.0 d (omega (arith, at.1)) (subst (Contains unused) same in_unused) (subst P same holds)
 
-pub first_found : (cores : List (List Piece)) (order : List Rank) (unused : List ℕ) (P : ℕ → Type 0)
-    (d : Rank) (k core : ℕ) → IsOrderOf cores order →
+pub first_found : (cores : List (List Piece)) (order : List CoreLoad) (unused : List ℕ) (P : ℕ → Type 0)
+    (d : CoreLoad) (k core : ℕ) → IsOrderOf cores order →
     All (λ core. core < length cores) unused → k < length order → (get_or order k d).core ≡ core
     → NoneBefore order unused P k → Contains unused core → P core →
     IsFirstCore cores unused P core
 first_found cores order unused P d k core ordered there lt is none in_unused holds = record {
   unused_core = in_unused;
-  holds = holds;
+  does = holds;
   first = λ other in_other holds_other ne. (
       let at = ordered.complete other (All-contains (λ c. c < length cores) unused other there in_other) in
       let same : other ≡ (get_or order at.0 d).core = sym (at.2 d) in
@@ -60,7 +60,7 @@ first_found cores order unused P d k core ordered there lt is none in_unused hol
 }
 
 -- the lower load, and of equal ones the lower core
-abbrev IsBefore : Rank → Rank → Type 0
+abbrev IsBefore : CoreLoad → CoreLoad → Type 0
 IsBefore r s = (r.load < s.load) ⊎ ((r.load ≡ s.load) × (r.core ≤ s.core))
 
 before_from_cmp : (a b m n : ℕ) → is_lt (ordering_then (nat_cmp a b) (nat_cmp m n)) ≡ false
@@ -76,14 +76,14 @@ before_from_cmp a b m n h = elim (cases_order a b) [
   ]
 ]
 
-before_after : (r s t : Rank) → IsBefore r s → IsBefore s t → IsBefore r t
+before_after : (r s t : CoreLoad) → IsBefore r s → IsBefore s t → IsBefore r t
 before_after r s t (inl a) (inl b) = inl (omega arith)
 before_after r s t (inl a) (inr b) = inl (omega (arith, b.0))
 before_after r s t (inr a) (inl b) = inl (omega (arith, a.0))
 before_after r s t (inr a) (inr b) = inr (a.0 ∙ b.0, omega (arith, a.1, b.1))
 
 -- from each rank to the next, so from each to all later ones
-rises_all : (ranks : List Rank) (d : Rank)
+rises_all : (ranks : List CoreLoad) (d : CoreLoad)
     → ((k : ℕ) → k + 1 < length ranks → IsBefore (get_or ranks k d) (get_or ranks (k + 1) d))
     → (j n : ℕ) → j + suc n < length ranks →
     IsBefore (get_or ranks j d) (get_or ranks (j + suc n) d)
@@ -98,30 +98,30 @@ rises_all ranks d next j (suc n) lt =
     (subst (λ k. IsBefore (get_or ranks (j + suc n) d) (get_or ranks k d)) same
     (next (j + suc n) (omega arith)))
 
-comes_first : (cores : List (List Piece)) (r s : Rank) → IsRankIn cores r → IsRankIn cores s
+comes_first : (cores : List (List Piece)) (r s : CoreLoad) → IsCoreLoad cores r → IsCoreLoad cores s
     → IsBefore r s → r.core ≢ s.core → ComesFirst cores r.core s.core
 comes_first cores r s in_r in_s (inl less) ne = inl (omega (arith, in_r.value, in_s.value))
 comes_first cores r s in_r in_s (inr same) ne =
     inr (sym in_r.value ∙ same.0 ∙ in_s.value, omega (arith, same.1))
 
 -- the ranks of all cores, sorted
-pub order_from_sort : (cores : List (List Piece)) (made sorted : List Rank)
-    → length made ≡ length cores → All (IsRankIn cores) made →
-    ((k : ℕ) (d : Rank) → k < length made → (get_or made k d).core ≡ k) → IsPermutation made sorted →
+pub order_from_sort : (cores : List (List Piece)) (made sorted : List CoreLoad)
+    → length made ≡ length cores → All (IsCoreLoad cores) made →
+    ((k : ℕ) (d : CoreLoad) → k < length made → (get_or made k d).core ≡ k) → IsPermutation made sorted →
     IsSorted (λ r s. ordering_then (nat_cmp r.load s.load) (nat_cmp r.core s.core)) sorted
     → IsOrderOf cores sorted
 order_from_sort cores made sorted count ranks numbers moved rising =
-    let all = All-permutation (IsRankIn cores) made sorted moved ranks in
+    let all = All-permutation (IsCoreLoad cores) made sorted moved ranks in
     record {
-      ranks = all;
+      loads = all;
       complete = λ core lt. (
-          let d : Rank = record { load = 0; core = core } in
+          let d : CoreLoad = record { load = 0; core = core } in
           let rank = get_or made core d in
           let lt' : core < length made = omega arith in
           let at = Contains-permutation made sorted rank moved (Contains-get_or made core d lt') in (
             at.0,
             at.1,
-            λ e. ap (λ (r : Rank). r.core)
+            λ e. ap (λ (r : CoreLoad). r.core)
                 (get_or_default sorted at.0 e rank at.1 ∙ at.2) ∙ numbers core d lt',
           ));
       rising = λ j k d before lt ne. (

@@ -3,15 +3,14 @@ use Rattle.std.proofs.Common.{◌≡◌, ◌≢◌, ℕ, zero, suc, ◌+◌, ◌
 use Rattle.std.specs.List.{All, Contains, sum_by}
 use Rattle.std.proofs.lemmas.Bool.Decides.{nat_tests}
 use Rattle.std.proofs.lemmas.Option.{gets}
-use Rattle.edf_table.specs.Beside.{remainder, tight}
 use Rattle.std.proofs.lemmas.List.Elements.{All-nil, All-cons, All-contains, All-contains_itself, All-filter, All-weaker, filter_passes}
 use Rattle.std.proofs.lemmas.List.Sums.{sum_by-cons}
 use Rattle.tab_core.specs.declared.piece.Piece.{Piece}
 use Rattle.table_form.specs.Planning.Jobs.{Subtask}
 use Rattle.table_form.specs.Planning.Demand.{Fits}
 use Rattle.cd_split.specs.Cores.{pieces_on, HaveRoomFor}
-use Rattle.cd_split.specs.Shares.{AreOf, FitTheirCores, FollowOn, StandApart}
-use Rattle.cd_split.specs.Splitting.{FitsWith, IsPieceOf, Splits, without}
+use Rattle.cd_split.specs.Shares.{AreOf, FitTheirCores, HaveAdjacentWindows, StandApart}
+use Rattle.cd_split.specs.Splitting.{FitsWith, IsPieceOf, Left, Splits, behind, cut_of, rest_of, without}
 use Rattle.cd_split.specs.Splitting.Splits.{AtHome, Cut}
 use Rattle.cd_split.proofs.Trials.{jobs_of-push}
 
@@ -37,51 +36,51 @@ room_for cores core s p is fits =
     (subst (FitsWith (pieces_on cores p.core)) (sym is.1) there)
 
 -- each piece is of the vCPU and has its period
-pub splits_of : (cores : List (List Piece)) (vcpu period rest from : ℕ) (unused : List ℕ)
-    (pieces : List Piece) → Splits cores vcpu period rest from unused pieces
-    → AreOf vcpu period pieces
-splits_of cores vcpu period rest from unused pieces (AtHome r f core u piece first is) =
-    All-cons (λ (p : Piece). (p.vcpu ≡ vcpu) × (p.period ≡ period)) piece []
+pub splits_of : (cores : List (List Piece)) (left : Left) (unused : List ℕ) (pieces : List Piece)
+    → Splits cores left unused pieces
+    → AreOf left.vcpu left.period pieces
+splits_of cores left unused pieces (AtHome l u core piece first is) =
+    All-cons (λ (p : Piece). (p.vcpu ≡ l.vcpu) × (p.period ≡ l.period)) piece []
     (ap (λ (s : Subtask). s.vcpu) is.1, ap (λ (s : Subtask). s.period) is.1)
-    (All-nil (λ (p : Piece). (p.vcpu ≡ vcpu) × (p.period ≡ period)))
-splits_of cores vcpu period rest from unused pieces (Cut r f core cost u piece ps cut is next) =
-    All-cons (λ (p : Piece). (p.vcpu ≡ vcpu) × (p.period ≡ period)) piece ps
+    (All-nil (λ (p : Piece). (p.vcpu ≡ l.vcpu) × (p.period ≡ l.period)))
+splits_of cores left unused pieces (Cut l u core cost piece ps cut is next) =
+    All-cons (λ (p : Piece). (p.vcpu ≡ l.vcpu) × (p.period ≡ l.period)) piece ps
     (ap (λ (s : Subtask). s.vcpu) is.1, ap (λ (s : Subtask). s.period) is.1)
-    (splits_of cores vcpu period (r - cost) (f + cost) (without core u) ps next)
+    (splits_of cores (behind l cost) (without core u) ps next)
 
 -- each piece fits beside those of its core
-pub splits_fit : (cores : List (List Piece)) (vcpu period rest from : ℕ) (unused : List ℕ)
-    (pieces : List Piece) → All (λ core. core < length cores) unused →
-    Splits cores vcpu period rest from unused pieces → FitTheirCores cores pieces
-splits_fit cores vcpu period rest from unused pieces there (AtHome r f core u piece first is) =
+pub splits_fit : (cores : List (List Piece)) (left : Left) (unused : List ℕ) (pieces : List Piece)
+    → All (λ core. core < length cores) unused →
+    Splits cores left unused pieces → FitTheirCores cores pieces
+splits_fit cores left unused pieces there (AtHome l u core piece first is) =
     All-cons (λ (p : Piece). (p.core < length cores) × HaveRoomFor (pieces_on cores p.core) p) piece [] (
       subst (λ c. c < length cores) (sym is.0)
           (All-contains (λ c. c < length cores) u core there first.unused_core),
-      room_for cores core (remainder vcpu r f period) piece is first.holds,
+      room_for cores core (rest_of l) piece is first.does,
     )
     (All-nil (λ (p : Piece). (p.core < length cores) × HaveRoomFor (pieces_on cores p.core) p))
-splits_fit cores vcpu period rest from unused pieces there (Cut r f core cost u piece ps cut is next) =
+splits_fit cores left unused pieces there (Cut l u core cost piece ps cut is next) =
     All-cons (λ (p : Piece). (p.core < length cores) × HaveRoomFor (pieces_on cores p.core) p) piece ps (
       subst (λ c. c < length cores) (sym is.0)
           (All-contains (λ c. c < length cores) u core there cut.first.unused_core),
-      room_for cores core (tight vcpu cost f period) piece is cut.greatest.fits,
+      room_for cores core (cut_of l cost) piece is cut.greatest.fits,
     )
-    (splits_fit cores vcpu period (r - cost) (f + cost) (without core u) ps
+    (splits_fit cores (behind l cost) (without core u) ps
     (All-filter (λ c. not (c == core)) (λ c. c < length cores) u there) next)
 
 -- each stands on an unused core
-splits_unused : (cores : List (List Piece)) (vcpu period rest from : ℕ) (unused : List ℕ)
-    (pieces : List Piece) → Splits cores vcpu period rest from unused pieces →
+splits_unused : (cores : List (List Piece)) (left : Left) (unused : List ℕ) (pieces : List Piece)
+    → Splits cores left unused pieces →
     All (λ p. Contains unused p.core) pieces
-splits_unused cores vcpu period rest from unused pieces (AtHome r f core u piece first is) =
+splits_unused cores left unused pieces (AtHome l u core piece first is) =
     All-cons (λ (p : Piece). Contains u p.core) piece []
     (subst (Contains u) (sym is.0) first.unused_core)
     (All-nil (λ (p : Piece). Contains u p.core))
-splits_unused cores vcpu period rest from unused pieces (Cut r f core cost u piece ps cut is next) =
+splits_unused cores left unused pieces (Cut l u core cost piece ps cut is next) =
     All-cons (λ (p : Piece). Contains u p.core) piece ps (subst (Contains u) (sym is.0) cut.first.unused_core)
     (All-weaker (λ (p : Piece). Contains (without core u) p.core) (λ (p : Piece). Contains u p.core)
     (λ p there. still_unused core p.core u there) ps
-    (splits_unused cores vcpu period (r - cost) (f + cost) (without core u) ps next))
+    (splits_unused cores (behind l cost) (without core u) ps next))
 
 apart_one : (piece : Piece) → StandApart (piece ∷ [])
 apart_one piece zero zero a b at at' same = refl
@@ -96,38 +95,38 @@ apart_cons piece ps others apart (suc i) zero a b at at' same = absurd (grind (a
 apart_cons piece ps others apart (suc i) (suc j) a b at at' same = ap (λ n. suc n) (apart i j a b at at' same)
 
 -- no two stand on one core
-pub splits_apart : (cores : List (List Piece)) (vcpu period rest from : ℕ) (unused : List ℕ)
-    (pieces : List Piece) → Splits cores vcpu period rest from unused pieces → StandApart pieces
-splits_apart cores vcpu period rest from unused pieces (AtHome r f core u piece first is) = apart_one piece
-splits_apart cores vcpu period rest from unused pieces (Cut r f core cost u piece ps cut is next) =
+pub splits_apart : (cores : List (List Piece)) (left : Left) (unused : List ℕ) (pieces : List Piece)
+    → Splits cores left unused pieces → StandApart pieces
+splits_apart cores left unused pieces (AtHome l u core piece first is) = apart_one piece
+splits_apart cores left unused pieces (Cut l u core cost piece ps cut is next) =
     apart_cons piece ps
     (All-weaker (λ (p : Piece). Contains (without core u) p.core)
     (λ (p : Piece). p.core ≢ piece.core)
     (λ p there e. not_without core p.core u there (e ∙ is.0)) ps
-    (splits_unused cores vcpu period (r - cost) (f + cost) (without core u) ps next))
-    (splits_apart cores vcpu period (r - cost) (f + cost) (without core u) ps next)
+    (splits_unused cores (behind l cost) (without core u) ps next))
+    (splits_apart cores (behind l cost) (without core u) ps next)
 
 -- the windows follow one another
-pub splits_follow : (cores : List (List Piece)) (vcpu period rest from : ℕ) (unused : List ℕ)
-    (pieces : List Piece) → Splits cores vcpu period rest from unused pieces →
-    FollowOn from period pieces
-splits_follow cores vcpu period rest from unused pieces (AtHome r f core u piece first is) =
+pub splits_follow : (cores : List (List Piece)) (left : Left) (unused : List ℕ) (pieces : List Piece)
+    → Splits cores left unused pieces →
+    HaveAdjacentWindows left.from left.period pieces
+splits_follow cores left unused pieces (AtHome l u core piece first is) =
     (ap (λ (s : Subtask). s.from) is.1, ap (λ (s : Subtask). s.to) is.1)
-splits_follow cores vcpu period rest from unused pieces (Cut r f core cost u piece ps cut is next) = (
+splits_follow cores left unused pieces (Cut l u core cost piece ps cut is next) = (
   ap (λ (s : Subtask). s.from) is.1,
-  subst (λ n. FollowOn n period ps) (sym (ap (λ (s : Subtask). s.to) is.1))
-      (splits_follow cores vcpu period (r - cost) (f + cost) (without core u) ps next),
+  subst (λ n. HaveAdjacentWindows n l.period ps) (sym (ap (λ (s : Subtask). s.to) is.1))
+      (splits_follow cores (behind l cost) (without core u) ps next),
 )
 
 -- the costs are what is left
-pub splits_cost : (cores : List (List Piece)) (vcpu period rest from : ℕ) (unused : List ℕ)
-    (pieces : List Piece) → Splits cores vcpu period rest from unused pieces →
-    sum_by (λ p. p.cost) pieces ≡ rest
-splits_cost cores vcpu period rest from unused pieces (AtHome r f core u piece first is) =
+pub splits_cost : (cores : List (List Piece)) (left : Left) (unused : List ℕ) (pieces : List Piece)
+    → Splits cores left unused pieces →
+    sum_by (λ p. p.cost) pieces ≡ left.rest
+splits_cost cores left unused pieces (AtHome l u core piece first is) =
     sum_by-cons (λ (p : Piece). p.cost) piece []
     ∙ (let cost = ap (λ (s : Subtask). s.cost) is.1 in omega arith)
-splits_cost cores vcpu period rest from unused pieces (Cut r f core cost u piece ps cut is next) =
+splits_cost cores left unused pieces (Cut l u core cost piece ps cut is next) =
     let here = ap (λ (s : Subtask). s.cost) is.1 in
-    let after = splits_cost cores vcpu period (r - cost) (f + cost) (without core u) ps next in
-    let below = cut.greatest.below in
+    let after = splits_cost cores (behind l cost) (without core u) ps next in
+    let below = cut.greatest.part in
     sum_by-cons (λ (p : Piece). p.cost) piece ps ∙ omega arith

@@ -1,18 +1,20 @@
 -- One piece more on a core.
-use Rattle.std.proofs.Common.{◌≡◌, List, [], ◌∷◌, ◌++◌, Option, None, Some, IfNone, IfSome, MatchOption, subst, sym, ap, ◌∙◌, arith}
+use Rattle.std.proofs.Common.{◌≡◌, ◌↔◌, ℕ, List, [], ◌∷◌, ◌++◌, Option, None, Some, IfNone, IfSome, IsTrue, MatchOption, Bool, true, false, not, is_some, refl, subst, sym, ap, ◌∙◌, arith}
+use Rattle.std.specs.List.{All}
 use Rattle.std.proofs.lemmas.Grind.{common_steps}
+use Rattle.std.proofs.lemmas.List.Elements.{All-head}
 use Rattle.std.proofs.lemmas.Option.{gets}
 use Rattle.std.proofs.lemmas.List.{append-nil, append_assoc}
+use Rattle.tab_core.specs.declared.over.Over.{Over}
 use Rattle.tab_core.specs.declared.piece.Piece.{Piece}
-use Rattle.table_form.specs.Planning.Jobs.{jobs_of, jobs_of_subtask, subtask_of}
+use Rattle.table_form.specs.Planning.Jobs.{Subtask, jobs_of, jobs_of_subtask, subtask_of}
 use Rattle.table_form.specs.Planning.Demand.{Fits}
 use Rattle.table_form.specs.Planning.Windows.{DistinctVcpus}
 use Rattle.edf_table.proofs.Pieces.{jobs_of-nil}
 use Rattle.edf_table.proofs.Whole.{demand_in-none}
-use Rattle.edf_table.specs.Overloads.{IsOverloadOf}
-use Rattle.edf_table.specs.declared.overload.Overload.{Overload}
-use Rattle.cd_split.specs.Cores.{LackVcpu, ShareCore}
-use Rattle.cd_split.specs.Splitting.{FitsWith}
+use Rattle.edf_table.specs.Overloads.{IsReported, IsReportedOf, core_of}
+use Rattle.cd_split.specs.Cores.{LackVcpu, ShareCore, pieces_on}
+use Rattle.cd_split.specs.Splitting.{FitsWith, IsOverloadWith, IsPieceOf}
 
 -- its jobs come behind those of the others
 pub jobs_of-push : (ps : List Piece) (p : Piece)
@@ -35,12 +37,47 @@ pub distinct_push : (ps : List Piece) (p : Piece) → DistinctVcpus ps → LackV
 distinct_push ps p distinct lack i j a b at at' same =
     grind (arith, common_steps, gets, distinct i j a b, lack i a, lack j b)
 
--- what is told of the pieces with one more, said of the piece beside the others
-pub told_beside : (ps : List Piece) (p : Piece) (trial : List Piece) (found : Option Overload)
-    → trial ≡ ps ++ p ∷ [] → IfNone found (Fits (jobs_of trial)) →
-    IfSome found (IsOverloadOf (jobs_of trial))
+-- the piece stands on the core of the others, so all with it do
+pub core_of-push : (ps : List Piece) (p : Piece) → All (λ q. q.core ≡ p.core) ps
+    → core_of (ps ++ p ∷ []) ≡ p.core
+core_of-push [] p own = refl
+core_of-push (q ∷ ps) p own = All-head (λ (r : Piece). r.core ≡ p.core) q ps own
+
+-- what is told of a core's pieces with one more, said of the piece beside the others
+pub told_beside : (ps : List Piece) (p : Piece) (trial : List Piece) (found : Option Over)
+    → trial ≡ ps ++ p ∷ [] → All (λ q. q.core ≡ p.core) ps → IfNone found (Fits (jobs_of trial)) →
+    IfSome found (IsReportedOf trial)
     → MatchOption found (FitsWith ps (subtask_of p))
-    (IsOverloadOf (jobs_of ps ++ jobs_of_subtask (subtask_of p)))
-told_beside ps p trial None is fits over = subst Fits (ap jobs_of is ∙ jobs_of-push ps p) fits
-told_beside ps p trial (Some o) is fits over =
-    subst (λ js. IsOverloadOf js o) (ap jobs_of is ∙ jobs_of-push ps p) over
+    (IsReported p.core (jobs_of ps ++ jobs_of_subtask (subtask_of p)))
+told_beside ps p trial None is own fits over = subst Fits (ap jobs_of is ∙ jobs_of-push ps p) fits
+told_beside ps p trial (Some o) is own fits over =
+    subst (λ js. IsReported p.core js o) (ap jobs_of is ∙ jobs_of-push ps p)
+    (subst (λ core. IsReported core (jobs_of trial) o) (ap core_of is ∙ core_of-push ps p own) over)
+
+-- a subtask that is told to overload an interval doesn't fit
+pub not_both : (cores : List (List Piece)) (s : Subtask) (core : ℕ) (over : Over)
+    → IsOverloadWith cores s core over → FitsWith (pieces_on cores core) s → ⊥
+not_both cores s core over told fits =
+    let overloaded = told.first.overloaded in
+    let bound = fits over.from over.to overloaded.some_ticks overloaded.within in
+    let much = overloaded.too_much in
+    omega arith
+
+-- so the piece's subtask fits on the core exactly where nothing is told
+pub told_takes : (cores : List (List Piece)) (s : Subtask) (core : ℕ) (p : Piece) (found : Option Over)
+    (takes : Bool) → IsPieceOf core s p → is_some found ≡ not takes →
+    MatchOption found (FitsWith (pieces_on cores p.core) (subtask_of p))
+    (IsOverloadWith cores (subtask_of p) p.core) → IsTrue takes ↔ FitsWith (pieces_on cores core) s
+told_takes cores s core p None true is test told = (
+  (λ yes. subst (FitsWith (pieces_on cores core)) is.1
+      (subst (λ c. FitsWith (pieces_on cores c) (subtask_of p)) is.0 told)),
+  (λ fits. refl),
+)
+told_takes cores s core p None false is test told = absurd (cc)
+told_takes cores s core p (Some over) true is test told = absurd (cc)
+told_takes cores s core p (Some over) false is test told = (
+  (λ yes. absurd (cc)),
+  (λ fits. absurd (not_both cores (subtask_of p) p.core over told
+      (subst (FitsWith (pieces_on cores p.core)) (sym is.1)
+      (subst (λ c. FitsWith (pieces_on cores c) s) (sym is.0) fits)))),
+)

@@ -23,7 +23,8 @@ pub record ShareCore (pieces : List Piece) : Type 0 where
   pub distinct : DistinctVcpus pieces
   pub fit : Fits (jobs_of pieces)
 
--- what the pieces of the cores keep: each stands on its own core
+-- what the pieces of the cores keep: each stands on its own core, and shares it with the others there
 pub record KeepCores (cores : List (List Piece)) : Type 0 where
   pub few : length cores ≤ MAX_CORES
   pub own : (core : ℕ) → All (λ p. p.core ≡ core) (pieces_on cores core)
+  pub share : (core : ℕ) → ShareCore (pieces_on cores core)

@@ -1,6 +1,5 @@
 pub mod Cores
 pub mod Faults
-pub mod Order
-pub mod Search
+pub mod Inside
 pub mod Shares
 pub mod Splitting

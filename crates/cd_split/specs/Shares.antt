@@ -14,10 +14,10 @@ abbrev pub StandApart : List Piece → Type 0
 StandApart pieces = (i j : ℕ) (a b : Piece) → slice_get pieces i ≡ Some a
     → slice_get pieces j ≡ Some b → a.core ≡ b.core → i ≡ j
 
--- the windows follow one another from one tick of the period to another, without a gap
-abbrev pub FollowOn : ℕ → ℕ → List Piece → Type 0
-FollowOn from to [] = from ≡ to
-FollowOn from to (p ∷ ps) = (p.from ≡ from) × FollowOn p.to to ps
+-- each window begins where the one before it ends, from one tick of the period to another
+abbrev pub HaveAdjacentWindows : ℕ → ℕ → List Piece → Type 0
+HaveAdjacentWindows from to [] = from ≡ to
+HaveAdjacentWindows from to (p ∷ ps) = (p.from ≡ from) × HaveAdjacentWindows p.to to ps
 
 -- each piece is of the vCPU and has its period
 abbrev pub AreOf : ℕ → ℕ → List Piece → Type 0

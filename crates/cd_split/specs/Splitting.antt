@@ -22,98 +22,112 @@ FitsWith pieces s = FitsBeside (jobs_of pieces) s
 abbrev pub IsPieceOf : ℕ → Subtask → Piece → Type 0
 IsPieceOf core s p = (p.core ≡ core) × (subtask_of p ≡ s)
 
+-- what is left of a vCPU: `rest` ticks of each period, in windows from `from` on
+pub record Left : Type 0 where
+  pub vcpu : ℕ
+  pub period : ℕ
+  pub from : ℕ
+  pub rest : ℕ
+
+-- all of it, before it is split
+abbrev pub all_of : ℕ → Periodic → Left
+all_of vcpu task = record { vcpu = vcpu; period = task.period; from = 0; rest = task.cost }
+
+-- what is left behind a cut of so many ticks
+abbrev pub behind : Left → ℕ → Left
+behind left cost = record left { from = left.from + cost; rest = left.rest - cost }
+
+-- all that is left, as one subtask
+abbrev pub rest_of : Left → Subtask
+rest_of left = remainder left.vcpu left.rest left.from left.period
+
+-- a cut of it, which has no slack
+abbrev pub cut_of : Left → ℕ → Subtask
+cut_of left cost = tight left.vcpu cost left.from left.period
+
 -- core c comes before core d: its load is lower, or the same and its number lower
 abbrev pub ComesFirst : List (List Piece) → ℕ → ℕ → Type 0
 ComesFirst cores c d =
     (load (pieces_on cores c) < load (pieces_on cores d))
     ⊎ ((load (pieces_on cores c) ≡ load (pieces_on cores d)) × (c < d))
 
--- of the unused cores of which P holds, the first
-pub record IsFirstCore (cores : List (List Piece)) (unused : List ℕ) (P : ℕ → Type 0)
+-- of the unused cores that do so, the first
+pub record IsFirstCore (cores : List (List Piece)) (unused : List ℕ) (Does : ℕ → Type 0)
     (core : ℕ) : Type 0 where
   pub unused_core : Contains unused core
-  pub holds : P core
-  pub first : (other : ℕ) → Contains unused other → P other → other ≢ core → ComesFirst cores core other
+  pub does : Does core
+  pub first : (other : ℕ) → Contains unused other → Does other → other ≢ core → ComesFirst cores core other
 
--- all that is left of the vCPU fits on the core
-abbrev pub TakesRest : List (List Piece) → ℕ → ℕ → ℕ → ℕ → ℕ → Type 0
-TakesRest cores vcpu period rest from core = FitsWith (pieces_on cores core) (remainder vcpu rest from period)
+-- no unused core does so
+abbrev pub NoneDoes : List ℕ → (ℕ → Type 0) → Type 0
+NoneDoes unused Does = (core : ℕ) → Contains unused core → Does core → ⊥
 
--- no unused core takes all that is left
-abbrev pub NoneTakesRest : List (List Piece) → ℕ → ℕ → ℕ → ℕ → List ℕ → Type 0
-NoneTakesRest cores vcpu period rest from unused = (core : ℕ) → Contains unused core
-    → TakesRest cores vcpu period rest from core → ⊥
+-- the core takes the rest
+abbrev pub TakesRest : List (List Piece) → Left → ℕ → Type 0
+TakesRest cores left core = FitsWith (pieces_on cores core) (rest_of left)
 
--- the greatest number of ticks below the rest that fits beside these pieces in a piece without slack
-pub record IsGreatestCut (pieces : List Piece) (vcpu period rest from cost : ℕ) : Type 0 where
-  pub below : cost < rest
-  pub fits : FitsWith pieces (tight vcpu cost from period)
-  pub greatest : (more : ℕ) → more < rest → FitsWith pieces (tight vcpu more from period) → more ≤ cost
+-- the greatest cut smaller than the rest that fits on the core
+pub record IsGreatestCut (cores : List (List Piece)) (left : Left) (core cost : ℕ) : Type 0 where
+  pub part : cost < left.rest
+  pub fits : FitsWith (pieces_on cores core) (cut_of left cost)
+  pub greatest : (more : ℕ) → more < left.rest → FitsWith (pieces_on cores core) (cut_of left more)
+      → more ≤ cost
 
--- the greatest such piece is large enough to be cut off
-abbrev pub TakesCut : List (List Piece) → ℕ → ℕ → ℕ → ℕ → ℕ → Type 0
-TakesCut cores vcpu period rest from core = (cost : ℕ) × (LEAST_CUT ≤ cost)
-    × IsGreatestCut (pieces_on cores core) vcpu period rest from cost
+-- the core takes a cut: its greatest is large enough
+abbrev pub TakesCut : List (List Piece) → Left → ℕ → Type 0
+TakesCut cores left core = (cost : ℕ) × (LEAST_CUT ≤ cost) × IsGreatestCut cores left core cost
 
--- no core takes the rest, two or more are unused, and the first that takes a cut takes the greatest
-pub record IsCut (cores : List (List Piece)) (vcpu period rest from : ℕ) (unused : List ℕ)
-    (core cost : ℕ) : Type 0 where
-  pub no_home : NoneTakesRest cores vcpu period rest from unused
+-- rule 2: no core takes the rest, two or more are unused, and this is the first that takes a cut,
+-- its greatest
+pub record IsCut (cores : List (List Piece)) (left : Left) (unused : List ℕ) (core cost : ℕ) : Type 0 where
+  pub no_home : NoneDoes unused (TakesRest cores left)
   pub two_unused : 2 ≤ length unused
-  pub first : IsFirstCore cores unused (TakesCut cores vcpu period rest from) core
-  pub greatest : IsGreatestCut (pieces_on cores core) vcpu period rest from cost
+  pub first : IsFirstCore cores unused (TakesCut cores left) core
+  pub greatest : IsGreatestCut cores left core cost
 
--- no core takes the rest, and there is none to cut it on
-pub record IsStuck (cores : List (List Piece)) (vcpu period rest from : ℕ) (unused : List ℕ) : Type 0 where
-  pub no_home : NoneTakesRest cores vcpu period rest from unused
-  pub no_cut : (length unused < 2)
-      ⊎ ((core : ℕ) → Contains unused core → TakesCut cores vcpu period rest from core → ⊥)
+-- neither rule finds a core
+pub record IsStuck (cores : List (List Piece)) (left : Left) (unused : List ℕ) : Type 0 where
+  pub no_home : NoneDoes unused (TakesRest cores left)
+  pub no_cut : (length unused < 2) ⊎ NoneDoes unused (TakesCut cores left)
 
 -- the reported overloaded interval of the core's pieces with the subtask
-abbrev pub IsOverOn : List (List Piece) → Subtask → ℕ → Over → Type 0
-IsOverOn cores s core o = (o.core ≡ core)
-    × IsReported (jobs_of (pieces_on cores core) ++ jobs_of_subtask s) o.from o.to o.demand
-
--- one for each of these cores, in their order
-abbrev pub AreOverloads : List (List Piece) → Subtask → List ℕ → List Over → Type 0
-AreOverloads cores s unused over = AllZip (IsOverOn cores s) unused over
+abbrev pub IsOverloadWith : List (List Piece) → Subtask → ℕ → Over → Type 0
+IsOverloadWith cores s core over = IsReported core (jobs_of (pieces_on cores core) ++ jobs_of_subtask s) over
 
 -- the unused cores without one of them
 abbrev pub without : ℕ → List ℕ → List ℕ
 without core unused = filter (λ other. not (other == core)) unused
 
+-- by the rules what is left gets these pieces: rule 1 places the rest on its home, the first core
+-- that takes it, and rule 2 cuts and goes on
+pub data Splits (cores : List (List Piece)) : Left → List ℕ → List Piece → Type 0 where
+  AtHome : (left : Left) (unused : List ℕ) (core : ℕ) (piece : Piece)
+      → IsFirstCore cores unused (TakesRest cores left) core → IsPieceOf core (rest_of left) piece
+      → Splits cores left unused (piece ∷ [])
+  Cut : (left : Left) (unused : List ℕ) (core cost : ℕ) (piece : Piece) (pieces : List Piece)
+      → IsCut cores left unused core cost → IsPieceOf core (cut_of left cost) piece →
+      Splits cores (behind left cost) (without core unused) pieces
+      → Splits cores left unused (piece ∷ pieces)
+
+-- by the rules it ends without room for the last `rest` ticks, which would make these overloaded
+-- intervals on the unused cores, one on each in their order
+pub data Refuses (cores : List (List Piece)) : Left → List ℕ → ℕ → List Over → Type 0 where
+  NoRoom : (left : Left) (unused : List ℕ) (over : List Over) → IsStuck cores left unused
+      → AllZip (IsOverloadWith cores (rest_of left)) unused over →
+      Refuses cores left unused left.rest over
+  AfterCut : (left : Left) (unused : List ℕ) (core cost rest : ℕ) (over : List Over)
+      → IsCut cores left unused core cost →
+      Refuses cores (behind left cost) (without core unused) rest over
+      → Refuses cores left unused rest over
+
 -- the cores' numbers, rising
 abbrev pub core_numbers : List (List Piece) → List ℕ
 core_numbers cores = range_with_len 0 (length cores)
 
--- what is left of the vCPU, whose next window begins at `from`, gets these pieces: the last is the
--- rest, on its home
-pub data Splits (cores : List (List Piece)) (vcpu period : ℕ) : ℕ → ℕ → List ℕ → List Piece → Type 0 where
-  AtHome : (rest from core : ℕ) (unused : List ℕ) (piece : Piece)
-      → IsFirstCore cores unused (TakesRest cores vcpu period rest from) core →
-      IsPieceOf core (remainder vcpu rest from period) piece
-      → Splits cores vcpu period rest from unused (piece ∷ [])
-  Cut : (rest from core cost : ℕ) (unused : List ℕ) (piece : Piece) (pieces : List Piece)
-      → IsCut cores vcpu period rest from unused core cost →
-      IsPieceOf core (tight vcpu cost from period) piece →
-      Splits cores vcpu period (rest - cost) (from + cost) (without core unused) pieces →
-      Splits cores vcpu period rest from unused (piece ∷ pieces)
-
--- it ends without room for the last ticks of it: how many, and the overloaded intervals of the unused cores
-pub data Refuses (cores : List (List Piece)) (vcpu period : ℕ) : ℕ → ℕ → List ℕ → ℕ → List Over → Type 0 where
-  NoRoom : (rest from : ℕ) (unused : List ℕ) (over : List Over) → IsStuck cores vcpu period rest from unused →
-      AreOverloads cores (remainder vcpu rest from period) unused over
-      → Refuses cores vcpu period rest from unused rest over
-  AfterCut : (rest from core cost left : ℕ) (unused : List ℕ) (over : List Over)
-      → IsCut cores vcpu period rest from unused core cost →
-      Refuses cores vcpu period (rest - cost) (from + cost) (without core unused) left over →
-      Refuses cores vcpu period rest from unused left over
-
--- all of the vCPU's cost is split into these pieces over all cores
+-- the whole vCPU is split into these pieces over all cores
 abbrev pub IsSplit : List (List Piece) → ℕ → Periodic → List Piece → Type 0
-IsSplit cores vcpu task pieces = Splits cores vcpu task.period task.cost 0 (core_numbers cores) pieces
+IsSplit cores vcpu task pieces = Splits cores (all_of vcpu task) (core_numbers cores) pieces
 
 -- splitting it over all cores ends without room for the last `rest` ticks
-abbrev pub IsRefused : List (List Piece) → ℕ → Periodic → ℕ → List Over → Type 0
-IsRefused cores vcpu task rest over =
-    Refuses cores vcpu task.period task.cost 0 (core_numbers cores) rest over
+abbrev pub IsSplitRefused : List (List Piece) → ℕ → Periodic → ℕ → List Over → Type 0
+IsSplitRefused cores vcpu task rest over = Refuses cores (all_of vcpu task) (core_numbers cores) rest over

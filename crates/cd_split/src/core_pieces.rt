@@ -3,19 +3,18 @@ ghost use Rattle.tab_core.specs.declared.TheConstants.{MAX_CORES};
 ghost use Rattle.table_form.specs.Planning.Demand.{Fits};
 ghost use Rattle.table_form.specs.Planning.Jobs.{jobs_of};
 ghost use Rattle.table_form.specs.Planning.Windows.{DistinctVcpus};
-ghost use Rattle.cd_split.specs.Cores.{HaveRoomFor, LackVcpu, pieces_on};
+ghost use Rattle.cd_split.specs.Cores.{HaveRoomFor, KeepCores, LackVcpu, pieces_on};
 
-use crate::one_core::OneCore;
 use std::alloc::Global;
 use std::marker::Model;
-use tab_core::{CoreNo, NoMemory, Piece};
+use tab_core::{CoreNo, NoMemory, Piece, Pieces};
 
 /// The pieces on each core, by core number. Contracts see the list of the cores' lists.
 ///
 /// Each piece stands on its own core, and the pieces of a core are of distinct vCPUs and fit.
 #[derive(Debug, Drop)]
 pub struct CorePieces {
-    cores: Vec<OneCore>,
+    cores: Vec<Pieces>,
 }
 
 impl Model for CorePieces {
@@ -31,6 +30,14 @@ impl Model for CorePieces {
 }
 
 impl CorePieces {
+    /// The pieces of each core, by core number, where they keep what this type keeps.
+    pub fn of(items: Vec<Pieces>) -> CorePieces
+        requires { KeepCores items.items }
+        ensures { result ≡ items.items }
+    {
+        CorePieces { cores: items }
+    }
+
     /// This many cores, none with a piece.
     pub fn empty(alloc: Global, cores: u32) -> Result<CorePieces, NoMemory>
         requires { cores ≤ MAX_CORES }
@@ -38,9 +45,17 @@ impl CorePieces {
     {
         let mut lists = Vec::new(alloc);
         for _ in 0..cores {
-            lists.push(OneCore::empty(alloc))?;
+            lists.push(Pieces::of(Vec::new(alloc)))?;
         }
         Ok(CorePieces { cores: lists })
+    }
+
+    /// The list of each core, by core number.
+    pub fn items(&self) -> &[Pieces]
+        ensures same { result.now ≡ self.now }
+        ensures kept { KeepCores self.now }
+    {
+        &self.cores
     }
 
     /// The number of cores.
@@ -59,7 +74,7 @@ impl CorePieces {
         ensures distinct { DistinctVcpus result.now }
         ensures fit { Fits (jobs_of result.now) }
     {
-        self.cores[core.index()].pieces()
+        self.cores[core.index()].items()
     }
 
     /// Adds a piece after the others of its core, whose vCPU has none there yet.
@@ -71,6 +86,6 @@ impl CorePieces {
             (pieces_on self.old piece.core ++ piece ∷ [])) }
         ensures err { OnErr result (self.new ≡ self.old) }
     {
-        self.cores[piece.core.index()].add(piece)
+        self.cores[piece.core.index()].push(piece)
     }
 }

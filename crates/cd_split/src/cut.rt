@@ -1,19 +1,18 @@
-ghost use Rattle.std.specs.Prelude.{◌≡◌, ℕ, ◌-◌, ◌<◌, ◌≤◌, IfOk, List, MatchOption};
-ghost use Rattle.tab_core.specs.declared.TheConstants.{ROUND};
-ghost use Rattle.edf_table.specs.Beside.{FitsBeside, tight};
-ghost use Rattle.table_form.specs.Planning.Windows.{DistinctVcpus};
-ghost use Rattle.edf_table.specs.Load.{load as load_in};
-ghost use Rattle.table_form.specs.Planning.Jobs.{Job};
-ghost use Rattle.cd_split.specs.Cores.{LackVcpu};
-ghost use Rattle.cd_split.specs.Search.{IsOverloadWith, IsTooMuch};
-ghost use Rattle.cd_split.specs.Splitting.{FitsWith, IsGreatestCut};
+ghost use Rattle.std.specs.Prelude.{ℕ, ◌-◌, ◌<◌, ◌≤◌, All, IfOk, List, MatchOption, length};
+ghost use Rattle.tab_core.specs.declared.piece.Piece.{Piece};
+ghost use Rattle.edf_table.specs.Beside.{tight};
+ghost use Rattle.cd_split.specs.Cores.{LackVcpu, pieces_on};
+ghost use Rattle.cd_split.specs.Inside.Order.{IsCoreLoad};
+ghost use Rattle.cd_split.specs.Inside.Search.{IsTooMuch, left_of};
+ghost use Rattle.cd_split.specs.Splitting.{FitsWith, IsGreatestCut, IsOverloadWith, cut_of};
 
+use crate::core_pieces::CorePieces;
 use crate::left::Left;
 use crate::load::most_by_load;
+use crate::order::CoreLoad;
 use crate::trial::overload_with;
-use edf_table::Overload;
 use std::alloc::Global;
-use tab_core::{CoreNo, NoMemory, Piece};
+use tab_core::{CoreNo, NoMemory, Over};
 
 /// The least number of ticks that is cut off in one piece.
 pub const LEAST_CUT: u32 = 10;
@@ -22,14 +21,14 @@ pub const LEAST_CUT: u32 = 10;
 //
 // Of a piece of `cost` ticks at most `windows` windows lie inside the interval, so each tick less
 // takes at most so many from its demand.
-fn still_too_much(overload: &Overload, cost: u32, period: u32) -> u32
+fn still_too_much(overload: &Over, cost: u32, period: u32) -> u32
     requires some { 1 ≤ period }
     requires over { overload.now.from < overload.now.to }
     requires demand { overload.now.to - overload.now.from < overload.now.demand }
     ensures lower { result ≤ cost }
-    ensures still { (jobs : List Job) (vcpu from less : ℕ)
-        → IsOverloadWith jobs (tight vcpu cost from period) overload.now
-        → result ≤ less → less ≤ cost → FitsBeside jobs (tight vcpu less from period) → ⊥ }
+    ensures still { (cores : List (List Piece)) (core vcpu from less : ℕ)
+        → IsOverloadWith cores (tight vcpu cost from period) core overload.now → result ≤ less
+        → less ≤ cost → FitsWith (pieces_on cores core) (tight vcpu less from period) → ⊥ }
 {
     let length = overload.to - overload.from;
     let excess = overload.demand - u64::from(length);
@@ -41,46 +40,43 @@ fn still_too_much(overload: &Overload, cost: u32, period: u32) -> u32
 fn try_cut(
     alloc: Global,
     left: &Left,
-    pieces: &[Piece],
+    cores: &CorePieces,
     core: CoreNo,
     cost: u32,
 ) -> Result<Option<u32>, NoMemory>
-    requires distinct { DistinctVcpus pieces.now }
-    requires new { LackVcpu left.now.vcpu pieces.now }
+    requires there { core < length cores.now }
+    requires new { All (LackVcpu left.now.vcpu) cores.now }
     requires some { 1 ≤ cost }
     requires below { cost < left.now.rest }
     ensures { IfOk result (λ found. MatchOption found
-        (FitsWith pieces.now (tight left.now.vcpu cost left.now.from left.now.period))
-        (λ high. (high ≤ cost) × IsTooMuch pieces.now left.now high)) }
+        (FitsWith (pieces_on cores.now core) (cut_of (left_of left.now) cost))
+        (λ high. (high ≤ cost) × IsTooMuch cores.now (left_of left.now) core high)) }
 {
-    match overload_with(alloc, pieces, left.cut_on(core, cost))? {
+    match overload_with(alloc, cores, left.cut_on(core, cost))? {
         None => Ok(None),
         Some(overload) => Ok(Some(still_too_much(&overload, cost, left.period))),
     }
 }
 
-// The greatest cut that fits beside the core's pieces, if that is at least `LEAST_CUT` ticks.
+// The greatest cut that fits on the core, if that is at least `LEAST_CUT` ticks.
 //
 // It is found by bisection, which in every other turn tries the greatest cost that is left: a miss
 // tells how much is too much for its interval.
 pub(crate) fn greatest_cut(
     alloc: Global,
     left: &Left,
-    pieces: &[Piece],
-    core: CoreNo,
-    load: u32,
+    cores: &CorePieces,
+    rank: &CoreLoad,
 ) -> Result<Option<u32>, NoMemory>
-    requires distinct { DistinctVcpus pieces.now }
-    requires new { LackVcpu left.now.vcpu pieces.now }
-    requires load { load ≡ load_in pieces.now }
-    requires small { load ≤ ROUND }
+    requires rank { IsCoreLoad cores.now rank.now }
+    requires new { All (LackVcpu left.now.vcpu) cores.now }
     ensures { IfOk result (λ found. MatchOption found
-        (IsTooMuch pieces.now left.now LEAST_CUT)
-        (λ cost. (LEAST_CUT ≤ cost) × IsGreatestCut pieces.now left.now.vcpu left.now.period
-        left.now.rest left.now.from cost)) }
+        (IsTooMuch cores.now (left_of left.now) rank.now.core LEAST_CUT)
+        (λ cost. (LEAST_CUT ≤ cost)
+        × IsGreatestCut cores.now (left_of left.now) rank.now.core cost)) }
 {
     let mut low = LEAST_CUT - 1;
-    let mut high = left.rest.min(most_by_load(load, left.period) + 1);
+    let mut high = left.rest.min(most_by_load(rank.load, left.period) + 1);
     let mut at_top = true;
     while low + 1 < high {
         let cost = if at_top {
@@ -88,7 +84,7 @@ pub(crate) fn greatest_cut(
         } else {
             low + (high - low) / 2
         };
-        match try_cut(alloc, left, pieces, core, cost)? {
+        match try_cut(alloc, left, cores, rank.core, cost)? {
             None => low = cost,
             Some(too_much) => high = too_much.max(low + 1),
         }

@@ -1,8 +1,5 @@
-ghost use Rattle.std.specs.Prelude.{◌≡◌, ◌+◌, ◌-◌, ◌<◌, ◌≤◌};
-ghost use Rattle.tab_core.specs.declared.TheConstants.{MAX_VCPUS};
+ghost use Rattle.std.specs.Prelude.{◌≡◌, ◌+◌, ◌<◌, ◌≤◌};
 ghost use Rattle.tab_core.specs.Period.{IsPeriod};
-ghost use Rattle.edf_table.specs.Beside.{remainder, tight};
-ghost use Rattle.cd_split.specs.Splitting.{IsPieceOf};
 
 use tab_core::{CoreNo, Periodic, Piece, VcpuNo};
 
@@ -13,21 +10,19 @@ pub(crate) struct Left {
     pub(crate) period: u32,
     pub(crate) from: u32,
     pub(crate) rest: u32,
-    pub(crate) ghost vcpu_small: { vcpu < MAX_VCPUS },
     pub(crate) ghost some: { 1 ≤ rest },
     pub(crate) ghost within: { from + rest ≤ period },
     pub(crate) ghost listed: { IsPeriod period },
 }
 
 impl Left {
+    ghost use Rattle.cd_split.specs.Inside.Search.{left_of};
+    ghost use Rattle.cd_split.specs.Splitting.{IsPieceOf, all_of, behind, cut_of, rest_of};
+
     // All of the vCPU.
-    pub(crate) fn whole(vcpu: VcpuNo, task: &Periodic) -> Left
-        ensures vcpu { result.vcpu ≡ vcpu }
-        ensures period { result.period ≡ task.now.period }
-        ensures from { result.from ≡ 0 }
-        ensures rest { result.rest ≡ task.now.cost }
+    pub(crate) fn all_of(vcpu: VcpuNo, task: &Periodic) -> Left
+        ensures { left_of result ≡ all_of vcpu task.now }
     {
-        let _ = vcpu.0; // its range is a fact of the result
         Left {
             vcpu,
             period: task.period,
@@ -36,46 +31,50 @@ impl Left {
         }
     }
 
-    // The piece of all that is left.
-    pub(crate) fn rest_on(&self, core: CoreNo) -> Piece
-        ensures { IsPieceOf core
-            (remainder self.now.vcpu self.now.rest self.now.from self.now.period) result }
+    // The next `cost` ticks on the core, in windows that end at `to`.
+    fn piece(&self, core: CoreNo, cost: u32, to: u32) -> Piece
+        requires some { 1 ≤ cost }
+        requires room { self.now.from + cost ≤ to }
+        requires within { to ≤ self.now.period }
+        ensures { IsPieceOf core (record {
+          vcpu = self.now.vcpu;
+          cost = cost;
+          from = self.now.from;
+          to = to;
+          period = self.now.period;
+        }) result }
     {
-        let _ = core.0; // its range is a fact of the piece
+        let _ = (self.vcpu.0, core.0); // the ranges of both are facts of the piece
         Piece {
             vcpu: self.vcpu,
             core,
-            cost: self.rest,
+            cost,
             from: self.from,
-            to: self.period,
+            to,
             period: self.period,
         }
+    }
+
+    // The piece of all that is left.
+    pub(crate) fn rest_on(&self, core: CoreNo) -> Piece
+        ensures { IsPieceOf core (rest_of (left_of self.now)) result }
+    {
+        self.piece(core, self.rest, self.period)
     }
 
     // The piece of the next `cost` ticks, without slack.
     pub(crate) fn cut_on(&self, core: CoreNo, cost: u32) -> Piece
         requires some { 1 ≤ cost }
         requires below { cost < self.now.rest }
-        ensures { IsPieceOf core (tight self.now.vcpu cost self.now.from self.now.period) result }
+        ensures { IsPieceOf core (cut_of (left_of self.now) cost) result }
     {
-        let _ = core.0; // its range is a fact of the piece
-        Piece {
-            vcpu: self.vcpu,
-            core,
-            cost,
-            from: self.from,
-            to: self.from + cost,
-            period: self.period,
-        }
+        self.piece(core, cost, self.from + cost)
     }
 
-    // What is left after a piece of so many ticks.
-    pub(crate) fn after(&self, cost: u32) -> Left
+    // What is left behind a cut of so many ticks.
+    pub(crate) fn behind(&self, cost: u32) -> Left
         requires { cost < self.now.rest }
-        ensures vcpu { result.vcpu ≡ self.now.vcpu }
-        ensures period { result.period ≡ self.now.period }
-        ensures from { result.from ≡ self.now.from + cost }
-        ensures rest { result.rest ≡ self.now.rest - cost }
+        ensures { left_of result ≡ behind (left_of self.now) cost }
     {
         Left {
             vcpu: self.vcpu,

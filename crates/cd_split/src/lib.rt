@@ -8,9 +8,9 @@
 mod core_pieces;
 mod cut;
 mod fault;
+mod laws;
 mod left;
 mod load;
-mod one_core;
 mod order;
 mod refusal;
 mod search;
@@ -22,4 +22,5 @@ mod trial;
 pub use core_pieces::CorePieces;
 pub use cut::LEAST_CUT;
 pub use fault::SplitFault;
+pub use laws::{a_split_is_no_refusal, a_vcpu_has_one_refusal, a_vcpu_has_one_split};
 pub use splitting::split;

@@ -1,9 +1,9 @@
 ghost use Rattle.std.specs.Prelude.{◌<◌, ◌≤◌, All, IfOk, length};
+ghost use Rattle.std.specs.List.{AllZip};
 ghost use Rattle.tab_core.specs.declared.TheConstants.{MAX_CORES};
-ghost use Rattle.edf_table.specs.Beside.{remainder};
 ghost use Rattle.cd_split.specs.Cores.{LackVcpu};
-ghost use Rattle.cd_split.specs.Search.{IsHomeFor, IsHomeless};
-ghost use Rattle.cd_split.specs.Splitting.{AreOverloads, IsOverOn};
+ghost use Rattle.cd_split.specs.Inside.Search.{IsHomeless, left_of};
+ghost use Rattle.cd_split.specs.Splitting.{IsOverloadWith, TakesRest, rest_of};
 
 use crate::core_pieces::CorePieces;
 use crate::left::Left;
@@ -12,26 +12,25 @@ use std::alloc::Global;
 use tab_core::{CoreNo, NoMemory, Over, Overs};
 
 // The reported overloaded interval of a core that doesn't take what is left.
-fn over_of(alloc: Global, left: &Left, cores: &CorePieces, core: CoreNo) -> Result<Over, NoMemory>
+fn overload_on(
+    alloc: Global,
+    left: &Left,
+    cores: &CorePieces,
+    core: CoreNo,
+) -> Result<Over, NoMemory>
     requires there { core < length cores.now }
     requires new { All (LackVcpu left.now.vcpu) cores.now }
-    requires over { IsHomeFor cores.now left.now core → ⊥ }
-    ensures { IfOk result (IsOverOn cores.now
-        (remainder left.now.vcpu left.now.rest left.now.from left.now.period) core) }
+    requires over { TakesRest cores.now (left_of left.now) core → ⊥ }
+    ensures { IfOk result (IsOverloadWith cores.now (rest_of (left_of left.now)) core) }
 {
-    match overload_with(alloc, cores.of_core(core), left.rest_on(core))? {
-        Some(overload) => Ok(Over {
-            core,
-            from: overload.from,
-            to: overload.to,
-            demand: overload.demand,
-        }),
+    match overload_with(alloc, cores, left.rest_on(core))? {
+        Some(over) => Ok(over),
         None => unreachable!(),
     }
 }
 
 // The reported overloaded intervals of the unused cores, none of which takes what is left.
-pub(crate) fn overs_of(
+pub(crate) fn overloads_of(
     alloc: Global,
     left: &Left,
     cores: &CorePieces,
@@ -40,13 +39,13 @@ pub(crate) fn overs_of(
     requires there { All (λ core. core < length cores.now) unused.now }
     requires few { length unused.now ≤ MAX_CORES }
     requires new { All (LackVcpu left.now.vcpu) cores.now }
-    requires homeless { IsHomeless cores.now left.now unused.now }
-    ensures { IfOk result (AreOverloads cores.now
-        (remainder left.now.vcpu left.now.rest left.now.from left.now.period) unused.now) }
+    requires homeless { IsHomeless cores.now (left_of left.now) unused.now }
+    ensures { IfOk result
+        (AllZip (IsOverloadWith cores.now (rest_of (left_of left.now))) unused.now) }
 {
     let mut overs = Vec::with_capacity(alloc, unused.len())?;
     for core in unused {
-        overs.push(over_of(alloc, left, cores, *core)?)?;
+        overs.push(overload_on(alloc, left, cores, *core)?)?;
     }
     Ok(Overs::of(overs))
 }

@@ -5,14 +5,14 @@ ghost use Rattle.tab_core.specs.declared.over.Over.{Over};
 ghost use Rattle.tab_core.specs.declared.piece.Piece.{Piece};
 ghost use Rattle.cd_split.specs.Cores.{LackVcpu};
 ghost use Rattle.cd_split.specs.Faults.{IsSplitFault};
-ghost use Rattle.cd_split.specs.Shares.{AreOf, FitTheirCores, FollowOn, IsSamePiece, StandApart};
-ghost use Rattle.cd_split.specs.Splitting.{IsRefused, IsSplit};
+ghost use Rattle.cd_split.specs.Shares.{AreOf, FitTheirCores, HaveAdjacentWindows, IsSamePiece, StandApart};
+ghost use Rattle.cd_split.specs.Splitting.{IsSplit, IsSplitRefused};
 
 use crate::core_pieces::CorePieces;
 use crate::fault::SplitFault;
 use crate::left::Left;
 use crate::order::order_of;
-use crate::refusal::overs_of;
+use crate::refusal::overloads_of;
 use crate::search::{find_cut, find_home};
 use std::alloc::Global;
 use tab_core::{CoreNo, NoMemory, Periodic, Pieces, VcpuNo};
@@ -47,18 +47,18 @@ pub fn split(
     ensures pieces { IfOk result (IsSplit cores.now vcpu task) }
     ensures only { IfOk result (λ pieces. (other : List Piece) → IsSplit cores.now vcpu task other
         → AllZip IsSamePiece other pieces) }
-    ensures room { IfOk result (λ _. (rest : ℕ) (over : List Over) → IsRefused cores.now vcpu task rest over
-        → ⊥) }
+    ensures room { IfOk result (λ _. (rest : ℕ) (over : List Over)
+        → IsSplitRefused cores.now vcpu task rest over → ⊥) }
     ensures fault { IfErr result (IsSplitFault cores.now vcpu task) }
     ensures of { IfOk result (AreOf vcpu task.period) }
     ensures fit { IfOk result (FitTheirCores cores.now) }
     ensures apart { IfOk result StandApart }
-    ensures windows { IfOk result (FollowOn 0 task.period) }
+    ensures windows { IfOk result (HaveAdjacentWindows 0 task.period) }
     ensures cost { IfOk result (λ pieces. sum_by (λ p. p.cost) pieces ≡ task.cost) }
 {
     let order = order_of(alloc, cores)?;
     let mut unused = numbers_of(alloc, cores.cores())?;
-    let mut left = Left::whole(vcpu, &task);
+    let mut left = Left::all_of(vcpu, &task);
     let mut pieces = Vec::new(alloc);
     loop {
         if let Some(piece) = find_home(alloc, &left, cores, &order, &unused)? {
@@ -67,13 +67,13 @@ pub fn split(
         }
         match find_cut(alloc, &left, cores, &order, &unused)? {
             None => {
-                let over = overs_of(alloc, &left, cores, &unused)?;
+                let over = overloads_of(alloc, &left, cores, &unused)?;
                 let rest = left.rest;
                 return Err(SplitFault::NoRoom { vcpu, rest, over });
             }
             Some(piece) => {
                 unused.retain(|core| *core != piece.core);
-                left = left.after(piece.cost);
+                left = left.behind(piece.cost);
                 pieces.push(piece)?;
             }
         }

@@ -1,13 +1,12 @@
-ghost use Rattle.std.specs.Prelude.{◌≡◌, ◌++◌, [], ◌∷◌, IfOk, MatchOption};
-ghost use Rattle.table_form.specs.Planning.Jobs.{jobs_of, jobs_of_subtask, subtask_of};
-ghost use Rattle.edf_table.specs.Overloads.{IsOverloadOf};
-ghost use Rattle.table_form.specs.Planning.Windows.{DistinctVcpus};
-ghost use Rattle.cd_split.specs.Cores.{LackVcpu};
-ghost use Rattle.cd_split.specs.Splitting.{FitsWith};
+ghost use Rattle.std.specs.Prelude.{◌≡◌, ◌<◌, ◌++◌, [], ◌∷◌, All, IfOk, MatchOption, length};
+ghost use Rattle.table_form.specs.Planning.Jobs.{subtask_of};
+ghost use Rattle.cd_split.specs.Cores.{LackVcpu, pieces_on};
+ghost use Rattle.cd_split.specs.Splitting.{FitsWith, IsOverloadWith};
 
-use edf_table::{Overload, find_overload};
+use crate::core_pieces::CorePieces;
+use edf_table::find_overload;
 use std::alloc::Global;
-use tab_core::{NoMemory, Piece};
+use tab_core::{NoMemory, Over, Piece};
 
 // The pieces and one more behind them.
 fn with_piece(alloc: Global, pieces: &[Piece], piece: Piece) -> Result<Vec<Piece>, NoMemory>
@@ -19,18 +18,18 @@ fn with_piece(alloc: Global, pieces: &[Piece], piece: Piece) -> Result<Vec<Piece
     Ok(trial)
 }
 
-// The reported overloaded interval of the pieces with one more, or none where it fits beside them.
+// The reported overloaded interval of the piece's core with the piece, or none where it fits there.
 pub(crate) fn overload_with(
     alloc: Global,
-    pieces: &[Piece],
+    cores: &CorePieces,
     piece: Piece,
-) -> Result<Option<Overload>, NoMemory>
-    requires distinct { DistinctVcpus pieces.now }
-    requires new { LackVcpu piece.vcpu pieces.now }
+) -> Result<Option<Over>, NoMemory>
+    requires there { piece.core < length cores.now }
+    requires new { All (LackVcpu piece.vcpu) cores.now }
     ensures { IfOk result (λ found. MatchOption found
-        (FitsWith pieces.now (subtask_of piece))
-        (IsOverloadOf (jobs_of pieces.now ++ jobs_of_subtask (subtask_of piece)))) }
+        (FitsWith (pieces_on cores.now piece.core) (subtask_of piece))
+        (IsOverloadWith cores.now (subtask_of piece) piece.core)) }
 {
-    let trial = with_piece(alloc, pieces, piece)?;
+    let trial = with_piece(alloc, cores.of_core(piece.core), piece)?;
     Ok(find_overload(&trial))
 }

@@ -6,6 +6,7 @@ pub mod Few
 pub mod First
 pub mod Inside
 pub mod Misses
+pub mod OverloadsLemmas
 pub mod Pieces
 pub mod Shorter
 pub mod Starts

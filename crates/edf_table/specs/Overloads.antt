@@ -1,22 +1,30 @@
--- What a refusal tells: the reported overloaded interval and its demand.
-use Rattle.std.specs.Prelude.{◌≡◌, ℕ, List}
-use Rattle.table_form.specs.Planning.Jobs.{Job}
+-- The overloaded interval that a refusal reports.
+use Rattle.std.specs.Prelude.{◌≡◌, ℕ, List, [], ◌∷◌}
+use Rattle.tab_core.specs.declared.over.Over.{Over}
+use Rattle.tab_core.specs.declared.piece.Piece.{Piece}
+use Rattle.table_form.specs.Planning.Jobs.{Job, jobs_of}
 use Rattle.table_form.specs.Planning.Demand.{demand_in, IsFirstOverload}
-use Rattle.edf_table.specs.declared.overload.Overload.{Overload}
 use Rattle.edf_table.specs.declared.fault.EdfFault.{EdfFault}
 use Rattle.edf_table.specs.declared.fault.EdfFault.TheVariants.{Miss, NoMemory}
 
--- the jobs' overloaded interval of least end, and of those the one of greatest begin, with what it
--- is asked for
-pub record IsReported (jobs : List Job) (from to demand : ℕ) : Type 0 where
-  pub first : IsFirstOverload jobs from to
-  pub asked : demand ≡ demand_in jobs from to
+-- the core of pieces that share one: that of the first
+abbrev pub core_of : List Piece → ℕ
+core_of [] = 0
+core_of (p ∷ ps) = p.core
 
--- the same, of an overload
-abbrev pub IsOverloadOf : List Job → Overload → Type 0
-IsOverloadOf jobs overload = IsReported jobs overload.from overload.to overload.demand
+-- the overloaded interval that is reported of a core's jobs: of those of least end the one of
+-- greatest begin, with what the jobs inside it cost
+pub record IsReported (core : ℕ) (jobs : List Job) (over : Over) : Type 0 where
+  pub on : over.core ≡ core
+  pub first : IsFirstOverload jobs over.from over.to
+  pub asked : over.demand ≡ demand_in jobs over.from over.to
 
--- a miss names the reported interval; want of memory says nothing of the jobs
-abbrev pub IsFaultOf : List Job → EdfFault → Type 0
-IsFaultOf jobs (Miss from to demand) = IsReported jobs from to demand
-IsFaultOf jobs NoMemory = Unit {0}
+-- the same, of a core's pieces
+abbrev pub IsReportedOf : List Piece → Over → Type 0
+IsReportedOf pieces over = IsReported (core_of pieces) (jobs_of pieces) over
+
+-- a miss names that interval; want of memory says nothing of the pieces
+abbrev pub IsEdfFault : List Piece → EdfFault → Type 0
+IsEdfFault pieces (Miss from to demand) =
+    IsReportedOf pieces (record { core = core_of pieces; from = from; to = to; demand = demand })
+IsEdfFault pieces NoMemory = Unit {0}

@@ -1,14 +1,14 @@
 ghost use Rattle.std.specs.Prelude.{◌≡◌, IfNone, IfSome, true, false};
 ghost use Rattle.table_form.specs.Planning.Demand.{Fits};
 ghost use Rattle.table_form.specs.Planning.Jobs.{jobs_of};
-ghost use Rattle.edf_table.specs.Overloads.{IsOverloadOf};
+ghost use Rattle.edf_table.specs.Overloads.{IsReportedOf};
 ghost use Rattle.edf_table.specs.Progress.{IsFirstEnd};
 ghost use Rattle.table_form.specs.Planning.Windows.{DistinctVcpus};
 
 use crate::light::are_whole_and_light;
-use crate::overload::{Overload, last_overload};
+use crate::overload::last_overload;
 use crate::turn::{NO_TICKS, any_missed, run_turn};
-use tab_core::{Piece, ROUND};
+use tab_core::{Over, Piece, ROUND};
 
 // The first tick at which a window ends without its cost.
 fn first_miss(pieces: &[Piece]) -> Option<u32>
@@ -37,14 +37,15 @@ fn first_miss(pieces: &[Piece]) -> Option<u32>
 /// The overloaded interval of one core's pieces, and none exactly where they fit.
 ///
 /// Of the overloaded intervals it is the one of least end, and of those the one of greatest begin.
-/// No two pieces may be of one vCPU. It takes no memory, and builds no row.
+/// Its core is that of the first piece. No two pieces may be of one vCPU. It takes no memory, and
+/// builds no row.
 ///
 /// Source: the processor-demand criterion of S. K. Baruah, L. E. Rosier and R. R. Howell,
 /// Real-Time Systems 2, 1990.
-pub fn find_overload(pieces: &[Piece]) -> Option<Overload>
+pub fn find_overload(pieces: &[Piece]) -> Option<Over>
     requires distinct { DistinctVcpus pieces.now }
     ensures fits { IfNone result (Fits (jobs_of pieces.now)) }
-    ensures overload { IfSome result (λ overload. IsOverloadOf (jobs_of pieces.now) overload) }
+    ensures overload { IfSome result (IsReportedOf pieces.now) }
 {
     match first_miss(pieces) {
         None => None,

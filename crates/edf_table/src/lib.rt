@@ -18,5 +18,4 @@ mod turn;
 
 pub use fault::EdfFault;
 pub use fit::{find_overload, fits};
-pub use overload::Overload;
 pub use simulation::{build_row, simulate};

@@ -1,22 +1,11 @@
 ghost use Rattle.std.specs.Prelude.{◌≡◌, ◌+◌, ◌<◌, ℕ, ◌*◌, ◌/◌, ◌^◌, ◌≤◌, length};
 ghost use Rattle.tab_core.specs.declared.TheConstants.{ROUND};
 ghost use Rattle.table_form.specs.Planning.Jobs.{first_jobs, jobs_of, subtask_of};
-ghost use Rattle.edf_table.specs.Overloads.{IsOverloadOf};
+ghost use Rattle.edf_table.specs.Overloads.{IsReportedOf};
 ghost use Rattle.edf_table.specs.Progress.{IsFirstEnd, NoBegin, demand_from};
 ghost use Rattle.table_form.specs.Planning.Windows.{DistinctVcpus};
 
-use tab_core::{Piece, ROUND};
-
-/// An overloaded interval: the jobs whose windows lie in it cost more than its ticks.
-#[derive(Clone, Copy, Debug, PartialEq, Eq, Hash)]
-pub struct Overload {
-    /// The interval's first tick.
-    pub from: u32,
-    /// The tick behind its last.
-    pub to: u32,
-    /// What the jobs inside it cost together, in ticks.
-    pub demand: u64,
-}
+use tab_core::{Over, Piece, ROUND};
 
 // What the piece's window that begins at `start` costs, if there is one that ends by `end`.
 fn cost_from(piece: &Piece, start: u32, end: u32) -> u32
@@ -77,10 +66,10 @@ fn last_begin(pieces: &[Piece], tick: u32) -> u32
 }
 
 // The overloaded interval of this end that begins last, found from begin to begin backwards.
-pub(crate) fn last_overload(pieces: &[Piece], end: u32) -> Overload
+pub(crate) fn last_overload(pieces: &[Piece], end: u32) -> Over
     requires distinct { DistinctVcpus pieces.now }
     requires end { IsFirstEnd (jobs_of pieces.now) end }
-    ensures { IsOverloadOf (jobs_of pieces.now) result }
+    ensures { IsReportedOf pieces.now result }
 {
     let mut demand: u64 = 0;
     let mut from = end;
@@ -88,7 +77,8 @@ pub(crate) fn last_overload(pieces: &[Piece], end: u32) -> Overload
         from = last_begin(pieces, from);
         demand += demand_of_starts(pieces, from, end);
         if demand > u64::from(end - from) {
-            return Overload {
+            return Over {
+                core: pieces[0].core,
                 from,
                 to: end,
                 demand,

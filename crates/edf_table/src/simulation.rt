@@ -1,18 +1,16 @@
 ghost use Rattle.std.specs.Prelude.{◌≡◌, ◌+◌, ◌++◌, ◌≤◌, IfErr, IfOk, OnOk, length, replicate};
-ghost use Rattle.edf_table.specs.declared.fault.EdfFault.TheVariants.{Miss};
 ghost use Rattle.tab_core.specs.declared.TheConstants.{ROUND};
 ghost use Rattle.table_form.specs.Planning.Demand.{Fits};
 ghost use Rattle.table_form.specs.Planning.EdfRow.{edf_row};
 ghost use Rattle.table_form.specs.Planning.Jobs.{jobs_of};
-ghost use Rattle.edf_table.specs.Overloads.{IsFaultOf};
+ghost use Rattle.edf_table.specs.Overloads.{IsEdfFault};
 ghost use Rattle.table_form.specs.Planning.Windows.{DistinctVcpus, KeepsToWindows, ServesWindows};
 
 use crate::fault::EdfFault;
 use crate::fit::find_overload;
-use crate::overload::Overload;
 use crate::turn::{NO_TICKS, run_turn};
 use std::alloc::{AllocError, Global};
-use tab_core::{Piece, ROUND, VcpuNo};
+use tab_core::{Over, Piece, ROUND, VcpuNo};
 use table_form::{CoreTable, RowBuilder};
 
 /// The row of one core's pieces by earliest deadline first, exactly where they fit.
@@ -28,20 +26,19 @@ pub fn simulate(alloc: Global, pieces: &[Piece]) -> Result<CoreTable, EdfFault>
     ensures fits { IfOk result (λ _. Fits (jobs_of pieces.now)) }
     ensures windows { IfOk result (λ row. ServesWindows pieces.now row) }
     ensures inside { IfOk result (λ row. KeepsToWindows pieces.now row) }
-    ensures miss { IfErr result (λ fault. IsFaultOf (jobs_of pieces.now) fault) }
+    ensures miss { IfErr result (IsEdfFault pieces.now) }
 {
     match find_overload(pieces) {
-        Some(overload) => Err(miss_of(overload)),
+        Some(
+            Over {
+                from,
+                to,
+                demand,
+                ..
+            },
+        ) => Err(EdfFault::Miss { from, to, demand }),
         None => Ok(build_row(alloc, pieces)?),
     }
-}
-
-// The fault of an overloaded interval.
-fn miss_of(overload: Overload) -> EdfFault
-    ensures { result ≡ Miss overload.from overload.to overload.demand }
-{
-    let Overload { from, to, demand } = overload;
-    EdfFault::Miss { from, to, demand }
 }
 
 /// The row of pieces that fit, by earliest deadline first: `simulate` where it is known that they do.

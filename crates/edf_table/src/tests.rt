@@ -2,9 +2,9 @@ ghost use Rattle.std.specs.Prelude.{◌≡◌, ◌≤◌};
 ghost use Rattle.tab_core.specs.Period.{IsPeriod};
 ghost use Rattle.table_form.specs.Planning.Windows.{DistinctVcpus};
 
-use crate::{EdfFault, Overload, find_overload, fits, simulate};
+use crate::{EdfFault, find_overload, fits, simulate};
 use std::test::Fail;
-use tab_core::{CoreNo, Piece, VcpuNo};
+use tab_core::{CoreNo, Over, Piece, VcpuNo};
 use table_form::CoreTable;
 
 // Whether the row's first segments have these owners and ends.
@@ -52,7 +52,8 @@ fn around(cost: u32) -> [Piece; 2]
 #[test]
 fn an_overload(rt: HostRuntime) {
     let pieces = around(80);
-    let overload = Overload {
+    let overload = Over {
+        core: CoreNo(0),
         from: 0,
         to: 100,
         demand: 110,

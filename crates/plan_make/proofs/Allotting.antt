@@ -12,7 +12,6 @@ use Rattle.worst_fit.specs.Placement.{IsPlaced}
 use Rattle.cd_split.specs.Cores.{LackVcpu, pieces_on}
 use Rattle.table_form.specs.Planning.Drafts.{cost_on}
 use Rattle.plan_make.specs.Allotted.{HasTask, WindowsApart}
-use Rattle.cd_split.specs.Splitting.{core_numbers}
 use Rattle.plan_make.specs.Layout.{home_of, with_pieces}
 use Rattle.plan_make.specs.Steps.{AreAllottedTo, AreShares, has_piece}
 use Rattle.table_form.proofs.Filters.{slice_get-filter}
@@ -190,8 +189,7 @@ allotted_next tasks homes cores vcpu home task pieces allotted shares has homele
         elim (cases_eq v vcpu) [
           | inl same ↦ (let here : home ≡ h = (let e = sym (slice_get-set_same homes vcpu (Some home) known)
               ∙ ap (slice_get (set homes vcpu (Some home))) (sym same) ∙ at in cc) in
-              let some = some_piece cores vcpu task.period task.cost 0
-              (core_numbers cores) pieces shares.splits in
+              let some = some_piece cores vcpu task pieces shares.splits in
               let last =
               last_is_home pieces v some
               (subst (λ n. All (λ (p : Piece). p.vcpu ≡ n) pieces) (sym same) of_vcpu) in

@@ -20,10 +20,10 @@ use Rattle.worst_fit.specs.declared.placed.Placed.{Placed}
 use Rattle.worst_fit.proofs.Unique.{placement_unique}
 use Rattle.cd_split.specs.Cores.{pieces_on}
 use Rattle.cd_split.specs.Shares.{IsSamePiece}
-use Rattle.cd_split.specs.Splitting.{Refuses, Splits, core_numbers}
+use Rattle.cd_split.specs.Splitting.{IsSplit, IsSplitRefused}
 use Rattle.cd_split.specs.declared.fault.SplitFault.{SplitFault}
 use Rattle.cd_split.specs.declared.fault.SplitFault.TheVariants.{NoMemory, NoRoom}
-use Rattle.cd_split.proofs.Unique.{never_both, splits_unique}
+use Rattle.cd_split.proofs.Unique.{one_split, split_or_refused}
 use Rattle.plan_make.specs.Faults.{fault_of_split}
 use Rattle.coalesce.specs.Joining.{AreJoined}
 use Rattle.coalesce.proofs.Unique.{rows_unique}
@@ -148,10 +148,9 @@ split_unique tasks cores vcpu ps qs a b =
     let at = a.at in
     let at' = b.at in
     let same : b.task ≡ a.task = cc in
-    let of_b = subst (λ (t : Periodic). Splits cores vcpu t.period t.cost 0 (core_numbers cores) qs)
+    let of_b = subst (λ (t : Periodic). IsSplit cores vcpu t qs)
     same b.splits in
-    sym (same_pieces qs ps (splits_unique cores vcpu a.task.period a.task.cost 0
-    (core_numbers cores) ps qs a.splits of_b))
+    sym (same_pieces qs ps (one_split cores vcpu a.task ps qs a.splits of_b))
 
 record SameEnd (end end' : List (List Piece)) (homes homes' : List (Option ℕ)) : Type 0 where
   pub end_same : end ≡ end'
@@ -188,16 +187,16 @@ pub each_or_refused : (tasks : List (Option Periodic)) (cores : List (List Piece
     (task : Periodic) (rest : ℕ) (over : List Over) →
     SplitsEach tasks cores homes (before ++ vcpu ∷ after) end homes'
     → SplitsEach tasks cores homes before middle homes'' → slice_get tasks vcpu ≡ Some (Some task) →
-    Refuses middle vcpu task.period task.cost 0 (core_numbers middle) rest over → ⊥
+    IsSplitRefused middle vcpu task rest over → ⊥
 each_or_refused tasks cores homes [] vcpu after end middle homes' homes'' task rest over a b at refuses =
     let split = a.1 in
     let at' = split.at in
     let same : split.task ≡ task = cc in
     let splits =
-    subst (λ (t : Periodic). Splits cores vcpu t.period t.cost 0 (core_numbers cores) a.0)
+    subst (λ (t : Periodic). IsSplit cores vcpu t a.0)
     same split.splits in
-    never_both cores vcpu task.period task.cost 0 (core_numbers cores) a.0 rest over splits
-    (subst (λ cs. Refuses cs vcpu task.period task.cost 0 (core_numbers cs) rest over) b.0 refuses)
+    split_or_refused cores vcpu task a.0 rest over splits
+    (subst (λ cs. IsSplitRefused cs vcpu task rest over) b.0 refuses)
 each_or_refused tasks cores homes
     (v ∷ before) vcpu after end middle homes' homes'' task rest over a b at refuses =
     let same = split_unique tasks cores v a.0 b.0 a.1 b.1 in

@@ -10,7 +10,7 @@ use Rattle.table_form.specs.Tables.Plans.{PlanView}
 use Rattle.period_choice.specs.Choice.{HasPeriod}
 use Rattle.period_choice.specs.Tasks.{IsFirstWithoutPeriod, LacksPeriod}
 use Rattle.worst_fit.specs.declared.placed.Placed.{Placed}
-use Rattle.cd_split.specs.Splitting.{Refuses, core_numbers}
+use Rattle.cd_split.specs.Splitting.{IsSplitRefused}
 use Rattle.plan_make.specs.Layout.{SplitsEach, home_of, with_pieces}
 use Rattle.plan_make.specs.Planned.{IsFirstWithoutRoom, IsPlanned}
 use Rattle.plan_make.proofs.Exact.{each_or_refused, one_start, split_unique, went_on}
@@ -26,7 +26,7 @@ record Sticks (tasks : List (Option Periodic)) (cores : List (List Piece)) (home
   pub at : slice_get tasks vcpu ≡ Some (Some task)
   pub rest : ℕ
   pub over : List Over
-  pub refuses : Refuses end vcpu task.period task.cost 0 (core_numbers end) rest over
+  pub refuses : IsSplitRefused end vcpu task rest over
 
 sticks_later : (tasks : List (Option Periodic)) (cores : List (List Piece))
     (homes : List (Option ℕ)) (vcpu : ℕ) (next : ℕ) (before : List ℕ) (other : ℕ) →

@@ -6,7 +6,7 @@ use Rattle.tab_core.specs.declared.piece.Piece.{Piece}
 use Rattle.std.specs.List.{All}
 use Rattle.worst_fit.specs.Placement.{IsAdmitted}
 use Rattle.cd_split.specs.Cores.{LackVcpu}
-use Rattle.cd_split.specs.Splitting.{Refuses, core_numbers}
+use Rattle.cd_split.specs.Splitting.{IsSplitRefused}
 use Rattle.cd_split.specs.declared.fault.SplitFault.{SplitFault}
 use Rattle.cd_split.specs.declared.fault.SplitFault.TheVariants.{NoMemory, NoRoom}
 use Rattle.tab_core.specs.declared.host.Host.{Host}
@@ -63,8 +63,7 @@ laid_out_next tasks cores homes vcpu left end homes' laid known next =
     let added = next.added in
     let count = ap length added.end_is ∙ length-with_pieces cores added.pieces in
     let below = below_from_fit cores added.pieces added.shares.fit in
-    let some = some_piece cores vcpu next.task.period next.task.cost 0
-    (core_numbers cores) added.pieces added.shares.splits in
+    let some = some_piece cores vcpu next.task added.pieces added.shares.splits in
     let there = subst (λ h. h < length cores) (sym added.home_is)
     (home_below (length cores) added.pieces some below) in
     let homeless = next_is_homeless tasks (length cores) homes vcpu left laid.places in
@@ -163,7 +162,7 @@ first_stuck {tasks = tasks} {left = left} {n = n} {cores = cores} {homes = homes
       split = state.split;
       task = task;
       at = ap (slice_get tasks) named_is ∙ refused.1;
-      refuses = subst (λ v. Refuses cores v task.period task.cost 0 (core_numbers cores) rest over)
+      refuses = subst (λ v. IsSplitRefused cores v task rest over)
           (sym named_is) refused.2.1;
     }
 

@@ -6,10 +6,11 @@ use Rattle.std.proofs.lemmas.List.{take_more, append-nil, get_or-take, length-ta
 use Rattle.std.proofs.lemmas.List.Elements.{All-head, All-tail, All-take}
 use Rattle.std.proofs.lemmas.List.Sums.{sum_by-cons, sum_by-le}
 use Rattle.std.proofs.lemmas.Option.{same_Some, slice_get-get_or}
+use Rattle.tab_core.specs.declared.periodic.Periodic.{Periodic}
 use Rattle.tab_core.specs.declared.piece.Piece.{Piece}
 use Rattle.cd_split.specs.Cores.{HaveRoomFor, LackVcpu, pieces_on}
-use Rattle.cd_split.specs.Shares.{FitTheirCores, FollowOn, StandApart}
-use Rattle.cd_split.specs.Splitting.{Splits}
+use Rattle.cd_split.specs.Shares.{FitTheirCores, HaveAdjacentWindows, StandApart}
+use Rattle.cd_split.specs.Splitting.{IsSplit}
 use Rattle.table_form.specs.Planning.Drafts.{cost_on}
 use Rattle.plan_make.specs.Layout.{home_of, with_pieces}
 use Rattle.plan_make.proofs.Members.{all_at}
@@ -60,10 +61,10 @@ home_of_last (p ∷ q ∷ ps) d lt = ap (λ (r : Piece). r.core) (step (length p
     step n = ap (λ m. get_or (p ∷ q ∷ ps) m d) (let e : suc (suc n) - 1 ≡ suc n = omega arith in e)
         ∙ ap (λ m. get_or (q ∷ ps) m d) (let e : n ≡ suc n - 1 = omega arith in e)
 
-pub some_piece : (cores : List (List Piece)) (vcpu period rest from : ℕ) (unused : List ℕ) (ps : List Piece)
-    → Splits cores vcpu period rest from unused ps → 0 < length ps
-some_piece cores vcpu period rest from unused [] splits = elim splits [ ]
-some_piece cores vcpu period rest from unused (p ∷ ps) splits = omega arith
+pub some_piece : (cores : List (List Piece)) (vcpu : ℕ) (task : Periodic) (ps : List Piece)
+    → IsSplit cores vcpu task ps → 0 < length ps
+some_piece cores vcpu task [] splits = elim splits [ ]
+some_piece cores vcpu task (p ∷ ps) splits = omega arith
 
 -- the home is one of the cores
 pub home_below : (count : ℕ) (ps : List Piece) → 0 < length ps → StandBelow count ps → home_of ps < count
@@ -75,7 +76,7 @@ home_below count (p ∷ q ∷ ps) lt below =
 
 -- the windows of earlier pieces end before those of later ones begin
 
-begins_later : (ps : List Piece) (from to n : ℕ) (q : Piece) → FollowOn from to ps → slice_get ps n ≡ Some q
+begins_later : (ps : List Piece) (from to n : ℕ) (q : Piece) → HaveAdjacentWindows from to ps → slice_get ps n ≡ Some q
     → from ≤ q.from
 begins_later [] from to n q follow at = absurd (cc)
 begins_later (p ∷ ps) from to zero q follow at =
@@ -85,7 +86,7 @@ begins_later (p ∷ ps) from to (suc n) q follow at =
     let later = begins_later ps p.to to n q follow.1 at in
     omega (arith, follow.0, p.begins)
 
-pub ends_before : (ps : List Piece) (from to m n : ℕ) (p q : Piece) → FollowOn from to ps → m < n
+pub ends_before : (ps : List Piece) (from to m n : ℕ) (p q : Piece) → HaveAdjacentWindows from to ps → m < n
     → slice_get ps m ≡ Some p → slice_get ps n ≡ Some q → p.to ≤ q.from
 ends_before [] from to m n p q follow lt at at' = absurd (cc)
 ends_before (r ∷ ps) from to m zero p q follow lt at at' = absurd (omega arith)

@@ -6,7 +6,7 @@ use Rattle.std.proofs.lemmas.Bool.{cases_Bool, eqb-true, eq-eqb}
 use Rattle.std.proofs.lemmas.List.{append-nil, map-append, map_push}
 use Rattle.std.proofs.lemmas.List.Elements.{All-append, All-cons, All-nil, All-weaker}
 use Rattle.std.proofs.lemmas.Option.{slice_get-get_or, slice_get_within}
-use Rattle.cd_split.proofs.Lists.{get_or-replicate}
+use Rattle.tab_core.proofs.Lists.{get_or-replicate_same}
 use Rattle.tab_core.specs.declared.periodic.Periodic.{Periodic}
 use Rattle.tab_core.specs.declared.piece.Piece.{Piece}
 use Rattle.table_form.specs.Planning.Jobs.{Subtask, subtask_of}
@@ -121,7 +121,7 @@ none_stand tasks homes count cores empty = record {
 }
   where
     nothing : (core : ℕ) → pieces_on cores core ≡ []
-    nothing core = ap (λ cs. pieces_on cs core) empty ∙ get_or-replicate count core []
+    nothing core = ap (λ cs. pieces_on cs core) empty ∙ get_or-replicate_same count core []
 
 -- what a read tells
 

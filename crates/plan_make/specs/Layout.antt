@@ -7,7 +7,7 @@ use Rattle.tab_core.specs.declared.periodic.Periodic.{Periodic}
 use Rattle.tab_core.specs.declared.piece.Piece.{Piece}
 use Rattle.table_form.specs.Planning.Jobs.{Subtask, subtask_of}
 use Rattle.cd_split.specs.Cores.{pieces_on}
-use Rattle.cd_split.specs.Splitting.{Splits, core_numbers}
+use Rattle.cd_split.specs.Splitting.{IsSplit}
 
 -- all of a vCPU, in each of its periods
 abbrev pub whole : ℕ → Periodic → Subtask
@@ -55,7 +55,7 @@ pub record GetsSplit (tasks : List (Option Periodic)) (cores : List (List Piece)
     (pieces : List Piece) : Type 0 where
   pub task : Periodic
   pub at : slice_get tasks vcpu ≡ Some (Some task)
-  pub splits : Splits cores vcpu task.period task.cost 0 (core_numbers cores) pieces
+  pub splits : IsSplit cores vcpu task pieces
 
 -- the vCPUs are split one after the other, which leads from these cores and homes to those
 abbrev pub SplitsEach : List (Option Periodic) → List (List Piece) → List (Option ℕ) → List ℕ

@@ -13,7 +13,7 @@ use Rattle.table_form.specs.Tables.Plans.{PlanView}
 use Rattle.period_choice.specs.Tasks.{AreTasksOf}
 use Rattle.worst_fit.specs.Placement.{IsPlacement}
 use Rattle.worst_fit.specs.declared.placed.Placed.{Placed}
-use Rattle.cd_split.specs.Splitting.{Refuses, core_numbers}
+use Rattle.cd_split.specs.Splitting.{IsSplitRefused}
 use Rattle.coalesce.specs.Joining.{AreJoined}
 use Rattle.plan_make.specs.Layout.{SplitsEach, StandWhole, all_pieces}
 
@@ -50,4 +50,4 @@ pub record IsFirstWithoutRoom (host : Host) (vcpu rest : ℕ) (over : List Over)
   pub split : SplitsEach tasks start placed.core_of before cores homes
   pub task : Periodic
   pub at : slice_get tasks vcpu ≡ Some (Some task)
-  pub refuses : Refuses cores vcpu task.period task.cost 0 (core_numbers cores) rest over
+  pub refuses : IsSplitRefused cores vcpu task rest over

@@ -9,8 +9,8 @@ use Rattle.worst_fit.specs.Placement.{IsPlaced, PlacesEach}
 use Rattle.worst_fit.specs.declared.placed.Placed.{Placed}
 use Rattle.cd_split.specs.Cores.{LackVcpu, pieces_on}
 use Rattle.cd_split.specs.Faults.{IsSplitFault}
-use Rattle.cd_split.specs.Shares.{AreOf, FitTheirCores, FollowOn, StandApart}
-use Rattle.cd_split.specs.Splitting.{Refuses, Splits, core_numbers}
+use Rattle.cd_split.specs.Shares.{AreOf, FitTheirCores, HaveAdjacentWindows, StandApart}
+use Rattle.cd_split.specs.Splitting.{IsSplit, IsSplitRefused}
 use Rattle.cd_split.specs.declared.fault.SplitFault.{SplitFault}
 use Rattle.cd_split.specs.declared.fault.SplitFault.TheVariants.{NoMemory, NoRoom}
 use Rattle.table_form.specs.Planning.Drafts.{cost_on}
@@ -46,11 +46,11 @@ pub record AreLaidOut (tasks : List (Option Periodic)) (cores : List (List Piece
 -- follow one another
 pub record AreShares (cores : List (List Piece)) (vcpu : ℕ) (task : Periodic)
     (pieces : List Piece) : Type 0 where
-  pub splits : Splits cores vcpu task.period task.cost 0 (core_numbers cores) pieces
+  pub splits : IsSplit cores vcpu task pieces
   pub are_of : AreOf vcpu task.period pieces
   pub fit : FitTheirCores cores pieces
   pub stand_apart : StandApart pieces
-  pub windows : FollowOn 0 task.period pieces
+  pub windows : HaveAdjacentWindows 0 task.period pieces
   pub cost : sum_by (λ p. p.cost) pieces ≡ task.cost
 
 -- the vCPU is split: its pieces stand behind those of the cores, and the last of them is on its home
@@ -82,7 +82,7 @@ pub record IsFirstStuck (tasks : List (Option Periodic)) (start : List (List Pie
   pub split : SplitsEach tasks start core_of before cores homes
   pub task : Periodic
   pub at : slice_get tasks vcpu ≡ Some (Some task)
-  pub refuses : Refuses cores vcpu task.period task.cost 0 (core_numbers cores) rest over
+  pub refuses : IsSplitRefused cores vcpu task rest over
 
 -- splitting in turn ends at that vCPU; want of memory says nothing of the cores
 abbrev pub IsStuckFault : List (Option Periodic) → List (List Piece) → List (Option ℕ) → List ℕ

@@ -1,8 +1,9 @@
 -- Two values of the same numbers are one, since each fact on the numbers has one proof.
-use Rattle.std.proofs.Common.{◌≡◌, ℕ, ◌≤◌, Bool, List, Option, ap, subst, ◌∙◌}
+use Rattle.std.proofs.Common.{◌≡◌, ℕ, ◌<◌, ◌≤◌, Bool, List, Option, ap, subst, ◌∙◌}
 use Rattle.std.proofs.Props.{props}
+use Rattle.std.specs.Option.{ForSome}
 use Rattle.tab_core.specs.Period.{IsPeriod}
-use Rattle.tab_core.specs.declared.TheConstants.{MAX_CORES, MAX_LATENCY_NS, MAX_SLIVER, ROUND, WHOLE_PPM}
+use Rattle.tab_core.specs.declared.TheConstants.{MAX_CORES, MAX_LATENCY_NS, MAX_SLIVER, MAX_VCPUS, ROUND, WHOLE_PPM}
 use Rattle.tab_core.specs.declared.host.Host.{Host}
 use Rattle.tab_core.specs.declared.periodic.Periodic.{Periodic}
 use Rattle.tab_core.specs.declared.reservation.Reservation.{Reservation}
@@ -135,3 +136,7 @@ same_host a b cores lag sliver quantum vcpus =
     (subst (λ s. At b.cores b.lag s a.quantum a.vcpus) sliver
     (subst (λ l. At b.cores l a.sliver a.quantum a.vcpus) lag
     (subst (λ c. At c a.lag a.sliver a.quantum a.vcpus) cores here)))) (host_facts b)
+
+-- an owner that there may be is small in one way, so values with one are made of their numbers
+pub one_owner_proof : (owner : Option ℕ) (x y : ForSome owner (λ v. v < MAX_VCPUS)) → x ≡ y
+one_owner_proof owner x y = (let one : IsProp (ForSome owner (λ v. v < MAX_VCPUS)) = hlevel props in one x y)

@@ -1,4 +1,5 @@
 pub mod Alike
 pub mod Bits
 pub mod Edited
+pub mod Lists
 pub mod Periods

@@ -1,7 +1,8 @@
-ghost use Rattle.std.specs.Prelude.{◌≡◌, ◌<◌, ◌≤◌, ◌-◌};
+ghost use Rattle.std.specs.Prelude.{◌≡◌, ◌<◌, ◌≤◌, ◌-◌, ◌++◌, [], ◌∷◌, OnErr, OnOk};
 ghost use Rattle.tab_core.specs.declared.TheConstants.{MAX_CORES, MAX_VCPUS};
 ghost use Rattle.tab_core.specs.Period.{IsPeriod};
 
+use crate::NoMemory;
 use crate::number::{CoreNo, VcpuNo};
 use std::marker::Model;
 
@@ -53,5 +54,14 @@ impl Pieces {
         ensures { result.now ≡ self.now }
     {
         &self.items
+    }
+
+    /// Adds a piece behind the others.
+    pub fn push(&mut self, piece: Piece) -> Result<(), NoMemory>
+        ensures ok { OnOk result (self.new ≡ self.old ++ piece ∷ []) }
+        ensures err { OnErr result (self.new ≡ self.old) }
+    {
+        self.items.push(piece)?;
+        Ok(())
     }
 }

@@ -1,7 +1,9 @@
 use Rattle.std.proofs.Common.{arith, inl, inr}
 use Rattle.std.proofs.lemmas.Bool.{cases_lt}
 use Rattle.tab_core.proofs.Periods.{period_facts}
-use Rattle.edf_table.specs.Beside.{tight}
+use Rattle.cd_split.specs.Cores.{pieces_on}
+use Rattle.cd_split.specs.Inside.Search.{left_of}
+use Rattle.cd_split.specs.Splitting.{cut_of}
 use Rattle.cd_split.specs.declared.cut.TheConstants.{LEAST_CUT}
 use Rattle.cd_split.proofs.Loads.{fits_with_load}
 use Rattle.cd_split.proofs.cut.greatest_cut.Goals as goal
@@ -13,7 +15,7 @@ loop-low-init c = record {
   fits = λ enough. absurd (omega arith);
   too_much = λ more high below fits. (
       let left = c.args.left.now in
-      let light = fits_with_load c.args.pieces.now (tight left.vcpu more left.from left.period)
+      let light = fits_with_load (pieces_on c.args.cores.now c.args.rank.now.core) (cut_of (left_of left) more)
       (omega arith) left.listed fits in
       let few = (c.most_by_load.ensures.most more).1 in
       omega arith);

@@ -1,7 +1,7 @@
 use Rattle.std.proofs.Common.{◌+◌, ◌-◌, ◌<◌, ◌≤◌}
-use Rattle.edf_table.specs.Beside.{tight}
-use Rattle.cd_split.specs.Search.{IsTooMuch}
-use Rattle.cd_split.specs.Splitting.{FitsWith}
+use Rattle.cd_split.specs.Cores.{pieces_on}
+use Rattle.cd_split.specs.Inside.Search.{IsTooMuch, left_of}
+use Rattle.cd_split.specs.Splitting.{FitsWith, cut_of}
 use Rattle.cd_split.specs.declared.cut.TheConstants.{LEAST_CUT}
 use Rattle.cd_split.proofs.cut.greatest_cut.Given as goal
 
@@ -10,8 +10,8 @@ abbrev pub invariant-loop-low : goal.invariant-loop-low
 invariant-loop-low l = record {
   least : LEAST_CUT ≤ l.low + 1;
   below : LEAST_CUT ≤ l.low → l.low < l.left.rest;
-  fits : LEAST_CUT ≤ l.low → FitsWith l.pieces (tight l.left.vcpu l.low l.left.from l.left.period);
-  too_much : IsTooMuch l.pieces l.left l.high;
+  fits : LEAST_CUT ≤ l.low → FitsWith (pieces_on l.cores l.rank.core) (cut_of (left_of l.left) l.low);
+  too_much : IsTooMuch l.cores (left_of l.left) l.rank.core l.high;
   within : l.high ≤ l.left.rest;
 }
 

@@ -1,5 +1,5 @@
 use Rattle.std.proofs.Common.{◌++◌, [], ◌∷◌, ap, sym, ◌∙◌}
-use Rattle.cd_split.proofs.Lists.{range_next}
+use Rattle.tab_core.proofs.Lists.{range_next}
 use Rattle.cd_split.proofs.splitting.numbers_of.Goals as goal
 
 pub loop-number-preserved : goal.loop-number-preserved

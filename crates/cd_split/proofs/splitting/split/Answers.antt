@@ -1,55 +1,46 @@
-use Rattle.std.proofs.Common.{◌≡◌, ◌+◌, ◌-◌, ◌<◌, ◌==◌, not, [], ◌∷◌, ◌++◌, length, refl, ap, subst, sym, ◌∙◌, arith, rules}
-use Rattle.std.specs.List.{All, range_with_len}
+use Rattle.std.proofs.Common.{◌≡◌, ◌<◌, ◌==◌, not, [], ◌∷◌, ◌++◌, length, refl, ap, subst, sym, ◌∙◌, arith, rules}
+use Rattle.std.specs.List.{All, AllZip, range_with_len}
 use Rattle.std.proofs.lemmas.Fn.{filter_same}
 use Rattle.std.proofs.lemmas.List.{append_assoc}
 use Rattle.std.proofs.lemmas.List.Filters.{length-filter_both}
 use Rattle.std.proofs.lemmas.List.FromFn.{length-range_with_len}
 use Rattle.std.proofs.lemmas.List.Elements.{All-filter}
 use Rattle.std.proofs.lemmas.Option.{MatchOption-at_none, MatchOption-at_some}
-use Rattle.edf_table.specs.Beside.{remainder}
-use Rattle.cd_split.specs.Search.{IsCutPiece, IsHomePiece, IsHomeless, IsUncut}
-use Rattle.cd_split.specs.Splitting.{AreOverloads, Refuses, Splits, core_numbers, without}
-use Rattle.cd_split.proofs.Lists.{numbers_below}
+use Rattle.cd_split.specs.Inside.Search.{IsCutPiece, IsHomePiece, IsHomeless, IsUncut, left_of}
+use Rattle.cd_split.specs.Splitting.{IsOverloadWith, IsSplit, Left, Refuses, Splits, all_of, behind, core_numbers, rest_of, without}
+use Rattle.tab_core.proofs.Lists.{numbers_below}
 use Rattle.cd_split.proofs.Shares.{splits_apart, splits_cost, splits_fit, splits_follow, splits_of}
-use Rattle.cd_split.proofs.Steps.{as_of, refuses_after_cut, refuses_here, splits_after_cut, splits_at_home}
-use Rattle.cd_split.proofs.Unique.{never_both, splits_unique}
+use Rattle.cd_split.proofs.Steps.{refuses_after_cut, refuses_here, splits_after_cut, splits_at_home}
+use Rattle.cd_split.proofs.Unique.{one_split, split_or_refused}
 use Rattle.cd_split.proofs.splitting.split.Goals as goal
 
 pub loop-pieces-init : goal.loop-pieces-init
 loop-pieces-init c =
     let cores = c.args.cores.now in
-    let left = c.whole-left.result in
+    let left = left_of c.all_of-left.result in
+    let all = all_of c.args.vcpu c.args.task in
     let unused = c.in_ok-unused.unused.items in
-    let vcpu = c.args.vcpu in
-    let period = c.args.task.period in
     let numbers : unused ≡ core_numbers cores =
     c.in_ok-unused.ensures ∙ ap (range_with_len 0) c.cores.ensures.count in
+    let left_is : left ≡ all = c.all_of-left.ensures in
     record {
-      vcpu = c.whole-left.ensures.vcpu;
-      period = c.whole-left.ensures.period;
+      vcpu = ap (λ (l : Left). l.vcpu) left_is;
       there = subst (All (λ core. core < length cores)) (sym numbers) (numbers_below (length cores));
       few = (let count = ap length numbers ∙ length-range_with_len 0 (length cores) in omega
           (arith, c.cores.ensures.count, c.cores.ensures.few));
-      so_far = λ pieces splits. (
-          let whole = subst (λ u. Splits cores vcpu period c.args.task.cost 0 u pieces) numbers
-          (subst (λ f. Splits cores vcpu period c.args.task.cost f unused pieces) c.whole-left.ensures.from
-          (subst (λ r. Splits cores vcpu period r left.from unused pieces) c.whole-left.ensures.rest
-          splits)) in
-          subst (λ ps. Splits cores vcpu period c.args.task.cost 0 (core_numbers cores)
-          (ps ++ pieces)) (sym c.new-pieces.ensures.items) whole);
-      refused = λ rest over refuses.
-          subst (λ u. Refuses cores vcpu period c.args.task.cost 0 u rest over) numbers
-          (subst (λ f. Refuses cores vcpu period c.args.task.cost f unused rest over)
-          c.whole-left.ensures.from
-          (subst (λ r. Refuses cores vcpu period r left.from unused rest over)
-          c.whole-left.ensures.rest refuses));
+      so_far = λ pieces splits. subst (λ ps. IsSplit cores c.args.vcpu c.args.task (ps ++ pieces))
+          (sym c.new-pieces.ensures.items)
+          (subst (λ u. Splits cores all u pieces) numbers
+          (subst (λ l. Splits cores l unused pieces) left_is splits));
+      refused = λ rest over refuses. subst (λ u. Refuses cores all u rest over) numbers
+          (subst (λ l. Refuses cores l unused rest over) left_is refuses);
     }
 
 pub returns-in-Some-clause-pieces : goal.returns-in-Some-clause-pieces
 returns-in-Some-clause-pieces c =
     let cores = c.args.cores.now in
     let before = c.loop-pieces.invariant in
-    let left = c.loop-pieces.left in
+    let left = left_of c.loop-pieces.left in
     let unused = c.loop-pieces.unused.items in
     let piece = c.in-Some.piece in
     let home' = MatchOption-at_some (IsHomeless cores left c.deref-in-loop-pieces.result.now)
@@ -58,52 +49,46 @@ returns-in-Some-clause-pieces c =
     let home : IsHomePiece cores left unused piece =
     subst (λ u. IsHomePiece cores left u piece) c.deref-in-loop-pieces.ensures.value home'
     in
-    let splits = as_of (λ v p. Splits cores v p left.rest left.from unused (piece ∷ [])) left.vcpu
-    left.period c.args.vcpu c.args.task.period before.vcpu before.period
-    (splits_at_home cores left unused piece home) in
-    subst (Splits cores c.args.vcpu c.args.task.period c.args.task.cost 0 (core_numbers cores))
-    (sym (c.of.ensures ∙ c.in_ok-push.ensures.items)) (before.so_far (piece ∷ []) splits)
+    subst (IsSplit cores c.args.vcpu c.args.task) (sym (c.of.ensures ∙ c.in_ok-push.ensures.items))
+    (before.so_far (piece ∷ []) (splits_at_home cores left unused piece home))
 
 pub returns-in-Some-clause-of : goal.returns-in-Some-clause-of
-returns-in-Some-clause-of c = splits_of c.args.cores.now c.args.vcpu c.args.task.period
-    c.args.task.cost 0 (core_numbers c.args.cores.now) c.of.result (returns-in-Some-clause-pieces c)
+returns-in-Some-clause-of c =
+    splits_of c.args.cores.now (all_of c.args.vcpu c.args.task) (core_numbers c.args.cores.now)
+    c.of.result (returns-in-Some-clause-pieces c)
 
 pub returns-in-Some-clause-fit : goal.returns-in-Some-clause-fit
 returns-in-Some-clause-fit c =
-    splits_fit c.args.cores.now c.args.vcpu c.args.task.period c.args.task.cost 0
-    (core_numbers c.args.cores.now) c.of.result (numbers_below (length c.args.cores.now))
-    (returns-in-Some-clause-pieces c)
+    splits_fit c.args.cores.now (all_of c.args.vcpu c.args.task) (core_numbers c.args.cores.now)
+    c.of.result (numbers_below (length c.args.cores.now)) (returns-in-Some-clause-pieces c)
 
 pub returns-in-Some-clause-apart : goal.returns-in-Some-clause-apart
 returns-in-Some-clause-apart c =
-    splits_apart c.args.cores.now c.args.vcpu c.args.task.period c.args.task.cost 0
-    (core_numbers c.args.cores.now) c.of.result (returns-in-Some-clause-pieces c)
+    splits_apart c.args.cores.now (all_of c.args.vcpu c.args.task) (core_numbers c.args.cores.now)
+    c.of.result (returns-in-Some-clause-pieces c)
 
 pub returns-in-Some-clause-windows : goal.returns-in-Some-clause-windows
 returns-in-Some-clause-windows c =
-    splits_follow c.args.cores.now c.args.vcpu c.args.task.period c.args.task.cost 0
-    (core_numbers c.args.cores.now) c.of.result (returns-in-Some-clause-pieces c)
+    splits_follow c.args.cores.now (all_of c.args.vcpu c.args.task) (core_numbers c.args.cores.now)
+    c.of.result (returns-in-Some-clause-pieces c)
 
 pub returns-in-Some-clause-cost : goal.returns-in-Some-clause-cost
 returns-in-Some-clause-cost c =
-    splits_cost c.args.cores.now c.args.vcpu c.args.task.period c.args.task.cost 0
-    (core_numbers c.args.cores.now) c.of.result (returns-in-Some-clause-pieces c)
+    splits_cost c.args.cores.now (all_of c.args.vcpu c.args.task) (core_numbers c.args.cores.now)
+    c.of.result (returns-in-Some-clause-pieces c)
 
 pub returns-in-Some-clause-only : goal.returns-in-Some-clause-only
-returns-in-Some-clause-only c =
-    λ other splits. splits_unique c.args.cores.now c.args.vcpu c.args.task.period c.args.task.cost 0
-    (core_numbers c.args.cores.now) c.of.result other (returns-in-Some-clause-pieces c) splits
+returns-in-Some-clause-only c = λ other splits. one_split c.args.cores.now c.args.vcpu c.args.task
+    c.of.result other (returns-in-Some-clause-pieces c) splits
 
 pub returns-in-Some-clause-room : goal.returns-in-Some-clause-room
-returns-in-Some-clause-room c =
-    λ rest over refuses. never_both c.args.cores.now c.args.vcpu c.args.task.period c.args.task.cost
-    0 (core_numbers c.args.cores.now) c.of.result rest over
-    (returns-in-Some-clause-pieces c) refuses
+returns-in-Some-clause-room c = λ rest over refuses. split_or_refused c.args.cores.now c.args.vcpu
+    c.args.task c.of.result rest over (returns-in-Some-clause-pieces c) refuses
 
-pub overs_of-requires-clause-homeless : goal.overs_of-requires-clause-homeless
-overs_of-requires-clause-homeless c =
+pub overloads_of-requires-clause-homeless : goal.overloads_of-requires-clause-homeless
+overloads_of-requires-clause-homeless c =
     let cores = c.args.cores.now in
-    let left = c.loop-pieces.left in
+    let left = left_of c.loop-pieces.left in
     let used = c.deref-in-loop-pieces.result.now in
     subst (IsHomeless cores left) (c.deref-in-loop-pieces.ensures.value ∙ sym c.deref-in-None.ensures.value)
     (MatchOption-at_none (IsHomeless cores left used)
@@ -112,8 +97,7 @@ overs_of-requires-clause-homeless c =
 pub returns-in-None-clause-fault : goal.returns-in-None-clause-fault
 returns-in-None-clause-fault c =
     let cores = c.args.cores.now in
-    let before = c.loop-pieces.invariant in
-    let left = c.loop-pieces.left in
+    let left = left_of c.loop-pieces.left in
     let unused = c.loop-pieces.unused.items in
     let over = c.in_ok-over-in-None.over in
     let homeless : IsHomeless cores left unused =
@@ -125,27 +109,22 @@ returns-in-None-clause-fault c =
     (MatchOption-at_none (IsUncut cores left c.deref-in-loop-pieces-3.result.now)
     (IsCutPiece cores left c.deref-in-loop-pieces-3.result.now) c.in-None.is
     c.in_ok-find_cut.ensures) in
-    let overs : AreOverloads cores (remainder left.vcpu left.rest left.from left.period) unused over =
-    subst (λ u. AreOverloads cores (remainder left.vcpu left.rest left.from left.period) u over)
+    let overs : AllZip (IsOverloadWith cores (rest_of left)) unused over =
+    subst (λ u. AllZip (IsOverloadWith cores (rest_of left)) u over)
     c.deref-in-None.ensures.value c.in_ok-over-in-None.ensures in (
       refl,
-      before.refused left.rest over
-          (as_of (λ v p. Refuses cores v p left.rest left.from unused left.rest over) left.vcpu
-          left.period c.args.vcpu c.args.task.period before.vcpu before.period
-          (refuses_here cores left unused over homeless uncut overs)),
+      c.loop-pieces.invariant.refused left.rest over
+          (refuses_here cores left unused over homeless uncut overs),
     )
 
 pub loop-pieces-preserved : goal.loop-pieces-preserved
 loop-pieces-preserved c =
     let cores = c.args.cores.now in
     let before = c.loop-pieces.invariant in
-    let left = c.loop-pieces.left in
+    let left = left_of c.loop-pieces.left in
     let unused = c.loop-pieces.unused.items in
     let piece = c.in-Some-2.piece in
-    let after = c.after-left.result in
     let later = c.retain.new.self.items in
-    let vcpu = c.args.vcpu in
-    let period = c.args.task.period in
     let homeless : IsHomeless cores left unused =
     subst (IsHomeless cores left) c.deref-in-loop-pieces.ensures.value
     (MatchOption-at_none (IsHomeless cores left c.deref-in-loop-pieces.result.now)
@@ -159,9 +138,9 @@ loop-pieces-preserved c =
     let filtered : later ≡ without piece.core unused =
     filter_same _ (λ other. not (other == piece.core)) _
     (λ x b f t. search rules) _ _ c.retain.ensures.filtered in
+    let left_is : left_of c.behind-left.result ≡ behind left piece.cost = c.behind-left.ensures in
     record {
-      vcpu = c.after-left.ensures.vcpu ∙ before.vcpu;
-      period = c.after-left.ensures.period ∙ before.period;
+      vcpu = ap (λ (l : Left). l.vcpu) left_is ∙ before.vcpu;
       there = subst (All (λ core. core < length cores)) (sym filtered)
           (All-filter (λ other. not (other == piece.core))
           (λ core. core < length cores) unused before.there);
@@ -169,36 +148,16 @@ loop-pieces-preserved c =
           (λ other. not (not (other == piece.core))) (λ other. refl) unused in
           omega (arith, ap length filtered, before.few));
       so_far = λ pieces splits. (
-          let at_left = as_of (λ v p. Splits cores v p after.rest after.from later pieces) vcpu
-          period left.vcpu left.period (sym before.vcpu) (sym before.period) splits in
-          let next =
-          subst (λ u. Splits cores left.vcpu left.period (left.rest - piece.cost)
-          (left.from + piece.cost) u pieces) filtered
-          (subst (λ f. Splits cores left.vcpu left.period (left.rest - piece.cost) f later pieces)
-          c.after-left.ensures.from
-          (subst (λ r. Splits cores left.vcpu left.period r after.from later pieces)
-          c.after-left.ensures.rest at_left)) in
-          let whole = as_of (λ v p. Splits cores v p left.rest left.from unused (piece ∷ pieces))
-          left.vcpu left.period vcpu period before.vcpu before.period
-          (splits_after_cut cores left unused piece pieces homeless cut next) in
+          let next = subst (λ u. Splits cores (behind left piece.cost) u pieces) filtered
+          (subst (λ l. Splits cores l later pieces) left_is splits) in
           let joined : c.loop-pieces.pieces.items ++ piece ∷ pieces
           ≡ c.push-in-Some-2.new.self.items ++ pieces =
           sym (ap (λ ps. ps ++ pieces) c.in_ok-push-in-Some-2.ensures.items
           ∙ append_assoc c.loop-pieces.pieces.items (piece ∷ []) pieces) in
-          subst (Splits cores vcpu period c.args.task.cost 0 (core_numbers cores)) joined
-          (before.so_far (piece ∷ pieces) whole));
-      refused = λ rest over refuses. (
-          let at_left = as_of (λ v p. Refuses cores v p after.rest after.from later rest over) vcpu
-          period left.vcpu left.period (sym before.vcpu) (sym before.period) refuses in
-          let next =
-          subst (λ u. Refuses cores left.vcpu left.period (left.rest - piece.cost)
-          (left.from + piece.cost) u rest over) filtered
-          (subst (λ f. Refuses cores left.vcpu left.period
-          (left.rest - piece.cost) f later rest over) c.after-left.ensures.from
-          (subst (λ r. Refuses cores left.vcpu left.period r after.from later rest over)
-          c.after-left.ensures.rest at_left)) in
-          before.refused rest over
-          (as_of (λ v p. Refuses cores v p left.rest left.from unused rest over) left.vcpu
-          left.period vcpu period before.vcpu before.period
-          (refuses_after_cut cores left unused piece rest over homeless cut next)));
+          subst (IsSplit cores c.args.vcpu c.args.task) joined (before.so_far (piece ∷ pieces)
+          (splits_after_cut cores left unused piece pieces homeless cut next)));
+      refused = λ rest over refuses. before.refused rest over
+          (refuses_after_cut cores left unused piece rest over homeless cut
+          (subst (λ u. Refuses cores (behind left piece.cost) u rest over) filtered
+          (subst (λ l. Refuses cores l later rest over) left_is refuses)));
     }

@@ -4,6 +4,7 @@ use Rattle.table_form.specs.Planning.Jobs.{jobs_of}
 use Rattle.table_form.specs.Planning.Demand.{demand_in}
 use Rattle.edf_table.proofs.Starts.{demand_empty, demand_back, fits_later}
 use Rattle.edf_table.proofs.Few.{few_pieces}
+use Rattle.edf_table.proofs.OverloadsLemmas.{core_of_first, some_piece}
 use Rattle.edf_table.proofs.overload.last_overload.Goals as goal
 
 pub loop-from-init : goal.loop-from-init
@@ -25,6 +26,8 @@ returns-then-demand-from c =
     (omega (arith, c.loop-from.invariant.value, c.loop-from.invariant.small))
     c.loop-from.invariant.fits_after in
     record {
+      on = core_of_first c.args.pieces.now c.index-pieces-0.result
+          (some_piece c.args.pieces.now c.requires.end.begin c.args.end c.requires.end.overloaded);
       first = record {
         overloaded = record {
           some_ticks = omega arith;
@@ -65,3 +68,11 @@ loop-from-preserved c =
 
 pub demand_of_starts-demand-requires-clause-few : goal.demand_of_starts-demand-requires-clause-few
 demand_of_starts-demand-requires-clause-few c = few_pieces c.args.pieces.now c.requires.distinct
+
+pub bounds-pieces-0 : goal.bounds-pieces-0
+bounds-pieces-0 c =
+    some_piece c.args.pieces.now c.requires.end.begin c.args.end c.requires.end.overloaded
+
+pub bounds-pieces-0-then-demand-from : goal.bounds-pieces-0-then-demand-from
+bounds-pieces-0-then-demand-from c = λ d.
+    some_piece c.args.pieces.now c.requires.end.begin c.args.end c.requires.end.overloaded

@@ -1,6 +1,6 @@
 use Rattle.std.proofs.Common.{arith}
 use Rattle.tab_core.proofs.Periods.{period_facts}
-use Rattle.cd_split.proofs.left.Left.cut_on.Goals as goal
+use Rattle.cd_split.proofs.left.Left.behind.Goals as goal
 
 pub overflow_add-result : goal.overflow_add-result
 overflow_add-result c =
