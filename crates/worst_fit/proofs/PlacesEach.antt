@@ -7,16 +7,17 @@ use Rattle.tab_core.specs.declared.periodic.Periodic.{Periodic}
 use Rattle.worst_fit.specs.declared.placed.Placed.{Placed}
 use Rattle.worst_fit.specs.Bound.{IsWithinBound}
 use Rattle.worst_fit.specs.Load.{FitsEachCore}
-use Rattle.worst_fit.specs.Placement.{IsAdmitted, IsPlacement, Placing, PlacesEach, nothing_placed, place_all}
-use Rattle.worst_fit.proofs.Bound.{none_left}
+use Rattle.worst_fit.specs.Placement.{IsAdmitted, IsPlacement, PartialPlacement, PlacesEach, nothing_placed, place_all}
+use Rattle.worst_fit.proofs.BoundLemmas.{none_left}
 use Rattle.worst_fit.proofs.Counts.{contains_counted, counts_at, has, lefts, one_if, one_place, turns-nil}
-use Rattle.worst_fit.proofs.Kept.{IsKept, at_most_one, kept_all}
+use Rattle.worst_fit.proofs.PlacingInvariant.{PlacingInvariant, at_most_one, kept_all}
 
 -- all were tried
-abbrev IsDone : List (Option Periodic) → ℕ → Placing → Type 0
-IsDone tasks cores p = IsKept tasks cores [] p
+abbrev IsDone : List (Option Periodic) → ℕ → PartialPlacement → Type 0
+IsDone tasks cores p = PlacingInvariant tasks cores [] p
 
-balanced : (tasks : List (Option Periodic)) (cores : ℕ) (p : Placing) → IsDone tasks cores p
+-- once all were tried a vCPU is placed or left over as often as it is admitted
+balanced : (tasks : List (Option Periodic)) (cores : ℕ) (p : PartialPlacement) → IsDone tasks cores p
     → (vcpu : ℕ) → has vcpu p.core_of + lefts vcpu p.left ≡ has vcpu tasks
 balanced tasks cores p done vcpu = let all = done.balance vcpu in let none = turns-nil vcpu in omega arith
 
@@ -28,18 +29,21 @@ something (None ∷ xs) zero some = absurd (omega arith)
 something (Some x ∷ xs) zero some = (x, refl)
 something (o ∷ xs) (suc vcpu) some = something xs vcpu some
 
+-- a vCPU that has something counts once
 counted_some : {X : Type 0} (xs : List (Option X)) (vcpu : ℕ) (x : X)
     → slice_get xs vcpu ≡ Some (Some x) → has vcpu xs ≡ 1
 counted_some xs vcpu x at = ap (λ o. one_if (is_some o)) (get_or_from_slice_get xs vcpu (Some x) None at)
 
-fits_each : (tasks : List (Option Periodic)) (cores : ℕ) (p : Placing) → IsDone tasks cores p
+-- no core is overloaded, in the words of the contract
+fits_each : (tasks : List (Option Periodic)) (cores : ℕ) (p : PartialPlacement) → IsDone tasks cores p
     → FitsEachCore tasks cores p.core_of
 fits_each tasks cores p done = λ core lt.
     let load = done.loads_are core lt in
     let fits = done.fit core lt in
     omega arith
 
-places_each : (tasks : List (Option Periodic)) (cores : ℕ) (p : Placing) (placed : Placed)
+-- the counts, in the words of the contract
+places_each : (tasks : List (Option Periodic)) (cores : ℕ) (p : PartialPlacement) (placed : Placed)
     → placed.core_of ≡ p.core_of → placed.left ≡ p.left → IsDone tasks cores p
     → PlacesEach tasks cores placed
 places_each tasks cores p placed core_of left done =
@@ -92,12 +96,14 @@ done_all : (tasks : List (Option Periodic)) (cores : ℕ) (placed : Placed) → 
     → IsDone tasks cores (place_all (nothing_placed cores (length tasks)) is.order)
 done_all tasks cores placed some is = kept_all tasks cores is.order some is.falling_order
 
+-- what `place` promises of each vCPU, by its definition
 pub placement_places_each : (tasks : List (Option Periodic)) (cores : ℕ) (placed : Placed)
     → 1 ≤ cores → IsPlacement tasks cores placed → PlacesEach tasks cores placed
 placement_places_each tasks cores placed some is =
     places_each tasks cores (place_all (nothing_placed cores (length tasks)) is.order) placed
     is.core_of is.left (done_all tasks cores placed some is)
 
+-- what `place` promises of each core
 pub placement_fits : (tasks : List (Option Periodic)) (cores : ℕ) (placed : Placed) → 1 ≤ cores
     → IsPlacement tasks cores placed → FitsEachCore tasks cores placed.core_of
 placement_fits tasks cores placed some is =
@@ -105,6 +111,7 @@ placement_fits tasks cores placed some is =
     (fits_each tasks cores (place_all (nothing_placed cores (length tasks)) is.order)
     (done_all tasks cores placed some is))
 
+-- what `place` promises within the bound; `plan` is refused for no room only beyond it
 pub placement_within_bound : (tasks : List (Option Periodic)) (cores : ℕ) (placed : Placed)
     → 1 ≤ cores → IsPlacement tasks cores placed → IsWithinBound tasks cores → placed.left ≡ []
 placement_within_bound tasks cores placed some is bound = is.left

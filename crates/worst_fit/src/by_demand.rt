@@ -14,12 +14,12 @@ use tab_core::{NoMemory, Periodic, VcpuNo};
 /// An admitted vCPU with the ticks that it takes of a round. More ticks come first, and at ties
 /// the lower number.
 #[derive(Clone, Copy, PartialEq, Eq)]
-pub struct Rank {
+pub struct ByDemand {
     pub demand: u32,
     pub vcpu: VcpuNo,
 }
 
-impl Ord for Rank {
+impl Ord for ByDemand {
     ghost cmp = { then_cmp (flip_args (on (λ r. r.demand) nat_cmp)) (on (λ r. r.vcpu) nat_cmp) };
 
     ghost total = { Prim.search (comparing, rules) };
@@ -28,33 +28,33 @@ impl Ord for Rank {
 
     ghost matches_eq = { Prim.search (comparing, rules) };
 
-    fn cmp(&self, other: &Rank) -> Ordering {
+    fn cmp(&self, other: &ByDemand) -> Ordering {
         let by_demand = other.demand.cmp(&self.demand);
         by_demand.then(self.vcpu.cmp(&other.vcpu))
     }
 }
 
-impl PartialOrd for Rank {
+impl PartialOrd for ByDemand {
     ghost partial_cmp = { as_partial_cmp
         (then_cmp (flip_args (on (λ r. r.demand) nat_cmp)) (on (λ r. r.vcpu) nat_cmp)) };
 
     ghost laws = { partial_order_from_own_ties
         (Prim.search (comparing, rules)) (Prim.search (comparing, rules)) };
 
-    fn partial_cmp(&self, other: &Rank) -> Option<Ordering> {
+    fn partial_cmp(&self, other: &ByDemand) -> Option<Ordering> {
         Some(self.cmp(other))
     }
 }
 
 /// The admitted vCPUs by falling demand, ties to the lower number.
-pub fn falling_order(alloc: Global, tasks: &[Option<Periodic>]) -> Result<Vec<Rank>, NoMemory>
+pub fn falling_order(alloc: Global, tasks: &[Option<Periodic>]) -> Result<Vec<ByDemand>, NoMemory>
     requires { length tasks.now ≤ MAX_VCPUS }
     ensures { IfOk result (λ ranks. IsFallingOrder tasks.now ranks.items) }
 {
     let mut ranks = Vec::new(alloc);
     for (number, task) in tasks.iter().enumerate() {
         if let Some(task) = task {
-            ranks.push(Rank {
+            ranks.push(ByDemand {
                 demand: demand_of(task),
                 vcpu: VcpuNo(number as u32),
             })?;

@@ -11,14 +11,14 @@ use Rattle.std.proofs.lemmas.List.Sorted.{sum_by-IsPermutation}
 use Rattle.std.proofs.lemmas.List.Sums.{sum_by-cons}
 use Rattle.tab_core.specs.declared.TheConstants.{ROUND}
 use Rattle.tab_core.specs.declared.periodic.Periodic.{Periodic}
-use Rattle.worst_fit.specs.declared.rank.Rank.{Rank}
+use Rattle.worst_fit.specs.declared.by_demand.ByDemand.{ByDemand}
 use Rattle.worst_fit.specs.Bound.{IsWithinBound, largest_demand, total_demand}
 use Rattle.worst_fit.specs.Load.{task_demand}
 use Rattle.worst_fit.specs.Order.{IsFallingOrder, ranks_from}
-use Rattle.worst_fit.specs.Placement.{Placing, least_core, least_load, nothing_placed, place_all}
-use Rattle.worst_fit.proofs.Kept.{all_ranked}
-use Rattle.worst_fit.proofs.Next.{on_core, place_all-cons, place_all-nil, place_next-fits}
-use Rattle.worst_fit.proofs.Ranks.{ranks_from-nil, ranks_from-none, ranks_from-some}
+use Rattle.worst_fit.specs.Placement.{PartialPlacement, least_core, least_load, nothing_placed, place_all}
+use Rattle.worst_fit.proofs.PlacingInvariant.{all_ranked}
+use Rattle.worst_fit.proofs.PlacementLemmas.{on_core, place_all-cons, place_all-nil, place_next-fits}
+use Rattle.worst_fit.proofs.OrderLemmas.{ranks_from-nil, ranks_from-none, ranks_from-some}
 
 -- the loads of all cores together
 abbrev total : List ℕ → ℕ
@@ -26,7 +26,7 @@ total [] = 0
 total (load ∷ loads) = load + total loads
 
 -- what the ranks take together
-wanted : List Rank → ℕ
+wanted : List ByDemand → ℕ
 wanted [] = 0
 wanted (rank ∷ ranks) = rank.demand + wanted ranks
 
@@ -68,13 +68,15 @@ room n least takes most rest all low small bound = elim (cases_lt ROUND (least +
       absurd (omega arith))
 ]
 
-keeps_none : (n most : ℕ) (p : Placing) (order : List Rank) → length p.loads ≡ n + 1 → p.left ≡ []
+-- while the loads, the demands still to place and the reserve stay within the bound, each step finds
+-- room
+keeps_none : (n most : ℕ) (p : PartialPlacement) (order : List ByDemand) → length p.loads ≡ n + 1 → p.left ≡ []
     → All (λ rank. rank.demand ≤ most) order
     → total p.loads + wanted order + n * most ≤ (n + 1) * ROUND → (place_all p order).left ≡ []
 unfolding wanted
 keeps_none n most p [] cores none each bound = rw (place_all-nil p) none
 keeps_none n most p (rank ∷ order) cores none each bound =
-    let small : rank.demand ≤ most = All-head (λ (r : Rank). r.demand ≤ most) rank order each in
+    let small : rank.demand ≤ most = All-head (λ (r : ByDemand). r.demand ≤ most) rank order each in
     let low : (n + 1) * least_load p.loads ≤ total p.loads =
     subst (λ m. m * least_load p.loads ≤ total p.loads) cores (least_times p.loads) in
     let fits = room n (least_load p.loads) rank.demand most (wanted order) (total p.loads) low small
@@ -84,17 +86,19 @@ keeps_none n most p (rank ∷ order) cores none each bound =
     (keeps_none n most (on_core p rank (least_core p.loads) (least_load p.loads + rank.demand))
     order (length-set p.loads (least_core p.loads) (least_load p.loads + rank.demand) ∙ cores)
     none
-    (All-tail (λ (r : Rank). r.demand ≤ most) rank order each) (omega arith)))
+    (All-tail (λ (r : ByDemand). r.demand ≤ most) rank order each) (omega arith)))
 
+-- the induction begins with empty cores
 total_empty : (n : ℕ) → total (replicate n 0) ≡ 0
 total_empty zero = refl
 total_empty (suc n) = let rest = total_empty n in omega arith
 
-wanted_is : (ranks : List Rank) → wanted ranks ≡ sum_by (λ rank. rank.demand) ranks
+-- as a sum, which doesn't depend on the order
+wanted_is : (ranks : List ByDemand) → wanted ranks ≡ sum_by (λ rank. rank.demand) ranks
 unfolding wanted
 wanted_is [] = refl
 wanted_is (rank ∷ ranks) = let rest = wanted_is ranks in omega
-    (arith, sum_by-cons (λ (r : Rank). r.demand) rank ranks)
+    (arith, sum_by-cons (λ (r : ByDemand). r.demand) rank ranks)
 
 -- the ranks of tasks take together what the tasks do
 wanted_from : (number : ℕ) (tasks : List (Option Periodic))
@@ -110,20 +114,23 @@ wanted_from number (Some task ∷ tasks) =
     let first = sum_by-cons task_demand (Some task) tasks in
     rw (ranks_from-some number task tasks) (omega arith)
 
-wanted_order : (tasks : List (Option Periodic)) (order : List Rank) → IsFallingOrder tasks order
+-- the order of placing changes nothing of what is wanted in total
+wanted_order : (tasks : List (Option Periodic)) (order : List ByDemand) → IsFallingOrder tasks order
     → wanted order ≡ total_demand tasks
 wanted_order tasks order falling_order =
-    wanted_is order ∙ sum_by-IsPermutation (λ (r : Rank). r.demand)
+    wanted_is order ∙ sum_by-IsPermutation (λ (r : ByDemand). r.demand)
     (ranks_from 0 tasks) order falling_order.admitted ∙ sym (wanted_is (ranks_from 0 tasks))
     ∙ wanted_from 0 tasks
 
+-- each vCPU's demand is covered by the reserve of the bound
 at_most_largest : (tasks : List (Option Periodic)) (vcpu : ℕ)
     → task_demand (get_or tasks vcpu None) ≤ largest_demand tasks
 at_most_largest [] vcpu = omega arith
 at_most_largest (task ∷ tasks) zero = omega arith
 at_most_largest (task ∷ tasks) (suc vcpu) = let rest = at_most_largest tasks vcpu in omega arith
 
-each_small : (tasks : List (Option Periodic)) (order : List Rank) → IsFallingOrder tasks order
+-- the same of the ranks, of which the steps speak
+each_small : (tasks : List (Option Periodic)) (order : List ByDemand) → IsFallingOrder tasks order
     → All (λ rank. rank.demand ≤ largest_demand tasks) order
 each_small tasks order falling_order = λ k d lt.
     let ranked = all_ranked tasks order falling_order k d lt in
@@ -131,7 +138,8 @@ each_small tasks order falling_order = λ k d lt.
     let most = at_most_largest tasks (get_or order k d).vcpu in
     omega arith
 
-pub none_left : (tasks : List (Option Periodic)) (cores : ℕ) (order : List Rank) → 1 ≤ cores
+-- what `place` promises within the bound, from empty cores on
+pub none_left : (tasks : List (Option Periodic)) (cores : ℕ) (order : List ByDemand) → 1 ≤ cores
     → IsFallingOrder tasks order → IsWithinBound tasks cores
     → (place_all (nothing_placed cores (length tasks)) order).left ≡ []
 none_left tasks cores order some falling_order bound =

@@ -9,6 +9,7 @@ use Rattle.worst_fit.specs.Load.{is_on, load_on, task_demand}
 abbrev pub share_on : ℕ → Option Periodic → Option ℕ → ℕ
 share_on core task home = if is_on core home then task_demand task else 0
 
+-- opens the load by one vCPU, for the inductions below
 pub load_on-cons : (core : ℕ) (task : Option Periodic) (tasks : List (Option Periodic))
     (home : Option ℕ) (core_of : List (Option ℕ))
     → load_on core (task ∷ tasks) (home ∷ core_of)
@@ -18,6 +19,7 @@ load_on-cons core task tasks home core_of =
     sum_by-cons (λ (vcpu : Option Periodic × Option ℕ). share_on core vcpu.0 vcpu.1) (task, home)
     (zip tasks core_of)
 
+-- no vCPU, no load
 pub load_on-nil : (core : ℕ) (core_of : List (Option ℕ)) → load_on core [] core_of ≡ 0
 unfolding load_on
 load_on-nil core core_of = refl

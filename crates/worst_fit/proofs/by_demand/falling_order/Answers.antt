@@ -1,11 +1,11 @@
 use Rattle.std.proofs.Common.{◌++◌, List, sym, ap, ◌∙◌, append-nil, refl, subst}
 use Rattle.std.proofs.Math.ListN.{drop_of_length-le}
 use Rattle.std.specs.Prelude.{IsPermutation}
-use Rattle.worst_fit.specs.declared.rank.Rank.{Rank}
+use Rattle.worst_fit.specs.declared.by_demand.ByDemand.{ByDemand}
 use Rattle.worst_fit.specs.Order.{ranks_from}
-use Rattle.worst_fit.proofs.Ranks.{push_some, skip_none, ranks_from-nil}
-use Rattle.worst_fit.proofs.rank.falling_order.Goals.{in-Some+in_ok-push, in_default}
-use Rattle.worst_fit.proofs.rank.falling_order.Goals as goal
+use Rattle.worst_fit.proofs.OrderLemmas.{push_some, skip_none, ranks_from-nil}
+use Rattle.worst_fit.proofs.by_demand.falling_order.Goals.{in-Some+in_ok-push, in_default}
+use Rattle.worst_fit.proofs.by_demand.falling_order.Goals as goal
 
 pub loop-number-preserved : goal.loop-number-preserved
 loop-number-preserved c = elim c.match-task.branch [
@@ -26,7 +26,7 @@ returns c =
     let all = sym (append-nil c.loop-number.ranks.items)
     ∙ ap (λ r. c.loop-number.ranks.items ++ r) (sym end) ∙ c.loop-number.invariant in
     record {
-      admitted = subst (λ (r : List Rank). IsPermutation r c.sort.new.self.items) all
+      admitted = subst (λ (r : List ByDemand). IsPermutation r c.sort.new.self.items) all
           c.in_ok-sort.ensures.permutation;
       falls = c.in_ok-sort.ensures.sorted;
     }
