@@ -1,4 +1,7 @@
 pub mod After
 pub mod Books
-pub mod Faults
-pub mod Steps
+pub mod Changes
+pub mod Courses
+pub mod Inside
+pub mod States
+pub mod Waits

@@ -1,7 +1,7 @@
 ghost use Rattle.std.specs.Prelude.{◌≡◌, ◌<◌, ◌^◌, [], ◌∷◌, ◌++◌, IfOk, OnOk, length};
-ghost use Rattle.plan_book.specs.Steps.{known_of};
+ghost use Rattle.plan_book.specs.Inside.Making.{known_of};
 
-use crate::latest::Latest;
+use crate::book_so_far::BookSoFar;
 use std::alloc::Global;
 use tab_core::{NoMemory, VcpuSet};
 
@@ -25,16 +25,16 @@ impl Counts {
     }
 
     // Adds the next count, of which this is known.
-    pub(crate) fn add(&mut self, latest: &Latest) -> Result<(), NoMemory>
-        requires some { 0 < length latest.now.plans.items }
-        requires few { length latest.now.plans.items < 2 ^ 32 }
+    pub(crate) fn add(&mut self, so_far: &BookSoFar) -> Result<(), NoMemory>
+        requires some { 0 < length so_far.now.plans.items }
+        requires few { length so_far.now.plans.items < 2 ^ 32 }
         ensures numbers { OnOk result (self.new.numbers.items
-            ≡ self.old.numbers.items ++ (known_of latest.now).number ∷ []) }
+            ≡ self.old.numbers.items ++ (known_of so_far.now).number ∷ []) }
         ensures runnable { OnOk result (self.new.runnable.items ≡ self.old.runnable.items
-            ++ latest.now.runnable ∷ []) }
+            ++ so_far.now.runnable ∷ []) }
     {
-        self.numbers.push(latest.number())?;
-        self.runnable.push(latest.runnable.copy())?;
+        self.numbers.push(so_far.number())?;
+        self.runnable.push(so_far.runnable.copy())?;
         Ok(())
     }
 }

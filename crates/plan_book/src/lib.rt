@@ -2,13 +2,16 @@
 //! runnable vCPUs, and what became of each change of reservations.
 //!
 //! Layers above may rely on `IsKnownAfter` of `specs/After.antt`, which says what is known after
-//! the first events, and on `IsBookOf` of `specs/Books.antt`, which says what a book shows of it.
+//! the first events, on `IsBookOf` of `specs/Books.antt` and `IsCourseOf` of `specs/Courses.antt`,
+//! which say what a book and its course show of it, and on `WaitsWithinLatency` of
+//! `specs/Waits.antt`, which bounds the waits of a run on such a course.
 #![tactic(auto)]
 
 mod book;
+mod book_so_far;
 mod counts;
 mod fault;
-mod latest;
+mod laws;
 mod make;
 mod outcome;
 #[cfg(test)]
@@ -16,5 +19,6 @@ mod tests;
 
 pub use book::PlanBook;
 pub use fault::BookFault;
+pub use laws::every_wait_is_within_latency;
 pub use make::make_book;
 pub use outcome::Outcome;

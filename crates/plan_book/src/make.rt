@@ -8,13 +8,16 @@ ghost use Rattle.period_choice.specs.Tasks.{AreTasksOf, IsFirstWithoutPeriod};
 ghost use Rattle.worst_fit.specs.Bound.{IsWithinBound};
 ghost use Rattle.plan_make.specs.Planned.{IsFirstWithoutRoom, IsPlanned};
 ghost use Rattle.script_doc.specs.Script.{AreInRun, AreWithin, changes_in};
-ghost use Rattle.plan_book.specs.After.{IsKnownAfter, BookState};
-ghost use Rattle.plan_book.specs.Books.{IsBookOf, NameVcpusBelow, ticks_of};
+ghost use Rattle.plan_book.specs.After.{IsKnownAfter};
+ghost use Rattle.plan_book.specs.Books.{IsBookOf, NameVcpusBelow};
+ghost use Rattle.plan_book.specs.Courses.{ticks_of};
+ghost use Rattle.plan_book.specs.States.{BookState};
 
 use crate::book::PlanBook;
+use crate::book_so_far::BookSoFar;
 use crate::counts::Counts;
 use crate::fault::BookFault;
-use crate::latest::Latest;
+use plan_make::PlanFault;
 use script_doc::{Event, Script};
 use std::alloc::Global;
 use std::thread::Threads;
@@ -55,36 +58,36 @@ pub fn make_book<R: Threads + Sync>(
         → length (plan_after book.course n).tasks ≡ length host.now.vcpus) }
     ensures rounds { IfOk result (λ book. (rounds : ℕ) → 1 ≤ rounds → rounds ≤ MAX_ROUNDS
         → AreInRun rounds script.now → FitsRounds book.course rounds) }
-    ensures no_period { (vcpu : ℕ) → IsErrOf result (BookFault.NoPeriod vcpu)
+    ensures no_period { (vcpu : ℕ) → IsErrOf result (PlanFault.NoPeriod vcpu)
         → IsFirstWithoutPeriod host.now.vcpus vcpu }
-    ensures no_room { (vcpu rest : ℕ) (over : List Over) → IsErrOf result (BookFault.NoRoom vcpu rest over)
+    ensures no_room { (vcpu rest : ℕ) (over : List Over) → IsErrOf result (PlanFault.NoRoom vcpu rest over)
         → IsFirstWithoutRoom host.now vcpu rest over }
     ensures without_period { (vcpu : ℕ) → IsFirstWithoutPeriod host.now.vcpus vcpu → IsErr result }
     ensures without_room { (vcpu rest : ℕ) (over : List Over) → IsFirstWithoutRoom host.now vcpu rest over
         → IsErr result }
     ensures bound { (tasks : List (Option Periodic)) → AreTasksOf host.now.vcpus tasks
-        → IsWithinBound tasks host.now.cores → IfErr result (λ fault. fault ≡ BookFault.NoMemory) }
+        → IsWithinBound tasks host.now.cores → IfErr result (λ fault. fault ≡ PlanFault.NoMemory) }
     ensures planned { (plan : PlanView) → IsPlanned host.now plan
-        → IfErr result (λ fault. fault ≡ BookFault.NoMemory) }
+        → IfErr result (λ fault. fault ≡ PlanFault.NoMemory) }
 {
     let events = script.events();
-    let mut latest = Latest::start(rt, alloc, host)?;
+    let mut so_far = BookSoFar::start(rt, alloc, host)?;
     let mut counts = Counts::with_room(alloc, events.len() + 1)?;
-    counts.add(&latest)?;
+    counts.add(&so_far)?;
     for event in events {
-        latest.follow(rt, alloc, &event.act)?;
-        counts.add(&latest)?;
+        so_far.apply(rt, alloc, &event.act)?;
+        counts.add(&so_far)?;
     }
     let course = Course::of(
         host.cores,
         host.lag,
         host.quantum,
         ticks_in(alloc, events)?,
-        latest.plans,
+        so_far.plans,
         counts.numbers,
         counts.runnable,
     );
-    Ok(PlanBook::of(course, latest.outcomes))
+    Ok(PlanBook::of(course, so_far.outcomes))
 }
 
 // The ticks of the events.

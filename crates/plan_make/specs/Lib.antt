@@ -1,5 +1,6 @@
-pub mod Allotted
 pub mod Faults
+pub mod Inside
 pub mod Layout
 pub mod Planned
-pub mod Steps
+pub mod SplitInTurn
+pub mod Unsplit

@@ -1,14 +1,13 @@
 ghost use Rattle.std.specs.Prelude.{◌≡◌, [], IfOk, length, map};
 ghost use Rattle.table_form.specs.Planning.EdfRow.{edf_row};
 ghost use Rattle.table_form.specs.Planning.Jobs.{jobs_of};
-ghost use Rattle.plan_make.specs.Layout.{all_pieces};
-ghost use Rattle.plan_make.specs.Steps.{AreLaidOut};
+ghost use Rattle.plan_make.specs.Inside.Allotted.{AreLaidOut};
+ghost use Rattle.plan_make.specs.Planned.{all_pieces};
 
 use crate::layout::Layout;
 use crate::rows::rows_of;
 use cd_split::CorePieces;
 use std::alloc::Global;
-use std::thread::Threads;
 use tab_core::{CoreNo, NoMemory, Piece, Pieces, Tasks};
 use table_form::{Draft, Homes, Tables};
 
@@ -24,12 +23,7 @@ fn pieces_of(alloc: Global, cores: &CorePieces) -> Result<Vec<Piece>, NoMemory>
 }
 
 // The draft of a layout: its pieces, and the row of each core by earliest deadline first.
-pub(crate) fn draft_of<R: Threads + Sync>(
-    rt: &R,
-    alloc: Global,
-    tasks: Tasks,
-    layout: Layout,
-) -> Result<Draft, NoMemory>
+pub(crate) fn draft_of(alloc: Global, tasks: Tasks, layout: Layout) -> Result<Draft, NoMemory>
     requires { AreLaidOut tasks layout.cores layout.homes.items [] }
     ensures tasks { IfOk result (λ draft. draft.tasks ≡ tasks) }
     ensures pieces { IfOk result (λ draft. draft.pieces ≡ all_pieces layout.cores) }
@@ -39,7 +33,7 @@ pub(crate) fn draft_of<R: Threads + Sync>(
     ensures count { IfOk result (λ draft. length draft.tables.rows ≡ length layout.cores) }
 {
     let pieces = Pieces::of(pieces_of(alloc, &layout.cores)?);
-    let rows = rows_of(rt, alloc, &layout.cores)?;
+    let rows = rows_of(alloc, &layout.cores)?;
     let homes = Homes::of(layout.homes);
     Ok(Draft {
         tasks,

@@ -2,10 +2,12 @@ ghost use Rattle.std.specs.Prelude.{◌≡◌, IfErr, IfOk, [], length};
 ghost use Rattle.cd_split.specs.declared.fault.SplitFault.TheVariants.{NoMemory};
 ghost use Rattle.period_choice.specs.Tasks.{AreTasksOf};
 ghost use Rattle.worst_fit.specs.Bound.{IsWithinBound};
-ghost use Rattle.plan_make.specs.Steps.{AreLaidOut, IsLayout, IsLayoutFault};
+ghost use Rattle.plan_make.specs.Inside.Allotted.{AreLaidOut};
+ghost use Rattle.plan_make.specs.Inside.Splits.{IsLayoutFault};
+ghost use Rattle.plan_make.specs.Layout.{IsLayout};
 
 use crate::splitting::split_each;
-use crate::whole::stand_whole;
+use crate::unsplit::place_unsplit;
 use cd_split::{CorePieces, SplitFault};
 use std::alloc::Global;
 use tab_core::{CoreNo, Host, Tasks};
@@ -18,7 +20,7 @@ pub(crate) struct Layout {
     pub(crate) homes: Vec<Option<CoreNo>>,
 }
 
-// Places the vCPUs whole, and then splits those that are left over.
+// Places the vCPUs unsplit, and then splits those that are left over.
 pub(crate) fn lay_out(alloc: Global, host: &Host, tasks: &Tasks) -> Result<Layout, SplitFault>
     requires { AreTasksOf host.now.vcpus tasks.now }
     ensures layout { IfOk result (λ layout. IsLayout host.now tasks.now layout.cores layout.homes.items) }
@@ -29,7 +31,7 @@ pub(crate) fn lay_out(alloc: Global, host: &Host, tasks: &Tasks) -> Result<Layou
 {
     let placed = place(alloc, tasks, host.cores)?;
     let core_of = placed.core_of.items();
-    let mut cores = stand_whole(alloc, tasks.items(), core_of, host.cores)?;
+    let mut cores = place_unsplit(alloc, tasks.items(), core_of, host.cores)?;
     let mut homes = Vec::from_slice(alloc, core_of)?;
     split_each(
         alloc,

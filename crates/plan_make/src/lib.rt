@@ -1,4 +1,4 @@
-//! The plan of a host: its vCPUs are placed whole, the left-over ones are split, and each core's
+//! The plan of a host: its vCPUs are placed unsplit, the left-over ones are split, and each core's
 //! row is made by earliest deadline first.
 //!
 //! Layers above may rely on `IsPlanned` and `IsFirstWithoutRoom` of `specs/Planned.antt`, which
@@ -8,13 +8,15 @@
 
 mod draft;
 mod fault;
+mod laws;
 mod layout;
 mod planner;
 mod rows;
 mod splitting;
 #[cfg(test)]
 mod tests;
-mod whole;
+mod unsplit;
 
 pub use fault::PlanFault;
+pub use laws::a_host_has_one_plan;
 pub use planner::plan;

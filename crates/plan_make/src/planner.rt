@@ -17,7 +17,7 @@ use std::thread::Threads;
 use tab_core::Host;
 use table_form::Plan;
 
-/// The plan of a host: its vCPUs are placed whole by worst fit, the left-over ones are split, each
+/// The plan of a host: its vCPUs are placed unsplit by worst fit, the left-over ones are split, each
 /// core's row is made by earliest deadline first, and the row's slivers are joined. A host has at
 /// most one such plan.
 ///
@@ -26,10 +26,10 @@ use table_form::Plan;
 /// in place of any answer. So a host that has a plan is refused for want of memory alone, and none
 /// within the bound of worst fit is without room.
 ///
-/// The rows are made side by side, each in a thread of its own where one can be started.
+/// All is made in the calling thread.
 ///
 /// Source: the planner of M. Vanga, A. Gujarati and B. B. Brandenburg, EuroSys 2018.
-pub fn plan<R: Threads + Sync>(rt: &R, alloc: Global, host: &Host) -> Result<Plan, PlanFault>
+pub fn plan<R: Threads + Sync>(_rt: &R, alloc: Global, host: &Host) -> Result<Plan, PlanFault>
     ensures ok { IfOk result (λ plan. IsPlanned host.now (plan_view plan)) }
     ensures only { IfOk result (λ plan. (other : PlanView) → IsPlanned host.now other
         → other ≡ plan_view plan) }
@@ -50,6 +50,6 @@ pub fn plan<R: Threads + Sync>(rt: &R, alloc: Global, host: &Host) -> Result<Pla
 {
     let tasks = tasks_of(alloc, host)?;
     let layout = lay_out(alloc, host, &tasks)?;
-    let draft = draft_of(rt, alloc, tasks, layout)?;
+    let draft = draft_of(alloc, tasks, layout)?;
     Ok(join_slivers(alloc, &draft, host.sliver)?)
 }

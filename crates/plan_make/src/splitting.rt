@@ -3,8 +3,9 @@ ghost use Rattle.cd_split.specs.Cores.{LackVcpu, pieces_on};
 ghost use Rattle.cd_split.specs.Faults.{IsSplitFault};
 ghost use Rattle.cd_split.specs.Shares.{FitTheirCores, StandApart};
 ghost use Rattle.worst_fit.specs.Placement.{IsAdmitted};
-ghost use Rattle.plan_make.specs.Layout.{SplitsEach, home_of, with_pieces};
-ghost use Rattle.plan_make.specs.Steps.{AreLaidOut, IsAdded, IsRefusedNext, IsStuckFault, SplitsNext};
+ghost use Rattle.plan_make.specs.Inside.Allotted.{AreLaidOut};
+ghost use Rattle.plan_make.specs.Inside.Splits.{IsAdded, IsRefusedNext, IsStuckFault, SplitsNext};
+ghost use Rattle.plan_make.specs.SplitInTurn.{SplitsEach, home_of, with_pieces};
 
 use cd_split::{CorePieces, SplitFault, split};
 use std::alloc::Global;

@@ -8,6 +8,7 @@ mod actor;
 mod edit;
 mod entry;
 mod host;
+mod host_copy;
 mod host_edits;
 mod name;
 mod number;

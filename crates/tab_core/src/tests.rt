@@ -107,6 +107,18 @@ fn one_vcpu_host(alloc: Global) -> Result<Host, NameFault>
     })
 }
 
+#[test]
+fn a_copy_has_the_same_vcpus(rt: HostRuntime) -> Result<(), Fail> {
+    let copy = one_vcpu_host(rt.alloc())?.copy(rt.alloc())?;
+    assert_eq!(rt;
+        (copy.cores, copy.lag, copy.sliver, copy.quantum),
+        (2, 3, 4, 5)
+    );
+    assert_eq!(rt; copy.vcpus.items()[0].name.bytes(), b"a".as_slice());
+    assert!(rt; copy.vcpus.items()[0].runnable);
+    Ok(())
+}
+
 fn half() -> Reservation {
     Reservation {
         share_ppm: 500_000,

@@ -7,18 +7,20 @@ use Rattle.std.proofs.lemmas.Bool.Decides.{eqb_tells}
 use Rattle.std.proofs.lemmas.List.Sums.{sum_by-cons}
 use Rattle.std.proofs.lemmas.List.Sorted.{sum_by-IsPermutation}
 use Rattle.tab_core.specs.declared.periodic.Periodic.{Periodic}
-use Rattle.worst_fit.specs.declared.rank.Rank.{Rank}
+use Rattle.worst_fit.specs.declared.by_demand.ByDemand.{ByDemand}
 use Rattle.worst_fit.specs.Order.{ranks_from}
-use Rattle.worst_fit.proofs.Ranks.{rank_of, ranks_from-nil, ranks_from-none, ranks_from-some}
+use Rattle.worst_fit.proofs.OrderLemmas.{rank_of, ranks_from-nil, ranks_from-none, ranks_from-some}
 
+-- a truth value counted, so that one equation says who is placed, left over or still to come
 abbrev pub one_if : Bool → ℕ
 one_if b = cond b 1 0
 
+-- 1 for this vCPU and 0 for another
 abbrev pub same : ℕ → ℕ → ℕ
 same a b = one_if (eqb a b)
 
 -- the ranks of this vCPU
-pub turns : ℕ → List Rank → ℕ
+pub turns : ℕ → List ByDemand → ℕ
 turns vcpu [] = 0
 turns vcpu (rank ∷ ranks) = same rank.vcpu vcpu + turns vcpu ranks
 
@@ -31,39 +33,45 @@ lefts vcpu (other ∷ left) = same other vcpu + lefts vcpu left
 abbrev pub has : {X : Type 0} → ℕ → List (Option X) → ℕ
 has {X} vcpu xs = one_if (is_some (get_or xs vcpu None))
 
+-- the count at the vCPU itself
 pub same-one : (a b : ℕ) → a ≡ b → same a b ≡ 1
 same-one a b e = rw (eq-eqb a b e) refl
 
+-- the count at any other vCPU
 pub same-zero : (a b : ℕ) → a ≢ b → same a b ≡ 0
 same-zero a b ne = elim (eqb_tells a b) [
   | inl (is, e) ↦ absurd (ne e)
   | inr (is, other) ↦ rw is refl
 ]
 
-pub turns-cons : (vcpu : ℕ) (rank : Rank) (ranks : List Rank)
+-- opens `turns` by one rank, for files that don't unfold it
+pub turns-cons : (vcpu : ℕ) (rank : ByDemand) (ranks : List ByDemand)
     → turns vcpu (rank ∷ ranks) ≡ same rank.vcpu vcpu + turns vcpu ranks
 unfolding turns
 turns-cons vcpu rank ranks = refl
 
+-- no rank, no turn: where the loop has ended
 pub turns-nil : (vcpu : ℕ) → turns vcpu [] ≡ 0
 unfolding turns
 turns-nil vcpu = refl
 
+-- nobody is left over as the loop begins
 pub lefts-nil : (vcpu : ℕ) → lefts vcpu [] ≡ 0
 unfolding lefts
 lefts-nil vcpu = refl
 
-turns_is : (vcpu : ℕ) (ranks : List Rank) → turns vcpu ranks ≡ sum_by (λ rank. same rank.vcpu vcpu) ranks
+-- as a sum, which sorting leaves as it is
+turns_is : (vcpu : ℕ) (ranks : List ByDemand) → turns vcpu ranks ≡ sum_by (λ rank. same rank.vcpu vcpu) ranks
 unfolding turns
 turns_is vcpu [] = refl
 turns_is vcpu (rank ∷ ranks) = ap (λ n. same rank.vcpu vcpu + n) (turns_is vcpu ranks)
-    ∙ sym (sum_by-cons (λ (r : Rank). same r.vcpu vcpu) rank ranks)
+    ∙ sym (sum_by-cons (λ (r : ByDemand). same r.vcpu vcpu) rank ranks)
 
 -- another order has the same ranks
-pub turns-permutation : (vcpu : ℕ) (ranks order : List Rank) → IsPermutation ranks order
+pub turns-permutation : (vcpu : ℕ) (ranks order : List ByDemand) → IsPermutation ranks order
     → turns vcpu order ≡ turns vcpu ranks
 turns-permutation vcpu ranks order p = turns_is vcpu order
-    ∙ sum_by-IsPermutation (λ (r : Rank). same r.vcpu vcpu) ranks order p
+    ∙ sum_by-IsPermutation (λ (r : ByDemand). same r.vcpu vcpu) ranks order p
     ∙ sym (turns_is vcpu ranks)
 
 -- the ranks from a number on have no vCPU of a lower number
@@ -97,6 +105,7 @@ turns_from vcpu number (suc k) (Some task ∷ tasks) e =
     let split = turns-cons vcpu (rank_of number task) (ranks_from (number + 1) tasks) in
     rw (ranks_from-some number task tasks) (omega arith)
 
+-- one more is left over at the end of the list
 pub lefts-more : (vcpu other : ℕ) (left : List ℕ)
     → lefts vcpu (left ++ other ∷ []) ≡ lefts vcpu left + same other vcpu
 unfolding lefts
@@ -123,6 +132,7 @@ counts_at vcpu zero d (other ∷ left) lt at = let one = same-one other vcpu at 
 counts_at vcpu (suc k) d (other ∷ left) lt at =
     let rest = counts_at vcpu k d left (omega arith) at in omega arith
 
+-- who is found at a place is counted, which makes two places count twice
 counts_got : (vcpu k : ℕ) (left : List ℕ) → slice_get left k ≡ Some vcpu → 1 ≤ lefts vcpu left
 unfolding lefts
 counts_got vcpu k [] at = absurd cc

@@ -1,9 +1,9 @@
-pub mod Bound
+pub mod BoundLemmas
 pub mod Counts
-pub mod Kept
-pub mod Least
-pub mod Loads
-pub mod Next
-pub mod Outcome
-pub mod Ranks
-pub mod Unique
+pub mod LeastCore
+pub mod LoadLemmas
+pub mod OnePlacement
+pub mod OrderLemmas
+pub mod PlacementLemmas
+pub mod PlacesEach
+pub mod PlacingInvariant

@@ -5,7 +5,7 @@ use Rattle.std.specs.Prelude.{◌≡◌, ℕ, suc, ◌+◌, ◌<◌, ◌⊎◌, 
 use Rattle.tab_core.specs.declared.TheConstants.{ROUND}
 use Rattle.tab_core.specs.declared.periodic.Periodic.{Periodic}
 use Rattle.worst_fit.specs.declared.placed.Placed.{Placed}
-use Rattle.worst_fit.specs.declared.rank.Rank.{Rank}
+use Rattle.worst_fit.specs.declared.by_demand.ByDemand.{ByDemand}
 use Rattle.worst_fit.specs.Order.{IsFallingOrder}
 
 -- the least of the loads
@@ -22,13 +22,13 @@ least_core (load ∷ next ∷ loads) = if nat_le load (least_load (next ∷ load
     else suc (least_core (next ∷ loads))
 
 -- what was placed so far: the load of each core, the core of each vCPU, and who is left over
-pub record Placing : Type 0 where
+pub record PartialPlacement : Type 0 where
   pub loads : List ℕ
   pub core_of : List (Option ℕ)
   pub left : List ℕ
 
 -- the next vCPU goes to the core of least load if it has room there, and is left over otherwise
-abbrev pub place_next : Placing → Rank → Placing
+abbrev pub place_next : PartialPlacement → ByDemand → PartialPlacement
 place_next p rank =
     if nat_le (least_load p.loads + rank.demand) ROUND
     then record {
@@ -39,17 +39,17 @@ place_next p rank =
     else record p { left = p.left ++ rank.vcpu ∷ [] }
 
 -- one after the other
-unfoldable pub place_all : Placing → List Rank → Placing
+unfoldable pub place_all : PartialPlacement → List ByDemand → PartialPlacement
 place_all p [] = p
 place_all p (rank ∷ order) = place_all (place_next p rank) order
 
 -- empty cores, and no vCPU on any
-abbrev pub nothing_placed : ℕ → ℕ → Placing
+abbrev pub nothing_placed : ℕ → ℕ → PartialPlacement
 nothing_placed cores vcpus = record { loads = replicate cores 0; core_of = replicate vcpus None; left = [] }
 
 -- the vCPUs of these tasks were placed on so many cores, in falling order
 pub record IsPlacement (tasks : List (Option Periodic)) (cores : ℕ) (placed : Placed) : Type 0 where
-  pub order : List Rank
+  pub order : List ByDemand
   pub falling_order : IsFallingOrder tasks order
   pub core_of : placed.core_of ≡ (place_all (nothing_placed cores (length tasks)) order).core_of
   pub left : placed.left ≡ (place_all (nothing_placed cores (length tasks)) order).left

@@ -4,9 +4,9 @@
 //! of `specs/Load.antt`, and on the bound of `specs/Bound.antt`, within which no vCPU is left over.
 #![tactic(auto)]
 
+mod by_demand;
 mod placed;
 mod placing;
-mod rank;
 #[cfg(test)]
 mod tests;
 

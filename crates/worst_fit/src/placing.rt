@@ -5,8 +5,8 @@ ghost use Rattle.worst_fit.specs.Bound.{IsWithinBound};
 ghost use Rattle.worst_fit.specs.Load.{FitsEachCore};
 ghost use Rattle.worst_fit.specs.Placement.{IsPlacement, PlacesEach, place_all, place_next};
 
+use crate::by_demand::{ByDemand, falling_order};
 use crate::placed::{LeftOver, Placed, PlacedCores};
-use crate::rank::{Rank, falling_order};
 use std::alloc::Global;
 use tab_core::{CoreNo, NoMemory, ROUND, Tasks, VcpuNo};
 
@@ -40,7 +40,7 @@ pub fn place(alloc: Global, tasks: &Tasks, cores: u32) -> Result<Placed, NoMemor
 
 // The vCPUs of these ranks are placed one after the other.
 fn place_in_order(
-    order: &[Rank],
+    order: &[ByDemand],
     loads: &mut [u32],
     core_of: &mut [Option<CoreNo>],
     left: &mut Vec<VcpuNo>,
@@ -61,7 +61,7 @@ fn place_in_order(
 
 // The next vCPU goes to the core of least load if it has room there, and is left over otherwise.
 fn place_rank(
-    rank: Rank,
+    rank: ByDemand,
     loads: &mut [u32],
     core_of: &mut [Option<CoreNo>],
     left: &mut Vec<VcpuNo>,

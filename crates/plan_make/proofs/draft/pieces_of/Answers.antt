@@ -1,6 +1,6 @@
 use Rattle.std.proofs.Common.{◌++◌, ap, sym, take, ◌∙◌, arith}
-use Rattle.plan_make.specs.Layout.{all_pieces}
-use Rattle.plan_make.proofs.Flat.{all_pieces_more}
+use Rattle.plan_make.specs.Planned.{all_pieces}
+use Rattle.plan_make.proofs.AllPieces.{all_pieces_more}
 use Rattle.plan_make.proofs.draft.pieces_of.Goals as goal
 
 pub loop-core-preserved : goal.loop-core-preserved

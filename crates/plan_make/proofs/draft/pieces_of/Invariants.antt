@@ -1,6 +1,6 @@
 -- the pieces of the cores so far
 use Rattle.std.proofs.Common.{◌≡◌, take}
-use Rattle.plan_make.specs.Layout.{all_pieces}
+use Rattle.plan_make.specs.Planned.{all_pieces}
 use Rattle.plan_make.proofs.draft.pieces_of.Given as goal
 
 abbrev pub invariant-loop-core : goal.invariant-loop-core

@@ -1,11 +1,11 @@
 use Rattle.std.proofs.Common.{◌≡◌, [], drop, length, subst, sym, ◌∙◌, arith}
 use Rattle.std.proofs.lemmas.List.{take_at}
 use Rattle.std.proofs.lemmas.Result.{err_from_is_err_and}
-use Rattle.plan_make.specs.Layout.{StandWhole}
-use Rattle.plan_make.specs.Planned.{IsStart}
-use Rattle.plan_make.specs.Steps.{AreLaidOut}
-use Rattle.plan_make.proofs.Sequence.{layout_fault}
-use Rattle.plan_make.proofs.Starting.{IsRead, read_is_laid_out, read_is_stuck}
+use Rattle.plan_make.specs.Inside.Allotted.{AreLaidOut}
+use Rattle.plan_make.specs.Layout.{IsStart}
+use Rattle.plan_make.specs.Unsplit.{StandUnsplit}
+use Rattle.plan_make.proofs.SplitInTurnLemmas.{layout_fault}
+use Rattle.plan_make.proofs.StartLemmas.{IsRead, read_is_laid_out, read_is_stuck}
 use Rattle.plan_make.proofs.layout.lay_out.Goals as goal
 
 pub split_each-requires : goal.split_each-requires
@@ -18,9 +18,9 @@ split_each-requires c =
       left_is = c.items-3.ensures;
     } in
     let stand =
-    subst (λ hs. StandWhole c.args.tasks.now hs c.args.host.now.cores c.in_ok-cores.cores)
+    subst (λ hs. StandUnsplit c.args.tasks.now hs c.args.host.now.cores c.in_ok-cores.cores)
     c.items-core_of.ensures.same
-    (subst (λ ts. StandWhole ts c.items-core_of.result.now c.args.host.now.cores
+    (subst (λ ts. StandUnsplit ts c.items-core_of.result.now c.args.host.now.cores
     c.in_ok-cores.cores) c.items.ensures.same c.in_ok-cores.ensures) in
     read_is_laid_out c.args.tasks.now _ placed _ _ c.args.host.now.cores c.in_ok-cores.cores read
     c.in_ok-placed.ensures.each stand
@@ -37,9 +37,9 @@ returns-in_err-split_each-clause-fault c =
       left_is = c.items-3.ensures;
     } in
     let stand =
-    subst (λ hs. StandWhole c.args.tasks.now hs c.args.host.now.cores c.in_ok-cores.cores)
+    subst (λ hs. StandUnsplit c.args.tasks.now hs c.args.host.now.cores c.in_ok-cores.cores)
     c.items-core_of.ensures.same
-    (subst (λ ts. StandWhole ts c.items-core_of.result.now c.args.host.now.cores
+    (subst (λ ts. StandUnsplit ts c.items-core_of.result.now c.args.host.now.cores
     c.in_ok-cores.cores) c.items.ensures.same c.in_ok-cores.ensures) in
     let start : IsStart c.args.host.now c.args.tasks.now placed c.in_ok-cores.cores =
     record { tasks_are = c.requires; placement = c.in_ok-placed.ensures.placement; stand = stand } in

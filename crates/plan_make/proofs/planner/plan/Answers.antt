@@ -2,8 +2,8 @@ use Rattle.std.proofs.Common.{Err, ap, length, ◌∙◌}
 use Rattle.std.proofs.lemmas.Result.{err_from_is_err_and}
 use Rattle.table_form.specs.Tables.Serves.{has_task}
 use Rattle.table_form.specs.Tables.Views.{plan_view}
-use Rattle.plan_make.proofs.Exact.{IsMadeOf, layout_is_planned, no_memory_for_layout, planned_or_refused, planned_unique}
-use Rattle.plan_make.proofs.Plans.{no_memory_for_tasks, none_without_period, tasks_admit}
+use Rattle.plan_make.proofs.OnePlan.{IsMadeOf, layout_is_planned, no_memory_for_layout, planned_or_refused, planned_unique}
+use Rattle.plan_make.proofs.TasksOfPlan.{no_memory_for_tasks, none_without_period, tasks_admit}
 use Rattle.plan_make.proofs.planner.plan.Given.{Over}
 use Rattle.plan_make.proofs.planner.plan.Goals as goal
 
@@ -18,7 +18,7 @@ returns-in_err-tasks-clause-planned g c plan planned =
     let p = err_from_is_err_and c.from_residual.result c.from_residual.ensures.1 in
     rw (p.1, p.2)
     (no_memory_for_tasks c.args.host.now.vcpus plan.tasks c.in_err-tasks.field-0.0
-    planned.is_start.tasks_are
+    planned.layout.is_start.tasks_are
     (λ vcpu is. c.in_err-tasks.ensures.no_period vcpu (ap Err is)))
 
 pub returns-in_err-layout-clause-planned : goal.returns-in_err-layout-clause-planned

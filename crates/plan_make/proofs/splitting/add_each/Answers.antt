@@ -1,4 +1,4 @@
-use Rattle.plan_make.proofs.Shares.{next_fits, next_lacks, one_more_added}
+use Rattle.plan_make.proofs.SharesLemmas.{next_fits, next_lacks, one_more_added}
 use Rattle.plan_make.proofs.splitting.add_each.Goals as goal
 
 pub add-requires-clause-there : goal.add-requires-clause-there

@@ -1,5 +1,5 @@
 use Rattle.std.proofs.Common.{◌≡◌, take}
-use Rattle.plan_make.specs.Layout.{with_pieces}
+use Rattle.plan_make.specs.SplitInTurn.{with_pieces}
 use Rattle.plan_make.proofs.splitting.add_each.Given as goal
 
 abbrev pub invariant-loop-piece : goal.invariant-loop-piece

@@ -1,4 +1,4 @@
-use Rattle.plan_make.proofs.Shares.{home_of_last}
+use Rattle.plan_make.proofs.SharesLemmas.{home_of_last}
 use Rattle.plan_make.proofs.splitting.home_in.Goals as goal
 
 pub returns : goal.returns

@@ -1,5 +1,5 @@
 use Rattle.std.proofs.lemmas.Result.{err_from_is_err_and}
-use Rattle.plan_make.proofs.Sequence.{first_stuck, next_is_ready, none_split, one_more_split}
+use Rattle.plan_make.proofs.SplitInTurnLemmas.{first_stuck, next_is_ready, none_split, one_more_split}
 use Rattle.plan_make.proofs.splitting.split_each.Goals as goal
 
 pub loop-vcpu-init : goal.loop-vcpu-init

@@ -1,4 +1,4 @@
-use Rattle.plan_make.proofs.Sequence.{AreSplit}
+use Rattle.plan_make.proofs.SplitInTurnLemmas.{AreSplit}
 use Rattle.plan_make.proofs.splitting.split_each.Given as goal
 
 abbrev pub invariant-loop-vcpu : goal.invariant-loop-vcpu

@@ -1,6 +1,6 @@
 use Rattle.std.proofs.Common.{◌≡◌, ◌<◌, Some, None, length, slice_get, ap, subst, sym, ◌∙◌}
 use Rattle.std.proofs.lemmas.Option.{slice_get_within}
-use Rattle.plan_make.proofs.Standing.{read_none, read_some}
+use Rattle.plan_make.proofs.PlacingUnsplit.{read_none, read_some}
 use Rattle.plan_make.proofs.splitting.task_of.Goals as goal
 
 pub returns : goal.returns

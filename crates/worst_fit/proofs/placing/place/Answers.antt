@@ -1,8 +1,8 @@
 use Rattle.std.proofs.Common.{length, arith, ap}
 use Rattle.std.proofs.lemmas.Grind.{common_steps}
-use Rattle.worst_fit.proofs.Kept.{all_ranked}
-use Rattle.worst_fit.proofs.Outcome.{placement_fits, placement_places_each, placement_within_bound}
-use Rattle.worst_fit.proofs.Unique.{placement_unique}
+use Rattle.worst_fit.proofs.PlacingInvariant.{all_ranked}
+use Rattle.worst_fit.proofs.PlacesEach.{placement_fits, placement_places_each, placement_within_bound}
+use Rattle.worst_fit.proofs.OnePlacement.{placement_unique}
 use Rattle.worst_fit.proofs.placing.place.Goals as goal
 
 pub place_in_order-requires-clause-known : goal.place_in_order-requires-clause-known

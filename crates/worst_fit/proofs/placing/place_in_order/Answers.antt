@@ -1,4 +1,4 @@
-use Rattle.worst_fit.proofs.Next.{place_all-end, place_all-next}
+use Rattle.worst_fit.proofs.PlacementLemmas.{place_all-end, place_all-next}
 use Rattle.worst_fit.proofs.placing.place_in_order.Goals as goal
 
 pub loop-rank-preserved : goal.loop-rank-preserved

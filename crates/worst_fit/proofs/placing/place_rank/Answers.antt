@@ -1,12 +1,12 @@
 use Rattle.std.proofs.Common.{◌+◌, arith}
-use Rattle.worst_fit.specs.Placement.{Placing}
-use Rattle.worst_fit.proofs.Least.{IsFirstLeast}
-use Rattle.worst_fit.proofs.Next.{places_next, leaves_next}
+use Rattle.worst_fit.specs.Placement.{PartialPlacement}
+use Rattle.worst_fit.proofs.LeastCore.{IsFirstLeast}
+use Rattle.worst_fit.proofs.PlacementLemmas.{places_next, leaves_next}
 use Rattle.worst_fit.proofs.placing.place_rank.Goals as goal
 
 pub returns-then-load-from : goal.returns-then-load-from
 returns-then-load-from c =
-    let p : Placing =
+    let p : PartialPlacement =
     record {
       loads = c.args.loads.now;
       core_of = c.args.core_of.now;
@@ -21,7 +21,7 @@ returns-then-load-from c =
 
 pub returns-in_ok-push : goal.returns-in_ok-push
 returns-in_ok-push c =
-    let p : Placing =
+    let p : PartialPlacement =
     record {
       loads = c.args.loads.now;
       core_of = c.args.core_of.now;

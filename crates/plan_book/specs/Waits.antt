@@ -1,0 +1,39 @@
+-- How long a vCPU waits between offers, by its reservations in the hosts of a run.
+-- Source: the promise of a latency in M. Vanga, A. Gujarati, B. B. Brandenburg, EuroSys 2018, here
+-- across rounds whose hosts may differ.
+use Rattle.std.specs.Prelude.{◌≡◌, ℕ, suc, ◌-◌, ◌*◌, ◌/◌, ◌≤◌, max, List, Some, slice_get}
+use Rattle.tab_core.specs.declared.TheConstants.{ROUND, TICK_NS}
+use Rattle.tab_core.specs.declared.host.Host.{Host}
+use Rattle.tab_core.specs.declared.reservation.Reservation.{Reservation}
+use Rattle.tab_core.specs.declared.vcpu.Vcpu.{Vcpu}
+use Rattle.table_form.specs.Running.Courses.{CourseView}
+use Rattle.table_form.specs.Running.Offered.{IsGap}
+use Rattle.table_form.specs.Running.State.{State}
+use Rattle.script_doc.specs.declared.event.Event.{Event}
+use Rattle.plan_book.specs.After.{IsKnownAfter}
+use Rattle.plan_book.specs.States.{BookState}
+
+-- in the host of the round, which was entered, the vCPU has this reservation
+pub record IsReservedIn (host : Host) (events : List Event) (decided : List ℕ) (r v : ℕ)
+    (reservation : Reservation) : Type 0 where
+  pub count : ℕ
+  pub entered : slice_get decided r ≡ Some count
+  pub known : BookState
+  pub is : IsKnownAfter host events count known
+  pub vcpu : Vcpu
+  pub at : slice_get known.host.vcpus v ≡ Some vcpu
+  pub reserved : vcpu.reservation ≡ Some reservation
+
+-- the wait from tick a up to, and without, e is within the greater of the vCPU's latencies in the
+-- hosts of its first and its last tick's rounds
+pub record IsWithinLatency (host : Host) (events : List Event) (decided : List ℕ) (v a l : ℕ) : Type 0 where
+  pub first : Reservation
+  pub last : Reservation
+  pub first_is : IsReservedIn host events decided (a / ROUND) v first
+  pub last_is : IsReservedIn host events decided (l / ROUND) v last
+  pub short : TICK_NS * (suc l - a) ≤ max first.latency_ns last.latency_ns
+
+-- so is each wait of the run
+abbrev pub WaitsWithinLatency : Host → List Event → CourseView → State → Type 0
+WaitsWithinLatency host events course s = (v a l : ℕ) → IsGap course s.decided v a (suc l)
+    → IsWithinLatency host events s.decided v a l

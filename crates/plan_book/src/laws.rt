@@ -1,0 +1,17 @@
+ghost use Rattle.std.specs.Prelude.{List, ℕ};
+ghost use Rattle.tab_core.specs.declared.host.Host.{Host};
+ghost use Rattle.table_form.specs.Running.Courses.{CourseView};
+ghost use Rattle.table_form.specs.Running.Invariant.{StateInvariant};
+ghost use Rattle.table_form.specs.Running.Offered.{HasShortGaps};
+ghost use Rattle.table_form.specs.Running.State.{State};
+ghost use Rattle.script_doc.specs.declared.event.Event.{Event};
+ghost use Rattle.plan_book.specs.Courses.{IsCourseOf};
+ghost use Rattle.plan_book.specs.Waits.{WaitsWithinLatency};
+
+/// In a run on the course of a host and a script, whose gaps are no longer than the tasks allow,
+/// each wait is within the greater of the vCPU's latencies at its two ends, in nanoseconds.
+pub fn every_wait_is_within_latency()
+    ensures { (host : Host) (events : List Event) (course : CourseView) (rounds : ℕ) (state : State)
+        → IsCourseOf host events course → StateInvariant course rounds state → HasShortGaps course state
+        → WaitsWithinLatency host events course state }
+{}

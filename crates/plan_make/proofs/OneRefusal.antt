@@ -1,0 +1,140 @@
+-- A host has a plan, a first vCPU without a period or a first without room, and only one of these.
+use Rattle.std.proofs.Common.{◌≡◌, ℕ, ◌<◌, IfSome, List, [], ◌∷◌, ◌++◌, set, slice_get, Option, None, Some, refl, ap, subst, sym, ◌∙◌, arith}
+use Rattle.tab_core.specs.declared.host.Host.{Host}
+use Rattle.tab_core.specs.declared.over.Over.{Over}
+use Rattle.tab_core.specs.declared.periodic.Periodic.{Periodic}
+use Rattle.tab_core.specs.declared.piece.Piece.{Piece}
+use Rattle.tab_core.specs.declared.reservation.Reservation.{Reservation}
+use Rattle.tab_core.specs.declared.vcpu.Vcpu.{Vcpu}
+use Rattle.table_form.specs.Tables.Plans.{PlanView}
+use Rattle.period_choice.specs.Choice.{HasPeriod}
+use Rattle.period_choice.specs.Tasks.{IsFirstWithoutPeriod, LacksPeriod}
+use Rattle.worst_fit.specs.declared.placed.Placed.{Placed}
+use Rattle.cd_split.specs.Splitting.{IsSplitRefused}
+use Rattle.plan_make.specs.Planned.{IsFirstWithoutRoom, IsPlanned}
+use Rattle.plan_make.specs.SplitInTurn.{SplitsEach, home_of, with_pieces}
+use Rattle.plan_make.proofs.OnePlan.{each_or_refused, one_start, split_unique, went_on}
+use Rattle.plan_make.proofs.TasksOfPlan.{none_without_period}
+
+-- the split of the left-over vCPUs comes to one that can't be split
+record Sticks (tasks : List (Option Periodic)) (cores : List (List Piece)) (homes : List (Option ℕ))
+    (before : List ℕ) (vcpu : ℕ) : Type 0 where
+  pub end : List (List Piece)
+  pub homes' : List (Option ℕ)
+  pub split : SplitsEach tasks cores homes before end homes'
+  pub task : Periodic
+  pub at : slice_get tasks vcpu ≡ Some (Some task)
+  pub rest : ℕ
+  pub over : List Over
+  pub refuses : IsSplitRefused end vcpu task rest over
+
+-- where one vCPU gets stuck first, none behind it can be the first
+sticks_later : (tasks : List (Option Periodic)) (cores : List (List Piece))
+    (homes : List (Option ℕ)) (vcpu : ℕ) (next : ℕ) (before : List ℕ) (other : ℕ) →
+    Sticks tasks cores homes [] vcpu → Sticks tasks cores homes (next ∷ before) other → vcpu ≡ next → ⊥
+sticks_later tasks cores homes vcpu next before other here later same =
+    let split = subst (λ v. SplitsEach tasks cores homes (v ∷ before) later.end later.homes')
+    (sym same) later.split in
+    each_or_refused tasks cores homes [] vcpu before later.end here.end later.homes' here.homes'
+    here.task here.rest here.over split here.split here.at here.refuses
+
+-- where both come to the next, so do they behind it
+next_sticks : (tasks : List (Option Periodic)) (cores : List (List Piece)) (homes : List (Option ℕ))
+    (next : ℕ) (before : List ℕ) (vcpu : ℕ) (pieces : List Piece)
+    (is : Sticks tasks cores homes (next ∷ before) vcpu) →
+    pieces ≡ is.split.0 → Sticks tasks (with_pieces cores pieces)
+    (set homes next (Some (home_of pieces))) before vcpu
+next_sticks tasks cores homes next before vcpu pieces is same = record {
+  end = is.end;
+  homes' = is.homes';
+  split = went_on tasks cores homes next before pieces is.split.0 is.end is.homes' same is.split.2;
+  task = is.task;
+  at = is.at;
+  rest = is.rest;
+  over = is.over;
+  refuses = is.refuses;
+}
+
+-- so two such vCPUs are one
+same_stuck : (tasks : List (Option Periodic)) (cores : List (List Piece)) (homes : List (Option ℕ))
+    (before before' : List ℕ) (vcpu vcpu' : ℕ) (after after' : List ℕ) →
+    before ++ vcpu ∷ after ≡ before' ++ vcpu' ∷ after' → Sticks tasks cores homes before vcpu
+    → Sticks tasks cores homes before' vcpu' → vcpu ≡ vcpu'
+same_stuck tasks cores homes [] [] vcpu vcpu' after after' same a b = cc
+same_stuck tasks cores homes [] (next ∷ before') vcpu vcpu' after after' same a b =
+    let first : vcpu ≡ next = cc in
+    absurd (sticks_later tasks cores homes vcpu next before' vcpu' a b first)
+same_stuck tasks cores homes (next ∷ before) [] vcpu vcpu' after after' same a b =
+    let first : vcpu' ≡ next = cc in
+    absurd (sticks_later tasks cores homes vcpu' next before vcpu b a first)
+same_stuck tasks cores homes (next ∷ before) (next' ∷ before') vcpu vcpu' after after' same a b =
+    let first : next' ≡ next = cc in
+    let rest : before ++ vcpu ∷ after ≡ before' ++ vcpu' ∷ after' = cc in
+    let b' = subst (λ n. Sticks tasks cores homes (n ∷ before') vcpu') first b in
+    let pieces = a.split.0 in
+    let one = split_unique tasks cores next pieces b'.split.0 a.split.1 b'.split.1 in
+    same_stuck tasks (with_pieces cores pieces)
+    (set homes next (Some (home_of pieces))) before before' vcpu vcpu' after after' rest
+    (next_sticks tasks cores homes next before vcpu pieces a refl)
+    (next_sticks tasks cores homes next before' vcpu' pieces b' one)
+
+-- a host's first vCPU without room, as the first that gets stuck
+sticks_of : (host : Host) (vcpu rest : ℕ) (over : List Over)
+    (is : IsFirstWithoutRoom host vcpu rest over)
+    → Sticks is.tasks is.start is.placed.core_of is.stuck.before vcpu
+sticks_of host vcpu rest over is = record {
+  end = is.stuck.cores;
+  homes' = is.stuck.homes;
+  split = is.stuck.split;
+  task = is.stuck.task;
+  at = is.stuck.at;
+  rest = rest;
+  over = over;
+  refuses = is.stuck.refuses;
+}
+
+-- one vCPU is the first without room
+pub one_without_room : (host : Host) (vcpu vcpu' rest rest' : ℕ) (over over' : List Over)
+    → IsFirstWithoutRoom host vcpu rest over → IsFirstWithoutRoom host vcpu' rest' over'
+    → vcpu ≡ vcpu'
+one_without_room host vcpu vcpu' rest rest' over over' a b =
+    let same = one_start host a.tasks b.tasks a.placed b.placed a.start b.start a.is_start b.is_start in
+    let moved = subst (λ cs. Sticks b.tasks cs b.placed.core_of a.stuck.before vcpu) same.start_same
+    (subst (λ (p : Placed). Sticks b.tasks a.start p.core_of a.stuck.before vcpu) same.placed_same
+    (subst (λ ts. Sticks ts a.start a.placed.core_of a.stuck.before vcpu) same.tasks_same
+    (sticks_of host vcpu rest over a))) in
+    let left : a.stuck.before ++ vcpu ∷ a.stuck.after ≡ b.stuck.before ++ vcpu' ∷ b.stuck.after =
+    sym a.stuck.left_is ∙ ap (λ (p : Placed). p.left) same.placed_same ∙ b.stuck.left_is in
+    same_stuck b.tasks b.start b.placed.core_of a.stuck.before b.stuck.before vcpu vcpu' a.stuck.after b.stuck.after left
+    moved (sticks_of host vcpu' rest' over' b)
+
+-- a reservation has an admissible period or lacks one, not both
+has_or_lacks : (reservation : Option Reservation) → IfSome reservation HasPeriod → LacksPeriod reservation → ⊥
+has_or_lacks None has lacks = lacks
+has_or_lacks (Some r) has lacks = lacks has
+
+-- of two first vCPUs without a period the one isn't below the other
+not_lower : (vcpus : List Vcpu) (vcpu vcpu' : ℕ) → IsFirstWithoutPeriod vcpus vcpu
+    → IsFirstWithoutPeriod vcpus vcpu' → vcpu < vcpu' → ⊥
+not_lower vcpus vcpu vcpu' a b lower =
+    has_or_lacks a.vcpu.reservation (b.lowest vcpu a.vcpu lower a.at) a.lacks
+
+-- one vCPU is the first without a period
+pub one_without_period : (vcpus : List Vcpu) (vcpu vcpu' : ℕ) → IsFirstWithoutPeriod vcpus vcpu
+    → IsFirstWithoutPeriod vcpus vcpu' → vcpu ≡ vcpu'
+one_without_period vcpus vcpu vcpu' a b =
+    let over = not_lower vcpus vcpu vcpu' a b in
+    let under = not_lower vcpus vcpu' vcpu b a in
+    omega arith
+
+-- and then the host has no plan
+pub planned_or_without_period : (host : Host) (plan : PlanView) (vcpu : ℕ) → IsPlanned host plan
+    → IsFirstWithoutPeriod host.vcpus vcpu → ⊥
+planned_or_without_period host plan vcpu planned first =
+    none_without_period host.vcpus plan.tasks vcpu planned.layout.is_start.tasks_are first
+
+-- nor is one without room
+pub room_or_without_period : (host : Host) (vcpu vcpu' rest : ℕ) (over : List Over)
+    → IsFirstWithoutRoom host vcpu' rest over → IsFirstWithoutPeriod host.vcpus vcpu → ⊥
+room_or_without_period host vcpu vcpu' rest over room first =
+    none_without_period host.vcpus room.tasks vcpu room.is_start.tasks_are first

@@ -1,5 +1,0 @@
-use Rattle.plan_make.proofs.Standing.{FirstStand}
-use Rattle.plan_make.proofs.whole.stand_whole.Given as goal
-
-abbrev pub invariant-loop-number : goal.invariant-loop-number
-invariant-loop-number l = FirstStand l.number l.tasks l.core_of l.count l.cores

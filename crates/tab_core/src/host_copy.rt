@@ -1,0 +1,37 @@
+ghost use Rattle.std.specs.Prelude.{◌≡◌, IfOk};
+
+use crate::NoMemory;
+use crate::host::Host;
+use crate::vcpu::{Vcpu, Vcpus};
+use std::alloc::Global;
+
+impl Host {
+    /// The host once more.
+    pub fn copy(&self, alloc: Global) -> Result<Host, NoMemory>
+        ensures { IfOk result (λ host. host ≡ self.now) }
+    {
+        let vcpus = copies_of(alloc, self.vcpus.items())?;
+        Ok(Host {
+            cores: self.cores,
+            lag: self.lag,
+            sliver: self.sliver,
+            quantum: self.quantum,
+            vcpus: Vcpus::of(vcpus),
+        })
+    }
+}
+
+// The vCPUs once more.
+fn copies_of(alloc: Global, vcpus: &[Vcpu]) -> Result<Vec<Vcpu>, NoMemory>
+    ensures { IfOk result (λ made. made.items ≡ vcpus.now) }
+{
+    let mut made = Vec::with_capacity(alloc, vcpus.len())?;
+    for vcpu in vcpus {
+        made.push(Vcpu {
+            name: vcpu.name.copy(alloc)?,
+            reservation: vcpu.reservation,
+            runnable: vcpu.runnable,
+        })?;
+    }
+    Ok(made)
+}
