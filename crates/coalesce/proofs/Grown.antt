@@ -6,12 +6,11 @@ use Rattle.std.proofs.lemmas.List.{length-replicate}
 use Rattle.std.proofs.lemmas.List.Sums.{sum_by-cons}
 use Rattle.table_form.specs.Tables.Rows.{Row}
 use Rattle.table_form.specs.Tables.Serves.{cells_within, is_cell_of}
-use Rattle.table_form.specs.Inside.Stretches.{Stretch}
+use Rattle.table_form.specs.Tables.Segments.{AreMaximal, SegmentView}
 use Rattle.coalesce.specs.Joining.{filled_after, given, is_given}
-use Rattle.coalesce.specs.Passing.{AreMaximal}
 use Rattle.coalesce.proofs.Filled.{filled_after_maximal, given_end}
-use Rattle.coalesce.proofs.Maximal.{cells_of, cells_of-cons, cells_of-nil, cells_of_front}
 use Rattle.coalesce.proofs.Moved.{get_behind, get_front, get_replicate}
+use Rattle.table_form.proofs.SegmentLemmas.{cells_of, cells_of-cons, cells_of-nil, cells_of_front}
 
 -- only idle cells differ
 pub Grows : Row → Row → Type 0
@@ -66,13 +65,13 @@ unfolding cells_within
 within_grows v from to row joined g = count_grows v (to - from) (drop from row) (drop from joined)
     (grows_drop from row joined g)
 
--- what a stretch becomes
-pub data IsGift (may_grow : ℕ → Bool) (x y : Stretch) (owner : Option ℕ) : Type 0 where
+-- what a segment becomes
+pub data IsGift (may_grow : ℕ → Bool) (x y : SegmentView) (owner : Option ℕ) : Type 0 where
   Kept : owner ≡ y.owner → IsGift may_grow x y owner
   Gift : (v : ℕ) → x.owner ≡ Some v → y.owner ≡ None → may_grow v ≡ true → owner ≡ x.owner
       → IsGift may_grow x y owner
 
-gift_of : (may_grow : ℕ → Bool) (sliver : ℕ) (x y : Stretch)
+gift_of : (may_grow : ℕ → Bool) (sliver : ℕ) (x y : SegmentView)
     → IsGift may_grow x y (given may_grow sliver x y).owner
 gift_of may_grow sliver x y = by_test (is_given may_grow sliver x.owner y.owner (y.end - x.end)) refl
   where
@@ -89,14 +88,14 @@ gift_of may_grow sliver x y = by_test (is_given may_grow sliver x.owner y.owner 
     by_test true holds = rw holds (owners x.owner y.owner refl refl holds)
     by_test false no_ = rw no_ (Kept refl)
 
-gift_grows : (may_grow : ℕ → Bool) (x y : Stretch) (owner : Option ℕ) → IsGift may_grow x y owner
+gift_grows : (may_grow : ℕ → Bool) (x y : SegmentView) (owner : Option ℕ) → IsGift may_grow x y owner
     → (y.owner ≡ None) ⊎
     (owner ≡ y.owner)
 gift_grows may_grow x y owner (Kept same) = inr same
 gift_grows may_grow x y owner (Gift v of_x of_y may is) = inl of_y
 
--- the cells of the stretches behind the first
-filled_cells : (may_grow : ℕ → Bool) (sliver start : ℕ) (x y : Stretch) (ts : List Stretch) (end : ℕ)
+-- the cells of the segments behind the first
+filled_cells : (may_grow : ℕ → Bool) (sliver start : ℕ) (x y : SegmentView) (ts : List SegmentView) (end : ℕ)
     → AreMaximal start (y ∷ ts) end
     → cells_of start (filled_after may_grow sliver x (y ∷ ts)) ≡ replicate (y.end - start)
     (given may_grow sliver x y).owner ++ cells_of y.end (filled_after may_grow sliver y ts)
@@ -108,7 +107,7 @@ filled_cells may_grow sliver start x y ts end m =
     cells_of_front start g (filled_after may_grow sliver y ts) end (omega (arith, e, m.0)) rest ∙ ap
     (λ n. replicate (n - start) g.owner ++ cells_of n (filled_after may_grow sliver y ts)) e
 
-pub filled_grows : (may_grow : ℕ → Bool) (sliver start : ℕ) (x : Stretch) (ts : List Stretch) (end : ℕ)
+pub filled_grows : (may_grow : ℕ → Bool) (sliver start : ℕ) (x : SegmentView) (ts : List SegmentView) (end : ℕ)
     → AreMaximal start ts end
     → Grows (cells_of start ts) (cells_of start (filled_after may_grow sliver x ts))
 filled_grows may_grow sliver start x [] end m =
@@ -122,7 +121,7 @@ filled_grows may_grow sliver start x (y ∷ ts) end m =
     (gift_grows may_grow x y (given may_grow sliver x y).owner (gift_of may_grow sliver x y))
     (filled_grows may_grow sliver y.end y ts end m.2)))
 
--- a cell behind the stretch x is as before, or of a vCPU that may grow and has x or a cell
+-- a cell behind the segment x is as before, or of a vCPU that may grow and has x or a cell
 pub data IsGrownCell (may_grow : ℕ → Bool) (owner : Option ℕ) (row : Row) (place v : ℕ) : Type 0 where
   Was : slice_get row place ≡ Some (Some v) → IsGrownCell may_grow owner row place v
   HasBefore : may_grow v ≡ true → owner ≡ Some v → IsGrownCell may_grow owner row place v
@@ -132,7 +131,7 @@ pub data IsGrownCell (may_grow : ℕ → Bool) (owner : Option ℕ) (row : Row) 
 inside : (o : Option ℕ) (v : ℕ) → ◌≡◌ {A = Option (Option ℕ)} (Some o) (Some (Some v)) → o ≡ Some v
 inside o v e = cc
 
-pub grown_cell : (may_grow : ℕ → Bool) (sliver start : ℕ) (x : Stretch) (ts : List Stretch) (end place v : ℕ)
+pub grown_cell : (may_grow : ℕ → Bool) (sliver start : ℕ) (x : SegmentView) (ts : List SegmentView) (end place v : ℕ)
     → AreMaximal start ts end
     → slice_get (cells_of start (filled_after may_grow sliver x ts)) place ≡ Some (Some v)
     → IsGrownCell may_grow x.owner (cells_of start ts) place v

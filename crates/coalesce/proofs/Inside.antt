@@ -6,17 +6,16 @@ use Rattle.std.proofs.lemmas.Bool.{cases_eq, cases_lt}
 use Rattle.std.proofs.lemmas.Option.{same_Some}
 use Rattle.tab_core.specs.declared.piece.Piece.{Piece}
 use Rattle.table_form.specs.Tables.Rows.{Row}
-use Rattle.table_form.specs.Inside.Stretches.{Stretch}
+use Rattle.table_form.specs.Tables.Segments.{AreMaximal, SegmentView}
 use Rattle.table_form.specs.Planning.Windows.{DistinctVcpus, ServesWindows}
 use Rattle.coalesce.specs.Joining.{NoBegin, NoEnd, SwapsLeftmost, SwapsTo}
 use Rattle.coalesce.specs.Joining.SwapsTo.{Again, Done}
-use Rattle.coalesce.specs.Passing.{AreMaximal}
 use Rattle.coalesce.proofs.Counts.{AreMoved, IsOutside, cells_before-end, same_before}
 use Rattle.coalesce.proofs.Counts.IsOutside.{Another, Before, Behind}
-use Rattle.coalesce.proofs.Maximal.{cells_of}
 use Rattle.coalesce.proofs.Moved.{CellAfter, cell_after, cells_moved, first_cell, last_cell}
 use Rattle.coalesce.proofs.Moved.CellAfter.{AsBefore, OfFirst, OfSecond}
 use Rattle.coalesce.proofs.Swapping.{parts_of, swap_keeps}
+use Rattle.table_form.proofs.SegmentLemmas.{cells_of}
 
 -- the tick is in a window of the vCPU's piece
 pub record InWindow (pieces : List Piece) (vcpu tick : ℕ) : Type 0 where
@@ -191,7 +190,7 @@ move_keeps pieces row row' b l a first second may inside v x at = by_cell
     by_cell (OfSecond own le lt) = held (second_holds pieces row row' b l a first second may inside) own le lt
 
 -- a swap is such a move
-may_move : (pieces : List Piece) (sliver : ℕ) (row next : List Stretch) (end : ℕ)
+may_move : (pieces : List Piece) (sliver : ℕ) (row next : List SegmentView) (end : ℕ)
     (swap : SwapsLeftmost pieces sliver row next) → AreMaximal 0 row end
     → MayMove pieces (cells_of 0 row) (cells_of 0 next) swap.x.end (swap.y.end - swap.x.end)
     (swap.z.end - swap.y.end) swap.can.first swap.can.second
@@ -215,7 +214,7 @@ pub record AreServed (pieces : List Piece) (row : Row) : Type 0 where
   pub serves : ServesWindows pieces row
   pub inside : AreInWindows pieces row
 
-pub swaps_serve : (pieces : List Piece) (sliver bound : ℕ) (end row : List Stretch) → DistinctVcpus pieces
+pub swaps_serve : (pieces : List Piece) (sliver bound : ℕ) (end row : List SegmentView) → DistinctVcpus pieces
     → SwapsTo pieces sliver end row → AreMaximal 0 row bound
     → AreServed pieces (cells_of 0 row) → AreServed pieces (cells_of 0 end)
 swaps_serve pieces sliver bound end _ distinct (Done row quiet same) m served = subst

@@ -5,35 +5,34 @@ use Rattle.tab_core.specs.declared.TheConstants.{ROUND}
 use Rattle.tab_core.specs.declared.piece.Piece.{Piece}
 use Rattle.table_form.specs.Planning.Drafts.{pieces_at}
 use Rattle.table_form.specs.Tables.Rows.{Row, cells_from}
-use Rattle.table_form.specs.Inside.Stretches.{Stretch, put_front, stretch_of, stretches_from}
+use Rattle.table_form.specs.Tables.Segments.{AreMaximal, SegmentView, put_front, segment_view, segments_from}
 use Rattle.table_form.specs.declared.segment.Segment.{Segment}
 use Rattle.coalesce.specs.Joining.{AreJoined, IsJoined, SwapsTo, filled, filled_after, given, has_single_piece, is_given}
-use Rattle.coalesce.specs.Passing.{AreMaximal}
 use Rattle.coalesce.proofs.Filled.{filled_after_length, filled_maximal}
-use Rattle.coalesce.proofs.Maximal.{segments_are, stretches_of_cells}
 use Rattle.coalesce.proofs.Swapping.{swaps_shorten}
+use Rattle.table_form.proofs.SegmentLemmas.{segments_are, segments_of_cells}
 
 -- the filled segments are maximal
 pub still_maximal : (may_grow : ℕ → Bool) (sliver : ℕ) (swapped joined : List Segment) → AreMaximal 0
-    (map stretch_of swapped) ROUND → map stretch_of joined ≡ filled may_grow sliver (map stretch_of swapped)
-    → AreMaximal 0 (map stretch_of joined) ROUND
+    (map segment_view swapped) ROUND → map segment_view joined ≡ filled may_grow sliver (map segment_view swapped)
+    → AreMaximal 0 (map segment_view joined) ROUND
 still_maximal may_grow sliver swapped joined m is = subst (λ ts. AreMaximal 0 ts ROUND) (sym is)
-    (filled_maximal may_grow sliver (map stretch_of swapped) ROUND m)
+    (filled_maximal may_grow sliver (map segment_view swapped) ROUND m)
 
 pub row_joined : (pieces : List Piece) (may_grow : ℕ → Bool) (sliver : ℕ) (row joined : Row)
-    (swapped segments : List Segment) → SwapsTo pieces sliver (map stretch_of swapped) (stretches_from 0 row)
-    → AreMaximal 0 (map stretch_of swapped) ROUND → map stretch_of segments ≡ filled may_grow sliver
-    (map stretch_of swapped) → joined ≡ cells_from 0 segments
+    (swapped segments : List Segment) → SwapsTo pieces sliver (map segment_view swapped) (segments_from 0 row)
+    → AreMaximal 0 (map segment_view swapped) ROUND → map segment_view segments ≡ filled may_grow sliver
+    (map segment_view swapped) → joined ≡ cells_from 0 segments
     → IsJoined pieces may_grow sliver row joined
 row_joined pieces may_grow sliver row joined swapped segments swaps m is row_is = record {
-  end = map stretch_of swapped;
+  end = map segment_view swapped;
   swaps = swaps;
-  fills = ap (stretches_from 0) (row_is ∙ segments_are 0 segments) ∙ stretches_of_cells 0
-      (map stretch_of segments) ROUND (still_maximal may_grow sliver swapped segments m is) ∙ is;
+  fills = ap (segments_from 0) (row_is ∙ segments_are 0 segments) ∙ segments_of_cells 0
+      (map segment_view segments) ROUND (still_maximal may_grow sliver swapped segments m is) ∙ is;
 }
 
 -- only whether each vCPU may grow counts
-same_given : (f g : ℕ → Bool) (sliver : ℕ) (x y : Stretch) → ((v : ℕ) → f v ≡ g v)
+same_given : (f g : ℕ → Bool) (sliver : ℕ) (x y : SegmentView) → ((v : ℕ) → f v ≡ g v)
     → given f sliver x y ≡ given g sliver x y
 same_given f g sliver x y same = ap (λ b. cond b (record { owner = x.owner; end = y.end }) y)
     (same_test x.owner y.owner (y.end - x.end))
@@ -43,7 +42,7 @@ same_given f g sliver x y same = ap (λ b. cond b (record { owner = x.owner; end
     same_test (Some v) (Some w) ticks = refl
     same_test (Some v) None ticks = ap (λ b. ltb ticks sliver && b) (same v)
 
-same_filled : (f g : ℕ → Bool) (sliver : ℕ) (x : Stretch) (ts : List Stretch) → ((v : ℕ) → f v ≡ g v)
+same_filled : (f g : ℕ → Bool) (sliver : ℕ) (x : SegmentView) (ts : List SegmentView) → ((v : ℕ) → f v ≡ g v)
     → filled_after f sliver x ts ≡ filled_after g sliver x ts
 same_filled f g sliver x [] same = refl
 same_filled f g sliver x (y ∷ ts) same =
@@ -99,14 +98,14 @@ one_joined pieces sliver rows core joined row new at is so_far = record {
 -- no row has more segments than before
 pub no_more_segments : (pieces : List Piece) (may_grow : ℕ → Bool) (sliver : ℕ) (row joined : Row)
     → IsJoined pieces may_grow sliver row joined
-    → length (stretches_from 0 joined) ≤ length (stretches_from 0 row)
+    → length (segments_from 0 joined) ≤ length (segments_from 0 row)
 no_more_segments pieces may_grow sliver row joined is =
     omega (
       arith,
       ap length is.fills,
       filled_after_length may_grow sliver
           (record { owner = None; end = 0 }) is.end,
-      swaps_shorten pieces sliver is.end (stretches_from 0 row) is.swaps,
+      swaps_shorten pieces sliver is.end (segments_from 0 row) is.swaps,
     )
 
 -- the same of what equals them

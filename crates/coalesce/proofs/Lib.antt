@@ -1,4 +1,3 @@
-pub mod Before
 pub mod Built
 pub mod Counts
 pub mod Ends
@@ -7,7 +6,6 @@ pub mod Grown
 pub mod Inside
 pub mod Joined
 pub mod Lengths
-pub mod Maximal
 pub mod Members
 pub mod Moved
 pub mod Planned

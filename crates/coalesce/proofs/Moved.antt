@@ -1,27 +1,26 @@
--- A swap of stretches makes cells of two owners change places.
+-- A swap of segments makes cells of two owners change places.
 use Rattle.std.proofs.Common.{◌≡◌, ℕ, zero, suc, ◌+◌, ◌-◌, ◌<◌, ◌≤◌, List, [], ◌∷◌, ◌++◌, length, replicate, slice_get, Option, Some, refl, ap, subst, sym, ◌∙◌, inl, inr, arith, append_assoc, length-append}
 use Rattle.std.proofs.lemmas.Bool.{cases_lt}
 use Rattle.std.proofs.lemmas.List.{length-replicate}
 use Rattle.tab_core.specs.declared.piece.Piece.{Piece}
 use Rattle.table_form.specs.Tables.Rows.{Row}
-use Rattle.table_form.specs.Inside.Stretches.{Stretch, put_front}
+use Rattle.table_form.specs.Tables.Segments.{AreMaximal, SegmentView, put_front}
 use Rattle.coalesce.specs.Joining.{SwapsLeftmost, swapped}
-use Rattle.coalesce.specs.Passing.{AreMaximal}
 use Rattle.coalesce.proofs.Counts.{AreMoved}
-use Rattle.coalesce.proofs.Maximal.{cells_of, cells_of-cons, cells_of-nil, cells_of_front, replicate_parts}
+use Rattle.table_form.proofs.SegmentLemmas.{cells_of, cells_of-cons, cells_of-nil, cells_of_front, replicate_parts}
 
--- the tick at which the stretches end
-end_of : ℕ → List Stretch → ℕ
+-- the tick at which the segments end
+end_of : ℕ → List SegmentView → ℕ
 end_of start [] = start
 end_of start (t ∷ ts) = end_of t.end ts
 
-behind_maximal : (start : ℕ) (xs ys : List Stretch) (end : ℕ) → AreMaximal start (xs ++ ys) end → AreMaximal
+behind_maximal : (start : ℕ) (xs ys : List SegmentView) (end : ℕ) → AreMaximal start (xs ++ ys) end → AreMaximal
     (end_of start xs) ys end
 unfolding end_of
 behind_maximal start [] ys end m = m
 behind_maximal start (x ∷ xs) ys end m = behind_maximal x.end xs ys end m.2
 
-cells_of_append : (start : ℕ) (xs ys : List Stretch)
+cells_of_append : (start : ℕ) (xs ys : List SegmentView)
     → cells_of start (xs ++ ys) ≡ cells_of start xs ++ cells_of
     (end_of start xs) ys
 unfolding end_of
@@ -33,7 +32,7 @@ cells_of_append start (x ∷ xs) ys =
     (cells_of (end_of x.end xs) ys))
     ∙ ap (λ cells. cells ++ cells_of (end_of x.end xs) ys) (sym (cells_of-cons start x xs))
 
-length-cells_of : (start : ℕ) (xs ys : List Stretch) (end : ℕ) → AreMaximal start (xs ++ ys) end → length
+length-cells_of : (start : ℕ) (xs ys : List SegmentView) (end : ℕ) → AreMaximal start (xs ++ ys) end → length
     (cells_of start xs) + start ≡ end_of start xs
 unfolding end_of
 length-cells_of start [] ys end m = let none = ap length (cells_of-nil start) in omega arith
@@ -50,7 +49,7 @@ length-cells_of start (x ∷ xs) ys end m =
     )
 
 -- the cells of a swap, before and after it
-pub cells_moved : (pieces : List Piece) (sliver : ℕ) (row next : List Stretch) (end : ℕ)
+pub cells_moved : (pieces : List Piece) (sliver : ℕ) (row next : List SegmentView) (end : ℕ)
     (swap : SwapsLeftmost pieces sliver row next) → AreMaximal 0 row end
     → AreMoved (cells_of 0 row) (cells_of 0 next) swap.x.end (swap.y.end - swap.x.end)
     (swap.z.end - swap.y.end) swap.can.first swap.can.second

@@ -14,7 +14,7 @@ use Rattle.table_form.specs.Tables.Homes.{are_housed}
 use Rattle.table_form.specs.Tables.Plans.{IsPlan}
 use Rattle.table_form.specs.Tables.Rows.{Row}
 use Rattle.table_form.specs.Tables.Serves.{cell_of, cells_within, flat, owner_at}
-use Rattle.table_form.specs.Inside.Stretches.{stretches_from}
+use Rattle.table_form.specs.Tables.Segments.{segments_from}
 use Rattle.table_form.proofs.Drafting.{distinct_at, found_in, on_core, window_of}
 use Rattle.table_form.proofs.Filters.{slice_get-filter}
 use Rattle.table_form.proofs.Supplies.{cells_within-le}
@@ -23,8 +23,8 @@ use Rattle.coalesce.specs.Joining.{AreJoined, IsJoined, filled, has_single_piece
 use Rattle.coalesce.proofs.Grown.{Grows, IsGrownCell, filled_grows, grown_cell, within_grows}
 use Rattle.coalesce.proofs.Grown.IsGrownCell.{HasBefore, HasCell, Was}
 use Rattle.coalesce.proofs.Inside.{AreInWindows, AreServed, swaps_serve}
-use Rattle.coalesce.proofs.Maximal.{cells_of, cells_of_stretches, maximal_of_row}
 use Rattle.coalesce.proofs.Swapping.{swaps_keep}
+use Rattle.table_form.proofs.SegmentLemmas.{cells_of, cells_of_segments, maximal_of_row}
 
 -- a row of a draft keeps to the windows of its core's pieces
 draft_row_inside : (pieces : List Piece) (rows : List Row) (core : ℕ) (row : Row) → KeepInWindows pieces rows
@@ -58,15 +58,15 @@ joined_row : (pieces : List Piece) (sliver core : ℕ) (row new : Row) → HaveO
 joined_row pieces sliver core row new own served is =
     let m = maximal_of_row 0 row (length row) (omega arith) in
     let m' = swaps_keep (pieces_at pieces core) sliver 0 (length row) is.end
-    (stretches_from 0 row) is.swaps m in
+    (segments_from 0 row) is.swaps m in
     let new_is : new ≡ cells_of 0 (filled (has_single_piece pieces) sliver is.end) =
-    sym (cells_of_stretches 0 new)
+    sym (cells_of_segments 0 new)
     ∙ ap (cells_of 0) is.fills in
     record {
       swapped = cells_of 0 is.end;
-      served = swaps_serve (pieces_at pieces core) sliver (length row) is.end (stretches_from 0 row)
+      served = swaps_serve (pieces_at pieces core) sliver (length row) is.end (segments_from 0 row)
           (distinct_at pieces core own) is.swaps m
-          (subst (AreServed (pieces_at pieces core)) (sym (cells_of_stretches 0 row)) served);
+          (subst (AreServed (pieces_at pieces core)) (sym (cells_of_segments 0 row)) served);
       grows = subst (Grows (cells_of 0 is.end)) (sym new_is)
           (filled_grows (has_single_piece pieces) sliver 0 (record { owner = None; end = 0 }) is.end
           (length row) m');

@@ -1,23 +1,23 @@
--- Stretches of which no three may be swapped: longer ones may not either, so one pass finds each
+-- Segments of which no three may be swapped: longer ones may not either, so one pass finds each
 -- leftmost swap.
 use Rattle.std.proofs.Common.{◌≡◌, ℕ, ◌≤◌, List, [], ◌∷◌, ◌++◌, refl, ap, subst, sym, ◌∙◌, inl, inr, arith, append_assoc}
 use Rattle.tab_core.specs.declared.piece.Piece.{Piece}
-use Rattle.table_form.specs.Inside.Stretches.{Stretch, put_front}
+use Rattle.table_form.specs.Tables.Segments.{SegmentView, put_front}
 use Rattle.coalesce.specs.Joining.{CanSwap, NoSwap}
-use Rattle.coalesce.specs.Passing.{put_before}
-use Rattle.coalesce.proofs.Before.{before_last}
-use Rattle.coalesce.proofs.Maximal.{front_cases, front_joins, front_stays, same_first}
+use Rattle.table_form.specs.Inside.Appending.{put_before}
+use Rattle.table_form.proofs.AppendingLemmas.{before_last, last_of}
+use Rattle.table_form.proofs.SegmentLemmas.{front_cases, front_joins, front_stays, same_first}
 
 -- the second is the same or longer, and ends no earlier
-record Longer (t t' : Stretch) : Type 0 where
+record Longer (t t' : SegmentView) : Type 0 where
   same : t'.owner ≡ t.owner
   later : t.end ≤ t'.end
 
-itself : (t : Stretch) → Longer t t
+itself : (t : SegmentView) → Longer t t
 itself t = record { same = refl; later = omega arith }
 
--- what may be swapped with longer stretches may be swapped with shorter ones
-shorter_swap : (pieces : List Piece) (sliver : ℕ) (x y y' z z' : Stretch) → Longer y y' → Longer z z'
+-- what may be swapped with longer segments may be swapped with shorter ones
+shorter_swap : (pieces : List Piece) (sliver : ℕ) (x y y' z z' : SegmentView) → Longer y y' → Longer z z'
     → CanSwap pieces sliver x y' z' → CanSwap pieces sliver x y z
 shorter_swap pieces sliver x y y' z z' of_y of_z can = record {
   first = can.first;
@@ -32,7 +32,7 @@ shorter_swap pieces sliver x y y' z z' of_y of_z can = record {
 }
 
 -- the last may end later
-pub last_grows : (pieces : List Piece) (sliver : ℕ) (xs : List Stretch) (t t' : Stretch) → t'.owner ≡ t.owner
+pub last_grows : (pieces : List Piece) (sliver : ℕ) (xs : List SegmentView) (t t' : SegmentView) → t'.owner ≡ t.owner
     → t.end ≤ t'.end
     → NoSwap pieces sliver (xs ++ t ∷ []) → NoSwap pieces sliver (xs ++ t' ∷ [])
 last_grows pieces sliver [] t t' same le quiet = tt
@@ -46,7 +46,7 @@ last_grows pieces sliver (x ∷ y ∷ z ∷ xs) t t' same le quiet =
     (quiet.0, last_grows pieces sliver (y ∷ z ∷ xs) t t' same le quiet.1)
 
 -- and the last two, as they do after a swap
-pub two_grow : (pieces : List Piece) (sliver : ℕ) (xs : List Stretch) (u u' t t' : Stretch)
+pub two_grow : (pieces : List Piece) (sliver : ℕ) (xs : List SegmentView) (u u' t t' : SegmentView)
     → u'.owner ≡ u.owner
     → u.end ≤ u'.end → t'.owner ≡ t.owner → t.end ≤ t'.end
     → NoSwap pieces sliver (xs ++ u ∷ t ∷ []) → NoSwap pieces sliver (xs ++ u' ∷ t' ∷ [])
@@ -66,7 +66,7 @@ two_grow pieces sliver (x ∷ y ∷ z ∷ xs) u u' t t' of_u le_u of_t le_t quie
     (quiet.0, two_grow pieces sliver (y ∷ z ∷ xs) u u' t t' of_u le_u of_t le_t quiet.1)
 
 -- one more that can't be swapped with the last two
-pub one_more_quiet : (pieces : List Piece) (sliver : ℕ) (xs : List Stretch) (u t s : Stretch) →
+pub one_more_quiet : (pieces : List Piece) (sliver : ℕ) (xs : List SegmentView) (u t s : SegmentView) →
     (CanSwap pieces sliver u t s → ⊥)
     → NoSwap pieces sliver (xs ++ u ∷ t ∷ []) → NoSwap pieces sliver (xs ++ u ∷ t ∷ s ∷ [])
 one_more_quiet pieces sliver [] u t s cannot quiet = (cannot, tt)
@@ -74,22 +74,16 @@ one_more_quiet pieces sliver (x ∷ []) u t s cannot quiet =
     (quiet.0, one_more_quiet pieces sliver [] u t s cannot quiet.1)
 one_more_quiet pieces sliver (x ∷ y ∷ xs) u t s cannot quiet = several x y xs cannot quiet
   where
-    several : (x y : Stretch) (xs : List Stretch) → (CanSwap pieces sliver u t s → ⊥) → NoSwap pieces sliver
+    several : (x y : SegmentView) (xs : List SegmentView) → (CanSwap pieces sliver u t s → ⊥) → NoSwap pieces sliver
         (x ∷ y ∷ (xs ++ u ∷ t ∷ [])) → NoSwap pieces sliver (x ∷ y ∷ (xs ++ u ∷ t ∷ s ∷ []))
     several x y [] cannot quiet = (quiet.0, (quiet.1.0, (cannot, tt)))
     several x y (z ∷ xs) cannot quiet = (quiet.0, several y z xs cannot quiet.1)
 
--- the last of some stretches
-pub last_of : (t : Stretch) (ts : List Stretch)
-    → (xs : List Stretch) × (u : Stretch) × (t ∷ ts ≡ xs ++ u ∷ [])
-last_of t [] = ([], t, refl)
-last_of t (u ∷ ts) = (let rest = last_of u ts in (t ∷ rest.0, rest.1, ap (λ us. t ∷ us) rest.2))
-
--- the next stretch is appended, where it can't be swapped with the last two
-pub append_quiet : (pieces : List Piece) (sliver : ℕ) (out : List Stretch) (s : Stretch)
+-- the next segment is appended, where it can't be swapped with the last two
+pub append_quiet : (pieces : List Piece) (sliver : ℕ) (out : List SegmentView) (s : SegmentView)
     → NoSwap pieces sliver out
-    → ((before : List Stretch) (x y : Stretch) → out ≡ before ++ x ∷ y ∷ [] → CanSwap pieces sliver x y s → ⊥)
-    → ((before : List Stretch) (t : Stretch) → out ≡ before ++ t ∷ [] → t.end ≤ s.end)
+    → ((before : List SegmentView) (x y : SegmentView) → out ≡ before ++ x ∷ y ∷ [] → CanSwap pieces sliver x y s → ⊥)
+    → ((before : List SegmentView) (t : SegmentView) → out ≡ before ++ t ∷ [] → t.end ≤ s.end)
     → NoSwap pieces sliver (put_before out (s ∷ []))
 append_quiet pieces sliver [] s quiet cannot rises = tt
 append_quiet pieces sliver (o ∷ out) s quiet cannot rises =
@@ -99,8 +93,8 @@ append_quiet pieces sliver (o ∷ out) s quiet cannot rises =
     (behind last.0 last.1 (subst (NoSwap pieces sliver) last.2 quiet)
     (λ before x y e. cannot before x y (last.2 ∙ e)) (rises last.0 last.1 last.2)))
   where
-    behind : (xs : List Stretch) (t : Stretch) → NoSwap pieces sliver (xs ++ t ∷ [])
-        → ((before : List Stretch) (x y : Stretch) → xs ++ t ∷ [] ≡ before ++ x ∷ y ∷ []
+    behind : (xs : List SegmentView) (t : SegmentView) → NoSwap pieces sliver (xs ++ t ∷ [])
+        → ((before : List SegmentView) (x y : SegmentView) → xs ++ t ∷ [] ≡ before ++ x ∷ y ∷ []
         → CanSwap pieces sliver x y s
         → ⊥)
         → t.end ≤ s.end → NoSwap pieces sliver (xs ++ put_front t (s ∷ []))
@@ -112,14 +106,14 @@ append_quiet pieces sliver (o ∷ out) s quiet cannot rises =
           (pushed xs t quiet cannot)
     ]
       where
-        pushed : (xs : List Stretch) (t : Stretch) → NoSwap pieces sliver (xs ++ t ∷ [])
-            → ((before : List Stretch) (x y : Stretch) → xs ++ t ∷ [] ≡ before ++ x ∷ y ∷ []
+        pushed : (xs : List SegmentView) (t : SegmentView) → NoSwap pieces sliver (xs ++ t ∷ [])
+            → ((before : List SegmentView) (x y : SegmentView) → xs ++ t ∷ [] ≡ before ++ x ∷ y ∷ []
             → CanSwap pieces sliver x y s → ⊥)
             → NoSwap pieces sliver (xs ++ t ∷ s ∷ [])
         pushed [] t quiet cannot = tt
         pushed (x ∷ xs) t quiet cannot =
             let more = last_of x xs in
-            let two : (ts : List Stretch) → (x ∷ xs) ++ ts ≡ more.0 ++ (more.1 ∷ ts) = λ ts. ap
+            let two : (ts : List SegmentView) → (x ∷ xs) ++ ts ≡ more.0 ++ (more.1 ∷ ts) = λ ts. ap
             (λ us. us ++ ts) more.2 ∙ append_assoc more.0 (more.1 ∷ []) ts in
             subst (NoSwap pieces sliver) (sym (two (t ∷ s ∷ [])))
             (one_more_quiet pieces sliver more.0 more.1 t s (cannot more.0 more.1 t (two (t ∷ [])))

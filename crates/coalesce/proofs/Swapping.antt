@@ -1,21 +1,20 @@
--- What swaps keep: the stretches stay maximal, and there are fewer of them.
+-- What swaps keep: the segments stay maximal, and there are fewer of them.
 use Rattle.std.proofs.Common.{◌≡◌, ℕ, ◌+◌, ◌-◌, ◌<◌, ◌≤◌, List, [], ◌∷◌, ◌++◌, length, refl, ap, subst, sym, ◌∙◌, inl, inr, arith, length-append}
 use Rattle.tab_core.specs.declared.piece.Piece.{Piece}
-use Rattle.table_form.specs.Inside.Stretches.{Stretch, put_front}
+use Rattle.table_form.specs.Tables.Segments.{AreMaximal, BeginsOther, SegmentView, put_front}
 use Rattle.coalesce.specs.Joining.{CanSwap, SwapsLeftmost, SwapsTo, swapped}
 use Rattle.coalesce.specs.Joining.SwapsTo.{Again, Done}
-use Rattle.coalesce.specs.Passing.{AreMaximal, BeginsOther}
-use Rattle.coalesce.proofs.Maximal.{front_begins, front_cases, front_joins, front_stays, maximal_front, same_first}
+use Rattle.table_form.proofs.SegmentLemmas.{front_begins, front_cases, front_joins, front_stays, maximal_front, same_first}
 
--- some of the stretches and the rest of them
-pub record Parts (start : ℕ) (xs : List Stretch) (y : Stretch) (ys : List Stretch) (end : ℕ) : Type 0 where
+-- some of the segments and the rest of them
+pub record Parts (start : ℕ) (xs : List SegmentView) (y : SegmentView) (ys : List SegmentView) (end : ℕ) : Type 0 where
   pub middle : ℕ
   pub second : AreMaximal middle (y ∷ ys) end
-  pub instead : (z : Stretch) (zs : List Stretch) (end' : ℕ) → z.owner ≡ y.owner
+  pub instead : (z : SegmentView) (zs : List SegmentView) (end' : ℕ) → z.owner ≡ y.owner
       → AreMaximal middle (z ∷ zs) end'
       → AreMaximal start (xs ++ z ∷ zs) end'
 
-pub parts_of : (start : ℕ) (xs : List Stretch) (y : Stretch) (ys : List Stretch) (end : ℕ) → AreMaximal start
+pub parts_of : (start : ℕ) (xs : List SegmentView) (y : SegmentView) (ys : List SegmentView) (end : ℕ) → AreMaximal start
     (xs ++ y ∷ ys) end → Parts start xs y ys end
 parts_of start [] y ys end m = record { middle = start; second = m; instead = λ z zs end' same m'. m' }
 parts_of start (x ∷ []) y ys end m =
@@ -30,18 +29,18 @@ parts_of start (x ∷ w ∷ xs) y ys end m =
     }
 
 -- the first two of a swap have different owners
-pub swap_differs : (pieces : List Piece) (sliver : ℕ) (start : ℕ) (x y z : Stretch)
-    (after : List Stretch) (end : ℕ)
+pub swap_differs : (pieces : List Piece) (sliver : ℕ) (start : ℕ) (x y z : SegmentView)
+    (after : List SegmentView) (end : ℕ)
     → AreMaximal start (x ∷ y ∷ z ∷ after) end → CanSwap pieces sliver x y z
     → AreMaximal start (swapped x y z after) end
 swap_differs pieces sliver start x y z after end m can =
-    let t : Stretch = record { owner = y.owner; end = z.end } in
-    let first : Stretch = record { owner = x.owner; end = x.end + (z.end - y.end) } in
+    let t : SegmentView = record { owner = y.owner; end = z.end } in
+    let first : SegmentView = record { owner = x.owner; end = x.end + (z.end - y.end) } in
     let with = front_begins t after in
     let rest = maximal_front first.end t after end (omega (arith, m.2.0, m.2.2.0)) m.2.2.2 in
     (omega (arith, m.0), subst (BeginsOther x.owner) (sym with.is) (λ same. m.1 (same ∙ sym with.same)), rest)
 
-pub swap_keeps : (pieces : List Piece) (sliver : ℕ) (start end : ℕ) (row next : List Stretch)
+pub swap_keeps : (pieces : List Piece) (sliver : ℕ) (start end : ℕ) (row next : List SegmentView)
     → SwapsLeftmost pieces sliver row next → AreMaximal start row end → AreMaximal start next end
 swap_keeps pieces sliver start end row next swap m =
     let parts = parts_of start swap.before swap.x (swap.y ∷ swap.z ∷ swap.after) end
@@ -50,7 +49,7 @@ swap_keeps pieces sliver start end row next swap m =
     (parts.instead _ _ end refl
     (swap_differs pieces sliver parts.middle swap.x swap.y swap.z swap.after end parts.second swap.can))
 
-pub swaps_keep : (pieces : List Piece) (sliver : ℕ) (start bound : ℕ) (end row : List Stretch)
+pub swaps_keep : (pieces : List Piece) (sliver : ℕ) (start bound : ℕ) (end row : List SegmentView)
     → SwapsTo pieces sliver end row → AreMaximal start row bound → AreMaximal start end bound
 swaps_keep pieces sliver start bound end _ (Done row quiet same) m =
     subst (λ ts. AreMaximal start ts bound) same m
@@ -58,18 +57,18 @@ swaps_keep pieces sliver start bound end _
     (Again row next swap swaps) m = swaps_keep pieces sliver start bound end next swaps
     (swap_keeps pieces sliver start bound row next swap m)
 
--- a stretch in front adds at most one
-pub front_length : (s : Stretch) (ts : List Stretch) → length (put_front s ts) ≤ length ts + 1
+-- a segment in front adds at most one
+pub front_length : (s : SegmentView) (ts : List SegmentView) → length (put_front s ts) ≤ length ts + 1
 front_length s [] = omega arith
 front_length s (t ∷ ts) = elim (front_cases s.owner (t ∷ ts)) [
   | inl other ↦ rw (front_stays s (t ∷ ts) other) (omega arith)
   | inr with ↦ rw (front_joins s t ts (same_first s.owner t ts with)) (omega arith)
 ]
 
-pub swap_shortens : (pieces : List Piece) (sliver : ℕ) (row next : List Stretch)
+pub swap_shortens : (pieces : List Piece) (sliver : ℕ) (row next : List SegmentView)
     → SwapsLeftmost pieces sliver row next → length next < length row
 swap_shortens pieces sliver row next swap =
-    let t : Stretch = record { owner = swap.y.owner; end = swap.z.end } in
+    let t : SegmentView = record { owner = swap.y.owner; end = swap.z.end } in
     omega (
       arith,
       ap length swap.row_is,
@@ -79,7 +78,7 @@ swap_shortens pieces sliver row next swap =
       front_length t swap.after,
     )
 
-pub swaps_shorten : (pieces : List Piece) (sliver : ℕ) (end row : List Stretch)
+pub swaps_shorten : (pieces : List Piece) (sliver : ℕ) (end row : List SegmentView)
     → SwapsTo pieces sliver end row
     → length end ≤ length row
 swaps_shorten pieces sliver end _ (Done row quiet same) = omega (arith, ap length same)

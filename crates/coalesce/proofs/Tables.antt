@@ -7,7 +7,7 @@ use Rattle.std.proofs.Common.{inl, inr}
 use Rattle.std.proofs.lemmas.Option.{slice_get-get_or}
 use Rattle.tab_core.specs.declared.TheConstants.{MAX_VCPUS}
 use Rattle.tab_core.specs.declared.piece.Piece.{Piece}
-use Rattle.table_form.specs.Inside.Stretches.{Stretch}
+use Rattle.table_form.specs.Tables.Segments.{SegmentView}
 use Rattle.table_form.proofs.RowLemmas.{same_owner}
 use Rattle.coalesce.specs.Joining.{CanSwap, NoBegin, NoEnd}
 use Rattle.coalesce.specs.Passing.{IsTableOf}
@@ -39,7 +39,7 @@ one_listed pieces table v at p q is some listed own = inside
     inside : ◌≡◌ {A = Option (Option Piece)} (Some (Some p)) (Some (Some q)) → p ≡ q
     inside e = cc
 
-pub swap_needs_begin : (pieces : List Piece) (sliver : ℕ) (x y z : Stretch) (v : ℕ) → x.owner ≡ Some v
+pub swap_needs_begin : (pieces : List Piece) (sliver : ℕ) (x y z : SegmentView) (v : ℕ) → x.owner ≡ Some v
     → CanSwap pieces sliver x y z → NoBegin pieces v x.end z.end
 swap_needs_begin pieces sliver x y z v is can = subst (λ w. NoBegin pieces w x.end z.end)
     (inside (sym can.first_owns ∙ is)) can.no_begin
@@ -47,7 +47,7 @@ swap_needs_begin pieces sliver x y z v is can = subst (λ w. NoBegin pieces w x.
     inside : Some can.first ≡ Some v → can.first ≡ v
     inside e = cc
 
-pub swap_needs_end : (pieces : List Piece) (sliver : ℕ) (x y z : Stretch) (v : ℕ) → y.owner ≡ Some v
+pub swap_needs_end : (pieces : List Piece) (sliver : ℕ) (x y z : SegmentView) (v : ℕ) → y.owner ≡ Some v
     → CanSwap pieces sliver x y z → NoEnd pieces v x.end z.end
 swap_needs_end pieces sliver x y z v is can = subst (λ w. NoEnd pieces w x.end z.end)
     (inside (sym can.second_owns ∙ is)) can.no_end

@@ -5,34 +5,34 @@ use Rattle.std.proofs.lemmas.Option.{slice_get-get_or}
 use Rattle.tab_core.specs.declared.piece.Piece.{Piece}
 use Rattle.table_form.specs.Planning.Drafts.{pieces_at}
 use Rattle.table_form.specs.Tables.Rows.{Row}
-use Rattle.table_form.specs.Inside.Stretches.{Stretch, stretches_from}
+use Rattle.table_form.specs.Tables.Segments.{SegmentView, segments_from}
 use Rattle.coalesce.specs.Joining.{AreJoined, CanSwap, IsJoined, NoSwap, has_single_piece, SwapsLeftmost, SwapsTo, filled, swapped}
 use Rattle.coalesce.specs.Joining.SwapsTo.{Again, Done}
-use Rattle.coalesce.proofs.Maximal.{same_row}
+use Rattle.table_form.proofs.SegmentLemmas.{same_row}
 
-no_swap_behind : (pieces : List Piece) (sliver : ℕ) (w : Stretch) (ws : List Stretch)
+no_swap_behind : (pieces : List Piece) (sliver : ℕ) (w : SegmentView) (ws : List SegmentView)
     → NoSwap pieces sliver (w ∷ ws)
     → NoSwap pieces sliver ws
 no_swap_behind pieces sliver w [] quiet = tt
 no_swap_behind pieces sliver w (x ∷ []) quiet = tt
 no_swap_behind pieces sliver w (x ∷ y ∷ ws) quiet = quiet.1
 
-no_swap_at : (pieces : List Piece) (sliver : ℕ) (before : List Stretch) (x y z : Stretch)
-    (after : List Stretch)
+no_swap_at : (pieces : List Piece) (sliver : ℕ) (before : List SegmentView) (x y z : SegmentView)
+    (after : List SegmentView)
     → NoSwap pieces sliver (before ++ x ∷ y ∷ z ∷ after) → CanSwap pieces sliver x y z → ⊥
 no_swap_at pieces sliver [] x y z after quiet can = quiet.0 can
 no_swap_at pieces sliver (w ∷ before) x y z after quiet can = no_swap_at pieces sliver before x y z after
     (no_swap_behind pieces sliver w (before ++ x ∷ y ∷ z ∷ after) quiet) can
 
-can_moved : (pieces : List Piece) (sliver : ℕ) (x y z u v w : Stretch) → x ≡ u → y ≡ v → z ≡ w
+can_moved : (pieces : List Piece) (sliver : ℕ) (x y z u v w : SegmentView) → x ≡ u → y ≡ v → z ≡ w
     → CanSwap pieces sliver x y z → CanSwap pieces sliver u v w
 can_moved pieces sliver x y z u v w a b c can =
     subst (λ s. CanSwap pieces sliver s v w) a
     (subst (λ s. CanSwap pieces sliver x s w) b (subst (CanSwap pieces sliver x y) c can))
 
 -- no swap is further left than the leftmost
-none_earlier : (pieces : List Piece) (sliver : ℕ) (x y z : Stretch) (after : List Stretch) (w : Stretch)
-    (ws : List Stretch) (x' y' z' : Stretch) (after' : List Stretch)
+none_earlier : (pieces : List Piece) (sliver : ℕ) (x y z : SegmentView) (after : List SegmentView) (w : SegmentView)
+    (ws : List SegmentView) (x' y' z' : SegmentView) (after' : List SegmentView)
     → x ∷ y ∷ z ∷ after ≡ w ∷ (ws ++ x' ∷ y' ∷ z' ∷ after') → CanSwap pieces sliver x y z
     → NoSwap pieces sliver
     (w ∷ (ws ++ x' ∷ y' ∷ [])) → ⊥
@@ -43,8 +43,8 @@ none_earlier pieces sliver x y z after w (v ∷ []) x' y' z' after' same can qui
 none_earlier pieces sliver x y z after w (v ∷ u ∷ ws) x' y' z' after' same can quiet = quiet.0
     (can_moved pieces sliver x y z w v u (cc) (cc) (cc) can)
 
-same_swap : (pieces : List Piece) (sliver : ℕ) (before : List Stretch) (x y z : Stretch)
-    (after before' : List Stretch) (x' y' z' : Stretch) (after' : List Stretch)
+same_swap : (pieces : List Piece) (sliver : ℕ) (before : List SegmentView) (x y z : SegmentView)
+    (after before' : List SegmentView) (x' y' z' : SegmentView) (after' : List SegmentView)
     → before ++ x ∷ y ∷ z ∷ after ≡ before' ++ x' ∷ y' ∷ z' ∷ after' → CanSwap pieces sliver x y z
     → CanSwap pieces sliver x' y' z'
     → NoSwap pieces sliver (before ++ x ∷ y ∷ []) → NoSwap pieces sliver (before' ++ x' ∷ y' ∷ [])
@@ -69,20 +69,20 @@ same_swap pieces sliver (w ∷ ws) x y z after (w' ∷ ws') x' y' z' after' same
     (no_swap_behind pieces sliver w' (ws' ++ x' ∷ y' ∷ []) quiet') in
     ap (λ s. s ∷ (ws ++ swapped x y z after)) here ∙ ap (λ ss. w' ∷ ss) rest
 
-leftmost_unique : (pieces : List Piece) (sliver : ℕ) (row a b : List Stretch)
+leftmost_unique : (pieces : List Piece) (sliver : ℕ) (row a b : List SegmentView)
     → SwapsLeftmost pieces sliver row a
     → SwapsLeftmost pieces sliver row b → a ≡ b
 leftmost_unique pieces sliver row a b s t =
     s.next_is ∙ same_swap pieces sliver s.before s.x s.y s.z s.after t.before t.x t.y t.z t.after
     (sym s.row_is ∙ t.row_is) s.can t.can s.leftmost t.leftmost ∙ sym t.next_is
 
-quiet_or_swap : (pieces : List Piece) (sliver : ℕ) (row next : List Stretch) → NoSwap pieces sliver row
+quiet_or_swap : (pieces : List Piece) (sliver : ℕ) (row next : List SegmentView) → NoSwap pieces sliver row
     → SwapsLeftmost pieces sliver row next → ⊥
 quiet_or_swap pieces sliver row next quiet swap =
     no_swap_at pieces sliver swap.before swap.x swap.y swap.z swap.after
     (subst (NoSwap pieces sliver) swap.row_is quiet) swap.can
 
-swaps_unique : (pieces : List Piece) (sliver : ℕ) (a b row : List Stretch) → SwapsTo pieces sliver a row
+swaps_unique : (pieces : List Piece) (sliver : ℕ) (a b row : List SegmentView) → SwapsTo pieces sliver a row
     → SwapsTo pieces sliver b row → a ≡ b
 swaps_unique pieces sliver a b row (Done r quiet same) (Done q quiet' same') = sym same ∙ same'
 swaps_unique pieces sliver a b row (Done r quiet same) (Again q next swap swaps) = absurd
@@ -96,7 +96,7 @@ swaps_unique pieces sliver a b row (Again r next swap swaps) (Again q next' swap
 pub joined_unique : (pieces : List Piece) (may_grow : ℕ → Bool) (sliver : ℕ) (row a b : Row)
     → IsJoined pieces may_grow sliver row a → IsJoined pieces may_grow sliver row b → a ≡ b
 joined_unique pieces may_grow sliver row a b s t =
-    let same = swaps_unique pieces sliver s.end t.end (stretches_from 0 row) s.swaps t.swaps in
+    let same = swaps_unique pieces sliver s.end t.end (segments_from 0 row) s.swaps t.swaps in
     same_row a b (s.fills ∙ ap (filled may_grow sliver) same ∙ sym t.fills)
 
 -- so the rows of all cores are determined

@@ -6,7 +6,7 @@ use Rattle.std.specs.Prelude.{◌≡◌, ℕ, ◌+◌, ◌-◌, ◌*◌, ◌<◌
 use Rattle.tab_core.specs.declared.piece.Piece.{Piece}
 use Rattle.table_form.specs.Planning.Drafts.{pieces_at}
 use Rattle.table_form.specs.Tables.Rows.{Row}
-use Rattle.table_form.specs.Inside.Stretches.{Stretch, put_front, stretches_from}
+use Rattle.table_form.specs.Tables.Segments.{SegmentView, put_front, segments_from}
 
 -- no window of the vCPU's piece begins strictly between the two ticks
 abbrev pub NoBegin : List Piece → ℕ → ℕ → ℕ → Type 0
@@ -21,7 +21,7 @@ NoEnd pieces vcpu low high = (at k : ℕ) (p : Piece) → slice_get pieces at �
 -- the third of three neighbours may come before the second: the first and the third are of one
 -- vCPU, the second is a short one of another vCPU, and strictly between the second's begin and the
 -- third's end no window of the first vCPU begins and none of the second vCPU ends
-pub record CanSwap (pieces : List Piece) (sliver : ℕ) (x y z : Stretch) : Type 0 where
+pub record CanSwap (pieces : List Piece) (sliver : ℕ) (x y z : SegmentView) : Type 0 where
   pub first : ℕ
   pub second : ℕ
   pub first_owns : x.owner ≡ Some first
@@ -32,7 +32,7 @@ pub record CanSwap (pieces : List Piece) (sliver : ℕ) (x y z : Stretch) : Type
   pub no_end : NoEnd pieces second x.end z.end
 
 -- no three neighbours may be swapped
-abbrev pub NoSwap : List Piece → ℕ → List Stretch → Type 0
+abbrev pub NoSwap : List Piece → ℕ → List SegmentView → Type 0
 NoSwap pieces sliver [] = Unit {0}
 NoSwap pieces sliver (x ∷ []) = Unit {0}
 NoSwap pieces sliver (x ∷ y ∷ []) = Unit {0}
@@ -41,27 +41,27 @@ NoSwap pieces sliver (x ∷ y ∷ z ∷ rest) = (CanSwap pieces sliver x y z →
 
 -- the first takes the third's ticks behind its own, and the second comes after them, in front of
 -- what followed
-abbrev pub swapped : Stretch → Stretch → Stretch → List Stretch → List Stretch
+abbrev pub swapped : SegmentView → SegmentView → SegmentView → List SegmentView → List SegmentView
 swapped x y z after =
     record { owner = x.owner; end = x.end + (z.end - y.end) }
     ∷ put_front (record { owner = y.owner; end = z.end }) after
 
 -- one swap, at the leftmost place: no three neighbours further left may be swapped
-pub record SwapsLeftmost (pieces : List Piece) (sliver : ℕ) (row next : List Stretch) : Type 0 where
-  pub before : List Stretch
-  pub x : Stretch
-  pub y : Stretch
-  pub z : Stretch
-  pub after : List Stretch
+pub record SwapsLeftmost (pieces : List Piece) (sliver : ℕ) (row next : List SegmentView) : Type 0 where
+  pub before : List SegmentView
+  pub x : SegmentView
+  pub y : SegmentView
+  pub z : SegmentView
+  pub after : List SegmentView
   pub row_is : row ≡ before ++ x ∷ y ∷ z ∷ after
   pub can : CanSwap pieces sliver x y z
   pub leftmost : NoSwap pieces sliver (before ++ x ∷ y ∷ [])
   pub next_is : next ≡ before ++ swapped x y z after
 
 -- swaps at the leftmost place, one after the other, until none is left
-pub data SwapsTo (pieces : List Piece) (sliver : ℕ) (end : List Stretch) : List Stretch → Type 0 where
-  Done : (row : List Stretch) → NoSwap pieces sliver row → row ≡ end → SwapsTo pieces sliver end row
-  Again : (row next : List Stretch) → SwapsLeftmost pieces sliver row next → SwapsTo pieces sliver end next →
+pub data SwapsTo (pieces : List Piece) (sliver : ℕ) (end : List SegmentView) : List SegmentView → Type 0 where
+  Done : (row : List SegmentView) → NoSwap pieces sliver row → row ≡ end → SwapsTo pieces sliver end row
+  Again : (row next : List SegmentView) → SwapsLeftmost pieces sliver row next → SwapsTo pieces sliver end next →
       SwapsTo pieces sliver end row
 
 -- the second is idle and short, and the one before it is of a vCPU that may have more
@@ -70,26 +70,26 @@ is_given may_grow sliver (Some v) None ticks = nat_lt ticks sliver && may_grow v
 is_given may_grow sliver None o ticks = false
 is_given may_grow sliver (Some v) (Some w) ticks = false
 
--- a stretch, with the owner of the one before it where it is given to that
-abbrev pub given : (ℕ → Bool) → ℕ → Stretch → Stretch → Stretch
+-- a segment, with the owner of the one before it where it is given to that
+abbrev pub given : (ℕ → Bool) → ℕ → SegmentView → SegmentView → SegmentView
 given may_grow sliver x y =
     if is_given may_grow sliver x.owner y.owner (y.end - x.end) then record y { owner = x.owner } else y
 
--- each short idle stretch goes to the vCPU before it, if that may have more; `x` is the stretch before these
-abbrev pub filled_after : (ℕ → Bool) → ℕ → Stretch → List Stretch → List Stretch
+-- each short idle segment goes to the vCPU before it, if that may have more; `x` is the segment before these
+abbrev pub filled_after : (ℕ → Bool) → ℕ → SegmentView → List SegmentView → List SegmentView
 filled_after may_grow sliver x [] = []
 filled_after may_grow sliver x (y ∷ rest) =
     put_front (given may_grow sliver x y) (filled_after may_grow sliver y rest)
 
--- no vCPU stands before the first stretch
-abbrev pub filled : (ℕ → Bool) → ℕ → List Stretch → List Stretch
+-- no vCPU stands before the first segment
+abbrev pub filled : (ℕ → Bool) → ℕ → List SegmentView → List SegmentView
 filled may_grow sliver row = filled_after may_grow sliver (record { owner = None; end = 0 }) row
 
--- the row after both rules: first the swaps, and then the idle stretches that are given away
+-- the row after both rules: first the swaps, and then the idle segments that are given away
 pub record IsJoined (pieces : List Piece) (may_grow : ℕ → Bool) (sliver : ℕ) (row joined : Row) : Type 0 where
-  pub end : List Stretch
-  pub swaps : SwapsTo pieces sliver end (stretches_from 0 row)
-  pub fills : stretches_from 0 joined ≡ filled may_grow sliver end
+  pub end : List SegmentView
+  pub swaps : SwapsTo pieces sliver end (segments_from 0 row)
+  pub fills : segments_from 0 joined ≡ filled may_grow sliver end
 
 -- the vCPU has one piece over all cores, and no more
 abbrev pub has_single_piece : List Piece → ℕ → Bool

@@ -1,14 +1,12 @@
 ghost use Rattle.std.specs.Prelude.{◌≡◌, ℕ, ◌-◌, ◌<◌, ◌≤◌, IfOk, map};
 ghost use Rattle.tab_core.specs.VcpuSets.{has_vcpu};
 ghost use Rattle.tab_core.specs.declared.TheConstants.{ROUND};
-ghost use Rattle.table_form.specs.Inside.Stretches.{stretch_of};
+ghost use Rattle.table_form.specs.Tables.Segments.{AreMaximal, segment_view};
 ghost use Rattle.coalesce.specs.Joining.{filled, given};
-ghost use Rattle.coalesce.specs.Passing.{AreMaximal};
 
-use crate::pass::append;
 use std::alloc::Global;
 use tab_core::{NoMemory, VcpuNo, VcpuSet};
-use table_form::Segment;
+use table_form::{Segment, push_segment};
 
 // The segment, with the owner of the one before it, which ends at `start`, where it is given to
 // that.
@@ -20,8 +18,8 @@ fn given(
     sliver: u32,
 ) -> Segment
     requires { start ≤ segment.now.end }
-    ensures { stretch_of result ≡ given (has_vcpu may_grow.now) sliver
-        (record { owner = before; end = start }) (stretch_of segment.now) }
+    ensures { segment_view result ≡ given (has_vcpu may_grow.now) sliver
+        (record { owner = before; end = start }) (segment_view segment.now) }
 {
     let Some(vcpu) = before else {
         return *segment;
@@ -42,15 +40,15 @@ pub(crate) fn fill_all(
     may_grow: &VcpuSet,
     sliver: u32,
 ) -> Result<Vec<Segment>, NoMemory>
-    requires { AreMaximal 0 (map stretch_of segments.now) ROUND }
-    ensures { IfOk result (λ out. map stretch_of out.items
-        ≡ filled (has_vcpu may_grow.now) sliver (map stretch_of segments.now)) }
+    requires { AreMaximal 0 (map segment_view segments.now) ROUND }
+    ensures { IfOk result (λ out. map segment_view out.items
+        ≡ filled (has_vcpu may_grow.now) sliver (map segment_view segments.now)) }
 {
     let mut out = Vec::with_capacity(alloc, segments.len())?;
     let mut before: Option<VcpuNo> = None;
     let mut start = 0;
     for segment in segments {
-        append(&mut out, given(before, start, segment, may_grow, sliver))?;
+        push_segment(&mut out, given(before, start, segment, may_grow, sliver))?;
         before = segment.owner;
         start = segment.end;
     }

@@ -1,11 +1,11 @@
-ghost use Rattle.std.specs.Prelude.{◌≡◌, ℕ, ◌+◌, ◌*◌, ◌/◌, ◌<◌, ◌≤◌, List, Some, IfOk, length, map, slice_get};
+ghost use Rattle.std.specs.Prelude.{◌≡◌, ℕ, ◌+◌, ◌*◌, ◌/◌, ◌<◌, ◌≤◌, List, Some, IfOk, length, slice_get};
 ghost use Rattle.tab_core.specs.VcpuSets.{has_vcpu};
 ghost use Rattle.tab_core.specs.declared.TheConstants.{MAX_CORES, MAX_VCPUS, ROUND};
 ghost use Rattle.tab_core.specs.declared.piece.Piece.{Piece};
 ghost use Rattle.table_form.specs.Planning.Drafts.{HaveOwnCores, pieces_at};
-ghost use Rattle.table_form.specs.Tables.Rows.{Row, RisesTo, cells_from};
+ghost use Rattle.table_form.specs.Tables.Rows.{Row};
 ghost use Rattle.table_form.specs.Tables.Serves.{cells_within};
-ghost use Rattle.table_form.specs.Inside.Stretches.{stretches_from};
+ghost use Rattle.table_form.specs.Tables.Segments.{segments_from};
 ghost use Rattle.coalesce.specs.Joining.{AreJoined, IsJoined};
 ghost use Rattle.coalesce.specs.Passing.{IsTableOf};
 
@@ -14,27 +14,23 @@ use crate::pass::swap_all;
 use crate::table::{single_vcpus, table_of};
 use std::alloc::Global;
 use tab_core::{CoreNo, NoMemory, Piece, Tasks, VcpuSet};
-use table_form::{CoreTable, Draft, Homes, Plan, Rows, Segment, Tables};
+use table_form::{CoreTable, Draft, Homes, Plan, Rows, Tables};
 
 // Joins the slivers of one core's row.
 pub(crate) fn join_row(
     alloc: Global,
-    segments: &[Segment],
+    row: &CoreTable,
     table: &[Option<Piece>],
     may_grow: &VcpuSet,
     sliver: u32,
 ) -> Result<CoreTable, NoMemory>
-    requires sized { length table.now ≡ MAX_VCPUS }
-    requires rises { RisesTo 0 segments.now ROUND }
+    requires { length table.now ≡ MAX_VCPUS }
     ensures { (pieces : List Piece) → IsTableOf pieces table.now
-        → IfOk result (IsJoined pieces (has_vcpu may_grow.now) sliver (cells_from 0 segments.now)) }
+        → IfOk result (IsJoined pieces (has_vcpu may_grow.now) sliver row.now) }
 {
-    let swapped = swap_all(alloc, segments, table, sliver)?;
+    let swapped = swap_all(alloc, row.segments(), table, sliver)?;
     let filled = fill_all(alloc, &swapped, may_grow, sliver)?;
-    match CoreTable::of(filled) {
-        Ok(row) => Ok(row),
-        Err(_) => unreachable!(),
-    }
+    Ok(CoreTable::of_maximal(filled))
 }
 
 // Joins the slivers of each row.
@@ -52,7 +48,7 @@ fn join_rows(
     let mut joined = Vec::with_capacity(alloc, rows.len())?;
     for core in 0..rows.len() {
         let table = table_of(alloc, pieces, CoreNo(core as u32))?;
-        joined.push(join_row(alloc, rows[core].segments(), &table, &may_grow, sliver)?)?;
+        joined.push(join_row(alloc, &rows[core], &table, &may_grow, sliver)?)?;
     }
     Ok(joined)
 }
@@ -85,7 +81,7 @@ pub fn join_slivers(alloc: Global, draft: &Draft, sliver: u32) -> Result<Plan, N
     ensures fewer { IfOk result (λ plan. (core : ℕ) (row new : Row)
         → slice_get draft.now.tables.rows core ≡ Some row
         → slice_get plan.tables.rows core ≡ Some new
-        → length (stretches_from 0 new) ≤ length (stretches_from 0 row)) }
+        → length (segments_from 0 new) ≤ length (segments_from 0 row)) }
 {
     let joined = join_rows(
         alloc,

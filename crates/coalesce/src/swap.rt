@@ -1,7 +1,7 @@
 ghost use Rattle.std.specs.Prelude.{◌≡◌, ℕ, ◌+◌, ◌*◌, ◌<◌, ◌≤◌, ◌↔◌, IsTrue, List, length};
 ghost use Rattle.tab_core.specs.declared.TheConstants.{MAX_VCPUS, ROUND};
 ghost use Rattle.tab_core.specs.declared.piece.Piece.{Piece};
-ghost use Rattle.table_form.specs.Inside.Stretches.{stretch_of};
+ghost use Rattle.table_form.specs.Tables.Segments.{segment_view};
 ghost use Rattle.coalesce.specs.Joining.{CanSwap, NoBegin, NoEnd};
 ghost use Rattle.coalesce.specs.Passing.{IsTableOf};
 
@@ -62,7 +62,7 @@ pub(crate) fn can_swap(
     requires rises { x.now.end < y.now.end }
     requires in_round { y.now.end < ROUND }
     ensures { (pieces : List Piece) → IsTableOf pieces table.now
-        → (IsTrue result ↔ CanSwap pieces sliver (stretch_of x.now) (stretch_of y.now) (stretch_of z.now)) }
+        → (IsTrue result ↔ CanSwap pieces sliver (segment_view x.now) (segment_view y.now) (segment_view z.now)) }
 {
     let (Some(first), Some(second)) = (x.owner, y.owner) else {
         return false;

@@ -66,7 +66,7 @@ fn joined(
 ) -> Result<Vec<(u32, u32)>, Fail> {
     let row = row_of(alloc, codes)?;
     let table = table_of(alloc, pieces)?;
-    let made = join_row(alloc, row.segments(), &table, may_grow, sliver)?;
+    let made = join_row(alloc, &row, &table, may_grow, sliver)?;
     Ok(codes_of(alloc, &made)?)
 }
 

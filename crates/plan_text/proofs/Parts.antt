@@ -1,5 +1,5 @@
 -- The plan text in its parts.
-use Rattle.std.proofs.Common.{suc, inl, inr, sym, ap, subst, ◌∙◌, ◌≡◌, ℕ, ◌<◌, ◌≤◌, List, [], ◌∷◌, codes, count_by, length, get_or, Option, None, Result, Ok, Err, true, false, refl}
+use Rattle.std.proofs.Common.{suc, inl, inr, sym, ap, subst, ◌∙◌, ◌≡◌, ℕ, ◌<◌, ◌≤◌, List, [], ◌∷◌, codes, count_by, flat_map, length, get_or, Option, None, Result, Ok, Err, true, false, refl}
 use Rattle.std.proofs.lemmas.Bool.{and_parts, cases_lt, false≢true}
 use Rattle.std.proofs.lemmas.List.{get_or_default, get_or-map}
 use Rattle.std.proofs.lemmas.Option.{slice_get_past}
@@ -9,12 +9,12 @@ use Rattle.tab_io.specs.Views.{SinkView}
 use Rattle.tab_io.specs.Outside.{Writes}
 use Rattle.tab_io.specs.declared.sink.WriteFault.{WriteFault}
 use Rattle.tab_io.proofs.Writing.{writes_then, writes_broken}
-use Rattle.table_form.specs.declared.segment.Segment.{Segment}
 use Rattle.table_form.specs.Tables.Plans.{PlanView}
-use Rattle.table_form.specs.Tables.Rows.{Row, cells_from}
+use Rattle.table_form.specs.Tables.Rows.{Row}
+use Rattle.table_form.specs.Tables.Segments.{SegmentView, segments_from}
 use Rattle.table_form.specs.Tables.Serves.{has_task}
 use Rattle.table_form.specs.Tables.Homes.{HaveHomes, are_housed, is_housed}
-use Rattle.plan_text.specs.PlanText.{core_line, core_text, head_line, is_admitted, name_at, names_of, plan_text, row_text, task_text, texts_below, vcpu_text}
+use Rattle.plan_text.specs.PlanText.{core_line, core_text, head_line, is_admitted, name_at, names_of, plan_text, row_text, segment_line, task_text, texts_below, vcpu_text}
 
 pub same_default : {X : Type 0} (xs : List X) (i : ℕ) (x d : X) → i < length xs → x ≡ get_or xs i x
     → get_or xs i d ≡ x
@@ -47,17 +47,20 @@ unfolding core_text
 core_broken s t names rows core q e h is =
     writes_broken s t (core_line core) (row_text names (get_or rows core [])) q e h is
 
+-- a core's line and those of its maximal segments are its text
 pub core_ends : (s t v : SinkView) (names : List (List ℕ)) (rows : List Row) (core : ℕ) (row : Row)
-    (ss : List Segment) (q : Result (Unit {0}) WriteFault) (u : Unit {0})
+    (views : List SegmentView) (q : Result (Unit {0}) WriteFault) (u : Unit {0})
     (r : Result (Unit {0}) WriteFault)
-    → core < length rows → row ≡ get_or rows core row → cells_from 0 ss ≡ row
-    → Writes s t (core_line core) q → q ≡ Ok u → Writes t v (row_text names (cells_from 0 ss)) r
+    → core < length rows → row ≡ get_or rows core row → views ≡ segments_from 0 row
+    → Writes s t (core_line core) q → q ≡ Ok u → Writes t v (flat_map (segment_line names) views) r
     → Writes s v (core_text names rows core) r
-unfolding core_text
-core_ends s t v names rows core row ss q u r low is cells h done g =
-    let same : cells_from 0 ss ≡ get_or rows core [] = cells ∙ sym (same_default rows core row [] low is) in
+unfolding core_text row_text
+core_ends s t v names rows core row views q u r low is maximal h done g =
+    let same : flat_map (segment_line names) views ≡ row_text names (get_or rows core []) =
+    ap (flat_map (segment_line names))
+    (maximal ∙ ap (segments_from 0) (sym (same_default rows core row [] low is))) in
     writes_then s t v (core_line core) (row_text names (get_or rows core [])) q u r h done
-    (subst (λ (x : Row). Writes t v (row_text names x) r) same g)
+    (subst (λ text. Writes t v text r) same g)
 
 -- a plan has as many homes as tasks
 same_count : (count : ℕ) (tasks : List (Option Periodic)) (homes : List (Option ℕ))

@@ -18,10 +18,10 @@ use Rattle.table_form.specs.Tables.Homes.{are_housed, is_housed}
 use Rattle.table_form.specs.Tables.Plans.{IsPlan, PlanView}
 use Rattle.table_form.specs.Tables.Rows.{Row}
 use Rattle.table_form.specs.Tables.Serves.{OwnersHaveTasks, cell_of, flat, has_task}
-use Rattle.table_form.specs.Inside.Stretches.{Stretch, put_front, stretch_of, stretches_from}
+use Rattle.table_form.specs.Tables.Segments.{SegmentView, put_front, segment_view, segments_from}
 use Rattle.table_form.specs.declared.raw_tables.RawTables.{RawTables}
 use Rattle.table_form.specs.declared.segment.Segment.{Segment}
-use Rattle.table_form.proofs.StretchLemmas.{stretches-cons, stretches-nil}
+use Rattle.table_form.proofs.SegmentLemmas.{segments_from-cons, segments_from-nil}
 use Rattle.vcpu_names.specs.Names.{name_at, names_of}
 use Rattle.plan_text.specs.Names.{AreHostNames}
 use Rattle.plan_text.specs.PlanLines.{AreFineRows, IsFineSegment, Line, core_lines, core_words, end_words, head_words, segment_words, vcpu_lines, vcpu_part, worded}
@@ -104,39 +104,39 @@ vcpus_worded cores (name ∷ names) (task ∷ tasks) (home ∷ homes) rest few m
 
 -- ---- rows
 
--- a stretch that a text can have
-record IsGoodStretch (tasks : List (Option Periodic)) (most : ℕ) (s : Stretch) : Type 0 where
+-- a segment that a text can have
+record IsGoodView (tasks : List (Option Periodic)) (most : ℕ) (s : SegmentView) : Type 0 where
   low : s.end ≤ most
   owned : ForSome s.owner (λ v. has_task tasks v ≡ true)
 
 abbrev IsOwned : List (Option Periodic) → Option ℕ → Type 0
 IsOwned tasks owner = ForSome owner (λ v. has_task tasks v ≡ true)
 
-front_good : (tasks : List (Option Periodic)) (most : ℕ) (s : Stretch) (ss : List Stretch)
-    → IsGoodStretch tasks most s → AllByRecursion (IsGoodStretch tasks most) ss
-    → AllByRecursion (IsGoodStretch tasks most) (put_front s ss)
+front_good : (tasks : List (Option Periodic)) (most : ℕ) (s : SegmentView) (ss : List SegmentView)
+    → IsGoodView tasks most s → AllByRecursion (IsGoodView tasks most) ss
+    → AllByRecursion (IsGoodView tasks most) (put_front s ss)
 front_good tasks most s [] good all = (good, all)
 front_good tasks most s (t ∷ ts) good all = by_test (option_eq eqb s.owner t.owner) refl
   where
     by_test : (b : Bool) → option_eq eqb s.owner t.owner ≡ b
-        → AllByRecursion (IsGoodStretch tasks most) (put_front s (t ∷ ts))
+        → AllByRecursion (IsGoodView tasks most) (put_front s (t ∷ ts))
     by_test true same = rw same all
     by_test false other = rw other (good, all)
 
-stretches_good : (tasks : List (Option Periodic)) (most at : ℕ) (row : Row) → at + length row ≤ most
+views_good : (tasks : List (Option Periodic)) (most at : ℕ) (row : Row) → at + length row ≤ most
     → All (IsOwned tasks) row
-    → AllByRecursion (IsGoodStretch tasks most) (stretches_from at row)
-stretches_good tasks most at [] within all = rw (stretches-nil at) tt
-stretches_good tasks most at (cell ∷ cells) within all =
-    rw (stretches-cons at cell cells)
-    (front_good tasks most (record { owner = cell; end = at + 1 }) (stretches_from (at + 1) cells)
+    → AllByRecursion (IsGoodView tasks most) (segments_from at row)
+views_good tasks most at [] within all = rw (segments_from-nil at) tt
+views_good tasks most at (cell ∷ cells) within all =
+    rw (segments_from-cons at cell cells)
+    (front_good tasks most (record { owner = cell; end = at + 1 }) (segments_from (at + 1) cells)
     (record { low = omega arith; owned = all 0 cell (omega arith) })
-    (stretches_good tasks most (at + 1) cells (omega arith) (All-tail (IsOwned tasks) cell cells all)))
+    (views_good tasks most (at + 1) cells (omega arith) (All-tail (IsOwned tasks) cell cells all)))
 
--- segments that say these stretches
-segments_of : (tasks : List (Option Periodic)) (most : ℕ) (ss : List Stretch) → length tasks ≤ MAX_VCPUS
-    → AllByRecursion (IsGoodStretch tasks most) ss
-    → (segments : List Segment) × (map stretch_of segments ≡ ss)
+-- segments that say these segments
+segments_of : (tasks : List (Option Periodic)) (most : ℕ) (ss : List SegmentView) → length tasks ≤ MAX_VCPUS
+    → AllByRecursion (IsGoodView tasks most) ss
+    → (segments : List Segment) × (map segment_view segments ≡ ss)
 segments_of tasks most [] few all = ([], refl)
 segments_of tasks most (s ∷ ss) few all =
     let small : ForSome s.owner (λ v. v < MAX_VCPUS) =
@@ -148,56 +148,56 @@ segments_of tasks most (s ∷ ss) few all =
 
 rows_of : (tasks : List (Option Periodic)) (rows : List Row) → length tasks ≤ MAX_VCPUS
     → All (λ (row : Row). length row ≡ ROUND) rows → All (λ row. All (IsOwned tasks) row) rows
-    → (raw : List (List Segment)) × (map (λ row. map stretch_of row) raw
-    ≡ map (λ row. stretches_from 0 row) rows)
+    → (raw : List (List Segment)) × (map (λ row. map segment_view row) raw
+    ≡ map (λ row. segments_from 0 row) rows)
 rows_of tasks [] few rounds owned = ([], refl)
 rows_of tasks (row ∷ rows) few rounds owned =
     let size : 0 + length row ≤ ROUND = let is = rounds 0 row (omega arith) in omega arith in
-    let first = segments_of tasks ROUND (stretches_from 0 row) few
-    (stretches_good tasks ROUND 0 row size (owned 0 row (omega arith))) in
+    let first = segments_of tasks ROUND (segments_from 0 row) few
+    (views_good tasks ROUND 0 row size (owned 0 row (omega arith))) in
     let more = rows_of tasks rows few (All-tail (λ (r : Row). length r ≡ ROUND) row rows rounds)
     (All-tail (λ r. All (IsOwned tasks) r) row rows owned) in (
       first.0 ∷ more.0,
-      ap (λ ss. ss ∷ map (λ r. map stretch_of r) more.0) first.1
-          ∙ ap (λ rest. stretches_from 0 row ∷ rest) more.1,
+      ap (λ ss. ss ∷ map (λ r. map segment_view r) more.0) first.1
+          ∙ ap (λ rest. segments_from 0 row ∷ rest) more.1,
     )
 
--- the words of a stretch's line
-abbrev stretch_words : List (List ℕ) → Stretch → Line
-stretch_words names s = decimal s.end ∷ owner_word names s.owner ∷ []
+-- the words of a segment's line
+abbrev view_words : List (List ℕ) → SegmentView → Line
+view_words names s = decimal s.end ∷ owner_word names s.owner ∷ []
 
 same_words : (names : List (List ℕ)) (segments : List Segment)
-    → map (segment_words names) segments ≡ map (stretch_words names) (map stretch_of segments)
+    → map (segment_words names) segments ≡ map (view_words names) (map segment_view segments)
 same_words names [] = refl
 same_words names (s ∷ segments) = ap (λ rest. segment_words names s ∷ rest) (same_words names segments)
 
-stretches_worded : (names : List (List ℕ)) (tasks : List (Option Periodic)) (ss : List Stretch)
+views_worded : (names : List (List ℕ)) (tasks : List (Option Periodic)) (ss : List SegmentView)
     (rest : List ℕ)
     → AreHostNames names → length names ≡ length tasks
-    → AllByRecursion (IsGoodStretch tasks ROUND) ss
-    → worded (flat_map (segment_line names) ss ++ rest) ≡ map (stretch_words names) ss ++ worded rest
-stretches_worded names tasks [] rest good many all = refl
-stretches_worded names tasks (s ∷ ss) rest good many all =
+    → AllByRecursion (IsGoodView tasks ROUND) ss
+    → worded (flat_map (segment_line names) ss ++ rest) ≡ map (view_words names) ss ++ worded rest
+views_worded names tasks [] rest good many all = refl
+views_worded names tasks (s ∷ ss) rest good many all =
     ap worded (append_assoc (segment_line names s) (flat_map (segment_line names) ss) rest)
     ∙ (segment_worded names s (flat_map (segment_line names) ss ++ rest) (let low = all.0.low in omega arith)
     (λ v is. good.good v (let below = task_within tasks v (all.0.owned v is) in omega arith))
-    ∙ ap (λ ls. stretch_words names s ∷ ls) (stretches_worded names tasks ss rest good many all.1))
+    ∙ ap (λ ls. view_words names s ∷ ls) (views_worded names tasks ss rest good many all.1))
 
-fine_segments : (tasks : List (Option Periodic)) (segments : List Segment) (ss : List Stretch)
-    → map stretch_of segments ≡ ss → AllByRecursion (IsGoodStretch tasks ROUND) ss
+fine_segments : (tasks : List (Option Periodic)) (segments : List Segment) (ss : List SegmentView)
+    → map segment_view segments ≡ ss → AllByRecursion (IsGoodView tasks ROUND) ss
     → All (IsFineSegment tasks) segments
 fine_segments tasks [] ss is all = All-nil (IsFineSegment tasks)
 fine_segments tasks (s ∷ segments) [] is all = absurd (cc)
 fine_segments tasks (s ∷ segments) (t ∷ ss) is all =
-    let first : stretch_of s ≡ t = cc in
-    let good : IsGoodStretch tasks ROUND (stretch_of s) =
-    subst (IsGoodStretch tasks ROUND) (sym first) all.0 in
+    let first : segment_view s ≡ t = cc in
+    let good : IsGoodView tasks ROUND (segment_view s) =
+    subst (IsGoodView tasks ROUND) (sym first) all.0 in
     All-cons (IsFineSegment tasks) s segments
     (record { small = let low = good.low in omega arith; owned = good.owned })
     (fine_segments tasks segments ss (cc) all.1)
 
 fine_rows : (tasks : List (Option Periodic)) (raw : List (List Segment)) (rows : List Row)
-    → map (λ row. map stretch_of row) raw ≡ map (λ row. stretches_from 0 row) rows
+    → map (λ row. map segment_view row) raw ≡ map (λ row. segments_from 0 row) rows
     → All (λ (row : Row). length row ≡ ROUND) rows → All (λ row. All (IsOwned tasks) row) rows
     → AreFineRows tasks raw
 fine_rows tasks [] rows is rounds owned = All-nil (λ row. All (IsFineSegment tasks) row)
@@ -205,8 +205,8 @@ fine_rows tasks (segments ∷ raw) [] is rounds owned = absurd (cc)
 fine_rows tasks (segments ∷ raw) (row ∷ rows) is rounds owned =
     let size : 0 + length row ≤ ROUND = let same = rounds 0 row (omega arith) in omega arith in
     All-cons (λ r. All (IsFineSegment tasks) r) segments raw
-    (fine_segments tasks segments (stretches_from 0 row) (cc)
-    (stretches_good tasks ROUND 0 row size (owned 0 row (omega arith))))
+    (fine_segments tasks segments (segments_from 0 row) (cc)
+    (views_good tasks ROUND 0 row size (owned 0 row (omega arith))))
     (fine_rows tasks raw rows (cc) (All-tail (λ (r : Row). length r ≡ ROUND) row rows rounds)
     (All-tail (λ r. All (IsOwned tasks) r) row rows owned))
 
@@ -215,14 +215,14 @@ abbrev text_from : List (List ℕ) → List Row → ℕ → ℕ → List ℕ
 text_from names rows core k = core_line (core + k) ++ row_text names (get_or rows k [])
 
 first_row : (names : List (List ℕ)) (row : Row)
-    → row_text names row ≡ flat_map (segment_line names) (stretches_from 0 row)
+    → row_text names row ≡ flat_map (segment_line names) (segments_from 0 row)
 unfolding row_text
 first_row names row = refl
 
 cores_worded : (names : List (List ℕ)) (tasks : List (Option Periodic)) (core : ℕ) (raw : List (List Segment))
     (rows : List Row) (rest : List ℕ) → AreHostNames names → length names ≡ length tasks
     → core + length rows ≤ MAX_CORES
-    → map (λ row. map stretch_of row) raw ≡ map (λ row. stretches_from 0 row) rows
+    → map (λ row. map segment_view row) raw ≡ map (λ row. segments_from 0 row) rows
     → All (λ (row : Row). length row ≡ ROUND) rows → All (λ row. All (IsOwned tasks) row) rows
     → worded (texts_below (text_from names rows core) (length rows) ++ rest)
     ≡ core_lines names core raw ++ worded rest
@@ -232,8 +232,8 @@ cores_worded names tasks core [] (row ∷ rows) rest good many few is rounds own
 cores_worded names tasks core (segments ∷ raw) [] rest good many few is rounds owned = absurd (cc)
 cores_worded names tasks core (segments ∷ raw) (row ∷ rows) rest good many few is rounds owned =
     let size : 0 + length row ≤ ROUND = let same = rounds 0 row (omega arith) in omega arith in
-    let here : map stretch_of segments ≡ stretches_from 0 row = cc in
-    let ss = stretches_from 0 row in
+    let here : map segment_view segments ≡ segments_from 0 row = cc in
+    let ss = segments_from 0 row in
     let more = texts_below (text_from names rows (core + 1)) (length rows) in
     let place : core + 0 ≡ core = omega arith in
     let all : texts_below (text_from names (row ∷ rows) core) (suc (length rows))
@@ -254,10 +254,10 @@ cores_worded names tasks core (segments ∷ raw) (row ∷ rows) rest good many f
     ∙ append_assoc (core_line core) (flat_map (segment_line names) ss) (more ++ rest))
     ∙ (core_worded core (flat_map (segment_line names) ss ++ (more ++ rest)) (omega arith)
     ∙ ap (λ ls. core_words core ∷ ls)
-    (stretches_worded names tasks ss (more ++ rest) good many
-    (stretches_good tasks ROUND 0 row size (owned 0 row (omega arith)))
+    (views_worded names tasks ss (more ++ rest) good many
+    (views_good tasks ROUND 0 row size (owned 0 row (omega arith)))
     ∙ (ap (λ ls. ls ++ worded (more ++ rest))
-    (ap (map (stretch_words names)) (sym here) ∙ sym (same_words names segments))
+    (ap (map (view_words names)) (sym here) ∙ sym (same_words names segments))
     ∙ (ap (λ ls. map (segment_words names) segments ++ ls)
     (cores_worded names tasks (core + 1) raw rows rest good many (omega arith) (cc)
     (All-tail (λ (r : Row). length r ≡ ROUND) row rows rounds)
@@ -284,7 +284,7 @@ text_by_core names rows = texts_below-same (core_text names rows) (text_from nam
 text_worded : (names : List (List ℕ)) (plan : PlanView) (raw : List (List Segment)) → AreHostNames names
     → length names ≡ length plan.tasks → length plan.rows ≤ MAX_CORES → length plan.tasks ≤ MAX_VCPUS
     → IsPlan plan → All (λ (row : Row). length row ≡ ROUND) plan.rows
-    → map (λ row. map stretch_of row) raw ≡ map (λ row. stretches_from 0 row) plan.rows
+    → map (λ row. map segment_view row) raw ≡ map (λ row. segments_from 0 row) plan.rows
     → worded (plan_text names plan) ≡ head_words (length plan.rows) (count_by is_admitted plan.tasks) ∷
     (vcpu_lines names plan.tasks plan.homes ++ (core_lines names 0 raw ++ end_words ∷ []))
 unfolding plan_text
@@ -313,8 +313,8 @@ read_back host plan all =
     let rows = rows_of plan.tasks plan.rows few_tasks all.rounds owned in
     let raw : RawTables = record { homes = plan.homes; rows = rows.0 } in
     let same : length rows.0 ≡ length plan.rows =
-    sym (length-map rows.0 (λ row. map stretch_of row))
-    ∙ (ap length rows.1 ∙ length-map plan.rows (λ row. stretches_from 0 row)) in
+    sym (length-map rows.0 (λ row. map segment_view row))
+    ∙ (ap length rows.1 ∙ length-map plan.rows (λ row. segments_from 0 row)) in
     record {
       raw = raw;
       own = record { homes = refl; rows = rows.1 };

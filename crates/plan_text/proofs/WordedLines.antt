@@ -16,7 +16,7 @@ use Rattle.tab_words.specs.Lines.{lines_of}
 use Rattle.tab_words.specs.Words.{words_of}
 use Rattle.tab_words.proofs.FirstLine.{lines_of-line}
 use Rattle.tab_words.proofs.FirstWord.{words_of-last, words_of-word}
-use Rattle.table_form.specs.Inside.Stretches.{Stretch}
+use Rattle.table_form.specs.Tables.Segments.{SegmentView}
 use Rattle.vcpu_names.specs.Names.{name_at}
 use Rattle.plan_text.specs.PlanLines.{core_words, end_words, head_words, vcpu_words, worded}
 use Rattle.plan_text.specs.PlanText.{owner_word, core_line, head_line, segment_line, task_line}
@@ -174,7 +174,7 @@ owner_is_word : (names : List (List ℕ)) (owner : Option ℕ)
 owner_is_word names None good = refl
 owner_is_word names (Some v) good = name_word (name_at names v) (good v refl)
 
-pub segment_worded : (names : List (List ℕ)) (s : Stretch) (rest : List ℕ) → s.end < 2 ^ 64
+pub segment_worded : (names : List (List ℕ)) (s : SegmentView) (rest : List ℕ) → s.end < 2 ^ 64
     → ((v : ℕ) → s.owner ≡ Some v → IsName (name_at names v))
     → worded (segment_line names s ++ rest) ≡ (decimal s.end ∷ owner_word names s.owner ∷ []) ∷ worded rest
 unfolding segment_line

@@ -1,5 +1,4 @@
 pub mod FirstBad
-pub mod MaximalSegments
 pub mod Names
 pub mod PlanLines
 pub mod PlanText

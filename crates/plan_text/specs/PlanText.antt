@@ -3,7 +3,7 @@ use Rattle.std.specs.Prelude.{ℕ, zero, suc, ◌++◌, Bool, true, false, List,
 use Rattle.tab_core.specs.declared.periodic.Periodic.{Periodic}
 use Rattle.table_form.specs.Tables.Plans.{PlanView}
 use Rattle.table_form.specs.Tables.Rows.{Row}
-use Rattle.table_form.specs.Inside.Stretches.{Stretch, stretches_from}
+use Rattle.table_form.specs.Tables.Segments.{SegmentView, segments_from}
 pub use Rattle.vcpu_names.specs.Names.{name_at, names_of}
 
 -- the texts of the numbers below n, one after the other
@@ -43,7 +43,7 @@ abbrev pub owner_word : List (List ℕ) → Option ℕ → List ℕ
 owner_word names None = codes "-"
 owner_word names (Some v) = name_at names v
 
-unfoldable pub segment_line : List (List ℕ) → Stretch → List ℕ
+unfoldable pub segment_line : List (List ℕ) → SegmentView → List ℕ
 segment_line names s = decimal s.end ++ (codes " " ++ (owner_word names s.owner ++ codes "\n"))
 
 unfoldable pub core_line : ℕ → List ℕ
@@ -51,7 +51,7 @@ core_line core = codes "core " ++ (decimal core ++ codes "\n")
 
 -- the lines of a row's maximal segments
 unfoldable pub row_text : List (List ℕ) → Row → List ℕ
-row_text names row = flat_map (segment_line names) (stretches_from 0 row)
+row_text names row = flat_map (segment_line names) (segments_from 0 row)
 
 -- a core's line and those of its row
 unfoldable pub core_text : List (List ℕ) → List Row → ℕ → List ℕ

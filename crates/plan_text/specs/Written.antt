@@ -5,7 +5,7 @@ use Rattle.tab_core.specs.declared.TheConstants.{MAX_VCPUS, ROUND}
 use Rattle.tab_core.specs.declared.host.Host.{Host}
 use Rattle.table_form.specs.Tables.Plans.{IsPlan, IsPlanFor, PlanView}
 use Rattle.table_form.specs.Tables.Rows.{Row}
-use Rattle.table_form.specs.Inside.Stretches.{stretch_of, stretches_from}
+use Rattle.table_form.specs.Tables.Segments.{segment_view, segments_from}
 use Rattle.table_form.specs.declared.raw_tables.RawTables.{RawTables}
 use Rattle.plan_text.specs.Names.{AreHostNames}
 use Rattle.plan_text.specs.PlanLines.{IsPlanText}
@@ -22,7 +22,7 @@ pub record IsHostWithPlan (host : Host) (plan : PlanView) : Type 0 where
 -- the tables are the plan's homes and its maximal segments
 pub record AreOfPlan (plan : PlanView) (raw : RawTables) : Type 0 where
   pub homes : raw.homes ≡ plan.homes
-  pub rows : map (λ row. map stretch_of row) raw.rows ≡ map (λ row. stretches_from 0 row) plan.rows
+  pub rows : map (λ row. map segment_view row) raw.rows ≡ map (λ row. segments_from 0 row) plan.rows
 
 -- the plan's text stands for these
 pub record IsReadBack (host : Host) (plan : PlanView) : Type 0 where

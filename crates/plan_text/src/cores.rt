@@ -1,10 +1,8 @@
-ghost use Rattle.std.specs.Prelude.{◌≡◌, ◌<◌, ◌≤◌, length};
-ghost use Rattle.tab_core.specs.declared.TheConstants.{MAX_CORES, ROUND};
+ghost use Rattle.std.specs.Prelude.{◌<◌, ◌≤◌, flat_map, length, map};
+ghost use Rattle.tab_core.specs.declared.TheConstants.{MAX_CORES};
 ghost use Rattle.tab_io.specs.Outside.{Writes};
-ghost use Rattle.table_form.specs.Tables.Rows.{RisesTo, cells_from};
-ghost use Rattle.table_form.specs.Inside.Stretches.{stretch_of};
-ghost use Rattle.plan_text.specs.PlanText.{core_line, core_text, names_of, row_text, segment_line, texts_below};
-ghost use Rattle.plan_text.specs.MaximalSegments.{ends_maximal, line_at};
+ghost use Rattle.table_form.specs.Tables.Segments.{segment_view};
+ghost use Rattle.plan_text.specs.PlanText.{core_line, core_text, names_of, segment_line, texts_below};
 
 use crate::owner::owner_in;
 use tab_core::Vcpu;
@@ -61,53 +59,23 @@ fn put_core_line<K: Sink>(sink: &mut K, core: u32) -> Result<(), WriteFault>
     )
 }
 
-// Writes the lines of a row's maximal segments.
+// Writes the lines of a row's segments.
 fn put_row<K: Sink>(sink: &mut K, vcpus: &[Vcpu], segments: &[Segment]) -> Result<(), WriteFault>
-    requires { RisesTo 0 segments.now ROUND }
     ensures { Writes (K.state sink.old) (K.state sink.new)
-        (row_text (names_of vcpus.now) (cells_from 0 segments.now)) result }
+        (flat_map (segment_line (names_of vcpus.now)) (map segment_view segments.now)) result }
 {
-    for at in 0..segments.len() {
-        if let Err(fault) = put_segment_at(sink, vcpus, segments, at) {
+    for segment in segments {
+        if let Err(fault) = put_segment(sink, vcpus, segment) {
             return Err(fault);
         }
     }
     Ok(())
 }
 
-// Writes the line of the segment, unless the next one goes on with its owner.
-#[tactic(auto, unfolding(crate::specs::MaximalSegments::line_at))]
-fn put_segment_at<K: Sink>(
-    sink: &mut K,
-    vcpus: &[Vcpu],
-    segments: &[Segment],
-    at: usize,
-) -> Result<(), WriteFault>
-    requires { at < length segments.now }
-    ensures { Writes (K.state sink.old) (K.state sink.new)
-        (line_at (names_of vcpus.now) segments.now at) result }
-{
-    if ends_stretch(segments, at) {
-        put_segment(sink, vcpus, &segments[at])
-    } else {
-        Ok(())
-    }
-}
-
-fn ends_stretch(segments: &[Segment], at: usize) -> bool
-    requires { at < length segments.now }
-    ensures { result ≡ ends_maximal segments.now at }
-{
-    if at + 1 == segments.len() {
-        return true;
-    }
-    segments[at].owner != segments[at + 1].owner
-}
-
 #[tactic(auto, unfolding(crate::specs::PlanText::segment_line))]
 fn put_segment<K: Sink>(sink: &mut K, vcpus: &[Vcpu], segment: &Segment) -> Result<(), WriteFault>
     ensures { Writes (K.state sink.old) (K.state sink.new)
-        (segment_line (names_of vcpus.now) (stretch_of segment.now)) result }
+        (segment_line (names_of vcpus.now) (segment_view segment.now)) result }
 {
     put_pieces(
         sink,

@@ -1,3 +1,3 @@
 -- What the code keeps on its way. No reader of a public contract needs these.
+pub mod Appending
 pub mod Looks
-pub mod Stretches

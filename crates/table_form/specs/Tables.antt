@@ -2,6 +2,7 @@
 pub mod Homes
 pub mod Plans
 pub mod Rows
+pub mod Segments
 pub mod Serves
 pub mod Spots
 pub mod Views

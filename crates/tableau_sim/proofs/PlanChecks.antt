@@ -15,7 +15,7 @@ use Rattle.table_form.specs.Planning.Jobs.{jobs_of}
 use Rattle.table_form.specs.Tables.Plans.{IsPlan, IsPlanFor, PlanView}
 use Rattle.table_form.specs.Tables.Rows.{Row, cells_from}
 use Rattle.table_form.specs.Tables.Serves.{Apart, Serves}
-use Rattle.table_form.specs.Inside.Stretches.{stretch_of, stretches_from}
+use Rattle.table_form.specs.Tables.Segments.{AreMaximal, segment_view, segments_from}
 use Rattle.table_form.specs.declared.raw_tables.RawTables.{RawTables}
 use Rattle.table_form.specs.declared.segment.Segment.{Segment}
 use Rattle.vcpu_names.specs.Names.{AreNames, names_of}
@@ -25,8 +25,6 @@ use Rattle.period_choice.proofs.Unique.{tasks_unique}
 use Rattle.period_choice.specs.Tasks.{AreTasksOf, IsFirstWithoutPeriod}
 use Rattle.edf_table.proofs.Inside.{length-edf_row}
 use Rattle.coalesce.proofs.Lengths.{joined_length}
-use Rattle.coalesce.proofs.Maximal.{cells_of, cells_of_stretches, maximal_of_row, no_bad_place, segments_are}
-use Rattle.coalesce.specs.Passing.{AreMaximal}
 use Rattle.plan_make.proofs.Members.{all_from_places}
 use Rattle.plan_make.specs.Planned.{IsPlanned}
 use Rattle.plan_text.proofs.OneMeaning.{one_meaning}
@@ -52,6 +50,7 @@ use Rattle.tableau_sim.specs.Plan.{Plans}
 use Rattle.tableau_sim.proofs.Bounded.{no_vcpu_lacks}
 use Rattle.tableau_sim.proofs.Hosts.{no_host_fault}
 use Rattle.tableau_sim.proofs.OfInput.{no_refusal}
+use Rattle.table_form.proofs.SegmentLemmas.{cells_of, cells_of_segments, maximal_of_row, no_bad_place, segments_are}
 
 -- ---- the rows
 
@@ -74,34 +73,34 @@ planned_rounds host plan is = all_from_places (λ (row : Row). length row ≡ RO
           omega arith)
     ])
 
--- segments of the plan's stretches stand for its rows
+-- segments of the plan's segments stand for its rows
 rows_back : (raw : List (List Segment)) (rows : List Row)
-    → map (λ row. map stretch_of row) raw ≡ map (λ row. stretches_from 0 row) rows → rows_of raw ≡ rows
+    → map (λ row. map segment_view row) raw ≡ map (λ row. segments_from 0 row) rows → rows_of raw ≡ rows
 rows_back [] [] same = refl
 rows_back [] (row ∷ rows) same = absurd cc
 rows_back (ss ∷ raw) [] same = absurd cc
 rows_back (ss ∷ raw) (row ∷ rows) same =
-    let first : map stretch_of ss ≡ stretches_from 0 row = cc in
-    let rest : map (λ (segments : List Segment). map stretch_of segments) raw
-    ≡ map (λ (cells : Row). stretches_from 0 cells) rows = cc in
+    let first : map segment_view ss ≡ segments_from 0 row = cc in
+    let rest : map (λ (segments : List Segment). map segment_view segments) raw
+    ≡ map (λ (cells : Row). segments_from 0 cells) rows = cc in
     let here : cells_from 0 ss ≡ row =
-    segments_are 0 ss ∙ ap (cells_of 0) first ∙ cells_of_stretches 0 row in
+    segments_are 0 ss ∙ ap (cells_of 0) first ∙ cells_of_segments 0 row in
     let behind = rows_back raw rows rest in
     cc
 
 good_shapes : (raw : List (List Segment)) (rows : List Row)
-    → map (λ row. map stretch_of row) raw ≡ map (λ row. stretches_from 0 row) rows
+    → map (λ row. map segment_view row) raw ≡ map (λ row. segments_from 0 row) rows
     → All (λ (row : Row). length row ≡ ROUND) rows → (core : ℕ) → bad_at raw core ≡ None
 good_shapes [] rows same rounds core = refl
 good_shapes (ss ∷ raw) [] same rounds core = absurd cc
 good_shapes (ss ∷ raw) (row ∷ rows) same rounds zero =
-    let first : map stretch_of ss ≡ stretches_from 0 row = cc in
+    let first : map segment_view ss ≡ segments_from 0 row = cc in
     let whole = All-head (λ (r : Row). length r ≡ ROUND) row rows rounds in
     no_bad_place 0 ss (subst (λ ts. AreMaximal 0 ts ROUND) (sym first)
     (maximal_of_row 0 row ROUND (omega (arith, whole))))
 good_shapes (ss ∷ raw) (row ∷ rows) same rounds (suc core) =
-    let rest : map (λ (segments : List Segment). map stretch_of segments) raw
-    ≡ map (λ (cells : Row). stretches_from 0 cells) rows = cc in
+    let rest : map (λ (segments : List Segment). map segment_view segments) raw
+    ≡ map (λ (cells : Row). segments_from 0 cells) rows = cc in
     good_shapes raw rows rest (All-tail (λ (r : Row). length r ≡ ROUND) row rows rounds) core
 
 good_tables : (plan : PlanView) (raw : RawTables) → AreOfPlan plan raw → IsPlan plan

@@ -2,7 +2,7 @@ use Rattle.std.proofs.Common.{Some, ap, subst, sym, ◌+◌, ◌∙◌}
 use Rattle.std.proofs.lemmas.Option.{slice_get-get_or}
 use Rattle.tab_core.specs.VcpuSets.{has_vcpu}
 use Rattle.table_form.specs.Planning.Drafts.{pieces_at}
-use Rattle.coalesce.specs.Joining.{IsJoined, has_single_piece}
+use Rattle.coalesce.specs.Joining.{has_single_piece}
 use Rattle.coalesce.specs.Passing.{IsTableOf}
 use Rattle.coalesce.proofs.Joined.{JoinedSoFar, joined_by, one_joined}
 use Rattle.coalesce.proofs.joining.join_rows.Goals as goal
@@ -17,10 +17,7 @@ loop-core-preserved c =
     let of = subst (IsTableOf (pieces_at pieces core)) (sym c.deref.ensures.value) c.in_ok-table.ensures in
     let made = joined_by (pieces_at pieces core) (has_vcpu c.single_vcpus-may_grow.result)
     (has_single_piece pieces) c.args.sliver row c.in_ok-join_row.field-0 c.single_vcpus-may_grow.ensures
-    (subst (λ r. IsJoined (pieces_at pieces core)
-    (has_vcpu c.single_vcpus-may_grow.result) c.args.sliver r c.in_ok-join_row.field-0)
-    c.segments.ensures.cells
-    (c.in_ok-join_row.ensures (pieces_at pieces core) of)) in
+    (c.in_ok-join_row.ensures (pieces_at pieces core) of) in
     subst (JoinedSoFar pieces c.args.sliver c.args.rows.now (core + 1)) (sym c.in_ok-push.ensures.items)
     (one_joined pieces c.args.sliver c.args.rows.now core c.loop-core.joined.items row
     c.in_ok-join_row.field-0 at made c.loop-core.invariant)

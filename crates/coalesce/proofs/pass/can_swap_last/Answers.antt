@@ -1,5 +1,5 @@
 use Rattle.std.proofs.Common.{ap, ◌-◌, length, arith}
-use Rattle.table_form.specs.Inside.Stretches.{stretch_of}
+use Rattle.table_form.specs.Tables.Segments.{segment_view}
 use Rattle.coalesce.proofs.Ends.{last_two_can, two_rise}
 use Rattle.coalesce.proofs.pass.can_swap_last.Goals as goal
 
@@ -27,7 +27,7 @@ can_swap-requires-clause-in_round c =
 pub returns-then-count-ge2-clause-swap : goal.returns-then-count-ge2-clause-swap
 returns-then-count-ge2-clause-swap c pieces is =
     last_two_can pieces c.args.sliver c.args.out.now
-    (stretch_of c.args.next.now) c.index-out-count.result c.index-out-count-then-count-ge2.result
+    (segment_view c.args.next.now) c.index-out-count.result c.index-out-count-then-count-ge2.result
     c.can_swap.result
     c.if-count-ge2.true c.index-out-count.is c.index-out-count-then-count-ge2.is
     (c.can_swap.ensures pieces is)

@@ -1,6 +1,6 @@
 use Rattle.std.proofs.Common.{sym, ◌∙◌}
 use Rattle.std.proofs.lemmas.Bool.{false≢true}
-use Rattle.table_form.specs.Inside.Stretches.{stretch_of}
+use Rattle.table_form.specs.Tables.Segments.{segment_view}
 use Rattle.coalesce.proofs.Tables.{same_unless_differ, swap_needs_begin, swap_needs_end}
 use Rattle.coalesce.proofs.swap.can_swap.Goals as goal
 
@@ -8,8 +8,8 @@ pub returns-then-not-has_no_begin : goal.returns-then-not-has_no_begin
 returns-then-not-has_no_begin c pieces is = (
   λ never. absurd (false≢true never),
   λ can. sym c.if-not-has_no_begin.true ∙ (c.has_no_begin.ensures pieces is).1
-      (swap_needs_begin pieces c.args.sliver (stretch_of c.args.x.now) (stretch_of c.args.y.now)
-      (stretch_of c.args.z.now) c.in-Some-Some.first c.in-Some-Some.is-0 can),
+      (swap_needs_begin pieces c.args.sliver (segment_view c.args.x.now) (segment_view c.args.y.now)
+      (segment_view c.args.z.now) c.in-Some-Some.first c.in-Some-Some.is-0 can),
 )
 
 pub returns : goal.returns
@@ -25,6 +25,6 @@ returns c pieces is = (
     no_end = (c.has_no_end.ensures pieces is).0 yes;
   },
   λ can. (c.has_no_end.ensures pieces is).1
-      (swap_needs_end pieces c.args.sliver (stretch_of c.args.x.now) (stretch_of c.args.y.now)
-      (stretch_of c.args.z.now) c.in-Some-Some.second c.in-Some-Some.is-1 can),
+      (swap_needs_end pieces c.args.sliver (segment_view c.args.x.now) (segment_view c.args.y.now)
+      (segment_view c.args.z.now) c.in-Some-Some.second c.in-Some-Some.is-1 can),
 )

@@ -1,25 +1,34 @@
 use Rattle.plan_text.specs.PlanText.{names_of}
-use Rattle.plan_text.specs.MaximalSegments.{line_at}
 use Rattle.plan_text.proofs.Numbered.{none_written, next_written, next_broken, all_written}
-use Rattle.plan_text.proofs.RowText.{row_lines}
+use Rattle.plan_text.proofs.RowText.{all_lines, line_at, line_here}
 use Rattle.plan_text.proofs.cores.put_row.Goals as goal
 
-pub loop-at-init : goal.loop-at-init
-loop-at-init g c = none_written _ _ (tt {0})
+pub loop-segment-init : goal.loop-segment-init
+loop-segment-init g c = none_written _ _ (tt {0})
 
 pub returns-in-Err : goal.returns-in-Err
 returns-in-Err g c =
-    rw (← (row_lines (names_of c.args.vcpus.now) c.args.segments.now c.requires))
-    (next_broken _ _ _ (line_at (names_of c.args.vcpus.now) c.args.segments.now) c.loop-at.at _
-    (tt {0}) _ c.in-Err.fault c.loop-at-test.true c.loop-at.invariant c.put_segment_at.ensures
-    c.in-Err.is)
+    let names = names_of c.args.vcpus.now in
+    let ss = c.args.segments.now in
+    rw (← (all_lines names ss))
+    (next_broken _ _ _ (line_at names ss) c.loop-segment.segment-index _
+    (tt {0}) _ c.in-Err.fault c.loop-segment-test.true c.loop-segment.invariant
+    (rw (line_here names ss c.loop-segment.segment-index c.segment-item.result c.loop-segment-test.true
+    c.segment-item.is) c.put_segment.ensures) c.in-Err.is)
 
-pub loop-at-preserved : goal.loop-at-preserved
-loop-at-preserved g c = next_written _ _ _
-    (line_at (names_of c.args.vcpus.now) c.args.segments.now) c.loop-at.at
-    (tt {0}) c.in_default.field-0 _ c.loop-at.invariant c.put_segment_at.ensures c.in_default.is
+pub loop-segment-preserved : goal.loop-segment-preserved
+loop-segment-preserved g c =
+    let names = names_of c.args.vcpus.now in
+    let ss = c.args.segments.now in
+    next_written _ _ _ (line_at names ss) c.loop-segment.segment-index
+    (tt {0}) c.in_default.field-0 _ c.loop-segment.invariant
+    (rw (line_here names ss c.loop-segment.segment-index c.segment-item.result c.loop-segment-test.true
+    c.segment-item.is) c.put_segment.ensures) c.in_default.is
 
 pub returns : goal.returns
-returns g c = rw (← (row_lines (names_of c.args.vcpus.now) c.args.segments.now c.requires))
-    (all_written _ _ _ c.loop-at.at _
-    (tt {0}) c.loop-at.auto.at-end c.loop-at-test.false c.loop-at.invariant)
+returns g c =
+    let names = names_of c.args.vcpus.now in
+    let ss = c.args.segments.now in
+    rw (← (all_lines names ss))
+    (all_written _ _ (line_at names ss) c.loop-segment.segment-index _
+    (tt {0}) c.loop-segment.auto.segment-index-end c.loop-segment-test.false c.loop-segment.invariant)

@@ -1,10 +1,10 @@
 use Rattle.std.proofs.Common.{Ok}
 use Rattle.tab_io.specs.Outside.{Writes}
 use Rattle.plan_text.specs.PlanText.{names_of, texts_below}
-use Rattle.plan_text.specs.MaximalSegments.{line_at}
+use Rattle.plan_text.proofs.RowText.{line_at}
 use Rattle.plan_text.proofs.cores.put_row.Given as goal
 
--- the texts of the numbers below came
-abbrev pub invariant-loop-at : goal.invariant-loop-at
-invariant-loop-at g l = Writes {U = Unit {0}} (g.K.Sink.state l.fn.sink) (g.K.Sink.state l.sink)
-    (texts_below (line_at (names_of l.vcpus) l.segments) l.at) (Ok (tt {0}))
+-- the lines of the segments before this one came
+abbrev pub invariant-loop-segment : goal.invariant-loop-segment
+invariant-loop-segment g l = Writes {U = Unit {0}} (g.K.Sink.state l.fn.sink) (g.K.Sink.state l.sink)
+    (texts_below (line_at (names_of l.vcpus) l.segments) l.segment-index) (Ok (tt {0}))

@@ -1,6 +1,6 @@
 use Rattle.std.proofs.Common.{arith}
-use Rattle.coalesce.proofs.Steps.{ends_by_next}
-use Rattle.coalesce.proofs.pass.ends_stretch.Goals as goal
+use Rattle.table_form.proofs.JoiningLemmas.{ends_by_next}
+use Rattle.table_form.proofs.segments.ends_maximal.Goals as goal
 
 pub returns : goal.returns
 returns c s is =
