@@ -1,7 +1,6 @@
 pub mod FirstBad
 pub mod Languages
 pub mod Matching
-pub mod Numbered
 pub mod OneMeaning
 pub mod Parts
 pub mod ReadBack

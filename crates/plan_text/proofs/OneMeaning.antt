@@ -16,7 +16,7 @@ use Rattle.table_form.specs.declared.raw_tables.RawTables.{RawTables}
 use Rattle.table_form.specs.declared.segment.Segment.{Segment}
 use Rattle.plan_text.specs.Names.{AreHostNames}
 use Rattle.plan_text.specs.PlanLines.{AreFineRows, AreLinesOf, IsFineSegment, Line, core_lines, end_words, segment_words, vcpu_lines}
-use Rattle.plan_text.specs.PlanText.{owner_word}
+use Rattle.vcpu_names.specs.Names.{owner_word}
 use Rattle.plan_text.proofs.Languages.{core_is_no_end, core_is_no_segment, end_is_no_segment}
 use Rattle.plan_text.proofs.Parts.{task_within}
 use Rattle.plan_text.proofs.SegmentLines.{dash_is_no_name}

@@ -5,26 +5,23 @@ use Rattle.std.proofs.lemmas.List.{get_or_default, get_or-map}
 use Rattle.std.proofs.lemmas.Option.{slice_get_past}
 use Rattle.tab_core.specs.declared.periodic.Periodic.{Periodic}
 use Rattle.tab_core.specs.declared.vcpu.Vcpu.{Vcpu}
+use Rattle.vcpu_names.proofs.NamesLemmas.{name_here}
 use Rattle.tab_io.specs.Views.{SinkView}
-use Rattle.tab_io.specs.Outside.{Writes}
+use Rattle.tab_io.specs.Sinks.{Writes}
 use Rattle.tab_io.specs.declared.sink.WriteFault.{WriteFault}
-use Rattle.tab_io.proofs.Writing.{writes_then, writes_broken}
+use Rattle.tab_io.proofs.SinkLemmas.{writes_then, writes_broken}
 use Rattle.table_form.specs.declared.segment.Segment.{Segment}
 use Rattle.table_form.specs.Tables.Plans.{PlanView}
 use Rattle.table_form.specs.Tables.Rows.{Row, cells_from}
 use Rattle.table_form.specs.Tables.Serves.{has_task}
 use Rattle.table_form.specs.Tables.Homes.{HaveHomes, are_housed, is_housed}
-use Rattle.plan_text.specs.PlanText.{core_line, core_text, head_line, is_admitted, name_at, names_of, plan_text, row_text, task_text, texts_below, vcpu_text}
+use Rattle.tab_words.specs.Texts.{texts_below}
+use Rattle.vcpu_names.specs.Names.{name_at, names_of}
+use Rattle.plan_text.specs.PlanText.{core_line, core_text, head_line, is_admitted, plan_text, row_text, task_text, vcpu_text}
 
 pub same_default : {X : Type 0} (xs : List X) (i : ℕ) (x d : X) → i < length xs → x ≡ get_or xs i x
     → get_or xs i d ≡ x
 same_default xs i x d low is = get_or_default xs i d x low ∙ sym is
-
--- the vCPU at a place has its name there
-pub name_here : (vcpus : List Vcpu) (v : ℕ) (vcpu : Vcpu) → v < length vcpus
-    → vcpu ≡ get_or vcpus v vcpu → name_at (names_of vcpus) v ≡ vcpu.name
-name_here vcpus v vcpu low is = get_or-map (λ (x : Vcpu). x.name) vcpus v vcpu [] low
-    ∙ ap (λ (x : Vcpu). x.name) (sym is)
 
 pub vcpu_here : (vcpus : List Vcpu) (tasks : List (Option Periodic)) (homes : List (Option ℕ))
     (v : ℕ) (vcpu : Vcpu) (task : Option Periodic) (home : Option ℕ)

@@ -22,12 +22,13 @@ use Rattle.table_form.specs.Inside.Stretches.{Stretch, put_front, stretch_of, st
 use Rattle.table_form.specs.declared.raw_tables.RawTables.{RawTables}
 use Rattle.table_form.specs.declared.segment.Segment.{Segment}
 use Rattle.table_form.proofs.StretchLemmas.{stretches-cons, stretches-nil}
-use Rattle.vcpu_names.specs.Names.{name_at, names_of}
+use Rattle.vcpu_names.specs.Names.{name_at, names_of, owner_word}
 use Rattle.plan_text.specs.Names.{AreHostNames}
 use Rattle.plan_text.specs.PlanLines.{AreFineRows, IsFineSegment, Line, core_lines, core_words, end_words, head_words, segment_words, vcpu_lines, vcpu_part, worded}
-use Rattle.plan_text.specs.PlanText.{core_line, core_text, is_admitted, owner_word, plan_text, row_text, segment_line, task_text, texts_below, vcpu_text}
+use Rattle.tab_words.specs.Texts.{texts_below}
+use Rattle.plan_text.specs.PlanText.{core_line, core_text, is_admitted, plan_text, row_text, segment_line, task_text, vcpu_text}
 use Rattle.plan_text.specs.Written.{IsHostWithPlan, IsReadBack}
-use Rattle.plan_text.proofs.Numbered.{texts_below-shift, texts_below-suc, texts_below-zero}
+use Rattle.tab_words.proofs.NumberedTexts.{texts_below-shift, texts_below-suc, texts_below-zero}
 use Rattle.plan_text.proofs.Parts.{task_within}
 use Rattle.plan_text.proofs.WordedLines.{core_worded, end_worded, head_worded, segment_worded, task_worded}
 

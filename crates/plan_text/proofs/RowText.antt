@@ -7,9 +7,10 @@ use Rattle.table_form.specs.Tables.Rows.{RisesTo, cells_from}
 use Rattle.table_form.specs.Inside.Stretches.{stretch_of, stretches_from}
 use Rattle.table_form.proofs.RowLemmas.{rises_parts, cells-nil}
 use Rattle.table_form.proofs.StretchLemmas.{stretches-nil, stretches_join, stretches_part, stretches_last}
-use Rattle.plan_text.specs.PlanText.{row_text, segment_line, texts_below}
+use Rattle.tab_words.specs.Texts.{texts_below}
+use Rattle.plan_text.specs.PlanText.{row_text, segment_line}
 use Rattle.plan_text.specs.MaximalSegments.{line_at}
-use Rattle.plan_text.proofs.Numbered.{texts_below-zero, texts_below-shift}
+use Rattle.tab_words.proofs.NumberedTexts.{texts_below-zero, texts_below-shift}
 
 behind : (names : List (List ℕ)) (s : Segment) (ss : List Segment)
     → texts_below (λ k. line_at names (s ∷ ss) (suc k)) (length ss)

@@ -27,7 +27,7 @@ use Rattle.plan_text.specs.declared.read_fault.ReadPlan.{ReadPlan}
 use Rattle.plan_text.specs.declared.read_fault.ReadPlan.TheVariants.{BadLine, NoMemory}
 use Rattle.plan_text.proofs.FirstBad.{bad_behind, first_is_bad, no_text, one_bad}
 use Rattle.plan_text.proofs.OneMeaning.{one_meaning}
-use Rattle.plan_text.proofs.Parts.{name_here}
+use Rattle.vcpu_names.proofs.NamesLemmas.{name_here}
 use Rattle.plan_text.proofs.VcpuLines.{vcpus_begun}
 
 -- ---- how many lines there are

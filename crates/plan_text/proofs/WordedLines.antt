@@ -17,9 +17,9 @@ use Rattle.tab_words.specs.Words.{words_of}
 use Rattle.tab_words.proofs.FirstLine.{lines_of-line}
 use Rattle.tab_words.proofs.FirstWord.{words_of-last, words_of-word}
 use Rattle.table_form.specs.Inside.Stretches.{Stretch}
-use Rattle.vcpu_names.specs.Names.{name_at}
+use Rattle.vcpu_names.specs.Names.{name_at, owner_word}
 use Rattle.plan_text.specs.PlanLines.{core_words, end_words, head_words, vcpu_words, worded}
-use Rattle.plan_text.specs.PlanText.{owner_word, core_line, head_line, segment_line, task_line}
+use Rattle.plan_text.specs.PlanText.{core_line, head_line, segment_line, task_line}
 
 -- a byte that parts neither words nor lines
 abbrev pub is_plain : ℕ → Bool

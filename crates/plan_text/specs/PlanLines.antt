@@ -10,7 +10,8 @@ use Rattle.table_form.specs.declared.raw_tables.RawTables.{RawTables}
 use Rattle.table_form.specs.declared.segment.Segment.{Segment}
 use Rattle.table_form.specs.Tables.Homes.{are_housed}
 use Rattle.table_form.specs.Tables.Serves.{has_task}
-use Rattle.plan_text.specs.PlanText.{is_admitted, owner_word}
+use Rattle.vcpu_names.specs.Names.{owner_word}
+use Rattle.plan_text.specs.PlanText.{is_admitted}
 
 -- a line, as its words
 abbrev pub Line : Type 0

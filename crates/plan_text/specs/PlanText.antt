@@ -4,12 +4,8 @@ use Rattle.tab_core.specs.declared.periodic.Periodic.{Periodic}
 use Rattle.table_form.specs.Tables.Plans.{PlanView}
 use Rattle.table_form.specs.Tables.Rows.{Row}
 use Rattle.table_form.specs.Inside.Stretches.{Stretch, stretches_from}
-pub use Rattle.vcpu_names.specs.Names.{name_at, names_of}
-
--- the texts of the numbers below n, one after the other
-unfoldable pub texts_below : (ℕ → List ℕ) → ℕ → List ℕ
-texts_below text zero = []
-texts_below text (suc n) = texts_below text n ++ text n
+use Rattle.tab_words.specs.Texts.{texts_below}
+use Rattle.vcpu_names.specs.Names.{name_at, owner_word}
 
 abbrev pub is_admitted : Option Periodic → Bool
 is_admitted None = false
@@ -37,11 +33,6 @@ task_text name (Some task) (Some home) = task_line name task home
 unfoldable pub vcpu_text : List (List ℕ) → List (Option Periodic) → List (Option ℕ) → ℕ → List ℕ
 vcpu_text names tasks homes v =
     task_text (name_at names v) (slice_index_or tasks v None) (slice_index_or homes v None)
-
--- an owner in a line: its name, or `-` for idle cells
-abbrev pub owner_word : List (List ℕ) → Option ℕ → List ℕ
-owner_word names None = codes "-"
-owner_word names (Some v) = name_at names v
 
 unfoldable pub segment_line : List (List ℕ) → Stretch → List ℕ
 segment_line names s = decimal s.end ++ (codes " " ++ (owner_word names s.owner ++ codes "\n"))

@@ -9,7 +9,8 @@ use Rattle.table_form.specs.Inside.Stretches.{stretch_of, stretches_from}
 use Rattle.table_form.specs.declared.raw_tables.RawTables.{RawTables}
 use Rattle.plan_text.specs.Names.{AreHostNames}
 use Rattle.plan_text.specs.PlanLines.{IsPlanText}
-use Rattle.plan_text.specs.PlanText.{names_of, plan_text}
+use Rattle.vcpu_names.specs.Names.{names_of}
+use Rattle.plan_text.specs.PlanText.{plan_text}
 
 -- a host and a plan for it, with what their types keep
 pub record IsHostWithPlan (host : Host) (plan : PlanView) : Type 0 where

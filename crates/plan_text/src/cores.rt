@@ -1,16 +1,18 @@
 ghost use Rattle.std.specs.Prelude.{◌≡◌, ◌<◌, ◌≤◌, length};
 ghost use Rattle.tab_core.specs.declared.TheConstants.{MAX_CORES, ROUND};
-ghost use Rattle.tab_io.specs.Outside.{Writes};
+ghost use Rattle.tab_io.specs.Sinks.{Writes};
 ghost use Rattle.table_form.specs.Tables.Rows.{RisesTo, cells_from};
 ghost use Rattle.table_form.specs.Inside.Stretches.{stretch_of};
-ghost use Rattle.plan_text.specs.PlanText.{core_line, core_text, names_of, row_text, segment_line, texts_below};
+ghost use Rattle.tab_words.specs.Texts.{texts_below};
+ghost use Rattle.vcpu_names.specs.Names.{names_of};
+ghost use Rattle.plan_text.specs.PlanText.{core_line, core_text, row_text, segment_line};
 ghost use Rattle.plan_text.specs.MaximalSegments.{ends_maximal, line_at};
 
-use crate::owner::owner_in;
 use tab_core::Vcpu;
 use tab_io::{Sink, WriteFault};
 use tab_words::{TextPiece, put_pieces};
 use table_form::{CoreTable, Segment};
+use vcpu_names::owner_in;
 
 // Writes each core's lines.
 pub(crate) fn put_cores<K: Sink>(

@@ -1,7 +1,9 @@
 ghost use Rattle.std.specs.Prelude.{◌≡◌, ◌<◌, ◌≤◌, count_by, length};
 ghost use Rattle.tab_core.specs.declared.TheConstants.{MAX_VCPUS};
-ghost use Rattle.tab_io.specs.Outside.{Writes};
-ghost use Rattle.plan_text.specs.PlanText.{is_admitted, names_of, task_text, texts_below, vcpu_text};
+ghost use Rattle.tab_io.specs.Sinks.{Writes};
+ghost use Rattle.tab_words.specs.Texts.{texts_below};
+ghost use Rattle.vcpu_names.specs.Names.{names_of};
+ghost use Rattle.plan_text.specs.PlanText.{is_admitted, task_text, vcpu_text};
 
 use tab_core::{CoreNo, Periodic, Vcpu};
 use tab_io::{Sink, WriteFault};

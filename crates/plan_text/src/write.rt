@@ -1,9 +1,10 @@
 ghost use Rattle.std.specs.Prelude.{◌≡◌, ◌≤◌, length};
 ghost use Rattle.tab_core.specs.declared.TheConstants.{MAX_CORES, MAX_VCPUS};
-ghost use Rattle.tab_io.specs.Outside.{Writes};
+ghost use Rattle.tab_io.specs.Sinks.{Writes};
 ghost use Rattle.table_form.specs.Tables.Plans.{IsPlanFor};
 ghost use Rattle.table_form.specs.Tables.Views.{plan_view};
-ghost use Rattle.plan_text.specs.PlanText.{head_line, names_of, plan_text};
+ghost use Rattle.vcpu_names.specs.Names.{names_of};
+ghost use Rattle.plan_text.specs.PlanText.{head_line, plan_text};
 
 use crate::cores::put_cores;
 use crate::vcpus::{count_admitted, put_vcpus};

@@ -30,7 +30,7 @@ use Rattle.coalesce.specs.Passing.{AreMaximal}
 use Rattle.plan_make.proofs.Members.{all_from_places}
 use Rattle.plan_make.specs.Planned.{IsPlanned}
 use Rattle.plan_text.proofs.OneMeaning.{one_meaning}
-use Rattle.plan_text.proofs.Parts.{name_here}
+use Rattle.vcpu_names.proofs.NamesLemmas.{name_here}
 use Rattle.plan_text.proofs.ReadBack.{read_back}
 use Rattle.plan_text.proofs.WholeText.{host_names}
 use Rattle.plan_text.specs.PlanLines.{AreLinesOf, IsSomePlan, worded}

@@ -1,4 +1,4 @@
-use Rattle.plan_text.specs.PlanText.{names_of}
+use Rattle.vcpu_names.specs.Names.{names_of}
 use Rattle.plan_text.proofs.Parts.{core_broken, core_ends}
 use Rattle.plan_text.proofs.cores.put_core.Goals as goal
 

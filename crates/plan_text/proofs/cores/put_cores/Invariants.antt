@@ -1,6 +1,8 @@
 use Rattle.std.proofs.Common.{Ok}
-use Rattle.tab_io.specs.Outside.{Writes}
-use Rattle.plan_text.specs.PlanText.{core_text, names_of, texts_below}
+use Rattle.tab_io.specs.Sinks.{Writes}
+use Rattle.tab_words.specs.Texts.{texts_below}
+use Rattle.vcpu_names.specs.Names.{names_of}
+use Rattle.plan_text.specs.PlanText.{core_text}
 use Rattle.plan_text.proofs.cores.put_cores.Given as goal
 
 -- the texts of the numbers below came

@@ -1,6 +1,6 @@
-use Rattle.plan_text.specs.PlanText.{names_of}
+use Rattle.vcpu_names.specs.Names.{names_of}
 use Rattle.plan_text.specs.MaximalSegments.{line_at}
-use Rattle.plan_text.proofs.Numbered.{none_written, next_written, next_broken, all_written}
+use Rattle.tab_words.proofs.NumberedTexts.{none_written, next_written, next_broken, all_written}
 use Rattle.plan_text.proofs.RowText.{row_lines}
 use Rattle.plan_text.proofs.cores.put_row.Goals as goal
 

@@ -1,5 +1,6 @@
-use Rattle.plan_text.specs.PlanText.{names_of, vcpu_text}
-use Rattle.plan_text.proofs.Numbered.{none_written, next_written, next_broken, all_written}
+use Rattle.vcpu_names.specs.Names.{names_of}
+use Rattle.plan_text.specs.PlanText.{vcpu_text}
+use Rattle.tab_words.proofs.NumberedTexts.{none_written, next_written, next_broken, all_written}
 use Rattle.plan_text.proofs.vcpus.put_vcpus.Goals as goal
 
 pub loop-v-init : goal.loop-v-init

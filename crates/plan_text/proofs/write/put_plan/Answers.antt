@@ -1,4 +1,4 @@
-use Rattle.plan_text.specs.PlanText.{names_of}
+use Rattle.vcpu_names.specs.Names.{names_of}
 use Rattle.plan_text.proofs.Parts.{head_broken, vcpus_broken, cores_broken, plan_ends}
 use Rattle.plan_text.proofs.write.put_plan.Goals as goal
 
