@@ -1,16 +1,17 @@
-ghost use Rattle.std.specs.Prelude.{◌≡◌, ◌<◌, ◌≤◌, length};
+ghost use Rattle.std.specs.Prelude.{◌≡◌, ◌<◌, ◌≤◌, ◌∷◌, length, map};
 ghost use Rattle.tab_core.specs.declared.TheConstants.{MAX_CORES, ROUND};
 ghost use Rattle.tab_io.specs.Sinks.{Writes};
 ghost use Rattle.table_form.specs.Tables.Rows.{RisesTo, cells_from};
-ghost use Rattle.table_form.specs.Inside.Stretches.{stretch_of};
-ghost use Rattle.tab_words.specs.Texts.{texts_below};
+ghost use Rattle.table_form.specs.Inside.Stretches.{stretch_of, stretches_from};
+ghost use Rattle.tab_words.specs.Texts.{text_of};
 ghost use Rattle.vcpu_names.specs.Names.{names_of};
-ghost use Rattle.plan_text.specs.PlanText.{core_line, core_text, row_text, segment_line};
+ghost use Rattle.plan_text.specs.PlanLines.{core_lines, core_words};
+ghost use Rattle.plan_text.specs.PlanText.{row_text, segment_line, stretch_words};
 ghost use Rattle.plan_text.specs.MaximalSegments.{ends_maximal, line_at};
 
 use tab_core::Vcpu;
 use tab_io::{Sink, WriteFault};
-use tab_words::{TextPiece, put_pieces};
+use tab_words::{TextPiece, put_line};
 use table_form::{CoreTable, Segment};
 use vcpu_names::owner_in;
 
@@ -22,45 +23,28 @@ pub(crate) fn put_cores<K: Sink>(
 ) -> Result<(), WriteFault>
     requires { length rows.now ≤ MAX_CORES }
     ensures { Writes (K.state sink.old) (K.state sink.new)
-        (texts_below (core_text (names_of vcpus.now) rows.now) (length rows.now)) result }
+        (text_of (core_lines (stretch_words (names_of vcpus.now)) 0
+        (map (stretches_from 0) rows.now))) result }
 {
     for core in 0..rows.len() {
-        if let Err(fault) = put_core(sink, vcpus, rows, core) {
-            return Err(fault);
-        }
+        put_core(sink, vcpus, core as u32, &rows[core])?;
     }
     Ok(())
 }
 
+// Writes the lines of one core.
 fn put_core<K: Sink>(
     sink: &mut K,
     vcpus: &[Vcpu],
-    rows: &[CoreTable],
-    core: usize,
+    core: u32,
+    row: &CoreTable,
 ) -> Result<(), WriteFault>
-    requires core { core < length rows.now }
-    requires few { length rows.now ≤ MAX_CORES }
     ensures { Writes (K.state sink.old) (K.state sink.new)
-        (core_text (names_of vcpus.now) rows.now core) result }
+        (text_of (core_words core ∷ map (stretch_words (names_of vcpus.now))
+        (stretches_from 0 row.now))) result }
 {
-    if let Err(fault) = put_core_line(sink, core as u32) {
-        return Err(fault);
-    }
-    put_row(sink, vcpus, rows[core].segments())
-}
-
-#[tactic(auto, unfolding(crate::specs::PlanText::core_line))]
-fn put_core_line<K: Sink>(sink: &mut K, core: u32) -> Result<(), WriteFault>
-    ensures { Writes (K.state sink.old) (K.state sink.new) (core_line core) result }
-{
-    put_pieces(
-        sink,
-        &[
-            TextPiece::Text(b"core "),
-            TextPiece::Number(core),
-            TextPiece::Text(b"\n"),
-        ],
-    )
+    put_line(sink, &[TextPiece::Text(b"core"), TextPiece::Number(core)])?;
+    put_row(sink, vcpus, row.segments())
 }
 
 // Writes the lines of a row's maximal segments.
@@ -70,9 +54,7 @@ fn put_row<K: Sink>(sink: &mut K, vcpus: &[Vcpu], segments: &[Segment]) -> Resul
         (row_text (names_of vcpus.now) (cells_from 0 segments.now)) result }
 {
     for at in 0..segments.len() {
-        if let Err(fault) = put_segment_at(sink, vcpus, segments, at) {
-            return Err(fault);
-        }
+        put_segment_at(sink, vcpus, segments, at)?;
     }
     Ok(())
 }
@@ -111,13 +93,11 @@ fn put_segment<K: Sink>(sink: &mut K, vcpus: &[Vcpu], segment: &Segment) -> Resu
     ensures { Writes (K.state sink.old) (K.state sink.new)
         (segment_line (names_of vcpus.now) (stretch_of segment.now)) result }
 {
-    put_pieces(
+    put_line(
         sink,
         &[
             TextPiece::Number(segment.end),
-            TextPiece::Text(b" "),
             TextPiece::Text(owner_in(vcpus, &segment.owner)),
-            TextPiece::Text(b"\n"),
         ],
     )
 }
