@@ -7,7 +7,8 @@ use Rattle.std.proofs.lemmas.Fmt.{decimal_is_IsNumeral}
 use Rattle.tab_core.specs.declared.periodic.Periodic.{Periodic}
 use Rattle.table_form.specs.declared.segment.Segment.{Segment}
 use Rattle.plan_text.specs.FirstBad.{IsBegun, IsFirstBad}
-use Rattle.plan_text.specs.PlanLines.{AreFineRows, IsFineSegment, Line, core_lines, core_words, end_words, segment_words}
+use Rattle.plan_text.specs.Meaning.{AreFineRows, IsFineSegment, segment_words}
+use Rattle.plan_text.specs.PlanLines.{Line, core_lines, core_words, end_words}
 use Rattle.plan_text.specs.Reading.{AreRows, AreSegments, IsNoSegment, IsOtherLine}
 use Rattle.plan_text.proofs.FirstBad.{bad_behind, bad_of_both, first_is_bad}
 
@@ -46,7 +47,7 @@ many_empty (suc count) = ap suc (many_empty count)
 pub rows_begun : (names : List (List ℕ)) (tasks : List (Option Periodic)) (core count : ℕ)
     → IsBegun (AreRows names tasks core count) []
 rows_begun names tasks core count = record {
-  rest = core_lines names core (replicate count []) ++ end_words ∷ [];
+  rest = core_lines (segment_words names) core (replicate count []) ++ end_words ∷ [];
   text = record {
     rows = replicate count [];
     many = many_empty count;
@@ -65,7 +66,7 @@ rows_back names tasks core count lines are = record {
   written =
       ap (λ ls. core_words core ∷ ls)
       (are.written ∙ (ap (λ ls. map (segment_words names) are.row ++ ls) are.rows.written
-      ∙ sym (append_assoc (map (segment_words names) are.row) (core_lines names (core + 1) are.rows.rows)
+      ∙ sym (append_assoc (map (segment_words names) are.row) (core_lines (segment_words names) (core + 1) are.rows.rows)
       (end_words ∷ []))));
 }
 
@@ -78,18 +79,18 @@ pub record RowsGo (names : List (List ℕ)) (tasks : List (Option Periodic)) (co
 rows_go_parts : (names : List (List ℕ)) (tasks : List (Option Periodic)) (core count : ℕ) (line : Line)
     (lines : List Line) (rows : List (List Segment))
     → length rows ≡ count + 1 → AreFineRows tasks rows
-    → line ∷ lines ≡ core_lines names core rows ++ end_words ∷ []
+    → line ∷ lines ≡ core_lines (segment_words names) core rows ++ end_words ∷ []
     → RowsGo names tasks core count line lines
 rows_go_parts names tasks core count line lines [] many fine written = absurd (omega arith)
 rows_go_parts names tasks core count line lines (row ∷ rows) many fine written =
-    let rest : lines ≡ (map (segment_words names) row ++ core_lines names (core + 1) rows)
+    let rest : lines ≡ (map (segment_words names) row ++ core_lines (segment_words names) (core + 1) rows)
     ++ end_words ∷ [] = cc in
     record {
       is_core = cc;
       more = record {
         row = row;
         fine = fine 0 row (omega arith);
-        rest = core_lines names (core + 1) rows ++ end_words ∷ [];
+        rest = core_lines (segment_words names) (core + 1) rows ++ end_words ∷ [];
         rows = record {
           rows = rows;
           many = omega arith;
@@ -97,7 +98,7 @@ rows_go_parts names tasks core count line lines (row ∷ rows) many fine written
               All-tail (λ row. All (IsFineSegment tasks) row) row rows fine;
           written = refl;
         };
-        written = rest ∙ append_assoc (map (segment_words names) row) (core_lines names (core + 1) rows)
+        written = rest ∙ append_assoc (map (segment_words names) row) (core_lines (segment_words names) (core + 1) rows)
             (end_words ∷ []);
       };
     }
@@ -110,7 +111,7 @@ rows_go names tasks core count line lines are =
 
 end_goes_parts : (names : List (List ℕ)) (core : ℕ) (lines : List Line) (rows : List (List Segment))
     → length rows ≡ 0
-    → lines ≡ core_lines names core rows ++ end_words ∷ [] → lines ≡ end_words ∷ []
+    → lines ≡ core_lines (segment_words names) core rows ++ end_words ∷ [] → lines ≡ end_words ∷ []
 end_goes_parts names core lines [] many written = written
 end_goes_parts names core lines (row ∷ rows) many written = absurd (omega arith)
 
@@ -120,7 +121,7 @@ pub end_goes : (names : List (List ℕ)) (tasks : List (Option Periodic)) (core 
 end_goes names tasks core lines are = end_goes_parts names core lines are.rows are.many are.written
 
 rows_some : (names : List (List ℕ)) (core : ℕ) (rows : List (List Segment))
-    → core_lines names core rows ++ end_words ∷ [] ≡ [] → ⊥
+    → core_lines (segment_words names) core rows ++ end_words ∷ [] ≡ [] → ⊥
 rows_some names core [] is = absurd (cc)
 rows_some names core (row ∷ rows) is = absurd (cc)
 
@@ -131,7 +132,7 @@ no_lines_no_rows names tasks core count are = rows_some names core are.rows (sym
 -- no rows begin with a segment
 rows_lack : (names : List (List ℕ)) (tasks : List (Option Periodic)) (core : ℕ) (rows : List (List Segment))
     (s : Segment) (lines : List Line)
-    → IsFineSegment tasks s → segment_words names s ∷ lines ≡ core_lines names core rows ++ end_words ∷ [] → ⊥
+    → IsFineSegment tasks s → segment_words names s ∷ lines ≡ core_lines (segment_words names) core rows ++ end_words ∷ [] → ⊥
 rows_lack names tasks core [] s lines fine is = end_is_no_segment names s cc
 rows_lack names tasks core (row ∷ rows) s lines fine is = core_is_no_segment names tasks core s fine cc
 
@@ -247,8 +248,8 @@ bad_behind_segments names tasks core count first (s ∷ row) rest bad all none i
 -- ---- cores, one after the other
 
 pub core_lines-last : (names : List (List ℕ)) (core : ℕ) (rows : List (List Segment)) (row : List Segment)
-    → core_lines names core (rows ++ row ∷ [])
-    ≡ core_lines names core rows ++ core_words (core + length rows) ∷ map
+    → core_lines (segment_words names) core (rows ++ row ∷ [])
+    ≡ core_lines (segment_words names) core rows ++ core_words (core + length rows) ∷ map
     (segment_words names) row
 core_lines-last names core [] row =
     ap (λ ls. core_words core ∷ ls) (append-nil (map (segment_words names) row))
@@ -258,8 +259,8 @@ core_lines-last names core (first ∷ rows) row =
     let more = core_lines-last names (core + 1) rows row in
     let count : core + 1 + length rows ≡ core + length (first ∷ rows) = omega arith in
     ap (λ ls. (core_words core ∷ map (segment_words names) first) ++ ls)
-    (more ∙ ap (λ n. core_lines names (core + 1) rows ++ core_words n ∷ map (segment_words names) row) count)
-    ∙ sym (append_assoc (core_words core ∷ map (segment_words names) first) (core_lines names (core + 1) rows)
+    (more ∙ ap (λ n. core_lines (segment_words names) (core + 1) rows ++ core_words n ∷ map (segment_words names) row) count)
+    ∙ sym (append_assoc (core_words core ∷ map (segment_words names) first) (core_lines (segment_words names) (core + 1) rows)
     (core_words (core + length (first ∷ rows)) ∷ map (segment_words names) row))
 
 pub all_snoc : {X : Type 0} (P : X → Type 0) (xs : List X) (x : X) → All P xs → P x → All P (xs ++ x ∷ [])
@@ -339,13 +340,13 @@ line_behind_end names tasks core cores first second lines behind past written ne
 
 pub core_lines_more : (names : List (List ℕ)) (core : ℕ) (rows : List (List Segment)) (row : List Segment)
     (all left behind rest : List Line)
-    → length rows ≡ core → all ≡ core_lines names 0 rows ++ left → left ≡ core_words core ∷ behind
+    → length rows ≡ core → all ≡ core_lines (segment_words names) 0 rows ++ left → left ≡ core_words core ∷ behind
     → behind ≡ map (segment_words names) row ++ rest
-    → all ≡ core_lines names 0 (rows ++ row ∷ []) ++ rest
+    → all ≡ core_lines (segment_words names) 0 (rows ++ row ∷ []) ++ rest
 core_lines_more names core rows row all left behind rest many before first segments =
     let place : core ≡ 0 + length rows = omega arith in
-    before ∙ (ap (λ ls. core_lines names 0 rows ++ ls) (first ∙ ap (λ ls. core_words core ∷ ls) segments)
-    ∙ (sym (append_assoc (core_lines names 0 rows) (core_words core ∷ map (segment_words names) row) rest)
+    before ∙ (ap (λ ls. core_lines (segment_words names) 0 rows ++ ls) (first ∙ ap (λ ls. core_words core ∷ ls) segments)
+    ∙ (sym (append_assoc (core_lines (segment_words names) 0 rows) (core_words core ∷ map (segment_words names) row) rest)
     ∙ ap (λ ls. ls ++ rest)
-    (ap (λ n. core_lines names 0 rows ++ core_words n ∷ map (segment_words names) row) place
+    (ap (λ n. core_lines (segment_words names) 0 rows ++ core_words n ∷ map (segment_words names) row) place
     ∙ sym (core_lines-last names 0 rows row))))

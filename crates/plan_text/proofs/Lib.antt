@@ -1,7 +1,7 @@
 pub mod FirstBad
 pub mod Languages
 pub mod Matching
-pub mod Numbered
+pub mod MeaningLemmas
 pub mod OneMeaning
 pub mod Parts
 pub mod ReadBack
@@ -9,4 +9,4 @@ pub mod RowText
 pub mod SegmentLines
 pub mod VcpuLines
 pub mod WholeText
-pub mod WordedLines
+pub mod WritingLemmas

@@ -15,8 +15,9 @@ use Rattle.table_form.specs.Tables.Serves.{has_task}
 use Rattle.table_form.specs.declared.raw_tables.RawTables.{RawTables}
 use Rattle.table_form.specs.declared.segment.Segment.{Segment}
 use Rattle.plan_text.specs.Names.{AreHostNames}
-use Rattle.plan_text.specs.PlanLines.{AreFineRows, AreLinesOf, IsFineSegment, Line, core_lines, end_words, segment_words, vcpu_lines}
-use Rattle.plan_text.specs.PlanText.{owner_word}
+use Rattle.plan_text.specs.Meaning.{AreFineRows, AreLinesOf, IsFineSegment, segment_words}
+use Rattle.plan_text.specs.PlanLines.{Line, core_lines, end_words, vcpu_lines}
+use Rattle.vcpu_names.specs.Names.{owner_word}
 use Rattle.plan_text.proofs.Languages.{core_is_no_end, core_is_no_segment, end_is_no_segment}
 use Rattle.plan_text.proofs.Parts.{task_within}
 use Rattle.plan_text.proofs.SegmentLines.{dash_is_no_name}
@@ -100,7 +101,7 @@ row_same names tasks (s ∷ row) (t ∷ other) rest more many good all all' none
     (ap (λ x. x ∷ row) first ∙ ap (λ xs. t ∷ xs) behind.0, behind.1)
 
 cores_first : (names : List (List ℕ)) (tasks : List (Option Periodic)) (core : ℕ) (rows : List (List Segment))
-    → NoSegmentFirst names tasks (core_lines names core rows ++ end_words ∷ [])
+    → NoSegmentFirst names tasks (core_lines (segment_words names) core rows ++ end_words ∷ [])
 cores_first names tasks core [] s rest fine is = end_is_no_segment names s cc
 cores_first names tasks core (row ∷ rows) s rest fine is = core_is_no_segment names tasks core s fine cc
 
@@ -108,18 +109,18 @@ rows_same : (names : List (List ℕ)) (tasks : List (Option Periodic)) (core : �
     (rows others : List (List Segment))
     → length names ≡ length tasks → AreHostNames names
     → AreFineRows tasks rows → AreFineRows tasks others
-    → core_lines names core rows ++ end_words ∷ [] ≡ core_lines names core others ++ end_words ∷ []
+    → core_lines (segment_words names) core rows ++ end_words ∷ [] ≡ core_lines (segment_words names) core others ++ end_words ∷ []
     → rows ≡ others
 rows_same names tasks core [] [] many good all all' is = refl
 rows_same names tasks core [] (other ∷ others) many good all all' is = absurd (core_is_no_end core cc)
 rows_same names tasks core (row ∷ rows) [] many good all all' is = absurd (core_is_no_end core cc)
 rows_same names tasks core (row ∷ rows) (other ∷ others) many good all all' is =
-    let tails : (map (segment_words names) row ++ core_lines names (core + 1) rows) ++ end_words ∷ []
-    ≡ (map (segment_words names) other ++ core_lines names (core + 1) others) ++ end_words ∷ [] = cc in
-    let parted : map (segment_words names) row ++ (core_lines names (core + 1) rows ++ end_words ∷ []) ≡ map
-    (segment_words names) other ++ (core_lines names (core + 1) others ++ end_words ∷ []) =
-    sym (append_assoc (map (segment_words names) row) (core_lines names (core + 1) rows) (end_words ∷ []))
-    ∙ tails ∙ append_assoc (map (segment_words names) other) (core_lines names (core + 1) others)
+    let tails : (map (segment_words names) row ++ core_lines (segment_words names) (core + 1) rows) ++ end_words ∷ []
+    ≡ (map (segment_words names) other ++ core_lines (segment_words names) (core + 1) others) ++ end_words ∷ [] = cc in
+    let parted : map (segment_words names) row ++ (core_lines (segment_words names) (core + 1) rows ++ end_words ∷ []) ≡ map
+    (segment_words names) other ++ (core_lines (segment_words names) (core + 1) others ++ end_words ∷ []) =
+    sym (append_assoc (map (segment_words names) row) (core_lines (segment_words names) (core + 1) rows) (end_words ∷ []))
+    ∙ tails ∙ append_assoc (map (segment_words names) other) (core_lines (segment_words names) (core + 1) others)
     (end_words ∷ []) in
     let both = row_same names tasks row other _ _ many good (all 0 row (omega arith))
     (all' 0 other (omega arith))
@@ -185,8 +186,8 @@ pub one_meaning : (names : List (List ℕ)) (cores : ℕ) (tasks : List (Option 
     → AreLinesOf names cores tasks lines raw → AreLinesOf names cores tasks lines other → raw ≡ other
 one_meaning names cores tasks lines raw other many few good is also =
     let same = sym is.written ∙ also.written in
-    let tails : vcpu_lines names tasks raw.homes ++ (core_lines names 0 raw.rows ++ end_words ∷ [])
-    ≡ vcpu_lines names tasks other.homes ++ (core_lines names 0 other.rows ++ end_words ∷ []) = cc in
+    let tails : vcpu_lines names tasks raw.homes ++ (core_lines (segment_words names) 0 raw.rows ++ end_words ∷ [])
+    ≡ vcpu_lines names tasks other.homes ++ (core_lines (segment_words names) 0 other.rows ++ end_words ∷ []) = cc in
     let homes = homes_same names cores tasks raw.homes other.homes _ _ many few is.fine.housed
     also.fine.housed tails in
     tables_same raw other homes.0 (rows_same names tasks 0 raw.rows other.rows many good is.fine.segments

@@ -4,9 +4,11 @@ use Rattle.std.specs.Prelude.{slice_get}
 use Rattle.std.proofs.lemmas.Option.{slice_get-get_or}
 use Rattle.table_form.specs.declared.segment.Segment.{Segment}
 use Rattle.table_form.specs.Tables.Segments.{segment_view}
-use Rattle.plan_text.specs.PlanText.{segment_line, texts_below}
-use Rattle.plan_text.proofs.Numbered.{texts_below-zero, texts_below-shift}
+use Rattle.tab_words.specs.Texts.{texts_below}
+use Rattle.tab_words.proofs.NumberedTexts.{texts_below-zero, texts_below-shift}
+use Rattle.plan_text.specs.PlanText.{segment_line}
 
+-- the line of a segment that may be there
 line_in : List (List ℕ) → Option Segment → List ℕ
 line_in names None = []
 line_in names (Some s) = segment_line names (segment_view s)

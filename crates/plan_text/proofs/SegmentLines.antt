@@ -5,10 +5,9 @@ use Rattle.std.specs.Option.{ForSome}
 use Rattle.tab_core.specs.Name.{IsName}
 use Rattle.tab_core.specs.declared.periodic.Periodic.{Periodic}
 use Rattle.table_form.specs.Tables.Serves.{has_task}
-use Rattle.vcpu_names.specs.Names.{IsUnknown, name_at}
+use Rattle.vcpu_names.specs.Names.{IsUnknown, name_at, owner_word}
 use Rattle.plan_text.specs.Names.{AreHostNames}
 use Rattle.plan_text.specs.PlanLines.{Line}
-use Rattle.plan_text.specs.PlanText.{owner_word}
 use Rattle.plan_text.specs.Reading.{IsNoSegmentLine}
 use Rattle.plan_text.proofs.Parts.{task_within}
 

@@ -85,11 +85,11 @@ vcpus_begun names tasks cores v some =
     }
 
 -- the vCPUs from v on, of which the first has this name and task
-abbrev FirstIs : List (List ℕ) → List (Option Periodic) → ℕ → List ℕ → Option Periodic → Type 0
+abbrev pub FirstIs : List (List ℕ) → List (Option Periodic) → ℕ → List ℕ → Option Periodic → Type 0
 FirstIs names tasks v name task =
     (drop v names ≡ name ∷ drop (v + 1) names) × (drop v tasks ≡ task ∷ drop (v + 1) tasks)
 
-first_is : (names : List (List ℕ)) (tasks : List (Option Periodic)) (v : ℕ) (name : List ℕ)
+pub first_is : (names : List (List ℕ)) (tasks : List (Option Periodic)) (v : ℕ) (name : List ℕ)
     (task : Option Periodic)
     → v < length names → v < length tasks
     → name_at names v ≡ name → get_or tasks v task ≡ task → FirstIs names tasks v name task

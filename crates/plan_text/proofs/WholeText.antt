@@ -20,14 +20,14 @@ use Rattle.table_form.specs.declared.segment.Segment.{Segment}
 use Rattle.vcpu_names.specs.Names.{AreNames, name_at, names_of}
 use Rattle.plan_text.specs.FirstBad.{IsBegun, IsFirstBad}
 use Rattle.plan_text.specs.Names.{AreHostNames}
-use Rattle.plan_text.specs.PlanLines.{AreFineRows, AreLinesOf, IsSomePlan, Line, core_lines, end_words, head_words, vcpu_lines, worded}
-use Rattle.plan_text.specs.PlanText.{is_admitted}
+use Rattle.plan_text.specs.Meaning.{AreFineRows, AreLinesOf, IsSomePlan, segment_words, worded}
+use Rattle.plan_text.specs.PlanLines.{Line, core_lines, end_words, head_words, is_admitted, vcpu_lines}
 use Rattle.plan_text.specs.Reading.{AreVcpus}
 use Rattle.plan_text.specs.declared.read_fault.ReadPlan.{ReadPlan}
 use Rattle.plan_text.specs.declared.read_fault.ReadPlan.TheVariants.{BadLine, NoMemory}
 use Rattle.plan_text.proofs.FirstBad.{bad_behind, first_is_bad, no_text, one_bad}
 use Rattle.plan_text.proofs.OneMeaning.{one_meaning}
-use Rattle.plan_text.proofs.Parts.{name_here}
+use Rattle.vcpu_names.proofs.NamesLemmas.{name_here}
 use Rattle.plan_text.proofs.VcpuLines.{vcpus_begun}
 
 -- ---- how many lines there are
@@ -136,13 +136,13 @@ head_goes names tasks cores line lines plan =
     let is = plan.text.written in
     cc in
     let rest : lines ≡ vcpu_lines names tasks plan.raw.homes
-    ++ (core_lines names 0 plan.raw.rows ++ end_words ∷ []) = let is = plan.text.written in cc in
+    ++ (core_lines (segment_words names) 0 plan.raw.rows ++ end_words ∷ []) = let is = plan.text.written in cc in
     record {
       is_head = first ∙ ap (λ n. head_words n (count_by is_admitted tasks)) fine.rows;
       more = record {
         homes = plan.raw.homes;
         housed = fine.housed;
-        rest = core_lines names 0 plan.raw.rows ++ end_words ∷ [];
+        rest = core_lines (segment_words names) 0 plan.raw.rows ++ end_words ∷ [];
         rows = record { rows = plan.raw.rows; many = fine.rows; fine = fine.segments; written = refl };
         written = rest;
       };
@@ -189,7 +189,7 @@ pub whole_read : (names : List (List ℕ)) (tasks : List (Option Periodic)) (cor
     (homes : List (Option ℕ)) (rows : List (List Segment))
     → lines ≡ head_words cores (count_by is_admitted tasks) ∷ rest
     → rest ≡ vcpu_lines names tasks homes ++ behind
-    → behind ≡ core_lines names 0 rows ++ end_words ∷ []
+    → behind ≡ core_lines (segment_words names) 0 rows ++ end_words ∷ []
     → are_housed cores tasks homes ≡ true → length rows ≡ cores → AreFineRows tasks rows
     → AreLinesOf names cores tasks lines (record { homes = homes; rows = rows })
 whole_read names tasks cores lines rest behind homes rows is vcpus cores_is housed many fine = record {

@@ -1,4 +1,6 @@
 pub mod FirstBad
+pub mod MaximalSegments
+pub mod Meaning
 pub mod Names
 pub mod PlanLines
 pub mod PlanText

@@ -6,7 +6,8 @@ use Rattle.tab_core.specs.declared.periodic.Periodic.{Periodic}
 use Rattle.table_form.specs.declared.segment.Segment.{Segment}
 use Rattle.table_form.specs.Tables.Homes.{are_housed}
 use denote.Ref.{Bor}
-use Rattle.plan_text.specs.PlanLines.{AreFineRows, IsFineSegment, Line, core_lines, end_words, segment_words, vcpu_lines, vcpu_words}
+use Rattle.plan_text.specs.Meaning.{AreFineRows, IsFineSegment, segment_words}
+use Rattle.plan_text.specs.PlanLines.{Line, core_lines, end_words, vcpu_lines, vcpu_words}
 
 -- the lines of a text that are left, and the number of the first of them
 pub record Left : Type 0 where
@@ -19,7 +20,7 @@ pub record AreRows (names : List (List ℕ)) (tasks : List (Option Periodic)) (c
   pub rows : List (List Segment)
   pub many : length rows ≡ count
   pub fine : AreFineRows tasks rows
-  pub written : lines ≡ core_lines names core rows ++ end_words ∷ []
+  pub written : lines ≡ core_lines (segment_words names) core rows ++ end_words ∷ []
 
 -- further segments of a core, and such cores
 pub record AreSegments (names : List (List ℕ)) (tasks : List (Option Periodic)) (core count : ℕ)

@@ -8,8 +8,9 @@ use Rattle.table_form.specs.Tables.Rows.{Row}
 use Rattle.table_form.specs.Tables.Segments.{segment_view, segments_from}
 use Rattle.table_form.specs.declared.raw_tables.RawTables.{RawTables}
 use Rattle.plan_text.specs.Names.{AreHostNames}
-use Rattle.plan_text.specs.PlanLines.{IsPlanText}
-use Rattle.plan_text.specs.PlanText.{names_of, plan_text}
+use Rattle.plan_text.specs.Meaning.{IsPlanText}
+use Rattle.plan_text.specs.PlanText.{plan_text}
+use Rattle.vcpu_names.specs.Names.{names_of}
 
 -- a host and a plan for it, with what their types keep
 pub record IsHostWithPlan (host : Host) (plan : PlanView) : Type 0 where

@@ -1,14 +1,17 @@
-ghost use Rattle.std.specs.Prelude.{◌<◌, ◌≤◌, flat_map, length, map};
+ghost use Rattle.std.specs.Prelude.{◌<◌, ◌≤◌, ◌∷◌, flat_map, length, map};
 ghost use Rattle.tab_core.specs.declared.TheConstants.{MAX_CORES};
-ghost use Rattle.tab_io.specs.Outside.{Writes};
-ghost use Rattle.table_form.specs.Tables.Segments.{segment_view};
-ghost use Rattle.plan_text.specs.PlanText.{core_line, core_text, names_of, segment_line, texts_below};
+ghost use Rattle.tab_io.specs.Sinks.{Writes};
+ghost use Rattle.table_form.specs.Tables.Segments.{segment_view, segments_from};
+ghost use Rattle.tab_words.specs.Texts.{text_of};
+ghost use Rattle.vcpu_names.specs.Names.{names_of};
+ghost use Rattle.plan_text.specs.PlanLines.{core_lines, core_words};
+ghost use Rattle.plan_text.specs.PlanText.{segment_line, view_words};
 
-use crate::owner::owner_in;
 use tab_core::Vcpu;
 use tab_io::{Sink, WriteFault};
-use tab_words::{TextPiece, put_pieces};
+use tab_words::{TextPiece, put_line};
 use table_form::{CoreTable, Segment};
+use vcpu_names::owner_in;
 
 // Writes each core's lines.
 pub(crate) fn put_cores<K: Sink>(
@@ -18,45 +21,28 @@ pub(crate) fn put_cores<K: Sink>(
 ) -> Result<(), WriteFault>
     requires { length rows.now ≤ MAX_CORES }
     ensures { Writes (K.state sink.old) (K.state sink.new)
-        (texts_below (core_text (names_of vcpus.now) rows.now) (length rows.now)) result }
+        (text_of (core_lines (view_words (names_of vcpus.now)) 0
+        (map (segments_from 0) rows.now))) result }
 {
     for core in 0..rows.len() {
-        if let Err(fault) = put_core(sink, vcpus, rows, core) {
-            return Err(fault);
-        }
+        put_core(sink, vcpus, core as u32, &rows[core])?;
     }
     Ok(())
 }
 
+// Writes the lines of one core.
 fn put_core<K: Sink>(
     sink: &mut K,
     vcpus: &[Vcpu],
-    rows: &[CoreTable],
-    core: usize,
+    core: u32,
+    row: &CoreTable,
 ) -> Result<(), WriteFault>
-    requires core { core < length rows.now }
-    requires few { length rows.now ≤ MAX_CORES }
     ensures { Writes (K.state sink.old) (K.state sink.new)
-        (core_text (names_of vcpus.now) rows.now core) result }
+        (text_of (core_words core ∷ map (view_words (names_of vcpus.now))
+        (segments_from 0 row.now))) result }
 {
-    if let Err(fault) = put_core_line(sink, core as u32) {
-        return Err(fault);
-    }
-    put_row(sink, vcpus, rows[core].segments())
-}
-
-#[tactic(auto, unfolding(crate::specs::PlanText::core_line))]
-fn put_core_line<K: Sink>(sink: &mut K, core: u32) -> Result<(), WriteFault>
-    ensures { Writes (K.state sink.old) (K.state sink.new) (core_line core) result }
-{
-    put_pieces(
-        sink,
-        &[
-            TextPiece::Text(b"core "),
-            TextPiece::Number(core),
-            TextPiece::Text(b"\n"),
-        ],
-    )
+    put_line(sink, &[TextPiece::Text(b"core"), TextPiece::Number(core)])?;
+    put_row(sink, vcpus, row.segments())
 }
 
 // Writes the lines of a row's segments.
@@ -65,9 +51,7 @@ fn put_row<K: Sink>(sink: &mut K, vcpus: &[Vcpu], segments: &[Segment]) -> Resul
         (flat_map (segment_line (names_of vcpus.now)) (map segment_view segments.now)) result }
 {
     for segment in segments {
-        if let Err(fault) = put_segment(sink, vcpus, segment) {
-            return Err(fault);
-        }
+        put_segment(sink, vcpus, segment)?;
     }
     Ok(())
 }
@@ -77,13 +61,11 @@ fn put_segment<K: Sink>(sink: &mut K, vcpus: &[Vcpu], segment: &Segment) -> Resu
     ensures { Writes (K.state sink.old) (K.state sink.new)
         (segment_line (names_of vcpus.now) (segment_view segment.now)) result }
 {
-    put_pieces(
+    put_line(
         sink,
         &[
             TextPiece::Number(segment.end),
-            TextPiece::Text(b" "),
             TextPiece::Text(owner_in(vcpus, &segment.owner)),
-            TextPiece::Text(b"\n"),
         ],
     )
 }

@@ -5,7 +5,7 @@ ghost use Rattle.tab_core.specs.declared.periodic.Periodic.{Periodic};
 ghost use Rattle.table_form.specs.Tables.Plans.{PlanView};
 ghost use Rattle.table_form.specs.declared.raw_tables.RawTables.{RawTables};
 ghost use Rattle.plan_text.specs.Names.{AreHostNames};
-ghost use Rattle.plan_text.specs.PlanLines.{IsPlanText};
+ghost use Rattle.plan_text.specs.Meaning.{IsPlanText};
 ghost use Rattle.plan_text.specs.Written.{IsHostWithPlan, IsReadBack};
 
 /// For a host's names and tasks a text stands for one pair of tables at most.

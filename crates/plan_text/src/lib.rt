@@ -9,7 +9,6 @@ mod cores;
 mod laws;
 mod line_words;
 mod lines_left;
-mod owner;
 mod read;
 mod read_cores;
 mod read_fault;
@@ -20,7 +19,6 @@ mod vcpus;
 mod write;
 
 pub use laws::{a_text_has_one_meaning, a_written_plan_is_read_back};
-pub use owner::{name_in, owner_in};
 pub use read::read_plan;
 pub use read_fault::ReadPlan;
 pub use write::write_plan;

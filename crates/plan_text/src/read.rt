@@ -4,8 +4,9 @@ ghost use Rattle.table_form.specs.Tables.Homes.{are_housed};
 ghost use Rattle.table_form.specs.declared.raw_tables.RawTables.{RawTables};
 ghost use Rattle.plan_text.specs.FirstBad.{IsFirstBad};
 ghost use Rattle.plan_text.specs.Names.{AreHostNames};
-ghost use Rattle.plan_text.specs.PlanLines.{AreFineRows, IsPlanText, IsSomePlan, head_words, worded};
-ghost use Rattle.plan_text.specs.PlanText.{is_admitted, names_of};
+ghost use Rattle.plan_text.specs.Meaning.{AreFineRows, IsPlanText, IsSomePlan, worded};
+ghost use Rattle.plan_text.specs.PlanLines.{head_words, is_admitted};
+ghost use Rattle.vcpu_names.specs.Names.{names_of};
 ghost use Rattle.plan_text.specs.declared.read_fault.ReadPlan.{ReadPlan};
 ghost use Rattle.tab_words.specs.Words.{words_of};
 

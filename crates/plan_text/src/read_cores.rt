@@ -6,7 +6,8 @@ ghost use Rattle.table_form.specs.declared.segment.Segment.{Segment};
 ghost use Rattle.tab_words.specs.Words.{words_of};
 ghost use Rattle.plan_text.specs.FirstBad.{IsFirstBad};
 ghost use Rattle.plan_text.specs.Names.{AreHostNames};
-ghost use Rattle.plan_text.specs.PlanLines.{AreFineRows, IsFineSegment, core_lines, end_words, segment_words};
+ghost use Rattle.plan_text.specs.Meaning.{AreFineRows, IsFineSegment, segment_words};
+ghost use Rattle.plan_text.specs.PlanLines.{core_lines, end_words};
 ghost use Rattle.plan_text.specs.Reading.{AreRows, IsNoSegment, IsNoSegmentLine, IsPushed};
 ghost use Rattle.plan_text.specs.declared.read_fault.ReadPlan.{ReadPlan};
 
@@ -30,7 +31,7 @@ pub(crate) fn read_cores(
     requires named { length names.now ≡ length tasks.now }
     requires few_cores { cores ≤ MAX_CORES }
     ensures lines { IfOk result (λ rows.
-        left.old.lines ≡ core_lines names.now 0 rows.items ++ end_words ∷ []) }
+        left.old.lines ≡ core_lines (segment_words names.now) 0 rows.items ++ end_words ∷ []) }
     ensures rows { IfOk result (λ rows. length rows.items ≡ cores) }
     ensures fine { IfOk result (λ rows. AreFineRows tasks.now rows.items) }
     ensures bad_line { (bad : ℕ) → IsErrOf result (ReadPlan.BadLine bad)

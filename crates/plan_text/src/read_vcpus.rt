@@ -4,7 +4,7 @@ ghost use Rattle.table_form.specs.Tables.Homes.{are_housed, is_housed};
 ghost use Rattle.tab_words.specs.Words.{words_of};
 ghost use Rattle.plan_text.specs.FirstBad.{IsFirstBad};
 ghost use Rattle.plan_text.specs.PlanLines.{vcpu_lines, vcpu_part, vcpu_words};
-ghost use Rattle.plan_text.specs.PlanText.{names_of};
+ghost use Rattle.vcpu_names.specs.Names.{names_of};
 ghost use Rattle.plan_text.specs.Reading.{AreRows, AreVcpus, IsNoVcpu};
 ghost use Rattle.plan_text.specs.declared.read_fault.ReadPlan.{ReadPlan};
 

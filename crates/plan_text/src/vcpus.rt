@@ -1,11 +1,13 @@
-ghost use Rattle.std.specs.Prelude.{◌≡◌, ◌<◌, ◌≤◌, count_by, length};
+ghost use Rattle.std.specs.Prelude.{◌≡◌, ◌≤◌, count_by, length};
 ghost use Rattle.tab_core.specs.declared.TheConstants.{MAX_VCPUS};
-ghost use Rattle.tab_io.specs.Outside.{Writes};
-ghost use Rattle.plan_text.specs.PlanText.{is_admitted, names_of, task_text, texts_below, vcpu_text};
+ghost use Rattle.tab_io.specs.Sinks.{Writes};
+ghost use Rattle.tab_words.specs.Texts.{text_of};
+ghost use Rattle.vcpu_names.specs.Names.{names_of};
+ghost use Rattle.plan_text.specs.PlanLines.{is_admitted, vcpu_lines, vcpu_part};
 
 use tab_core::{CoreNo, Periodic, Vcpu};
 use tab_io::{Sink, WriteFault};
-use tab_words::{TextPiece, put_pieces};
+use tab_words::{TextPiece, put_line};
 
 // How many of the vCPUs have a task.
 pub(crate) fn count_admitted(tasks: &[Option<Periodic>]) -> u32
@@ -25,33 +27,15 @@ pub(crate) fn put_vcpus<K: Sink>(
     requires named { length vcpus.now ≡ length tasks.now }
     requires housed { length homes.now ≡ length tasks.now }
     ensures { Writes (K.state sink.old) (K.state sink.new)
-        (texts_below (vcpu_text (names_of vcpus.now) tasks.now homes.now) (length tasks.now)) result }
+        (text_of (vcpu_lines (names_of vcpus.now) tasks.now homes.now)) result }
 {
     for v in 0..tasks.len() {
-        if let Err(fault) = put_vcpu_at(sink, vcpus, tasks, homes, v) {
-            return Err(fault);
-        }
+        put_vcpu(sink, &vcpus[v], &tasks[v], &homes[v])?;
     }
     Ok(())
 }
 
-fn put_vcpu_at<K: Sink>(
-    sink: &mut K,
-    vcpus: &[Vcpu],
-    tasks: &[Option<Periodic>],
-    homes: &[Option<CoreNo>],
-    v: usize,
-) -> Result<(), WriteFault>
-    requires named { v < length vcpus.now }
-    requires tasked { v < length tasks.now }
-    requires housed { v < length homes.now }
-    ensures { Writes (K.state sink.old) (K.state sink.new)
-        (vcpu_text (names_of vcpus.now) tasks.now homes.now v) result }
-{
-    put_vcpu(sink, &vcpus[v], &tasks[v], &homes[v])
-}
-
-#[tactic(auto, unfolding(crate::specs::PlanText::task_line))]
+// Writes the line of a vCPU, if it has a task.
 fn put_vcpu<K: Sink>(
     sink: &mut K,
     vcpu: &Vcpu,
@@ -59,7 +43,7 @@ fn put_vcpu<K: Sink>(
     home: &Option<CoreNo>,
 ) -> Result<(), WriteFault>
     ensures { Writes (K.state sink.old) (K.state sink.new)
-        (task_text vcpu.now.name task.now home.now) result }
+        (text_of (vcpu_part vcpu.now.name task.now home.now)) result }
 {
     let Some(task) = task else {
         return Ok(());
@@ -67,18 +51,17 @@ fn put_vcpu<K: Sink>(
     let Some(home) = home else {
         return Ok(());
     };
-    put_pieces(
+    put_line(
         sink,
         &[
-            TextPiece::Text(b"vcpu "),
+            TextPiece::Text(b"vcpu"),
             TextPiece::Text(vcpu.name.bytes()),
-            TextPiece::Text(b" period "),
+            TextPiece::Text(b"period"),
             TextPiece::Number(task.period),
-            TextPiece::Text(b" cost "),
+            TextPiece::Text(b"cost"),
             TextPiece::Number(task.cost),
-            TextPiece::Text(b" home "),
+            TextPiece::Text(b"home"),
             TextPiece::Number(home.0),
-            TextPiece::Text(b"\n"),
         ],
     )
 }

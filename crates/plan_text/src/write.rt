@@ -1,15 +1,18 @@
 ghost use Rattle.std.specs.Prelude.{◌≡◌, ◌≤◌, length};
 ghost use Rattle.tab_core.specs.declared.TheConstants.{MAX_CORES, MAX_VCPUS};
-ghost use Rattle.tab_io.specs.Outside.{Writes};
+ghost use Rattle.tab_io.specs.Sinks.{Writes};
 ghost use Rattle.table_form.specs.Tables.Plans.{IsPlanFor};
 ghost use Rattle.table_form.specs.Tables.Views.{plan_view};
-ghost use Rattle.plan_text.specs.PlanText.{head_line, names_of, plan_text};
+ghost use Rattle.vcpu_names.specs.Names.{names_of};
+ghost use Rattle.plan_text.specs.PlanLines.{head_words};
+ghost use Rattle.plan_text.specs.PlanText.{plan_text};
+ghost use Rattle.tab_words.specs.Texts.{line_of};
 
 use crate::cores::put_cores;
 use crate::vcpus::{count_admitted, put_vcpus};
 use tab_core::{CoreNo, Host, Periodic, Vcpu};
-use tab_io::{Sink, WriteFault, write_all};
-use tab_words::{TextPiece, put_pieces};
+use tab_io::{Sink, WriteFault};
+use tab_words::{TextPiece, put_line};
 use table_form::{CoreTable, Plan};
 
 /// Writes the text of a plan for this host.
@@ -43,30 +46,24 @@ fn put_plan<K: Sink>(
         (plan_text (names_of vcpus.now)
         (record { tasks = tasks.now; homes = homes.now; rows = rows.now })) result }
 {
-    if let Err(fault) = put_head(sink, rows.len() as u32, count_admitted(tasks)) {
-        return Err(fault);
-    }
-    if let Err(fault) = put_vcpus(sink, vcpus, tasks, homes) {
-        return Err(fault);
-    }
-    if let Err(fault) = put_cores(sink, vcpus, rows) {
-        return Err(fault);
-    }
-    write_all(sink, b"end\n")
+    put_head(sink, rows.len() as u32, count_admitted(tasks))?;
+    put_vcpus(sink, vcpus, tasks, homes)?;
+    put_cores(sink, vcpus, rows)?;
+    put_line(sink, &[TextPiece::Text(b"end")])
 }
 
-#[tactic(auto, unfolding(crate::specs::PlanText::head_line))]
+// Writes the first line.
 fn put_head<K: Sink>(sink: &mut K, cores: u32, admitted: u32) -> Result<(), WriteFault>
-    ensures { Writes (K.state sink.old) (K.state sink.new) (head_line cores admitted) result }
+    ensures { Writes (K.state sink.old) (K.state sink.new) (line_of (head_words cores admitted)) result }
 {
-    put_pieces(
+    put_line(
         sink,
         &[
-            TextPiece::Text(b"plan cores "),
+            TextPiece::Text(b"plan"),
+            TextPiece::Text(b"cores"),
             TextPiece::Number(cores),
-            TextPiece::Text(b" vcpus "),
+            TextPiece::Text(b"vcpus"),
             TextPiece::Number(admitted),
-            TextPiece::Text(b"\n"),
         ],
     )
 }

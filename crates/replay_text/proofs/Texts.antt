@@ -1,13 +1,13 @@
 -- The text of a replay in its two parts.
 use Rattle.std.proofs.Common.{ℕ, ◌≡◌, List, length, Result, Ok, Err}
 use Rattle.tab_io.specs.Views.{SinkView}
-use Rattle.tab_io.specs.Outside.{Writes}
+use Rattle.tab_io.specs.Sinks.{Writes}
 use Rattle.tab_io.specs.declared.sink.WriteFault.{WriteFault}
-use Rattle.tab_io.proofs.Writing.{writes_broken, writes_then}
+use Rattle.tab_io.proofs.SinkLemmas.{writes_broken, writes_then}
 use Rattle.table_form.specs.Running.Courses.{CourseView}
 use Rattle.table_form.specs.Running.State.{State}
 use Rattle.script_doc.specs.declared.step.Step.{Step}
-use Rattle.plan_text.specs.PlanText.{texts_below}
+use Rattle.tab_words.specs.Texts.{texts_below}
 use Rattle.replay_text.specs.ReplayText.{posted_line, replay_text, step_text}
 
 pub steps_broken : (s t : SinkView) (names : List (List ℕ)) (course : CourseView)

@@ -7,7 +7,7 @@ use Rattle.table_form.specs.Running.State.{State}
 use Rattle.script_doc.specs.declared.step.Step.{Step}
 use Rattle.script_doc.specs.declared.step.Step.TheVariants as step
 use Rattle.step_machine.specs.Cores.{core_at}
-use Rattle.plan_text.specs.PlanText.{texts_below}
+use Rattle.tab_words.specs.Texts.{texts_below}
 use Rattle.replay_text.specs.StintLine.{stint_line}
 
 -- by the step core c enters a round

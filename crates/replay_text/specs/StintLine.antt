@@ -3,7 +3,7 @@ use Rattle.std.specs.Prelude.{ℕ, ◌++◌, Bool, List, codes, decimal, Option,
 use Rattle.tab_core.specs.declared.stint.Stint.{Stint}
 use Rattle.table_form.specs.Running.Choice.{is_shared}
 use Rattle.table_form.specs.Running.Courses.{CourseView}
-use Rattle.plan_text.specs.PlanText.{owner_word}
+use Rattle.vcpu_names.specs.Names.{owner_word}
 
 -- whether the vCPU ran in its own slot or in unused time
 abbrev pub how_word : Bool → Option ℕ → List ℕ

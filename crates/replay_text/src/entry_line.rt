@@ -1,4 +1,4 @@
-ghost use Rattle.tab_io.specs.Outside.{Writes};
+ghost use Rattle.tab_io.specs.Sinks.{Writes};
 ghost use Rattle.replay_text.specs.ReplayText.{entry_line};
 
 use tab_core::{CoreNo, Entry};

@@ -1,13 +1,13 @@
 ghost use Rattle.std.specs.Prelude.{◌≡◌, ◌%◌, ◌<◌, ◌≤◌, Some, length};
 ghost use Rattle.tab_core.specs.declared.TheConstants.{ROUND};
-ghost use Rattle.tab_io.specs.Outside.{Writes};
+ghost use Rattle.tab_io.specs.Sinks.{Writes};
 ghost use Rattle.table_form.specs.Running.Choice.{is_shared, runs_other};
 ghost use Rattle.table_form.specs.Running.Courses.{plan_after};
 ghost use Rattle.table_form.specs.Tables.Serves.{owner_at};
-ghost use Rattle.plan_text.specs.PlanText.{names_of};
+ghost use Rattle.vcpu_names.specs.Names.{names_of};
 ghost use Rattle.replay_text.specs.StintLine.{how_word, stint_line};
 
-use plan_text::owner_in;
+use vcpu_names::owner_in;
 use tab_core::{CoreNo, ROUND, Stint, Vcpu, VcpuNo};
 use tab_io::{Sink, WriteFault};
 use tab_words::{TextPiece, put_pieces};

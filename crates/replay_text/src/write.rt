@@ -1,6 +1,7 @@
 ghost use Rattle.std.specs.Prelude.{◌≡◌, ◌<◌, Some, length, slice_get};
-ghost use Rattle.tab_io.specs.Outside.{Writes};
-ghost use Rattle.plan_text.specs.PlanText.{names_of, texts_below};
+ghost use Rattle.tab_io.specs.Sinks.{Writes};
+ghost use Rattle.tab_words.specs.Texts.{texts_below};
+ghost use Rattle.vcpu_names.specs.Names.{names_of};
 ghost use Rattle.replay_text.specs.Counting.{AreCounts};
 ghost use Rattle.replay_text.specs.ReplayText.{posted_line, replay_text, step_text};
 ghost use Rattle.replay_text.specs.RunsOf.{HasMadeAll, IsRunOf};

@@ -1,4 +1,6 @@
-pub mod Views
-pub mod Outside
-pub mod Memory
 pub mod Adapters
+pub mod FaultCounts
+pub mod Memory
+pub mod Sinks
+pub mod Sources
+pub mod Views

@@ -1,5 +1,5 @@
 ghost use Rattle.std.specs.Prelude.{◌≡◌, ◌<◌, ◌≤◌, ◌^◌, ℕ};
-ghost use Rattle.tab_io.specs.Outside.{next_count};
+ghost use Rattle.tab_io.specs.FaultCounts.{next_count};
 
 use std::marker::Model;
 

@@ -1,9 +1,9 @@
 //! The outside: sources of bytes and sinks for bytes, in memory and over std, that count their faults.
 //!
 //! Contracts see an end as a view of it (`specs/Views.antt`): its bytes, where it tells them, and its
-//! count of faults. `specs/Outside.antt` says what a read, a write, `finish`, `read_all` and
-//! `write_all` do to the view. A fault is answered only where the count rose. The lemmas of
-//! `proofs/Writing.antt` join texts that are written one after the other.
+//! count of faults. `specs/Sources.antt` says what a read and `read_all` do to the view, and
+//! `specs/Sinks.antt` what a write, `finish` and `write_all` do. A fault is answered only where the
+//! count rose. The lemmas of `proofs/SinkLemmas.antt` join texts that are written one after the other.
 #![tactic(auto)]
 
 mod fault_count;

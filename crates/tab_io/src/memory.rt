@@ -1,5 +1,6 @@
 ghost use Rattle.std.specs.Prelude.{◌≡◌, ◌+◌, ◌-◌, ◌<◌, ◌≤◌, ◌↔◌, ◌^◌, ℕ, [], length, min, take, IfOk, IsTrue, Contains};
-ghost use Rattle.tab_io.specs.Outside.{Gave, Wrote, Finished, CountsGot, CountsPut, StaysSettled, StaysSound, UsesRoom, KeepsRoom, FinishWorks};
+ghost use Rattle.tab_io.specs.Sinks.{Wrote, Finished, CountsPut, StaysSettled, UsesRoom, KeepsRoom, FinishWorks};
+ghost use Rattle.tab_io.specs.Sources.{Gave, CountsGot, StaysSound};
 ghost use Rattle.tab_io.specs.declared.source.Got.{Got};
 ghost use Rattle.tab_io.specs.declared.sink.Put.{Put};
 ghost use Rattle.std.specs.Io.KnownBytes.{Keeps};

@@ -1,7 +1,7 @@
 ghost use Rattle.std.specs.Prelude.{◌≡◌, ◌<◌, ◌≤◌, length};
 ghost use Rattle.std.specs.Io.KnownBytes.{Keeps};
 ghost use Rattle.tab_io.specs.Views.{SinkView};
-ghost use Rattle.tab_io.specs.Outside.{Wrote, CountsPut, Finished, Writes, StaysSettled, UsesRoom, KeepsRoom, FinishWorks};
+ghost use Rattle.tab_io.specs.Sinks.{Wrote, CountsPut, Finished, Writes, StaysSettled, UsesRoom, KeepsRoom, FinishWorks};
 
 use crate::fault_count::FaultCount;
 use std::error::Error;

@@ -1,6 +1,6 @@
-ghost use Rattle.std.specs.Prelude.{◌≡◌, ◌<◌, ◌≤◌, ◌^◌, length};
+ghost use Rattle.std.specs.Prelude.{◌≡◌, ◌<◌, ◌≤◌, length};
 ghost use Rattle.tab_io.specs.Views.{SourceView};
-ghost use Rattle.tab_io.specs.Outside.{Gave, CountsGot, ReadsAll, StaysSound};
+ghost use Rattle.tab_io.specs.Sources.{Gave, CountsGot, ReadsAll, StaysSound};
 ghost use Rattle.tab_io.specs.declared.source.ReadAll.TheVariants.{NoMemory};
 
 use crate::fault_count::FaultCount;
@@ -70,18 +70,17 @@ impl From<AllocError> for ReadAll {
 // As many bytes as one read of `read_all` asks for at most.
 const PIECE: usize = 65_536;
 
-/// Reads all bytes up to the end, and at most one byte more than the limit, which is below 2^32.
+/// Reads all bytes up to the end, and at most one byte more than the limit.
 ///
 /// An error loses the bytes that were read. Every turn takes a byte or ends, so the call returns.
 pub fn read_all<S: Source>(alloc: Global, source: &mut S, limit: usize) -> Result<Vec<u8>, ReadAll>
-    requires { limit < 2 ^ 32 }
     ensures { ReadsAll (S.state source.old) (S.state source.new) limit result }
 {
     let mut bytes = Vec::new(alloc);
-    let mut piece = vec![in alloc; 0u8; PIECE.min(limit + 1)]?;
+    let mut piece = vec![in alloc; 0u8; PIECE.min(limit.saturating_add(1))]?;
     let room = piece.as_mut_slice();
     while bytes.len() <= limit {
-        let most = room.len().min(limit + 1 - bytes.len());
+        let most = room.len().min((limit - bytes.len()).saturating_add(1));
         let into = &mut room[..most];
         match source.read(into) {
             Got::Bytes(count) => bytes.extend_from_slice(&into[..count])?,

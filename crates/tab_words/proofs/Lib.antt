@@ -3,6 +3,8 @@ pub mod FirstLine
 pub mod FirstSection
 pub mod FirstWord
 pub mod Grammar
+pub mod NumberedTexts
 pub mod Numbers
 pub mod Pieces
 pub mod SectionSizes
+pub mod TextLemmas

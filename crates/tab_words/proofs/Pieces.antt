@@ -3,9 +3,9 @@ use Rattle.std.proofs.Common.{sym, ap, subst, ◌∙◌, ◌≡◌, ℕ, ◌+◌
 use Rattle.std.proofs.lemmas.List.{take_more, flat_map_more, take-append-drop}
 use Rattle.std.proofs.lemmas.Grind.{flat_map-append}
 use Rattle.tab_io.specs.Views.{SinkView}
-use Rattle.tab_io.specs.Outside.{Writes}
+use Rattle.tab_io.specs.Sinks.{Writes}
 use Rattle.tab_io.specs.declared.sink.WriteFault.{WriteFault}
-use Rattle.tab_io.proofs.Writing.{writes_more, writes_broken}
+use Rattle.tab_io.proofs.SinkLemmas.{writes_more, writes_broken}
 
 pub front_more : {X : Type 0} (f : X → List ℕ) (xs : List X) (i : ℕ) (d : X) → i < length xs
     → flat_map f (take (i + 1) xs) ≡ flat_map f (take i xs) ++ f (get_or xs i d)

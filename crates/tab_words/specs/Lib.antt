@@ -3,4 +3,5 @@ pub mod Lines
 pub mod Numbers
 pub mod Pieces
 pub mod Sections
+pub mod Texts
 pub mod Words

@@ -7,6 +7,7 @@
 
 mod command;
 mod line;
+mod line_text;
 mod number;
 mod section;
 mod text;
@@ -14,6 +15,7 @@ mod word;
 
 pub use command::{Command, MOST_ROUNDS, Usage, read_words};
 pub use line::Lines;
+pub use line_text::put_line;
 pub use number::read_number;
 pub use section::{Sections, cut_sections};
 pub use text::{TextPiece, put_number, put_pieces};

@@ -1,5 +1,5 @@
 ghost use Rattle.std.specs.Prelude.{decimal, flat_map};
-ghost use Rattle.tab_io.specs.Outside.{Writes};
+ghost use Rattle.tab_io.specs.Sinks.{Writes};
 ghost use Rattle.tab_words.specs.Pieces.{piece_text};
 
 use itoa::Buffer;
@@ -23,14 +23,12 @@ pub fn put_pieces<K: Sink>(sink: &mut K, pieces: &[TextPiece<'_>]) -> Result<(),
     ensures { Writes (K.state sink.old) (K.state sink.new) (flat_map piece_text pieces.now) result }
 {
     for piece in pieces {
-        if let Err(fault) = put_piece(sink, piece) {
-            return Err(fault);
-        }
+        put_piece(sink, piece)?;
     }
     Ok(())
 }
 
-fn put_piece<K: Sink>(sink: &mut K, piece: &TextPiece<'_>) -> Result<(), WriteFault>
+pub(crate) fn put_piece<K: Sink>(sink: &mut K, piece: &TextPiece<'_>) -> Result<(), WriteFault>
     ensures { Writes (K.state sink.old) (K.state sink.new) (piece_text piece.now) result }
 {
     match piece {

@@ -9,7 +9,8 @@ use Rattle.tab_words.specs.declared.command.Command.TheVariants as command
 use Rattle.tab_words.specs.declared.command.TheConstants.{MOST_ROUNDS}
 use Rattle.table_form.specs.Tables.Plans.{IsPlanFor}
 use Rattle.table_form.specs.Tables.Views.{plan_view}
-use Rattle.plan_text.specs.PlanText.{names_of, plan_text}
+use Rattle.vcpu_names.specs.Names.{names_of}
+use Rattle.plan_text.specs.PlanText.{plan_text}
 use Rattle.replay_text.specs.ReplayText.{replay_text}
 use Rattle.replay_text.specs.RunsOf.{IsRunOf}
 use Rattle.tableau_sim.specs.declared.help.TheConstants.{HELP, VERSION}

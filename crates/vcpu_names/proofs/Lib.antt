@@ -1,1 +1,2 @@
 pub mod NameMap
+pub mod NamesLemmas

@@ -1,5 +1,5 @@
 -- The names of a host's vCPUs, and a map that finds a vCPU by its name.
-use Rattle.std.specs.Prelude.{◌≡◌, ◌≢◌, ℕ, ◌<◌, List, [], map, length, slice_index_or, Option, Some, None}
+use Rattle.std.specs.Prelude.{◌≡◌, ◌≢◌, ℕ, ◌<◌, List, [], codes, map, length, slice_index_or, Option, Some, None}
 use Rattle.std.specs.BTreeMap.{BTreeMap, get_by}
 use Rattle.std.specs.Cmp.Lexicographic.{slice_cmp}
 use Rattle.std.specs.Ordering.{nat_cmp}
@@ -14,6 +14,11 @@ names_of vcpus = map (λ vcpu. vcpu.name) vcpus
 -- the name of the vCPU of a number
 abbrev pub name_at : List (List ℕ) → ℕ → List ℕ
 name_at names vcpu = slice_index_or names vcpu []
+
+-- an owner in a text: its name, or `-` for idle cells
+abbrev pub owner_word : List (List ℕ) → Option ℕ → List ℕ
+owner_word names None = codes "-"
+owner_word names (Some vcpu) = name_at names vcpu
 
 -- each has the form of a name
 abbrev pub AreNames : List (List ℕ) → Type 0

@@ -1,10 +1,13 @@
-//! The vCPUs of a host, found by their names.
+//! The vCPUs of a host, found by their names, and the names that texts have for them.
 //!
-//! `specs/Names.antt` says which name each number has, and what it is that no vCPU has a name.
+//! `specs/Names.antt` says which name each number has, what it is that no vCPU has a name, and how a
+//! text names an owner.
 #![tactic(auto)]
 
 mod names;
+mod owner;
 #[cfg(test)]
 mod tests;
 
 pub use names::Names;
+pub use owner::{name_in, owner_in};

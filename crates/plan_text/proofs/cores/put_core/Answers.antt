@@ -1,13 +1,15 @@
-use Rattle.plan_text.specs.PlanText.{names_of}
-use Rattle.plan_text.proofs.Parts.{core_broken, core_ends}
+use Rattle.std.proofs.lemmas.Result.{err_from_is_err_and}
+use Rattle.tab_io.proofs.SinkLemmas.{writes_broken, writes_then}
+use Rattle.vcpu_names.specs.Names.{names_of}
+use Rattle.plan_text.proofs.WritingLemmas.{core_parts}
 use Rattle.plan_text.proofs.cores.put_core.Goals as goal
 
-pub returns-in-Err : goal.returns-in-Err
-returns-in-Err g c = core_broken _ _ (names_of c.args.vcpus.now) c.args.rows.now c.args.core _
-    c.in-Err.fault c.put_core_line.ensures c.in-Err.is
+pub returns-in_err-put_line : goal.returns-in_err-put_line
+returns-in_err-put_line g c =
+    let p = err_from_is_err_and c.from_residual.result c.from_residual.ensures.1 in
+    rw (p.1, core_parts (names_of c.args.vcpus.now) c.args.core c.args.row.now)
+    (writes_broken _ _ _ _ _ _ c.put_line.ensures c.in_err-put_line.was)
 
 pub returns : goal.returns
-returns g c =
-    core_ends _ _ _ (names_of c.args.vcpus.now) c.args.rows.now c.args.core c.index-rows-core.result
-    _ _ c.in_default.field-0 _ c.requires.core c.index-rows-core.is
-    c.segments.ensures.maximal c.put_core_line.ensures c.in_default.is c.put_row.ensures
+returns g c = rw (core_parts (names_of c.args.vcpus.now) c.args.core c.args.row.now, ← c.segments.ensures.maximal)
+    (writes_then _ _ _ _ _ _ _ _ c.put_line.ensures c.in_ok-put_line.was c.put_row.ensures)

@@ -4,8 +4,8 @@ use Rattle.tab_core.specs.declared.vcpu.Vcpu.{Vcpu}
 use Rattle.table_form.specs.declared.raw_tables.RawTables.{RawTables}
 use Rattle.plan_text.specs.FirstBad.{IsFirstBad}
 use Rattle.plan_text.specs.Names.{AreHostNames}
-use Rattle.plan_text.specs.PlanLines.{IsPlanText, IsSomePlan, worded}
-use Rattle.plan_text.specs.PlanText.{names_of}
+use Rattle.plan_text.specs.Meaning.{IsPlanText, IsSomePlan, worded}
+use Rattle.vcpu_names.specs.Names.{names_of}
 use Rattle.plan_text.specs.declared.read_fault.ReadPlan.TheVariants.{BadLine, NoMemory}
 use Rattle.plan_text.proofs.WholeText.{host_names, read_is_due, refusal_is_due}
 use Rattle.plan_text.proofs.read.read_plan.Goals as goal

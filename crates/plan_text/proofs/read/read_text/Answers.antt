@@ -4,8 +4,9 @@ use Rattle.std.proofs.lemmas.Result.{err_from_is_err_and}
 use Rattle.tab_words.specs.Lines.{lines_of}
 use Rattle.tab_words.specs.Words.{words_of}
 use Rattle.plan_text.specs.FirstBad.{IsFirstBad}
-use Rattle.plan_text.specs.PlanLines.{head_words, worded}
-use Rattle.plan_text.specs.PlanText.{is_admitted, names_of}
+use Rattle.plan_text.specs.Meaning.{worded}
+use Rattle.plan_text.specs.PlanLines.{head_words, is_admitted}
+use Rattle.vcpu_names.specs.Names.{names_of}
 use Rattle.plan_text.specs.Reading.{AreRows}
 use Rattle.plan_text.specs.declared.read_fault.ReadPlan.TheVariants.{BadLine}
 use Rattle.plan_text.proofs.WholeText.{bad_in_text, few_behind, head_is_bad}

@@ -1,6 +1,6 @@
 use Rattle.std.proofs.Common.{◌≡◌, ◌+◌, ◌++◌, length, map}
 use Rattle.std.specs.List.{All}
-use Rattle.plan_text.specs.PlanLines.{IsFineSegment, segment_words}
+use Rattle.plan_text.specs.Meaning.{IsFineSegment, segment_words}
 use Rattle.plan_text.proofs.read_cores.read_row.Given as goal
 
 abbrev pub invariant-loop-line : goal.invariant-loop-line

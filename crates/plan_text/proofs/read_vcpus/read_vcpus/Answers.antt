@@ -3,9 +3,9 @@ use Rattle.std.proofs.lemmas.Grind.{common_steps}
 use Rattle.std.proofs.lemmas.List.{length-map}
 use Rattle.std.proofs.lemmas.Result.{err_from_is_err_and}
 use Rattle.tab_core.specs.declared.vcpu.Vcpu.{Vcpu}
-use Rattle.plan_text.specs.PlanText.{name_at, names_of}
+use Rattle.vcpu_names.specs.Names.{name_at, names_of}
 use Rattle.plan_text.specs.declared.read_fault.ReadPlan.TheVariants.{BadLine}
-use Rattle.plan_text.proofs.Parts.{name_here}
+use Rattle.vcpu_names.proofs.NamesLemmas.{name_here}
 use Rattle.plan_text.proofs.VcpuLines.{bad_behind_vcpu, bad_behind_vcpus, housed_more, housed_whole, lines_more, no_vcpus_yet, vcpu_is_bad}
 use Rattle.plan_text.proofs.read_vcpus.read_vcpus.Goals as goal
 

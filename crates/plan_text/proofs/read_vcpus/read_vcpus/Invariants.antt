@@ -2,7 +2,7 @@ use Rattle.std.proofs.Common.{◌≡◌, ℕ, ◌++◌, length, take, true}
 use Rattle.table_form.specs.Tables.Homes.{are_housed}
 use Rattle.plan_text.specs.FirstBad.{IsFirstBad}
 use Rattle.plan_text.specs.PlanLines.{vcpu_lines}
-use Rattle.plan_text.specs.PlanText.{names_of}
+use Rattle.vcpu_names.specs.Names.{names_of}
 use Rattle.plan_text.specs.Reading.{AreVcpus}
 use Rattle.plan_text.proofs.read_vcpus.read_vcpus.Given as goal
 

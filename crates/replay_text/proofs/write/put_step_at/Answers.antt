@@ -1,6 +1,6 @@
 use Rattle.std.proofs.Common.{ap, arith, refl, ◌∙◌, ◌<◌, ◌*◌, inl, inr, length, get_or}
-use Rattle.tab_io.proofs.Writing.{writes_nothing}
-use Rattle.plan_text.specs.PlanText.{names_of}
+use Rattle.tab_io.proofs.SinkLemmas.{writes_nothing}
+use Rattle.vcpu_names.specs.Names.{names_of}
 use Rattle.script_doc.specs.declared.step.Step.TheVariants as step
 use Rattle.replay_text.specs.ReplayText.{decides_before, runs_before}
 use Rattle.replay_text.proofs.Within.{found_at, names_core, entry_there, stint_there, used_there, text_at, decide_text, run_text}

@@ -1,6 +1,7 @@
 use Rattle.std.proofs.Common.{Ok}
-use Rattle.tab_io.specs.Outside.{Writes}
-use Rattle.plan_text.specs.PlanText.{names_of, texts_below}
+use Rattle.tab_io.specs.Sinks.{Writes}
+use Rattle.tab_words.specs.Texts.{texts_below}
+use Rattle.vcpu_names.specs.Names.{names_of}
 use Rattle.replay_text.specs.Counting.{AreCounts}
 use Rattle.replay_text.specs.ReplayText.{step_text}
 use Rattle.replay_text.proofs.write.put_steps.Given as goal

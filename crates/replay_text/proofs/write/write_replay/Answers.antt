@@ -1,4 +1,4 @@
-use Rattle.plan_text.specs.PlanText.{names_of}
+use Rattle.vcpu_names.specs.Names.{names_of}
 use Rattle.replay_text.proofs.Texts.{steps_broken, replay_ends}
 use Rattle.replay_text.proofs.Within.{all_made}
 use Rattle.replay_text.proofs.write.write_replay.Goals as goal

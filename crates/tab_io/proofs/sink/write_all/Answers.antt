@@ -1,7 +1,7 @@
 use Rattle.std.proofs.Common.{take-add, arith, ◌-◌, ◌≡◌, ◌+◌, take, drop, ◌∙◌, sym, ap, length, ℕ, Some}
 use Rattle.std.proofs.lemmas.List.{take-append-drop, length-drop, take_all}
 use Rattle.std.proofs.KnownBytes.{Appends-trans, Appends-kept}
-use Rattle.tab_io.proofs.Writing.{rose_since}
+use Rattle.tab_io.proofs.SinkLemmas.{rose_since}
 use Rattle.tab_io.proofs.sink.write_all.Goals as goal
 
 pub loop-at-preserved : goal.loop-at-preserved

@@ -1,5 +1,5 @@
 use Rattle.std.proofs.Common.{take, flat_map, Ok}
-use Rattle.tab_io.specs.Outside.{Writes}
+use Rattle.tab_io.specs.Sinks.{Writes}
 use Rattle.tab_words.specs.Pieces.{piece_text}
 use Rattle.tab_words.proofs.text.put_pieces.Given as goal
 

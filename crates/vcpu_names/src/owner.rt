@@ -1,5 +1,5 @@
 ghost use Rattle.std.specs.Prelude.{◌≡◌};
-ghost use Rattle.plan_text.specs.PlanText.{name_at, names_of, owner_word};
+ghost use Rattle.vcpu_names.specs.Names.{name_at, names_of, owner_word};
 
 use tab_core::{Vcpu, VcpuNo};
 

@@ -1,19 +1,20 @@
 -- Texts that are written one after the other.
-use Rattle.std.proofs.Common.{arith, sym, ap, ◌∙◌, ◌≡◌, ℕ, ◌≤◌, ◌-◌, Some, length, length-append, List, [], ◌++◌, Result, Ok, Err, subst, append_assoc}
+use Rattle.std.proofs.Common.{arith, sym, ap, ◌∙◌, ◌≡◌, ℕ, ◌≤◌, ◌-◌, Some, length, length-append, List, [], ◌++◌, Result, Ok, Err, refl, subst, append_assoc, append-nil}
 use Rattle.std.proofs.KnownBytes.{Appends-nil, Appends-trans}
 use Rattle.tab_io.specs.Views.{SinkView}
-use Rattle.tab_io.specs.Outside.{Rose, Writes}
+use Rattle.tab_io.specs.FaultCounts.{Rose}
+use Rattle.tab_io.specs.Sinks.{Writes}
 use Rattle.tab_io.specs.declared.sink.WriteFault.{WriteFault}
 
--- a rise after a part in which the count didn't fall
+-- a fault in the second of two parts is a fault of both: the count didn't fall in the first
 pub rose_since : (a b c : ℕ) → a ≤ b → Rose b c → Rose a c
 rose_since a b c h g = omega (arith, g)
 
--- a rise before such a part
+-- and so is one in the first
 pub rose_until : (a b c : ℕ) → Rose a b → b ≤ c → Rose a c
 rose_until a b c g h = omega (arith, g)
 
--- a text of no bytes
+-- a loop that writes begins so: no byte is written yet
 pub writes_nothing : {U : Type 0} (s : SinkView) (u : U) → Writes s s [] (Ok u)
 writes_nothing s u = record {
   later = omega arith;
@@ -25,7 +26,7 @@ writes_nothing s u = record {
   };
 }
 
--- one text came, and then another call
+-- what two calls wrote, one after the other, is both texts in a row
 pub writes_more : {U W : Type 0} (s t v : SinkView) (a b : List ℕ) (u : U) (r : Result W WriteFault)
     → Writes s t a (Ok u) → Writes t v b r → Writes s v (a ++ b) r
 writes_more s t v a b u (Ok w) h g = record {
@@ -58,7 +59,7 @@ writes_more s t v a b u (Err e) h g = record {
   };
 }
 
--- a call stopped, and more was due
+-- where a call fails, so does the writing of a longer text that begins with its own
 pub writes_stopped : {U W : Type 0} (s t : SinkView) (a b : List ℕ) (e f : WriteFault)
     → Writes {U = U} s t a (Err e) → Writes {U = W} s t (a ++ b) (Err f)
 writes_stopped s t a b e f h = record {
@@ -75,13 +76,60 @@ writes_stopped s t a b e f h = record {
   fits = record { lacks = λ m is. omega (arith, h.fits.lacks m is, length-append a b) };
 }
 
--- one text came by a call's answer, and then another call
+-- `writes_more` where the first call's answer is known by an equation, as in a branch
 pub writes_then : {U W : Type 0} (s t v : SinkView) (a b : List ℕ) (q : Result U WriteFault) (u : U)
     (r : Result W WriteFault)
     → Writes s t a q → q ≡ Ok u → Writes t v b r → Writes s v (a ++ b) r
 writes_then s t v a b q u r h done g = writes_more s t v a b u r (subst (λ k. Writes s t a k) done h) g
 
--- a call's answer was that it stopped, and more was due
+-- `writes_stopped` likewise
 pub writes_broken : {U W : Type 0} (s t : SinkView) (a b : List ℕ) (q : Result U WriteFault) (e : WriteFault)
     → Writes s t a q → q ≡ Err e → Writes {U = W} s t (a ++ b) (Err e)
 writes_broken s t a b q e h is = writes_stopped s t a b e e (subst (λ k. Writes s t a k) is h)
+
+-- ---- a text that is written in parts
+
+-- a front of the text was written, and this is left
+pub record IsLeft (s t : SinkView) (text left : List ℕ) : Type 0 where
+  pub front : List ℕ
+  pub whole : text ≡ front ++ left
+  pub written : Writes {U = Unit {0}} s t front (Ok tt)
+
+-- before the first part all is left
+pub all_left : (s : SinkView) (text : List ℕ) → IsLeft s s text text
+all_left s text = record { front = []; whole = refl; written = writes_nothing s tt }
+
+-- a part was written: the rest is left
+pub left_behind : (s t v : SinkView) (text left part rest : List ℕ) (r : Result (Unit {0}) WriteFault)
+    (u : Unit {0})
+    → IsLeft s t text left → left ≡ part ++ rest → Writes t v part r → r ≡ Ok u → IsLeft s v text rest
+left_behind s t v text left part rest r u is parts wrote done = record {
+  front = is.front ++ part;
+  whole = is.whole ∙ (ap (λ l. is.front ++ l) parts ∙ sym (append_assoc is.front part rest));
+  written = writes_more s t v is.front part tt (Ok tt) is.written (subst (λ k. Writes t v part k) done wrote);
+}
+
+-- writing a part failed: so did writing the text
+pub left_broken : (s t v : SinkView) (text left part rest : List ℕ) (r : Result (Unit {0}) WriteFault)
+    (e : WriteFault)
+    → IsLeft s t text left → left ≡ part ++ rest → Writes t v part r → r ≡ Err e
+    → Writes {U = Unit {0}} s v text (Err e)
+left_broken s t v text left part rest r e is parts wrote failed =
+    subst (λ (x : List ℕ). Writes {U = Unit {0}} s v x (Err e))
+    (sym (is.whole ∙ ap (λ l. is.front ++ l) parts))
+    (writes_more s t v is.front (part ++ rest) tt (Err e) is.written
+    (writes_broken t v part rest r e wrote failed))
+
+-- the last part's answer is the answer for the text
+pub left_last : (s t v : SinkView) (text left : List ℕ) (r : Result (Unit {0}) WriteFault)
+    → IsLeft s t text left → Writes t v left r → Writes s v text r
+left_last s t v text left r is wrote =
+    subst (λ (x : List ℕ). Writes s v x r) (sym is.whole)
+    (writes_more s t v is.front left tt r is.written wrote)
+
+-- where nothing is left, the text was written
+pub none_left : (s t : SinkView) (text left : List ℕ) → IsLeft s t text left → left ≡ []
+    → Writes {U = Unit {0}} s t text (Ok tt)
+none_left s t text left is none =
+    subst (λ (x : List ℕ). Writes {U = Unit {0}} s t x (Ok tt))
+    (sym (is.whole ∙ (ap (λ l. is.front ++ l) none ∙ append-nil is.front))) is.written

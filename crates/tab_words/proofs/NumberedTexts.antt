@@ -2,10 +2,10 @@
 use Rattle.std.proofs.Common.{arith, sym, ap, subst, refl, ◌∙◌, ◌≡◌, ℕ, zero, suc, ◌+◌, ◌-◌, ◌<◌, ◌≤◌, List, [], ◌++◌, Result, Ok, Err, append_assoc, append-nil, add-one, add-suc}
 use native.Mathlib.Numerals.{unary_clauses}
 use Rattle.tab_io.specs.Views.{SinkView}
-use Rattle.tab_io.specs.Outside.{Writes}
+use Rattle.tab_io.specs.Sinks.{Writes}
 use Rattle.tab_io.specs.declared.sink.WriteFault.{WriteFault}
-use Rattle.tab_io.proofs.Writing.{writes_nothing, writes_more, writes_broken}
-use Rattle.plan_text.specs.PlanText.{texts_below}
+use Rattle.tab_io.proofs.SinkLemmas.{writes_nothing, writes_more, writes_broken}
+use Rattle.tab_words.specs.Texts.{texts_below}
 
 pub texts_below-zero : (text : ℕ → List ℕ) → texts_below text 0 ≡ []
 unfolding texts_below
