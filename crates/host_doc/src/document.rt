@@ -25,6 +25,9 @@ const DOCUMENT_KEYS: [Key; 6] = [
 /// one, then the members of `vcpu` in their order. A key that is absent where it is required, or that
 /// isn't in the table, is a bad key. Where a vCPU isn't admitted its share and its latency aren't
 /// examined. Bytes that the crate `toml` refuses are no document.
+///
+/// `NoMemory` comes for want of memory, and also where `vcpu` has more members than `u32::MAX`, which
+/// `TooMany` couldn't count; no document below 4 GiB has so many.
 pub fn read_host(alloc: Global, bytes: &[u8]) -> Result<Host, HostFault>
     ensures ok { IfOk result (IsHostText bytes.now) }
     ensures fault { IfErr result (λ fault. (fault ≡ HostFault.NotToml)

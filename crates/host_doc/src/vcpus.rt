@@ -47,9 +47,7 @@ pub(crate) fn vcpus_of(alloc: Global, values: &[Value]) -> Result<Vcpus, HostFau
             return Err(HostFault::SameName { vcpu: number });
         }
         let vcpu = vcpu_of(table, number, name)?;
-        if vcpus.push(vcpu).is_err() {
-            return Err(HostFault::NoMemory);
-        }
+        vcpus.push(vcpu)?;
     }
     Ok(Vcpus::of(vcpus))
 }

@@ -10,7 +10,7 @@ use Rattle.table_form.specs.Running.Courses.{no_plan}
 use Rattle.table_form.specs.Tables.Plans.{IsPlanFor, PlanView}
 use Rattle.table_form.specs.Tables.Views.{plan_view}
 use Rattle.table_form.specs.declared.plan.Plan.{Plan}
-use Rattle.script_doc.specs.Events.{IsWithin}
+use Rattle.script_doc.specs.Events.{IsActWithin}
 use Rattle.script_doc.specs.Script.{AreWithin, changes_in}
 use Rattle.script_doc.specs.declared.event.Event.{Event}
 use Rattle.plan_book.specs.After.{Applies, IsKnownAfter}
@@ -169,12 +169,12 @@ invariant_next host events n event old new numbers numbers' runnable runnable' m
 pub next_within : (host : Host) (events : List Event) (n : ℕ) (event : Event) (so_far : BookSoFar)
     (numbers : List ℕ) (runnable : List (List Bool)) → BookInvariant host events n so_far numbers runnable
     → AreWithin (length host.vcpus) events → n < length events → event ≡ get_or events n event
-    → IsWithin (length so_far.host.vcpus) event.act
+    → IsActWithin (length so_far.host.vcpus) event.act
 next_within host events n event so_far numbers runnable made within lt is =
     let shape = same_shape host events n (known_of so_far) made.known in
-    let here : IsWithin (length host.vcpus) (get_or events n event).act = within n event lt in
-    subst (λ count. IsWithin count event.act) (sym shape.vcpus)
-    (subst (λ (e : Event). IsWithin (length host.vcpus) e.act) (sym is) here)
+    let here : IsActWithin (length host.vcpus) (get_or events n event).act = within n event lt in
+    subst (λ count. IsActWithin count event.act) (sym shape.vcpus)
+    (subst (λ (e : Event). IsActWithin (length host.vcpus) e.act) (sym is) here)
 
 -- there are few plans
 pub few_plans : (host : Host) (events : List Event) (n : ℕ) (so_far : BookSoFar)

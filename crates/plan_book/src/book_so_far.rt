@@ -7,7 +7,7 @@ ghost use Rattle.worst_fit.specs.Bound.{IsWithinBound};
 ghost use Rattle.table_form.specs.Tables.Plans.{IsPlanFor, PlanView};
 ghost use Rattle.table_form.specs.Tables.Views.{plan_view};
 ghost use Rattle.plan_make.specs.Planned.{IsPlanned};
-ghost use Rattle.script_doc.specs.Events.{IsWithin};
+ghost use Rattle.script_doc.specs.Events.{IsActWithin};
 ghost use Rattle.plan_book.specs.After.{Applies};
 ghost use Rattle.plan_book.specs.Changes.{IsChangeRefused, IsChangeTaken, IsUnplanned};
 ghost use Rattle.plan_book.specs.Inside.Making.{IsHostFault, KeepsPlans, known_of, outcome_of_fault};
@@ -62,7 +62,7 @@ impl BookSoFar {
         act: &Act,
     ) -> Result<(), NoMemory>
         requires some { 0 < length self.old.plans.items }
-        requires within { IsWithin (length self.old.host.vcpus) act.now }
+        requires within { IsActWithin (length self.old.host.vcpus) act.now }
         ensures applies { OnOk result (Applies (known_of self.old) act.now (known_of self.new)) }
         ensures keeps_plans { OnOk result (KeepsPlans self.old.plans.items self.new.plans.items) }
         ensures fits { IsPlanFor self.old.host (known_of self.old).plan

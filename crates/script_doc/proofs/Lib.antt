@@ -1,6 +1,7 @@
-pub mod Due
-pub mod EditWalk
-pub mod EventWalk
-pub mod Rows
-pub mod Walk
-pub mod Within
+pub mod EventsLemmas
+pub mod OneScript
+pub mod OneStepList
+pub mod ReadingLemmas
+pub mod ScriptLemmas
+pub mod StatementLemmas
+pub mod StepsLemmas

@@ -1,5 +1,7 @@
+pub mod EventLines
 pub mod Events
-pub mod Reading
-pub mod Rows
+pub mod Inside
 pub mod Script
+pub mod ScriptFaults
+pub mod Statements
 pub mod Steps

@@ -2,13 +2,15 @@ ghost use Rattle.std.specs.Prelude.{◌≡◌, ℕ, ◌<◌, ◌≤◌, ◌∷�
 ghost use Rattle.tab_core.specs.Name.{IsName};
 ghost use Rattle.tab_core.specs.declared.TheConstants.{MAX_LATENCY_NS, WHOLE_PPM};
 ghost use Rattle.tab_words.specs.Words.{words_of};
-ghost use Rattle.script_doc.specs.Events.{IsEvent, IsNoLine, IsUnknownLine};
+ghost use Rattle.script_doc.specs.EventLines.{IsNoLine};
+ghost use Rattle.script_doc.specs.Events.{IsEvent, IsUnknownLine};
+ghost use Rattle.script_doc.specs.declared.event_reader.LineFault.TheVariants.{NoMemory};
 ghost use Rattle.vcpu_names.specs.Names.{IsUnknown, name_at};
-ghost use Rattle.script_doc.specs.Reading.{AreEdits, AreNoEdits, AreUnknownEdits, IsAct, IsEdit, IsNoAct, IsNoEdit, IsNoName, IsOnly, IsUnknownAct, IsUnknownName};
+ghost use Rattle.script_doc.specs.Inside.Reading.{AreEdits, AreNoEdits, AreUnknownEdits, IsAct, IsEdit, IsNoAct, IsNoEdit, IsNoName, IsOnly, IsUnknownAct, IsUnknownName};
 
 use crate::event::{Act, Edits, Event};
-use std::alloc::Global;
-use tab_core::{Edit, MAX_LATENCY_NS, Name, NameFault, Reservation, VcpuNo, WHOLE_PPM};
+use std::alloc::{AllocFailed, Global};
+use tab_core::{Edit, MAX_LATENCY_NS, Name, Reservation, VcpuNo, WHOLE_PPM};
 use tab_words::{Words, read_number};
 use vcpu_names::Names;
 
@@ -18,6 +20,14 @@ pub(crate) enum LineFault {
     BadLine,
     UnknownName,
     NoMemory,
+}
+
+impl<T: Drop> From<AllocFailed<T>> for LineFault {
+    ghost from_gives = { λ _ fault. fault ≡ NoMemory };
+
+    fn from(_: AllocFailed<T>) -> LineFault {
+        LineFault::NoMemory
+    }
 }
 
 // The event that a line is.
@@ -51,10 +61,10 @@ fn act_of(alloc: Global, words: &mut Words<'_>, names: &Names<'_>) -> Result<Act
         return Err(LineFault::BadLine);
     };
     if kind == b"wake".as_slice() {
-        let vcpu = only_vcpu(alloc, words, names)?;
+        let vcpu = only_vcpu(words, names)?;
         Ok(Act::Wake(vcpu))
     } else if kind == b"block".as_slice() {
-        let vcpu = only_vcpu(alloc, words, names)?;
+        let vcpu = only_vcpu(words, names)?;
         Ok(Act::Block(vcpu))
     } else if kind == b"change".as_slice() {
         let edits = edits_of(alloc, words, names)?;
@@ -65,7 +75,7 @@ fn act_of(alloc: Global, words: &mut Words<'_>, names: &Names<'_>) -> Result<Act
 }
 
 // The vCPU whose name all these words are.
-fn only_vcpu(alloc: Global, words: &mut Words<'_>, names: &Names<'_>) -> Result<VcpuNo, LineFault>
+fn only_vcpu(words: &mut Words<'_>, names: &Names<'_>) -> Result<VcpuNo, LineFault>
     ensures ok { IfOk result (IsOnly names.now words.old) }
     ensures bad_line { IsErrOf result LineFault.BadLine → IsNoName words.old }
     ensures unknown_name { IsErrOf result LineFault.UnknownName → IsUnknownName names.now words.old }
@@ -73,14 +83,14 @@ fn only_vcpu(alloc: Global, words: &mut Words<'_>, names: &Names<'_>) -> Result<
     let (Some(name), None) = (words.next(), words.next()) else {
         return Err(LineFault::BadLine);
     };
-    match vcpu_of(alloc, name, names)? {
+    match vcpu_of(name, names)? {
         Some(vcpu) => Ok(vcpu),
         None => Err(LineFault::UnknownName),
     }
 }
 
 // The vCPU of this name, if there is one.
-fn vcpu_of(alloc: Global, name: &[u8], names: &Names<'_>) -> Result<Option<VcpuNo>, LineFault>
+fn vcpu_of(name: &[u8], names: &Names<'_>) -> Result<Option<VcpuNo>, LineFault>
     ensures name { OnOk result (IsName name.now) }
     ensures found { IfOk result (λ found. MatchOption found (IsUnknown names.now name.now)
         (λ vcpu. (vcpu < length names.now) × (name_at names.now vcpu ≡ name.now))) }
@@ -90,10 +100,10 @@ fn vcpu_of(alloc: Global, name: &[u8], names: &Names<'_>) -> Result<Option<VcpuN
     if let Some(vcpu) = names.number_of(name) {
         return Ok(Some(vcpu));
     }
-    match Name::of(alloc, name) {
-        Ok(_) => Ok(None),
-        Err(NameFault::BadName) => Err(LineFault::BadLine),
-        Err(NameFault::NoMemory) => Err(LineFault::NoMemory),
+    if Name::has_form(name) {
+        Ok(None)
+    } else {
+        Err(LineFault::BadLine)
     }
 }
 
@@ -106,12 +116,8 @@ fn edits_of(alloc: Global, words: &mut Words<'_>, names: &Names<'_>) -> Result<E
     let mut edits = Vec::new(alloc);
     let mut all_known = true;
     while let Some(kind) = words.next() {
-        match edit_of(alloc, kind, words, names)? {
-            Some(edit) => {
-                if edits.push(edit).is_err() {
-                    return Err(LineFault::NoMemory);
-                }
-            }
+        match edit_of(kind, words, names)? {
+            Some(edit) => edits.push(edit)?,
             None => all_known = false,
         }
     }
@@ -125,12 +131,7 @@ fn edits_of(alloc: Global, words: &mut Words<'_>, names: &Names<'_>) -> Result<E
 }
 
 // The edit that begins with the word `kind` and these words; none where its name is no vCPU's.
-fn edit_of(
-    alloc: Global,
-    kind: &[u8],
-    words: &mut Words<'_>,
-    names: &Names<'_>,
-) -> Result<Option<Edit>, LineFault>
+fn edit_of(kind: &[u8], words: &mut Words<'_>, names: &Names<'_>) -> Result<Option<Edit>, LineFault>
     ensures ok { IfOk result (IsEdit names.now (kind.now ∷ words.old) words.new) }
     ensures shorter { OnOk result (length words.new < length words.old) }
     ensures bad_line { IsErrOf result LineFault.BadLine → IsNoEdit (kind.now ∷ words.old) }
@@ -140,7 +141,7 @@ fn edit_of(
         return Err(LineFault::BadLine);
     };
     if kind == b"leave".as_slice() {
-        return match vcpu_of(alloc, name, names)? {
+        return match vcpu_of(name, names)? {
             Some(vcpu) => Ok(Some(Edit::Leave { vcpu })),
             None => Ok(None),
         };
@@ -154,7 +155,7 @@ fn edit_of(
     let Some(reservation) = reservation_of(share, latency) else {
         return Err(LineFault::BadLine);
     };
-    match vcpu_of(alloc, name, names)? {
+    match vcpu_of(name, names)? {
         Some(vcpu) => Ok(Some(Edit::Set { vcpu, reservation })),
         None => Ok(None),
     }

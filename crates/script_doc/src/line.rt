@@ -1,5 +1,5 @@
 ghost use Rattle.std.specs.Prelude.{◌≡◌, ◌==◌, length, slice_index};
-ghost use Rattle.script_doc.specs.Rows.{is_skipped};
+ghost use Rattle.script_doc.specs.Statements.{is_skipped};
 
 use tab_words::Words;
 

@@ -1,8 +1,11 @@
-ghost use Rattle.std.specs.Prelude.{◌≡◌, ℕ, ◌<◌, ◌^◌, ◌⊎◌, length, IfErr, IfOk, IsErr, IsErrOf, MatchOption};
-ghost use Rattle.script_doc.specs.Events.{is_change};
+ghost use Rattle.std.specs.Prelude.{◌≡◌, ◌<◌, ◌^◌, ◌⊎◌, List, length, IfErr, IfOk};
 ghost use Rattle.vcpu_names.specs.Names.{names_of};
-ghost use Rattle.script_doc.specs.Rows.{rows_of};
-ghost use Rattle.script_doc.specs.Script.{AreInRun, AreWithin, BreaksLimit, IsFirstFault, IsInLimits, IsScript, fault_at};
+ghost use Rattle.script_doc.specs.Events.{is_change};
+ghost use Rattle.script_doc.specs.Inside.Reading.{fault_at};
+ghost use Rattle.script_doc.specs.Script.{AreInRun, AreWithin, IsScript};
+ghost use Rattle.script_doc.specs.ScriptFaults.{IsFirstFault, broken_limit};
+ghost use Rattle.script_doc.specs.Statements.{statements_of};
+ghost use Rattle.script_doc.specs.declared.event.Event.{Event as EventValue};
 
 #[cfg(test)]
 mod tests;
@@ -32,16 +35,35 @@ pub fn read_script(
     rounds: u32,
 ) -> Result<Script, ScriptFault>
     requires { length bytes.now < 2 ^ 32 }
-    ensures ok { IfOk result (IsScript (names_of host.now.vcpus) rounds (rows_of bytes.now)) }
+    ensures ok { IfOk result (IsScript (names_of host.now.vcpus) rounds (statements_of bytes.now)) }
     ensures known { IfOk result (AreWithin (length host.now.vcpus)) }
     ensures in_run { IfOk result (AreInRun rounds) }
     ensures fault { IfErr result (λ fault. (fault ≡ ScriptFault.NoMemory)
-        ⊎ IsFirstFault (names_of host.now.vcpus) rounds (rows_of bytes.now) fault) }
-    ensures due { (fault : ScriptFault) → IsFirstFault (names_of host.now.vcpus) rounds
-        (rows_of bytes.now) fault
-        → IsErr result }
+        ⊎ IsFirstFault (names_of host.now.vcpus) rounds (statements_of bytes.now) fault) }
+    // The same the other way round: a script is read, and a first fault is answered.
+    ensures read { (events : List EventValue)
+        → IsScript (names_of host.now.vcpus) rounds (statements_of bytes.now) events
+        → (result ≡ Ok events) ⊎ (result ≡ Err ScriptFault.NoMemory) }
+    ensures due { (fault : ScriptFault)
+        → IsFirstFault (names_of host.now.vcpus) rounds (statements_of bytes.now) fault
+        → (result ≡ Err fault) ⊎ (result ≡ Err ScriptFault.NoMemory) }
 {
     let names = Names::of(alloc, host.vcpus.items())?;
+    script_of(alloc, bytes, &names, rounds)
+}
+
+// The script of a text, for a host whose vCPUs have these names.
+fn script_of(
+    alloc: Global,
+    bytes: &[u8],
+    names: &Names<'_>,
+    rounds: u32,
+) -> Result<Script, ScriptFault>
+    requires { length bytes.now < 2 ^ 32 }
+    ensures ok { IfOk result (IsScript names.now rounds (statements_of bytes.now)) }
+    ensures fault { IfErr result (λ fault. (fault ≡ ScriptFault.NoMemory)
+        ⊎ IsFirstFault names.now rounds (statements_of bytes.now) fault) }
+{
     let mut events = Vec::new(alloc);
     let mut tick = 0;
     let mut changes = 0;
@@ -49,7 +71,7 @@ pub fn read_script(
     for line in Lines::over(bytes) {
         number += 1;
         if !is_skipped(line) {
-            let event = match event_of(alloc, line, &names) {
+            let event = match event_of(alloc, line, names) {
                 Ok(event) => event,
                 Err(fault) => return Err(at_line(fault, number)),
             };
@@ -57,12 +79,8 @@ pub fn read_script(
                 return Err(fault);
             }
             tick = event.tick;
-            if is_change(&event.act) {
-                changes += 1;
-            }
-            if events.push(event).is_err() {
-                return Err(ScriptFault::NoMemory);
-            }
+            changes += u32::from(is_change(&event.act));
+            events.push(event)?;
         }
     }
     Ok(Script::of(events))
@@ -89,8 +107,8 @@ fn broken_limit(
     changes: u32,
     line: u32,
 ) -> Option<ScriptFault>
-    ensures { MatchOption result (IsInLimits rounds tick count changes event.now)
-        (BreaksLimit rounds tick count changes event.now line) }
+    ensures { result ≡ broken_limit rounds (record { tick = tick; count = count; changes = changes })
+        line event.now }
 {
     if event.tick < tick {
         return Some(ScriptFault::OutOfOrder { line });

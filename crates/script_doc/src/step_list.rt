@@ -3,13 +3,13 @@ ghost use Rattle.std.specs.Prelude.{◌≡◌, length};
 use crate::step::Step;
 use std::marker::Model;
 
-/// Steps in the order in which they are taken. Contracts see the list.
+/// StepSequence in the order in which they are taken. Contracts see the list.
 #[derive(Debug, Drop)]
-pub struct Steps {
+pub struct StepSequence {
     items: Vec<Step>,
 }
 
-impl Model for Steps {
+impl Model for StepSequence {
     ghost use Rattle.std.specs.Prelude.{List};
     ghost use Rattle.script_doc.specs.declared.step.Step.{Step};
 
@@ -18,12 +18,12 @@ impl Model for Steps {
     ghost view = { λ steps. steps.items.items };
 }
 
-impl Steps {
+impl StepSequence {
     /// The list of these steps.
-    pub fn of(items: Vec<Step>) -> Steps
+    pub fn of(items: Vec<Step>) -> StepSequence
         ensures { result ≡ items.items }
     {
-        Steps { items }
+        StepSequence { items }
     }
 
     pub fn items(&self) -> &[Step]
@@ -62,10 +62,10 @@ impl LineNumbers {
     }
 }
 
-/// Steps, and for each the number of the line that it stands on.
+/// StepSequence, and for each the number of the line that it stands on.
 #[derive(Debug, Drop)]
 pub struct StepList {
-    pub steps: Steps,
+    pub steps: StepSequence,
     pub lines: LineNumbers,
     pub ghost one_line_each: { length lines ≡ length steps },
 }

@@ -1,14 +1,14 @@
-ghost use Rattle.std.specs.Prelude.{◌≡◌, ℕ, ◌<◌, ◌≤◌, ◌^◌, [], ◌∷◌, length, decimal, IfOk, IsErr, IsErrOf, MatchOption};
+ghost use Rattle.std.specs.Prelude.{◌≡◌, ℕ, ◌<◌, ◌≤◌, ◌^◌, ◌⊎◌, [], ◌∷◌, length, decimal, IfOk, IsErrOf, MatchOption};
 ghost use Rattle.tab_core.specs.declared.TheConstants.{MAX_CORES};
 ghost use Rattle.tab_words.specs.Words.{words_of};
-ghost use Rattle.script_doc.specs.Rows.{rows_of};
+ghost use Rattle.script_doc.specs.Statements.{statements_of};
 ghost use Rattle.script_doc.specs.Steps.{AreSteps, IsFirstBadLine, IsNoStep, IsStep};
 ghost use Rattle.script_doc.specs.declared.step_reader.StepsFault.TheVariants.{NoMemory};
 
 use crate::line::is_skipped;
 use crate::step::Step;
-use crate::step_list::{LineNumbers, StepList, Steps};
-use std::alloc::{AllocError, Global};
+use crate::step_list::{LineNumbers, StepList, StepSequence};
+use std::alloc::{AllocError, AllocFailed, Global};
 use std::error::Error;
 use std::fmt;
 use tab_core::CoreNo;
@@ -41,6 +41,14 @@ impl From<AllocError> for StepsFault {
     }
 }
 
+impl<T: Drop> From<AllocFailed<T>> for StepsFault {
+    ghost from_gives = { λ _ fault. fault ≡ NoMemory };
+
+    fn from(_: AllocFailed<T>) -> StepsFault {
+        StepsFault::NoMemory
+    }
+}
+
 /// The steps of a text of less than 2^32 bytes, for a host with so many cores, of which there are 1
 /// to 32.
 ///
@@ -51,10 +59,14 @@ pub fn read_steps(alloc: Global, bytes: &[u8], cores: u32) -> Result<StepList, S
     requires some_core { 1 ≤ cores }
     requires few_cores { cores ≤ MAX_CORES }
     requires short { length bytes.now < 2 ^ 32 }
-    ensures ok { IfOk result (λ list. AreSteps cores (rows_of bytes.now) list.steps list.lines) }
+    ensures ok { IfOk result (λ list. AreSteps cores (statements_of bytes.now) list.steps list.lines) }
     ensures bad_line { (line : ℕ) → IsErrOf result (StepsFault.BadLine line)
-        → IsFirstBadLine cores (rows_of bytes.now) line }
-    ensures due { (line : ℕ) → IsFirstBadLine cores (rows_of bytes.now) line → IsErr result }
+        → IsFirstBadLine cores (statements_of bytes.now) line }
+    // The same the other way round: steps are read, and a first line that is none is answered.
+    ensures read { (list : StepList) → AreSteps cores (statements_of bytes.now) list.steps list.lines
+        → (result ≡ Ok list) ⊎ (result ≡ Err StepsFault.NoMemory) }
+    ensures due { (line : ℕ) → IsFirstBadLine cores (statements_of bytes.now) line
+        → (result ≡ Err (StepsFault.BadLine line)) ⊎ (result ≡ Err StepsFault.NoMemory) }
 {
     let mut steps = Vec::new(alloc);
     let mut numbers = Vec::new(alloc);
@@ -65,13 +77,12 @@ pub fn read_steps(alloc: Global, bytes: &[u8], cores: u32) -> Result<StepList, S
             let Some(step) = step_of(line, cores) else {
                 return Err(StepsFault::BadLine { line: number });
             };
-            if steps.push(step).is_err() || numbers.push(number).is_err() {
-                return Err(StepsFault::NoMemory);
-            }
+            steps.push(step)?;
+            numbers.push(number)?;
         }
     }
     Ok(StepList {
-        steps: Steps::of(steps),
+        steps: StepSequence::of(steps),
         lines: LineNumbers::of(numbers),
     })
 }

@@ -61,12 +61,20 @@ impl Name {
         ensures bad_name { IsErrOf result NameFault.BadName → ¬ (IsName bytes.now) }
         ensures bad_name_due { ¬ (IsName bytes.now) → IsErrOf result NameFault.BadName }
     {
-        if !is_good(bytes) {
+        if !Name::has_form(bytes) {
             return Err(NameFault::BadName);
         }
         Ok(Name {
             bytes: bytes.to_vec(alloc)?,
         })
+    }
+
+    /// Whether the bytes have the form of a name.
+    pub fn has_form(bytes: &[u8]) -> bool
+        ensures { result ≡ is_name bytes.now }
+    {
+        let short = 1 <= bytes.len() && bytes.len() <= MAX_NAME;
+        short && !is_dash(bytes) && are_name_bytes(bytes)
     }
 
     // The name once more.
@@ -84,13 +92,6 @@ impl Name {
     {
         &self.bytes
     }
-}
-
-fn is_good(bytes: &[u8]) -> bool
-    ensures { result ≡ is_name bytes.now }
-{
-    let short = 1 <= bytes.len() && bytes.len() <= MAX_NAME;
-    short && !is_dash(bytes) && are_name_bytes(bytes)
 }
 
 fn is_dash(bytes: &[u8]) -> bool

@@ -8,8 +8,8 @@ use Rattle.std.specs.Bool.{◌==◌}
 use Rattle.tab_core.specs.declared.host.Host.{Host}
 use Rattle.tab_words.specs.Lines.{lines_of}
 use Rattle.table_form.specs.Running.Courses.{CourseView}
-use Rattle.script_doc.specs.Rows.{Row, is_skipped, rows_from, rows_of}
-use Rattle.script_doc.specs.Steps.{AreSteps, IsWithin, step_words}
+use Rattle.script_doc.specs.Statements.{Statement, is_skipped, statements_from, statements_of}
+use Rattle.script_doc.specs.Steps.{AreSteps, IsStepWithin, step_words}
 use Rattle.script_doc.specs.declared.event.Event.{Event}
 use Rattle.script_doc.specs.declared.step.Step.{Step}
 use Rattle.script_doc.specs.declared.step.Step.TheVariants as step
@@ -41,48 +41,48 @@ unfolding lines_of
 few_lines [] = omega arith
 few_lines (byte ∷ bytes) = lines_more byte bytes (byte == 10) refl (few_lines bytes)
 
-rows_more : (number : ℕ) (line : List ℕ) (lines : List (List ℕ)) (skipped : Bool) → is_skipped line ≡ skipped
-    → length (rows_from (number + 1) lines) ≤ length lines
-    → length (rows_from number (line ∷ lines)) ≤ length (line ∷ lines)
-unfolding rows_from
-rows_more number line lines true is few = rw is (omega (arith, few))
-rows_more number line lines false is few = rw is (omega (arith, few))
+statements_more : (number : ℕ) (line : List ℕ) (lines : List (List ℕ)) (skipped : Bool) → is_skipped line ≡ skipped
+    → length (statements_from (number + 1) lines) ≤ length lines
+    → length (statements_from number (line ∷ lines)) ≤ length (line ∷ lines)
+unfolding statements_from
+statements_more number line lines true is few = rw is (omega (arith, few))
+statements_more number line lines false is few = rw is (omega (arith, few))
 
-few_rows : (number : ℕ) (lines : List (List ℕ)) → length (rows_from number lines) ≤ length lines
-unfolding rows_from
-few_rows number [] = omega arith
-few_rows number (line ∷ lines) =
-    rows_more number line lines (is_skipped line) refl (few_rows (number + 1) lines)
+few_statements : (number : ℕ) (lines : List (List ℕ)) → length (statements_from number lines) ≤ length lines
+unfolding statements_from
+few_statements number [] = omega arith
+few_statements number (line ∷ lines) =
+    statements_more number line lines (is_skipped line) refl (few_statements (number + 1) lines)
 
 pub few_steps : (cores : ℕ) (bytes : List ℕ) (taken : List Step) (lines : List ℕ)
-    → AreSteps cores (rows_of bytes) taken lines → length taken ≤ length bytes
+    → AreSteps cores (statements_of bytes) taken lines → length taken ≤ length bytes
 few_steps cores bytes taken lines are =
-    let count : length (map (λ (row : Row). row.words) (rows_of bytes))
+    let count : length (map (λ (statement : Statement). statement.words) (statements_of bytes))
     ≡ length (map step_words taken) = ap length are.written in
     omega (
       arith,
       count,
-      length-map (rows_of bytes) (λ (row : Row). row.words),
+      length-map (statements_of bytes) (λ (statement : Statement). statement.words),
       length-map taken step_words,
-      few_rows 1 (lines_of bytes),
+      few_statements 1 (lines_of bytes),
       few_lines bytes,
     )
 
 -- ---- what the machine is given
 
 names_core : (course : CourseView) (cores : ℕ) (taken : Step) → course.cores ≡ cores
-    → IsWithin cores taken → NamesCore course taken
+    → IsStepWithin cores taken → NamesCore course taken
 names_core course cores step.Post same within = tt {0}
 names_core course cores (step.See c) same within = omega (arith, same, within)
 names_core course cores (step.Decide c) same within = omega (arith, same, within)
 names_core course cores (step.Run c) same within = omega (arith, same, within)
 
 pub each_names_core : (course : CourseView) (cores : ℕ) (all : List Step) → course.cores ≡ cores
-    → All (IsWithin cores) all
+    → All (IsStepWithin cores) all
     → (k : ℕ) (taken : Step) → slice_get all k ≡ Some taken → NamesCore course taken
 each_names_core course cores all same within k taken at =
-    names_core course cores taken same (subst (IsWithin cores) (get_or_from_slice_get all k taken taken at)
-    (All-get_or (IsWithin cores) all k taken (slice_get_within all k taken at) within))
+    names_core course cores taken same (subst (IsStepWithin cores) (get_or_from_slice_get all k taken taken at)
+    (All-get_or (IsStepWithin cores) all k taken (slice_get_within all k taken at) within))
 
 pub course_of : (host : Host) (events : List Event) (made : BookView) → IsBookOf host events made
     → ((n : ℕ) → n ≤ length events → (known : BookState) × IsKnownAfter host events n known)

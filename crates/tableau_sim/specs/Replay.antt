@@ -6,8 +6,9 @@ use Rattle.tab_core.specs.declared.over.Over.{Over}
 use Rattle.host_doc.specs.Document.{IsHostText}
 use Rattle.host_doc.specs.declared.fault.HostFault.{HostFault}
 use Rattle.vcpu_names.specs.Names.{names_of}
-use Rattle.script_doc.specs.Rows.{rows_of}
-use Rattle.script_doc.specs.Script.{IsFirstFault, IsScript}
+use Rattle.script_doc.specs.Statements.{statements_of}
+use Rattle.script_doc.specs.Script.{IsScript}
+use Rattle.script_doc.specs.ScriptFaults.{IsFirstFault}
 use Rattle.script_doc.specs.Steps.{AreSteps, IsFirstBadLine}
 use Rattle.script_doc.specs.declared.event.Event.{Event}
 use Rattle.script_doc.specs.declared.script_fault.ScriptFault.{ScriptFault}
@@ -46,12 +47,12 @@ pub record Parts : Type 0 where
 -- the first two sections are this host and this script of it, for a run of so many rounds
 pub record HasScript (rounds : ℕ) (sections : List (List ℕ)) (host : Host) (events : List Event) : Type 0 where
   pub is_host : IsHostText (host_section sections) host
-  pub is_script : IsScript (names_of host.vcpus) rounds (rows_of (script_section sections)) events
+  pub is_script : IsScript (names_of host.vcpus) rounds (statements_of (script_section sections)) events
 
 -- and the third is these steps
 pub record HasParts (rounds : ℕ) (sections : List (List ℕ)) (parts : Parts) : Type 0 where
   pub script : HasScript rounds sections parts.host parts.events
-  pub are_steps : AreSteps parts.host.cores (rows_of (steps_section sections)) parts.steps parts.lines
+  pub are_steps : AreSteps parts.host.cores (statements_of (steps_section sections)) parts.steps parts.lines
 
 -- all steps are allowed, one after the other, from the opening of the course that the script makes of
 -- the host, and lead to this state; it keeps what every run promises, and its text has a line for each
@@ -80,10 +81,10 @@ pub data Replays (rounds : ℕ) (sections : List (List ℕ)) : Outcome → Type 
   BadHost : (fault : HostFault) → IsHostFault (host_section sections) fault
       → Replays rounds sections (Refuses (status.Host fault) [])
   BadScript : (host : Host) (fault : ScriptFault) → IsHostText (host_section sections) host
-      → IsFirstFault (names_of host.vcpus) rounds (rows_of (script_section sections)) fault
+      → IsFirstFault (names_of host.vcpus) rounds (statements_of (script_section sections)) fault
       → Replays rounds sections (Refuses (status.Script fault) [])
   BadStep : (host : Host) (events : List Event) (line : ℕ) → HasScript rounds sections host events
-      → IsFirstBadLine host.cores (rows_of (steps_section sections)) line
+      → IsFirstBadLine host.cores (statements_of (steps_section sections)) line
       → Replays rounds sections (Refuses (status.BadStep line) [])
   NoPeriod : (parts : Parts) (vcpu : ℕ) → HasParts rounds sections parts
       → IsFirstWithoutPeriod parts.host.vcpus vcpu

@@ -3,7 +3,7 @@ ghost use Rattle.table_form.specs.Running.Courses.{FitsRounds, IsCourse};
 ghost use Rattle.table_form.specs.Running.Invariant.{StateInvariant};
 ghost use Rattle.table_form.specs.Running.State.{opening};
 ghost use Rattle.script_doc.specs.Script.{AreInRun, AreWithin};
-ghost use Rattle.script_doc.specs.Steps.{IsWithin};
+ghost use Rattle.script_doc.specs.Steps.{IsStepWithin};
 ghost use Rattle.script_doc.specs.declared.step.Step.{Step as StepValue};
 ghost use Rattle.step_machine.specs.Answers.{NamesCore};
 ghost use Rattle.step_machine.specs.Refusals.{IsFaultOf};
@@ -67,7 +67,7 @@ fn replay_of_parts<R: Threads + Sync>(
     requires few { rounds ≤ MOST_ROUNDS }
     requires within { AreWithin (length host.vcpus) script }
     requires in_run { AreInRun rounds script }
-    requires names { All (IsWithin host.cores) list.steps }
+    requires names { All (IsStepWithin host.cores) list.steps }
     requires short { length list.steps < 2 ^ 32 }
     ensures { (sections : List (List ℕ))
         → HasParts rounds sections

@@ -1,5 +1,5 @@
 use Rattle.std.proofs.Common.{◌≡◌, codes, rules}
-use Rattle.script_doc.proofs.EditWalk.{handed_on, unknown_block, unknown_change, unknown_wake}
+use Rattle.script_doc.proofs.ReadingLemmas.{handed_on, unknown_block, unknown_change, unknown_wake}
 use Rattle.script_doc.proofs.event_reader.act_of.Goals as goal
 
 pub returns-in_err-vcpu-clause-unknown_name : goal.returns-in_err-vcpu-clause-unknown_name

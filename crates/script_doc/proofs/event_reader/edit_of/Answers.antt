@@ -1,5 +1,5 @@
 use Rattle.std.proofs.Common.{◌≡◌, codes, rules}
-use Rattle.script_doc.proofs.EditWalk.{unknown_leave, unknown_set}
+use Rattle.script_doc.proofs.ReadingLemmas.{unknown_leave, unknown_set}
 use Rattle.script_doc.proofs.event_reader.edit_of.Goals as goal
 
 pub returns-in-None-clause-ok : goal.returns-in-None-clause-ok

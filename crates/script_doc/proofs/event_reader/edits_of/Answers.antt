@@ -1,7 +1,7 @@
 use Rattle.std.proofs.Common.{◌≡◌, ℕ, List, [], ◌∷◌, ◌++◌, length, Some, None, subst, rules, arith}
 use Rattle.std.proofs.lemmas.Grind.{common_steps}
-use Rattle.script_doc.specs.Reading.{IsEdit}
-use Rattle.script_doc.proofs.EditWalk.{EditsSoFar, edit_more, edit_unknown, handed_on, no_edit, no_edit_at_all}
+use Rattle.script_doc.specs.Inside.Reading.{IsEdit}
+use Rattle.script_doc.proofs.ReadingLemmas.{EditsSoFar, edit_more, edit_unknown, handed_on, no_edit, no_edit_at_all}
 use Rattle.script_doc.proofs.event_reader.edits_of.Goals as goal
 
 pub returns-in_err-edit-clause-bad_line : goal.returns-in_err-edit-clause-bad_line
@@ -14,8 +14,8 @@ returns-in_err-edit-clause-bad_line c =
     λ is. no_edit _ _ _ _ _ _ at (c.in_err-edit.ensures.bad_line
     (handed_on c.from_residual.result c.in_err-edit.field-0.0 _ c.from_residual.ensures.1 is))
 
-pub loop-kind-preserved-else-is_err : goal.loop-kind-preserved-else-is_err
-loop-kind-preserved-else-is_err c =
+pub loop-kind-preserved-in-Continue-branch-3 : goal.loop-kind-preserved-in-Continue-branch-3
+loop-kind-preserved-in-Continue-branch-3 c =
     let at : EditsSoFar c.args.names.now c.args.words.now
     (c.in-Some.kind.now ∷ c.next.new.self) c.loop-kind.edits.items c.loop-kind.all_known =
     subst (λ (rest : List (List ℕ)). EditsSoFar c.args.names.now c.args.words.now rest

@@ -1,5 +1,5 @@
 use Rattle.std.proofs.Common.{length}
-use Rattle.script_doc.proofs.EditWalk.{EditsSoFar}
+use Rattle.script_doc.proofs.ReadingLemmas.{EditsSoFar}
 use Rattle.script_doc.proofs.event_reader.edits_of.Given as goal
 
 abbrev pub invariant-loop-kind : goal.invariant-loop-kind

@@ -1,4 +1,4 @@
-use Rattle.script_doc.proofs.Walk.{AreRead}
+use Rattle.script_doc.proofs.StepsLemmas.{AreRead}
 use Rattle.script_doc.proofs.step_reader.read_steps.Given as goal
 
 abbrev pub invariant-loop-line : goal.invariant-loop-line

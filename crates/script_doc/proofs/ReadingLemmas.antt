@@ -1,4 +1,4 @@
--- Edits that are read one after the other.
+-- The edits of a line, read one after the other, and what a line of an unknown name says.
 use Rattle.std.proofs.Common.{◌≡◌, ℕ, suc, ◌<◌, Bool, true, false, List, [], ◌∷◌, ◌++◌, length, map, flat_map, codes, decimal, ◌≤◌, Some, None, Result, Ok, Err, inl, inr, refl, sym, ap, ◌∙◌, append_assoc, bytes_eq, arith}
 use Rattle.std.proofs.lemmas.Grind.{flat_map-append}
 use Rattle.std.proofs.lemmas.List.{append-nil, length-map, map-append}
@@ -11,15 +11,18 @@ use Rattle.tab_core.specs.Name.{IsName}
 use Rattle.tab_core.specs.declared.TheConstants.{MAX_LATENCY_NS, WHOLE_PPM}
 use Rattle.script_doc.specs.declared.event_reader.LineFault.{LineFault}
 use Rattle.tab_core.specs.Edits.{AreEditsOf, vcpu_of}
-use Rattle.script_doc.specs.Events.{HasUnknownEdit, IsGoodEdit, NamedEdit, sets, leaves, wakes, blocks, changes, edit_name, edit_words, named_edit}
+use Rattle.script_doc.specs.EventLines.{IsGoodEdit, NamedEdit, sets, leaves, wakes, blocks, changes, edit_words}
+use Rattle.script_doc.specs.Events.{HasUnknownEdit, edit_name, named_edit}
 use Rattle.vcpu_names.specs.Names.{IsUnknown}
-use Rattle.script_doc.specs.Reading.{AreEdits, AreNoEdits, AreUnknownEdits, IsEdit, IsNoEdit, IsUnknownAct, IsUnknownName}
+use Rattle.script_doc.specs.Inside.Reading.{AreEdits, AreNoEdits, AreUnknownEdits, IsEdit, IsNoEdit, IsUnknownAct, IsUnknownName}
 
+-- what holds of one element holds of the list of it alone
 pub All-one : {X : Type 0} (P : X → Type 0) (x : X) → P x → All P (x ∷ [])
 All-one P x is = λ k d low.
     let first : k ≡ 0 = omega arith in
     rw first is
 
+-- words that begin with different words differ
 pub other_word : {a b : List ℕ} (more others : List (List ℕ)) → bytes_eq a b ≡ false
     → a ∷ more ≡ b ∷ others → ⊥
 other_word {a} {b} more others other same =
@@ -30,6 +33,7 @@ other_word {a} {b} more others other same =
 abbrev NoEdits : List (List ℕ) → Type 0
 NoEdits words = (edits : List NamedEdit) → All IsGoodEdit edits → words ≡ flat_map edit_words edits → ⊥
 
+-- where no edits follow an edit, the words from it on are none either
 after_edit : (edit : NamedEdit) (words rest : List (List ℕ)) → words ≡ edit_words edit ++ rest
     → NoEdits rest → NoEdits words
 after_edit (sets n s l) words rest is none [] good same = absurd (cc)
@@ -54,6 +58,7 @@ pub record EditsSoFar (names : List (List ℕ)) (words rest : List (List ℕ)) (
   pub unknown : all_known ≡ false → HasUnknownEdit names named
   pub back : NoEdits rest → NoEdits words
 
+-- before the first edit
 pub no_edits_yet : (names words : List (List ℕ)) → EditsSoFar names words words [] true
 no_edits_yet names words = record {
   named = [];
@@ -65,18 +70,21 @@ no_edits_yet names words = record {
   back = λ none. none;
 }
 
+-- an unknown name stays one when more edits follow
 still_unknown : (names : List (List ℕ)) (edits more : List NamedEdit) → HasUnknownEdit names edits
     → HasUnknownEdit names (edits ++ more)
 still_unknown names [] more has = absurd has
 still_unknown names (edit ∷ edits) more has =
     elim has [ inl first ↦ inl first | inr later ↦ inr (still_unknown names edits more later) ]
 
+-- the last edit's name is unknown, so the list has an unknown one
 last_unknown : (names : List (List ℕ)) (edits : List NamedEdit) (edit : NamedEdit)
     → IsUnknown names (edit_name edit)
     → HasUnknownEdit names (edits ++ edit ∷ [])
 last_unknown names [] edit is = inl is
 last_unknown names (first ∷ edits) edit is = inr (last_unknown names edits edit is)
 
+-- the words up to behind one more edit
 written_more : (words rest after : List (List ℕ)) (named : List NamedEdit) (edit : NamedEdit)
     → words ≡ flat_map edit_words named ++ rest → rest ≡ edit_words edit ++ after
     → words ≡ flat_map edit_words (named ++ edit ∷ []) ++ after
@@ -120,6 +128,7 @@ edit_unknown names words rest after edits all_known so_far is = record {
   back = λ none. so_far.back (after_edit is.named rest after is.written none);
 }
 
+-- where no edit begins, there are no edits
 not_empty : (kind : List ℕ) (words : List (List ℕ)) → IsNoEdit (kind ∷ words) → NoEdits (kind ∷ words)
 not_empty kind words none [] good same = cc
 not_empty kind words none (edit ∷ edits) good same =
@@ -132,16 +141,18 @@ pub no_edit : (names words : List (List ℕ)) (kind : List ℕ) (rest : List (Li
 no_edit names words kind rest edits all_known so_far none =
     λ es some good same. so_far.back (not_empty kind rest none) es good same
 
--- nothing at all
+-- no words are no change, which has one edit at least
 none_of_none : (words : List (List ℕ)) → words ≡ [] → AreNoEdits words
 none_of_none words is [] some good same = omega arith
 none_of_none words is (sets n s l ∷ edits) some good same = cc
 none_of_none words is (leaves n ∷ edits) some good same = cc
 
+-- at the end nothing is left behind the edits
 whole : (words : List (List ℕ)) (named : List NamedEdit) → words ≡ flat_map edit_words named ++ []
     → words ≡ flat_map edit_words named
 whole words named written = written ∙ append-nil (flat_map edit_words named)
 
+-- at the end without an edit the words are no change
 pub no_edit_at_all : (names words : List (List ℕ)) (edits : List Edit) (all_known : Bool)
     → EditsSoFar names words [] edits all_known → all_known ≡ true → length edits ≡ 0 → AreNoEdits words
 no_edit_at_all names words [] all_known so_far known none =
@@ -149,6 +160,7 @@ no_edit_at_all names words [] all_known so_far known none =
     ∙ ap (λ ns. flat_map edit_words ns) (so_far.known known))
 no_edit_at_all names words (edit ∷ edits) all_known so_far known none = absurd (omega arith)
 
+-- at the end all names known, the words are the edits
 pub all_edits : (names words : List (List ℕ)) (edits : List Edit) (all_known : Bool)
     → EditsSoFar names words [] edits all_known → all_known ≡ true → 0 < length edits
     → AreEdits names words edits
@@ -161,11 +173,13 @@ all_edits names words edits all_known so_far known some =
       within = so_far.within;
     }
 
+-- a list with an unknown name has an edit
 unknown_some : (names : List (List ℕ)) (edits : List NamedEdit) → HasUnknownEdit names edits
     → 0 < length edits
 unknown_some names [] has = absurd has
 unknown_some names (edit ∷ edits) has = omega arith
 
+-- at the end with an unknown name, the words are edits of which one is unknown
 pub unknown_edits : (names words : List (List ℕ)) (edits : List Edit) (all_known : Bool)
     → EditsSoFar names words [] edits all_known → all_known ≡ false → AreUnknownEdits names words
 unknown_edits names words edits all_known so_far unknown = record {
@@ -176,7 +190,7 @@ unknown_edits names words edits all_known so_far unknown = record {
   unknown = so_far.unknown unknown;
 }
 
--- an edit of an unknown name
+-- `leave` with an unknown name
 pub unknown_leave : (names : List (List ℕ)) (kind name : List ℕ) (words rest : List (List ℕ))
     → kind ≡ codes "leave"
     → words ≡ name ∷ rest → IsName name → IsUnknown names name → IsEdit names (kind ∷ words) rest None
@@ -187,6 +201,7 @@ unknown_leave names kind name words rest is next good unknown = record {
   meaning = unknown;
 }
 
+-- `set` with an unknown name
 pub unknown_set : (names : List (List ℕ)) (kind name share latency : List ℕ)
     (words after last rest : List (List ℕ)) (ppm ns : ℕ)
     → kind ≡ codes "set" → words ≡ name ∷ after → after ≡ share ∷ last → last ≡ latency ∷ rest
@@ -200,13 +215,14 @@ unknown_set names kind name share latency words after last rest ppm ns is next s
       meaning = unknown;
     }
 
--- an act of an unknown name
+-- `wake` with an unknown name
 pub unknown_wake : (names : List (List ℕ)) (kind : List ℕ) (words rest : List (List ℕ)) → kind ≡ codes "wake"
     → words ≡ kind ∷ rest → IsUnknownName names rest → IsUnknownAct names words
 unknown_wake names kind words rest is next has =
     let name_is = has.written in
     record { act = wakes has.name; written = cc; good = has.good; unknown = has.unknown }
 
+-- `block` with an unknown name
 pub unknown_block : (names : List (List ℕ)) (kind : List ℕ) (words rest : List (List ℕ))
     → kind ≡ codes "block"
     → words ≡ kind ∷ rest → IsUnknownName names rest → IsUnknownAct names words
@@ -214,6 +230,7 @@ unknown_block names kind words rest is next has =
     let name_is = has.written in
     record { act = blocks has.name; written = cc; good = has.good; unknown = has.unknown }
 
+-- `change` with an unknown name
 pub unknown_change : (names : List (List ℕ)) (kind : List ℕ) (words rest : List (List ℕ))
     → kind ≡ codes "change"
     → words ≡ kind ∷ rest → AreUnknownEdits names rest → IsUnknownAct names words

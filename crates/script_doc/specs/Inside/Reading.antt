@@ -4,9 +4,14 @@ use Rattle.std.specs.List.{All}
 use Rattle.tab_core.specs.Edits.{AreEditsOf, vcpu_of}
 use Rattle.tab_core.specs.Name.{IsName}
 use Rattle.tab_core.specs.declared.edit.Edit.{Edit}
-use Rattle.script_doc.specs.Events.{HasUnknown, HasUnknownEdit, IsGoodAct, IsGoodEdit, IsWithin, NamedAct, NamedEdit, act_words, edit_name, edit_words, named_act, named_edit}
+use Rattle.script_doc.specs.EventLines.{IsGoodAct, IsGoodEdit, NamedAct, NamedEdit, act_words, edit_words}
+use Rattle.script_doc.specs.Events.{HasUnknown, HasUnknownEdit, IsActWithin, edit_name, named_act, named_edit}
 use Rattle.vcpu_names.specs.Names.{IsUnknown, name_at}
 use Rattle.script_doc.specs.declared.event.Act.{Act}
+use Rattle.script_doc.specs.declared.event_reader.LineFault.{LineFault}
+use Rattle.script_doc.specs.declared.event_reader.LineFault.TheVariants.{BadLine as BadForm, UnknownName as NoSuchName, NoMemory as OutOfMemory}
+use Rattle.script_doc.specs.declared.script_fault.ScriptFault.{ScriptFault}
+use Rattle.script_doc.specs.declared.script_fault.ScriptFault.TheVariants.{BadLine, UnknownName, NoMemory}
 
 -- the words are the name of this vCPU and nothing else
 pub record IsOnly (names : List (List ℕ)) (words : List (List ℕ)) (vcpu : ℕ) : Type 0 where
@@ -62,7 +67,7 @@ pub record AreUnknownEdits (names : List (List ℕ)) (words : List (List ℕ)) :
 pub record IsAct (names : List (List ℕ)) (words : List (List ℕ)) (act : Act) : Type 0 where
   pub written : words ≡ act_words (named_act names act)
   pub good : IsGoodAct (named_act names act)
-  pub within : IsWithin (length names) act
+  pub within : IsActWithin (length names) act
 
 -- the words say nothing that happens
 abbrev pub IsNoAct : List (List ℕ) → Type 0
@@ -74,3 +79,9 @@ pub record IsUnknownAct (names : List (List ℕ)) (words : List (List ℕ)) : Ty
   pub written : words ≡ act_words act
   pub good : IsGoodAct act
   pub unknown : HasUnknown names act
+
+-- the fault of a line that isn't read as an event, at the line of this number
+abbrev pub fault_at : ℕ → LineFault → ScriptFault
+fault_at line BadForm = BadLine line
+fault_at line NoSuchName = UnknownName line
+fault_at line OutOfMemory = NoMemory

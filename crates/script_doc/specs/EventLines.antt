@@ -1,0 +1,49 @@
+-- The grammar of an event's line: what its words say, before names are looked up.
+use Rattle.std.specs.Prelude.{◌≡◌, ℕ, ◌<◌, ◌≤◌, ◌^◌, List, [], ◌∷◌, codes, decimal, length, flat_map}
+use Rattle.std.specs.List.{All}
+use Rattle.tab_core.specs.Name.{IsName}
+use Rattle.tab_core.specs.declared.TheConstants.{MAX_LATENCY_NS, WHOLE_PPM}
+
+-- an edit as a line has it: `set NAME SHARE LATENCY` or `leave NAME`
+pub data NamedEdit : Type 0 where
+  sets : List ℕ → ℕ → ℕ → NamedEdit
+  leaves : List ℕ → NamedEdit
+
+-- what happens as a line has it: `wake NAME`, `block NAME`, or `change` and edits
+pub data NamedAct : Type 0 where
+  wakes : List ℕ → NamedAct
+  blocks : List ℕ → NamedAct
+  changes : List NamedEdit → NamedAct
+
+-- the words of an edit
+abbrev pub edit_words : NamedEdit → List (List ℕ)
+edit_words (sets name share latency) = codes "set" ∷ name ∷ decimal share ∷ decimal latency ∷ []
+edit_words (leaves name) = codes "leave" ∷ name ∷ []
+
+-- the words of what happens
+abbrev pub act_words : NamedAct → List (List ℕ)
+act_words (wakes name) = codes "wake" ∷ name ∷ []
+act_words (blocks name) = codes "block" ∷ name ∷ []
+act_words (changes edits) = codes "change" ∷ flat_map edit_words edits
+
+-- the name and the numbers of an edit are in their ranges
+abbrev pub IsGoodEdit : NamedEdit → Type 0
+IsGoodEdit (sets name share latency) = IsName name × (1 ≤ share) × (share ≤ WHOLE_PPM)
+    × (latency ≤ MAX_LATENCY_NS)
+IsGoodEdit (leaves name) = IsName name
+
+-- the same of what happens; a change has one edit at least
+abbrev pub IsGoodAct : NamedAct → Type 0
+IsGoodAct (wakes name) = IsName name
+IsGoodAct (blocks name) = IsName name
+IsGoodAct (changes edits) = (0 < length edits) × All IsGoodEdit edits
+
+-- the words are those of an event
+pub record IsLine (words : List (List ℕ)) (tick : ℕ) (act : NamedAct) : Type 0 where
+  pub written : words ≡ decimal tick ∷ act_words act
+  pub short : tick < 2 ^ 32
+  pub good : IsGoodAct act
+
+-- the words are those of no event
+abbrev pub IsNoLine : List (List ℕ) → Type 0
+IsNoLine words = (tick : ℕ) (act : NamedAct) → IsLine words tick act → ⊥

@@ -1,0 +1,2 @@
+-- What the readers of parts find. No reader of a public contract needs these.
+pub mod Reading
