@@ -8,6 +8,7 @@
 mod event;
 mod event_reader;
 mod line;
+mod refusal;
 mod script;
 mod script_fault;
 mod script_reader;
@@ -16,6 +17,7 @@ mod step_list;
 mod step_reader;
 
 pub use event::{Act, Edits, Event};
+pub use refusal::{put_script_fault, put_steps_fault};
 pub use script::Script;
 pub use script_fault::ScriptFault;
 pub use script_reader::read_script;

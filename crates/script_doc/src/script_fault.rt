@@ -4,6 +4,7 @@ ghost use Rattle.script_doc.specs.declared.script_fault.ScriptFault.TheVariants.
 use std::alloc::AllocError;
 use std::error::Error;
 use std::fmt;
+use tab_core::{MAX_CHANGES, MAX_EVENTS};
 
 /// Why a text isn't read as a script: the first fault of the first line with one, whose number is
 /// from 1. The faults of one line come in the order of these variants.
@@ -31,12 +32,11 @@ impl fmt::Display for ScriptFault {
             ScriptFault::UnknownName { line } => write!(f, "unknown name in script line {line}"),
             ScriptFault::OutOfOrder { line } => write!(f, "script line {line} goes back"),
             ScriptFault::LateEvent { line } => write!(f, "script line {line} is past the run"),
-            ScriptFault::TooManyEvents { line } => write!(
-                f,
-                "too many events at script line {line}"
-            ),
+            ScriptFault::TooManyEvents { line } => {
+                write!(f, "more than {MAX_EVENTS} events at script line {line}")
+            }
             ScriptFault::TooManyChanges { line } => {
-                write!(f, "too many changes at script line {line}")
+                write!(f, "more than {MAX_CHANGES} changes at script line {line}")
             }
             ScriptFault::NoMemory => write!(f, "want of memory"),
         }
