@@ -14,6 +14,7 @@ mod read;
 mod read_cores;
 mod read_fault;
 mod read_vcpus;
+mod refusal;
 #[cfg(test)]
 mod tests;
 mod vcpus;
@@ -23,4 +24,5 @@ pub use laws::{a_text_has_one_meaning, a_written_plan_is_read_back};
 pub use owner::{name_in, owner_in};
 pub use read::read_plan;
 pub use read_fault::ReadPlan;
+pub use refusal::put_plan_fault;
 pub use write::write_plan;
