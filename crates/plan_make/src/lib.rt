@@ -10,6 +10,7 @@ mod draft;
 mod fault;
 mod layout;
 mod planner;
+mod refusal;
 mod rows;
 mod splitting;
 #[cfg(test)]
@@ -18,3 +19,4 @@ mod whole;
 
 pub use fault::PlanFault;
 pub use planner::plan;
+pub use refusal::{put_no_period, put_no_room};
