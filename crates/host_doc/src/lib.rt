@@ -8,6 +8,7 @@
 mod document;
 mod fault;
 mod laws;
+mod refusal;
 #[cfg(test)]
 mod tests;
 mod value;
@@ -16,3 +17,4 @@ mod vcpus;
 pub use document::read_host;
 pub use fault::{HostFault, Key, Path};
 pub use laws::a_text_states_one_host;
+pub use refusal::put_host_fault;

@@ -4,3 +4,5 @@ pub mod Layout
 pub mod Planned
 pub mod SplitInTurn
 pub mod Unsplit
+pub mod Refusal
+pub mod Steps

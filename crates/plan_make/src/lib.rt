@@ -11,6 +11,7 @@ mod fault;
 mod laws;
 mod layout;
 mod planner;
+mod refusal;
 mod rows;
 mod splitting;
 #[cfg(test)]
@@ -20,3 +21,4 @@ mod unsplit;
 pub use fault::PlanFault;
 pub use laws::a_host_has_one_plan;
 pub use planner::plan;
+pub use refusal::{put_no_period, put_no_room};

@@ -5,4 +5,5 @@ pub mod Names
 pub mod PlanLines
 pub mod PlanText
 pub mod Reading
+pub mod Refusal
 pub mod Written

@@ -13,6 +13,7 @@ mod read;
 mod read_cores;
 mod read_fault;
 mod read_vcpus;
+mod refusal;
 #[cfg(test)]
 mod tests;
 mod vcpus;
@@ -21,4 +22,5 @@ mod write;
 pub use laws::{a_text_has_one_meaning, a_written_plan_is_read_back};
 pub use read::read_plan;
 pub use read_fault::ReadPlan;
+pub use refusal::put_plan_fault;
 pub use write::write_plan;

@@ -1,4 +1,5 @@
 pub mod Counting
+pub mod Refusal
 pub mod ReplayText
 pub mod RunsOf
 pub mod StintLine

@@ -7,8 +7,10 @@
 
 mod counts;
 mod entry_line;
+mod refusal;
 mod stint_line;
 mod write;
 
+pub use refusal::put_step_fault;
 pub use stint_line::put_stint;
 pub use write::write_replay;

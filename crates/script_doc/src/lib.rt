@@ -9,6 +9,7 @@ mod event;
 mod event_reader;
 mod laws;
 mod line;
+mod refusal;
 mod script;
 mod script_fault;
 mod script_reader;
@@ -21,6 +22,7 @@ pub use laws::{
     a_script_has_no_fault, a_step_list_has_no_bad_line, a_text_has_one_bad_step,
     a_text_has_one_script_fault, a_text_states_one_script, a_text_states_one_step_list,
 };
+pub use refusal::{put_script_fault, put_steps_fault};
 pub use script::Script;
 pub use script_fault::ScriptFault;
 pub use script_reader::read_script;

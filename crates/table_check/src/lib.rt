@@ -10,6 +10,7 @@ mod clash;
 mod counters;
 mod fault;
 mod meeting;
+mod refusal;
 mod shape;
 mod shortage;
 #[cfg(test)]
@@ -17,3 +18,4 @@ mod tests;
 
 pub use checker::check;
 pub use fault::CheckFault;
+pub use refusal::put_check_fault;

@@ -1,0 +1,30 @@
+-- The line of the refusal of a host document: `refused: ` and the fault in words.
+use Rattle.std.specs.Prelude.{ℕ, List, [], ◌++◌, codes, decimal, Option, Some, None}
+use Rattle.host_doc.specs.Path.{word_of}
+use Rattle.host_doc.specs.declared.fault.HostFault.{HostFault}
+use Rattle.host_doc.specs.declared.fault.HostFault.TheVariants as host
+use Rattle.host_doc.specs.declared.fault.Key.{Key}
+use Rattle.host_doc.specs.declared.fault.Key.TheVariants as key
+use Rattle.host_doc.specs.declared.fault.Path.{Path}
+
+-- what stands behind a vCPU's number; a vCPU that is no table has no key
+abbrev pub key_behind : Key → List ℕ
+key_behind key.Vcpu = []
+key_behind key = codes " " ++ word_of key
+
+abbrev pub path_in : Option ℕ → Key → List ℕ
+path_in None key = word_of key
+path_in (Some number) key = codes "vcpu " ++ (decimal number ++ key_behind key)
+
+-- where the fault stands
+abbrev pub path_text : Path → List ℕ
+path_text path = path_in path.vcpu path.key
+
+-- want of memory is no fault of the text, and has no line here
+abbrev pub host_fault_line : HostFault → List ℕ
+host_fault_line host.NotToml = codes "refused: host is not TOML\n"
+host_fault_line (host.BadKey path) = codes "refused: host key " ++ (path_text path ++ codes "\n")
+host_fault_line (host.OutOfRange path) = codes "refused: host value " ++ (path_text path ++ codes "\n")
+host_fault_line (host.SameName vcpu) = codes "refused: name of vcpu " ++ (decimal vcpu ++ codes " stands twice\n")
+host_fault_line (host.TooMany count) = codes "refused: " ++ (decimal count ++ codes " vcpus\n")
+host_fault_line host.NoMemory = []

@@ -1,0 +1,125 @@
+ghost use Rattle.std.specs.Prelude.{◌≡◌, ◌++◌, codes};
+ghost use Rattle.tab_io.specs.Outside.{Writes};
+ghost use Rattle.host_doc.specs.Refusal.{host_fault_line, key_behind, path_text};
+
+use crate::fault::{HostFault, Key, Path};
+use tab_io::{Sink, WriteFault, write_all};
+use tab_words::{TextPiece, put_pieces};
+
+/// Writes the line of the refusal of a document: `refused: `, the fault as it is displayed, and a
+/// line feed. For want of memory, which is no fault of the document, it writes nothing.
+///
+/// A fault of the sink leaves a front of the line in it. Nothing is settled.
+pub fn put_host_fault<K: Sink>(sink: &mut K, fault: &HostFault) -> Result<(), WriteFault>
+    ensures { Writes (K.state sink.old) (K.state sink.new) (host_fault_line fault.now) result }
+{
+    match fault {
+        HostFault::NotToml => write_all(sink, b"refused: host is not TOML\n"),
+        HostFault::BadKey { path } => put_path_line(sink, b"refused: host key ", path),
+        HostFault::OutOfRange { path } => put_path_line(sink, b"refused: host value ", path),
+        HostFault::SameName { vcpu } => put_pieces(
+            sink,
+            &[
+                TextPiece::Text(b"refused: name of vcpu "),
+                TextPiece::Number(*vcpu),
+                TextPiece::Text(b" stands twice\n"),
+            ],
+        ),
+        HostFault::TooMany { count } => put_pieces(
+            sink,
+            &[
+                TextPiece::Text(b"refused: "),
+                TextPiece::Number(*count),
+                TextPiece::Text(b" vcpus\n"),
+            ],
+        ),
+        HostFault::NoMemory => Ok(()),
+    }
+}
+
+// Writes a line that ends with the path of a key.
+fn put_path_line<K: Sink>(sink: &mut K, begin: &[u8], path: &Path) -> Result<(), WriteFault>
+    ensures { Writes (K.state sink.old) (K.state sink.new)
+        (begin.now ++ (path_text path.now ++ codes "\n")) result }
+{
+    match path.vcpu {
+        None => put_pieces(
+            sink,
+            &[
+                TextPiece::Text(begin),
+                TextPiece::Text(path.key.word().as_bytes()),
+                TextPiece::Text(b"\n"),
+            ],
+        ),
+        Some(number) => {
+            let (space, word) = behind_number(path.key);
+            put_pieces(
+                sink,
+                &[
+                    TextPiece::Text(begin),
+                    TextPiece::Text(b"vcpu "),
+                    TextPiece::Number(number),
+                    TextPiece::Text(space),
+                    TextPiece::Text(word),
+                    TextPiece::Text(b"\n"),
+                ],
+            )
+        }
+    }
+}
+
+// What stands behind a vCPU's number, in two pieces.
+fn behind_number(key: Key) -> (&'static [u8], &'static [u8])
+    ensures { result.0.now ++ result.1.now ≡ key_behind key }
+{
+    match key {
+        Key::Vcpu => (b"", b""),
+        _ => (b" ", key.word().as_bytes()),
+    }
+}
+
+#[cfg(test)]
+mod tests {
+    use super::*;
+    use std::test::Fail;
+    use tab_io::MemSink;
+
+    #[test]
+    fn lines_have_the_words_of_display(rt: HostRuntime) -> Result<(), Fail> {
+        let paths = [
+            Path {
+                vcpu: None,
+                key: Key::Cores,
+            },
+            Path {
+                vcpu: None,
+                key: Key::Unknown,
+            },
+            Path {
+                vcpu: Some(3),
+                key: Key::Vcpu,
+            },
+            Path {
+                vcpu: Some(255),
+                key: Key::Share,
+            },
+        ];
+        let [cores, unknown, member, share] = paths;
+        let faults = [
+            HostFault::NotToml,
+            HostFault::BadKey { path: cores },
+            HostFault::BadKey { path: unknown },
+            HostFault::OutOfRange { path: member },
+            HostFault::OutOfRange { path: share },
+            HostFault::SameName { vcpu: 7 },
+            HostFault::TooMany { count: 257 },
+        ];
+        for fault in faults {
+            let mut sink = MemSink::with_room(rt.alloc(), 100)?;
+            assert_eq!(rt; put_host_fault(&mut sink, &fault), Ok(()));
+            let line = format!(in rt.alloc(); "refused: {fault}\n")?;
+            assert_eq!(rt; sink.bytes(), line.as_bytes());
+        }
+        Ok(())
+    }
+}

@@ -1,0 +1,97 @@
+ghost use Rattle.std.specs.Prelude.{◌++◌, decimal};
+ghost use Rattle.tab_io.specs.Outside.{Writes};
+ghost use Rattle.script_doc.specs.Refusal.{script_fault_line, steps_fault_line};
+
+use crate::script_fault::ScriptFault;
+use tab_io::{Sink, WriteFault};
+use tab_words::{TextPiece, put_pieces};
+
+/// Writes the line of the refusal of a script: `refused: `, the fault as it is displayed, and a line
+/// feed. For want of memory, which is no fault of the script, it writes nothing.
+///
+/// A fault of the sink leaves a front of the line in it. Nothing is settled.
+pub fn put_script_fault<K: Sink>(sink: &mut K, fault: &ScriptFault) -> Result<(), WriteFault>
+    ensures { Writes (K.state sink.old) (K.state sink.new) (script_fault_line fault.now) result }
+{
+    match *fault {
+        ScriptFault::BadLine { line } => put_numbered(sink, b"refused: script line ", line, b"\n"),
+        ScriptFault::UnknownName { line } => {
+            put_numbered(sink, b"refused: unknown name in script line ", line, b"\n")
+        }
+        ScriptFault::OutOfOrder { line } => {
+            put_numbered(sink, b"refused: script line ", line, b" goes back\n")
+        }
+        ScriptFault::LateEvent { line } => {
+            put_numbered(sink, b"refused: script line ", line, b" is past the run\n")
+        }
+        ScriptFault::TooManyEvents { line } => put_numbered(
+            sink,
+            b"refused: more than 65535 events at script line ",
+            line,
+            b"\n",
+        ),
+        ScriptFault::TooManyChanges { line } => put_numbered(
+            sink,
+            b"refused: more than 15 changes at script line ",
+            line,
+            b"\n",
+        ),
+        ScriptFault::NoMemory => Ok(()),
+    }
+}
+
+/// Writes the line of the refusal of a list of steps, of which the line of this number, from 1, is
+/// no step.
+///
+/// A fault of the sink leaves a front of the line in it. Nothing is settled.
+pub fn put_steps_fault<K: Sink>(sink: &mut K, line: u32) -> Result<(), WriteFault>
+    ensures { Writes (K.state sink.old) (K.state sink.new) (steps_fault_line line) result }
+{
+    put_numbered(sink, b"refused: steps line ", line, b"\n")
+}
+
+// Writes a number between two texts.
+fn put_numbered<'a, K: Sink>(
+    sink: &mut K,
+    before: &'a [u8],
+    number: u32,
+    behind: &'a [u8],
+) -> Result<(), WriteFault>
+    ensures { Writes (K.state sink.old) (K.state sink.new)
+        (before.now ++ (decimal number ++ behind.now)) result }
+{
+    put_pieces(
+        sink,
+        &[
+            TextPiece::Text(before),
+            TextPiece::Number(number),
+            TextPiece::Text(behind),
+        ],
+    )
+}
+
+#[cfg(test)]
+mod tests {
+    use super::*;
+    use std::test::Fail;
+    use tab_io::MemSink;
+
+    #[test]
+    fn lines_have_the_words_of_display(rt: HostRuntime) -> Result<(), Fail> {
+        let faults = [
+            ScriptFault::BadLine { line: 1 },
+            ScriptFault::UnknownName { line: 2 },
+            ScriptFault::OutOfOrder { line: 30 },
+            ScriptFault::LateEvent { line: 4 },
+            ScriptFault::TooManyEvents { line: 65_536 },
+            ScriptFault::TooManyChanges { line: 17 },
+        ];
+        for fault in faults {
+            let mut sink = MemSink::with_room(rt.alloc(), 100)?;
+            assert_eq!(rt; put_script_fault(&mut sink, &fault), Ok(()));
+            let line = format!(in rt.alloc(); "refused: {fault}\n")?;
+            assert_eq!(rt; sink.bytes(), line.as_bytes());
+        }
+        Ok(())
+    }
+}
