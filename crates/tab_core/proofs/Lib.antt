@@ -2,3 +2,4 @@ pub mod Alike
 pub mod Bits
 pub mod Edited
 pub mod Periods
+pub mod TimelineLemmas

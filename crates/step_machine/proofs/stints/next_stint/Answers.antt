@@ -8,8 +8,8 @@ use Rattle.table_form.specs.Running.Courses.{plan_after, runnable_after}
 use Rattle.step_machine.specs.Logs.{core_of, cores_of}
 use Rattle.run_promises.proofs.Lists.{same, element_at}
 use Rattle.step_machine.proofs.LogLemmas.{core_at}
-use Rattle.step_machine.proofs.Phases.{entered_to_run}
-use Rattle.step_machine.proofs.Acting.{log_found, log_kept}
+use Rattle.step_machine.proofs.PhaseLemmas.{entered_to_run}
+use Rattle.step_machine.proofs.ProgressLemmas.{log_found, log_kept}
 use Rattle.second_level.proofs.Choosing.{pick_of_sets}
 use Rattle.step_machine.proofs.stints.next_stint.Goals as goal
 
