@@ -1,7 +1,6 @@
 -- A core's next stint is determined: the end of its span, its pick, and so all of it.
 use Rattle.std.proofs.Common.{◌≡◌, ℕ, ◌%◌, ◌<◌, inl, inr, Bool, true, false, List, Option, Some, None, refl, ap, subst, sym, ◌∙◌, arith}
 use Rattle.std.specs.Prelude.{slice_get}
-use Rattle.std.proofs.lemmas.Bool.{cases_lt}
 use Rattle.std.specs.Option.{ForSome}
 use denote.Struct.Props.{props}
 use Rattle.tab_core.specs.declared.TheConstants.{MAX_VCPUS, ROUND}
