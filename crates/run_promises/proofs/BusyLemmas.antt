@@ -1,6 +1,7 @@
 -- At each tick of a stint the core runs whom the rules want, by a fresh count.
-use Rattle.std.proofs.Common.{◌≡◌, ℕ, ◌%◌, ◌<◌, ◌≤◌, Bool, List, Option, Some, None, ◌∙◌, arith}
+use Rattle.std.proofs.Common.{ℕ, ◌%◌, ◌<◌, ◌≤◌, Bool, List, Option, Some, None, ◌∙◌, arith}
 use Rattle.std.specs.Prelude.{MatchOption}
+use Rattle.tab_core.proofs.TimelineLemmas.{covering, one_stint}
 use Rattle.tab_core.specs.declared.TheConstants.{ROUND}
 use Rattle.tab_core.specs.declared.stint.Stint.{Stint}
 use Rattle.table_form.specs.Running.Busy.{IsBusyAt, IsBusy}
@@ -10,7 +11,6 @@ use Rattle.table_form.specs.Running.Invariant.{StateInvariant}
 use Rattle.table_form.specs.Running.State.{State}
 use Rattle.table_form.specs.Tables.Plans.{PlanView}
 use Rattle.run_promises.proofs.ChoiceLemmas.{picked, stint_bounds, stint_within, eligible_alike, eligible_back}
-use Rattle.run_promises.proofs.TimelineLemmas.{covering, one_stint}
 
 -- a pick stays one where the same vCPUs may run, whoever ran last
 filled_by : (eligible fills : ℕ → Type 0) (last ran : Option ℕ) → ((v : ℕ) → eligible v → fills v)

@@ -1,5 +1,5 @@
 -- The plans of a course after each count, which are plans or the empty one.
-use Rattle.std.proofs.Common.{ℕ, inl, inr, refl}
+use Rattle.std.proofs.Common.{ℕ, inl, inr}
 use Rattle.std.specs.Prelude.{slice_index}
 use Rattle.table_form.specs.Running.Courses.{CourseView, IsCourse, plan_after, no_plan}
 use Rattle.table_form.specs.Tables.Serves.{Apart, Serves}

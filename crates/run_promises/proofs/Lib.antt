@@ -8,6 +8,6 @@ pub mod OfferedLemmas
 pub mod OneTableLemmas
 pub mod PromiseLemmas
 pub mod ServedLemmas
-pub mod TimelineLemmas
 pub mod TogetherLemmas
 pub mod Totals
+pub mod WaitingLemmas

@@ -23,18 +23,21 @@ log_at [] k core h = absurd cc
 log_at (log ∷ logs) zero core h = (log, refl, cc)
 log_at (log ∷ logs) (suc k) core h = log_at logs k core h
 
+-- and a log for a core
 pub core_at : (logs : List CoreLog) (k : ℕ) (log : CoreLog) → slice_get logs k ≡ Some log
     → slice_get (cores_of logs) k ≡ Some (core_of log)
 core_at [] k log h = absurd cc
 core_at (x ∷ logs) zero log h = cc
 core_at (x ∷ logs) (suc k) log h = core_at logs k log h
 
+-- an edited log edits the core that it stands for
 pub cores_edited : (old new : List CoreLog) (c : ℕ) (before : CoreLog) (changed : CoreState)
     (last : Option ℕ) → Edits old new c before changed last
     → cores_of new ≡ slice_set (cores_of old) c changed
 cores_edited old new c before changed last e = ap cores_of e.becomes ∙ map-set core_of old c e.log
     ∙ ap (λ (x : CoreState). slice_set (cores_of old) c x) e.core
 
+-- and leaves room for all steps but one
 pub rooms_edited : (rounds n : ℕ) (old new : List CoreLog) (c : ℕ) (before : CoreLog)
     (changed : CoreState) (last : Option ℕ) → slice_get old c ≡ Some before
     → Edits old new c before changed last → HaveRoom rounds (n + 1) old → HaveRoom rounds n new
@@ -49,6 +52,7 @@ rooms_edited rounds n old new c before changed last at e room =
           })
     ]
 
+-- a core's number is below the number of logs
 pub core_within : (logs : List CoreLog) (k : ℕ) (core : CoreState)
     → slice_get (cores_of logs) k ≡ Some core → k < length logs
 core_within logs k core h = (let found = log_at logs k core h in slice_get_within logs k found.0 found.1)

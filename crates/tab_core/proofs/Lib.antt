@@ -3,3 +3,4 @@ pub mod Bits
 pub mod Edited
 pub mod Lists
 pub mod Periods
+pub mod TimelineLemmas

@@ -1,4 +1,4 @@
-use Rattle.step_machine.proofs.Keeping.{moves_keep}
+use Rattle.step_machine.proofs.InvariantLemmas.{moves_keep}
 use Rattle.step_machine.proofs.laws.a_step_keeps.Goals as goal
 
 pub returns : goal.returns

@@ -1,13 +1,13 @@
 use Rattle.std.proofs.Common.{◌<◌, length, refl, sym, ◌∙◌, arith}
 use Rattle.std.specs.Prelude.{slice_get}
 use Rattle.std.proofs.lemmas.Option.{slice_get_read}
-use Rattle.step_machine.proofs.Shown.{is_see, is_decide, is_run, is_end}
+use Rattle.step_machine.proofs.ShownLemmas.{is_see, is_decide, is_run, is_end}
 use Rattle.step_machine.specs.Logs.{core_of, cores_of}
 use Rattle.step_machine.specs.Progresses.{state_of}
 use Rattle.run_promises.proofs.Lists.{same}
 use Rattle.step_machine.proofs.LogLemmas.{core_at}
-use Rattle.step_machine.proofs.Acting.{log_kept, least_clock}
-use Rattle.step_machine.proofs.Progressing.{post_at_end, post_for_see, see_now, decide_now, run_now, whole_at_end, clock_at_end}
+use Rattle.step_machine.proofs.ProgressLemmas.{log_kept, least_clock}
+use Rattle.step_machine.proofs.NextLemmas.{post_at_end, post_for_see, see_now, decide_now, run_now, whole_at_end, clock_at_end}
 use Rattle.step_machine.proofs.next.next_step.Goals as goal
 
 pub phase_at-requires-clause-numbered : goal.phase_at-requires-clause-numbered

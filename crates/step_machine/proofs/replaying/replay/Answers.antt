@@ -2,7 +2,7 @@ use Rattle.std.proofs.Common.{◌<◌, length, take, ◌∙◌, arith}
 use Rattle.std.proofs.lemmas.List.{take_more}
 use Rattle.table_form.specs.Running.State.{opening}
 use Rattle.step_machine.specs.Answers.{Moves}
-use Rattle.step_machine.proofs.Running.{leads_more}
+use Rattle.step_machine.proofs.RunLemmas.{leads_more}
 use Rattle.step_machine.proofs.replaying.replay.Goals as goal
 
 pub loop-place-preserved : goal.loop-place-preserved

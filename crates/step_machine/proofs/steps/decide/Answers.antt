@@ -1,11 +1,11 @@
 use Rattle.std.proofs.Common.{refl, ap, sym, ◌∙◌}
 use Rattle.std.specs.Prelude.{slice_get}
 use Rattle.step_machine.specs.Answers.{shown}
-use Rattle.step_machine.proofs.Shown.{is_decide}
+use Rattle.step_machine.proofs.ShownLemmas.{is_decide}
 use Rattle.step_machine.specs.Logs.{core_of, cores_of}
 use Rattle.run_promises.proofs.Lists.{same}
 use Rattle.step_machine.proofs.LogLemmas.{core_at}
-use Rattle.step_machine.proofs.Acting.{log_found, log_kept, spare_less}
+use Rattle.step_machine.proofs.ProgressLemmas.{log_found, log_kept, spare_less}
 use Rattle.step_machine.proofs.steps.decide.Goals as goal
 
 pub phase_at-phase-requires-clause-numbered : goal.phase_at-phase-requires-clause-numbered

@@ -3,7 +3,7 @@ use Rattle.std.proofs.lemmas.Option.{slice_get_read}
 use Rattle.step_machine.specs.Logs.{core_of}
 use Rattle.step_machine.proofs.LogLemmas.{core_at, cores_edited, rooms_edited}
 use Rattle.run_promises.proofs.OneTableLemmas.{entered_counted}
-use Rattle.step_machine.proofs.Acting.{log_at_core, log_kept, last_edited, starts_round, round_small, entry_room}
+use Rattle.step_machine.proofs.ProgressLemmas.{log_at_core, log_kept, last_edited, starts_round, round_small, entry_room}
 use Rattle.step_machine.proofs.steps.enter.Goals as goal
 
 pub returns-then-round-len-clause-answer : goal.returns-then-round-len-clause-answer

@@ -1,5 +1,5 @@
 use Rattle.std.proofs.Common.{arith}
-use Rattle.step_machine.proofs.Acting.{clock_small, spare_less}
+use Rattle.step_machine.proofs.ProgressLemmas.{clock_small, spare_less}
 use Rattle.step_machine.proofs.steps.post.Goals as goal
 
 pub lowest_behind-requires-clause-small : goal.lowest_behind-requires-clause-small

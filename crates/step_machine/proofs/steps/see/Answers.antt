@@ -1,9 +1,9 @@
 use Rattle.std.proofs.Common.{refl, ap, sym, ◌∙◌, arith}
 use Rattle.step_machine.specs.Answers.{shown}
-use Rattle.step_machine.proofs.Shown.{is_end}
+use Rattle.step_machine.proofs.ShownLemmas.{is_end}
 use Rattle.step_machine.specs.Logs.{core_of}
 use Rattle.step_machine.proofs.LogLemmas.{core_at, cores_edited, rooms_edited}
-use Rattle.step_machine.proofs.Acting.{log_found, log_kept, last_edited, spare_less}
+use Rattle.step_machine.proofs.ProgressLemmas.{log_found, log_kept, last_edited, spare_less}
 use Rattle.step_machine.proofs.steps.see.Goals as goal
 
 pub phase_at-requires-clause-numbered : goal.phase_at-requires-clause-numbered

@@ -9,8 +9,8 @@ use Rattle.table_form.proofs.CourseLemmas.{in_course}
 use Rattle.step_machine.specs.Logs.{core_of, cores_of}
 use Rattle.run_promises.proofs.Lists.{same, element_at}
 use Rattle.step_machine.proofs.LogLemmas.{core_at}
-use Rattle.step_machine.proofs.Phases.{entered_to_run}
-use Rattle.step_machine.proofs.Acting.{log_found, log_kept}
+use Rattle.step_machine.proofs.PhaseLemmas.{entered_to_run}
+use Rattle.step_machine.proofs.ProgressLemmas.{log_found, log_kept}
 use Rattle.step_machine.proofs.stints.stint_now.Goals as goal
 
 pub seen_by-seen-requires : goal.seen_by-seen-requires

@@ -1,8 +1,8 @@
 use Rattle.std.proofs.Common.{◌≡◌, ◌+◌, ◌-◌, ◌≤◌, ap, arith}
 use Rattle.step_machine.specs.Worlds.{WorldView}
 use Rattle.step_machine.specs.Progresses.{state_of}
-use Rattle.step_machine.proofs.Acting.{spare_some}
-use Rattle.step_machine.proofs.Running.{answers_keep}
+use Rattle.step_machine.proofs.ProgressLemmas.{spare_some}
+use Rattle.step_machine.proofs.RunLemmas.{answers_keep}
 use Rattle.step_machine.proofs.world.World.apply.Goals as goal
 
 pub take_step-answer-requires-clause-spare : goal.take_step-answer-requires-clause-spare

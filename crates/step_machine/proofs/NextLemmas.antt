@@ -18,10 +18,10 @@ use Rattle.script_doc.specs.declared.step.Step.TheVariants as steps
 use Rattle.table_form.specs.Running.Phases.{to_see, to_decide, at_end}
 use Rattle.run_promises.proofs.Lists.{same, element_at}
 use Rattle.step_machine.proofs.Lists.{set_here}
-use Rattle.step_machine.proofs.Phases.{deciding, entered_below, has_seen}
+use Rattle.step_machine.proofs.PhaseLemmas.{deciding, entered_below, has_seen}
 use Rattle.run_promises.proofs.ChoiceLemmas.{stint_bounds}
 use Rattle.run_promises.proofs.OneTableLemmas.{entered_counted}
-use Rattle.step_machine.proofs.Ticks.{has_from_next}
+use Rattle.run_promises.proofs.WaitingLemmas.{has_from_next}
 
 -- a core that changes changes the cores
 cores_differ : (cores : List CoreState) (c : ℕ) (core changed : CoreState)
@@ -31,6 +31,7 @@ cores_differ cores c core changed at differs e =
     (subst (λ (xs : List CoreState). slice_get xs c ≡ Some changed) e
     (set_here cores c changed core at)) at)
 
+-- where all have finished an event is posted: each clock is late enough
 pub post_at_end : (course : CourseView) (rounds : ℕ) (s : State) (c : ℕ) (core : CoreState)
     → FitsRounds course rounds → IsLeastClock s c core → core.clock ≡ rounds * ROUND
     → phase_of rounds core ≡ at_end → s.posted < length course.ticks →
@@ -50,6 +51,7 @@ post_at_end course rounds s c core ends low clock phase due = record {
   changes = λ e. (let q = ap (λ (x : State). x.posted) e in omega arith);
 }
 
+-- where a core lacks an event that it must have, that event is posted
 pub post_for_see : (course : CourseView) (rounds : ℕ) (s : State) (c : ℕ) (core : CoreState)
     → IsCourse course → IsLeastClock s c core → phase_of rounds core ≡ to_see
     → (HasUpTo course s.posted core.clock → ⊥) →
@@ -79,6 +81,7 @@ post_for_see course rounds s c core ok low phase lacks =
       changes = λ e. (let q = ap (λ (x : State). x.posted) e in omega arith);
     }
 
+-- for `see_now`: a core that is to see has not
 see_cases : (b : Bool) (o : Option ℕ) (e : Bool)
     → (if b then at_end else phase_unfinished o e) ≡ to_see → o ≡ None
 see_cases true o e h = absurd cc
@@ -86,6 +89,7 @@ see_cases false None e h = refl
 see_cases false (Some n) true h = absurd cc
 see_cases false (Some n) false h = absurd cc
 
+-- where it lacks none it sees
 pub see_now : (course : CourseView) (rounds : ℕ) (s : State) (c : ℕ) (core : CoreState)
     → IsLeastClock s c core → phase_of rounds core ≡ to_see → HasUpTo course s.posted core.clock
     → IsNextStep course rounds s (steps.See c)
@@ -105,16 +109,19 @@ see_now course rounds s c core low phase has =
           absurd (cc)) (ap (λ (x : State). x.cores) e);
     }
 
+-- what a core has seen
 some_seen : (o : Option ℕ) → o ≢ None → (n : ℕ) × (o ≡ Some n)
 some_seen None h = absurd (h refl)
 some_seen (Some n) h = (n, refl)
 
+-- one more entry makes another core
 entries_differ : (core : CoreState) (e : Entry) → enters core e ≢ core
 entries_differ core e q =
     let n = ap (λ (x : CoreState). length x.entries) q in
     let m = length-append core.entries (e ∷ []) in
     omega arith
 
+-- a core that is to enter its round enters it, as the first or after another
 pub decide_now : (course : CourseView) (rounds : ℕ) (s : State) (c : ℕ) (core : CoreState)
     → StateInvariant course rounds s → IsLeastClock s c core → phase_of rounds core ≡ to_decide
     → IsNextStep course rounds s (steps.Decide c)
@@ -177,12 +184,14 @@ decide_now course rounds s c core kept low due =
           })
     ]
 
+-- one more stint makes another core
 stints_differ : (core : CoreState) (st : Stint) → runs core st ≢ core
 stints_differ core st q =
     let n = ap (λ (x : CoreState). length x.stints) q in
     let m = length-append core.stints (st ∷ []) in
     omega arith
 
+-- a core that is to run runs: no clock is below its own
 pub run_now : (course : CourseView) (rounds : ℕ) (s : State) (c : ℕ) (core : CoreState) (st : Stint)
     → IsCourse course → IsLeastClock s c core → IsNextStint course rounds c core st
     → IsNextStep course rounds s (steps.Run c)
@@ -207,6 +216,7 @@ run_now course rounds s c core st ok low next =
           (ap (λ (x : State). x.cores) q);
     }
 
+-- where the least clock is at the end all are
 pub whole_at_end : (course : CourseView) (rounds : ℕ) (s : State) (c : ℕ) (core : CoreState)
     → StateInvariant course rounds s → IsLeastClock s c core → core.clock ≡ rounds * ROUND
     → s.posted ≡ length course.ticks → IsComplete course rounds s
@@ -216,6 +226,7 @@ whole_at_end course rounds s c core kept low clock posted = record {
   posted = posted;
 }
 
+-- for `clock_at_end`, by the tests that make the phase
 finished_cases : (b : Bool) (o : Option ℕ) (e : Bool)
     → (if b then at_end else phase_unfinished o e) ≡ at_end → b ≡ true
 finished_cases true o e h = refl
@@ -223,6 +234,7 @@ finished_cases false None e h = absurd cc
 finished_cases false (Some n) true h = absurd cc
 finished_cases false (Some n) false h = absurd cc
 
+-- a core at the end has its clock there
 pub clock_at_end : (rounds : ℕ) (core : CoreState) → phase_of rounds core ≡ at_end
     → core.clock ≡ rounds * ROUND
 clock_at_end rounds core h = eqb-true _ _

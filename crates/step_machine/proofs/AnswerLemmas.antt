@@ -18,18 +18,21 @@ use Rattle.table_form.specs.Running.Phases.{to_decide}
 use Rattle.tab_core.specs.declared.actor.Actor.TheVariants.{Core, Controller}
 use Rattle.step_machine.specs.declared.answer.Answer.TheVariants.{Done, Behind, NotNow}
 use Rattle.run_promises.proofs.Lists.{same, within}
-use Rattle.step_machine.proofs.Determined.{one_next}
+use Rattle.step_machine.proofs.StintLemmas.{one_next}
 
+-- a clock is not both near enough and behind
 low_or_near : (lag : ℕ) (cores : List CoreState) (skip : Option ℕ) (tick d clock : ℕ)
     → AreWithinLag lag cores skip tick → IsFirstBehind lag cores skip tick d clock → ⊥
 low_or_near lag cores skip tick d clock near low =
     (let le = near d low.other low.at low.not_skipped in let lt = low.low in absurd (omega arith))
 
+-- for `one_low`: no core below the first one behind is behind
 not_lower : (lag : ℕ) (cores : List CoreState) (skip : Option ℕ) (tick d clock e clock' : ℕ)
     → IsFirstBehind lag cores skip tick d clock → IsFirstBehind lag cores skip tick e clock' → d < e → ⊥
 not_lower lag cores skip tick d clock e clock' a b lt =
     (let le = b.lowest d a.other lt a.at a.not_skipped in let low = a.low in absurd (omega arith))
 
+-- the first core behind is one, and so is its clock
 one_low : (lag : ℕ) (cores : List CoreState) (skip : Option ℕ) (tick d clock e clock' : ℕ)
     → IsFirstBehind lag cores skip tick d clock → IsFirstBehind lag cores skip tick e clock'
     → (d ≡ e) × (clock ≡ clock')
@@ -47,12 +50,15 @@ one_low lag cores skip tick d clock e clock' a b =
     (subst (λ (i : ℕ). slice_get cores i ≡ Some a.other) is a.at) b.at in
     (is, a.clock_is ∙ (ap (λ (x : CoreState). x.clock) core ∙ sym b.clock_is))
 
+-- equal parts make equal answers
 behind_same : (d e t u : ℕ) → d ≡ e → t ≡ u → Behind (Core d) t ≡ Behind (Core e) u
 behind_same d e t u p q = cc
 
+-- so they do here
 not_now_same : (f g : Phase) → f ≡ g → NotNow f ≡ NotNow g
 not_now_same f g p = cc
 
+-- Post has one answer
 post_one : (course : CourseView) (rounds : ℕ) (s : State) (a b : Answer) (new new' : State)
     → Answers course rounds s steps.Post a new → Answers course rounds s steps.Post b new'
     → (a ≡ b) × (new ≡ new')
@@ -80,6 +86,7 @@ phases_same : (rounds c : ℕ) (s : State) (x y : CoreState) → slice_get s.cor
 phases_same rounds c s x y h g =
     ap (λ (z : CoreState). phase_of rounds z) (same (slice_get s.cores c) x y h g)
 
+-- See has one answer
 see_one : (course : CourseView) (rounds c : ℕ) (s : State) (a b : Answer) (new new' : State)
     → Answers course rounds s (steps.See c) a new → Answers course rounds s (steps.See c) b new'
     → (a ≡ b) × (new ≡ new')
@@ -111,23 +118,26 @@ see_one course rounds c s (NotNow f) (Behind Controller t) n m p q =
 see_one course rounds c s (NotNow f) (NotNow g) n m p q =
     (not_now_same f g (p.0.found_is ∙ sym q.0.found_is), p.1 ∙ sym q.1)
 
-win_or_join : (rounds c : ℕ) (s n m : State) → EntersFirst rounds c s n → EntersAfter rounds c s m → ⊥
-win_or_join rounds c s n m p q =
+-- a round has a count or has none
+first_or_after : (rounds c : ℕ) (s n m : State) → EntersFirst rounds c s n → EntersAfter rounds c s m → ⊥
+first_or_after rounds c s n m p q =
     let is : p.round.core ≡ q.round.core = same (slice_get s.cores c) p.round.core q.round.core p.round.at q.round.at in
     let round = ap (λ (x : CoreState). round_of x) is in
     let lt = within s.decided (round_of q.round.core) q.used q.count in
     let first = p.first in
     absurd (omega arith)
 
-one_win : (rounds c : ℕ) (s n m : State) → EntersFirst rounds c s n → EntersFirst rounds c s m → n ≡ m
-one_win rounds c s n m p q =
+-- who enters first leads to one state
+one_first : (rounds c : ℕ) (s n m : State) → EntersFirst rounds c s n → EntersFirst rounds c s m → n ≡ m
+one_first rounds c s n m p q =
     let is : p.round.core ≡ q.round.core = same (slice_get s.cores c) p.round.core q.round.core p.round.at q.round.at in
     let seen : p.round.seen ≡ q.round.seen = same q.round.core.seen p.round.seen q.round.seen
     (subst (λ (x : CoreState). x.seen ≡ Some p.round.seen) is p.round.has_seen) q.round.has_seen in
     p.becomes ∙ (rw (is, seen) refl ∙ sym q.becomes)
 
-one_join : (rounds c : ℕ) (s n m : State) → EntersAfter rounds c s n → EntersAfter rounds c s m → n ≡ m
-one_join rounds c s n m p q =
+-- and who enters after
+one_after : (rounds c : ℕ) (s n m : State) → EntersAfter rounds c s n → EntersAfter rounds c s m → n ≡ m
+one_after rounds c s n m p q =
     let is : p.round.core ≡ q.round.core = same (slice_get s.cores c) p.round.core q.round.core p.round.at q.round.at in
     let seen : p.round.seen ≡ q.round.seen = same q.round.core.seen p.round.seen q.round.seen
     (subst (λ (x : CoreState). x.seen ≡ Some p.round.seen) is p.round.has_seen) q.round.has_seen in
@@ -136,11 +146,12 @@ one_join rounds c s n m p q =
     q.count in
     p.becomes ∙ (rw (is, seen, used) refl ∙ sym q.becomes)
 
+-- so Decide leads to one state
 one_entering : (rounds c : ℕ) (s n m : State) → EntersFirst rounds c s n ⊎ EntersAfter rounds c s n
     → EntersFirst rounds c s m ⊎ EntersAfter rounds c s m → n ≡ m
 one_entering rounds c s n m p q = elim p [
-  | inl w ↦ elim q [ inl v ↦ one_win rounds c s n m w v | inr j ↦ absurd (win_or_join rounds c s n m w j) ]
-  | inr i ↦ elim q [ inl v ↦ absurd (win_or_join rounds c s m n v i) | inr j ↦ one_join rounds c s n m i j ]
+  | inl w ↦ elim q [ inl v ↦ one_first rounds c s n m w v | inr j ↦ absurd (first_or_after rounds c s n m w j) ]
+  | inr i ↦ elim q [ inl v ↦ absurd (first_or_after rounds c s m n v i) | inr j ↦ one_after rounds c s n m i j ]
 ]
 
 -- who enters is to decide
@@ -151,6 +162,7 @@ entering_due rounds c s n p = elim p [
   | inr j ↦ (j.round.core, j.round.at, j.round.due)
 ]
 
+-- Decide has one answer
 decide_one : (course : CourseView) (rounds c : ℕ) (s : State) (a b : Answer) (new new' : State)
     → Answers course rounds s (steps.Decide c) a new
     → Answers course rounds s (steps.Decide c) b new' → (a ≡ b) × (new ≡ new')
@@ -182,6 +194,7 @@ stint_same course rounds c s x y st su h g a b =
           (subst (λ (z : CoreState). IsNextStint course rounds c z st) is a) b,
     )
 
+-- Run has one answer, since the stint is determined
 run_one : (course : CourseView) (rounds c : ℕ) (s : State) (a b : Answer) (new new' : State)
     → Answers course rounds s (steps.Run c) a new → Answers course rounds s (steps.Run c) b new'
     → (a ≡ b) × (new ≡ new')
@@ -222,6 +235,7 @@ run_one course rounds c s (NotNow f) (NotNow g) n m p q = (
   p.1 ∙ sym q.1,
 )
 
+-- the law, over the four kinds of step
 pub one_answer : (course : CourseView) (rounds : ℕ) (s : State) (step : Step) (a b : Answer)
     (new new' : State) → Answers course rounds s step a new → Answers course rounds s step b new'
     → (a ≡ b) × (new ≡ new')

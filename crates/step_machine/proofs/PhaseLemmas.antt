@@ -12,10 +12,12 @@ use Rattle.table_form.specs.Running.Phases.{phase_of, phase_unfinished, phase_on
 use Rattle.table_form.specs.Running.Phases.{to_decide, to_run, at_end}
 use Rattle.run_promises.proofs.Lists.{element_at}
 
+-- what holds of a core that is to enter a round
 pub record Deciding (rounds : ℕ) (core : CoreState) : Type 0 where
   pub unfinished : core.clock ≢ rounds * ROUND
   pub not_entered : has_entered core ≡ false
 
+-- for `deciding`, by the tests that make the phase
 decide_cases : (b : Bool) (o : Option ℕ) (e : Bool)
     → (if b then at_end else phase_unfinished o e) ≡ to_decide → (b ≡ false) × (e ≡ false)
 decide_cases true o e h = absurd cc
@@ -23,6 +25,7 @@ decide_cases false None e h = absurd cc
 decide_cases false (Some n) true h = absurd cc
 decide_cases false (Some n) false h = (refl, refl)
 
+-- for `running` and `entered_to_run`, likewise
 run_cases : (b : Bool) (o : Option ℕ) (e : Bool)
     → (if b then at_end else phase_unfinished o e) ≡ to_run → (b ≡ false) × (e ≡ true)
 run_cases true o e h = absurd cc
@@ -30,14 +33,17 @@ run_cases false None e h = absurd cc
 run_cases false (Some n) true h = (refl, refl)
 run_cases false (Some n) false h = absurd cc
 
+-- numbers that the test tells apart differ
 differ : (a b : ℕ) → (a == b) ≡ false → a ≢ b
 differ a b h e = grind (arith, nat_tests)
 
+-- a core that is to enter a round has not done so, and is not at the end
 pub deciding : (rounds : ℕ) (core : CoreState) → phase_of rounds core ≡ to_decide → Deciding rounds core
 deciding rounds core h =
     let f = decide_cases (core.clock == rounds * ROUND) core.seen (has_entered core) h in
     record { unfinished = differ _ _ f.0; not_entered = f.1 }
 
+-- nor is one that is to run
 pub running : (rounds : ℕ) (core : CoreState) → phase_of rounds core ≡ to_run → core.clock ≢ rounds * ROUND
 running rounds core h =
     (let f = run_cases (core.clock == rounds * ROUND) core.seen (has_entered core) h in differ _ _
@@ -68,11 +74,13 @@ none_from (x ∷ es) r n numbered le =
     rw (ne_eqb x.round r ne) (none_from es r (n + 1) (λ k e h. omega (arith, numbered (suc k) e h))
     (omega arith))
 
+-- a round is not entered where its number is at least the number of entries
 pub not_entered_above : (es : List Entry) (r : ℕ)
     → ((k : ℕ) (e : Entry) → slice_get es k ≡ Some e → e.round ≡ k) → length es ≤ r
     → list_any (λ (x : Entry). x.round == r) es ≡ false
 not_entered_above es r numbered le = none_from es r 0 (λ k e h. omega (arith, numbered k e h)) (omega arith)
 
+-- for `phase_seen`, by the tests that make the phase
 phase_parts : (a : Bool) (o : Option ℕ) (e b : Bool) → a ≡ false → is_none o ≡ false → e ≡ b
     → (if a then at_end else phase_unfinished o e) ≡ phase_once_seen b
 phase_parts true o e b p q r = absurd cc
@@ -87,6 +95,7 @@ phase_seen rounds core entered unfinished seen is =
     phase_parts (core.clock == rounds * ROUND) core.seen (has_entered core) entered
     (ne_eqb core.clock (rounds * ROUND) unfinished) seen is
 
+-- for `has_seen`, likewise
 seen_cases : (a : Bool) (o : Option ℕ) (e : Bool) (p : CorePhase) → (p ≡ to_decide) ⊎ (p ≡ to_run)
     → (if a then at_end else phase_unfinished o e) ≡ p → o ≢ None
 seen_cases true o e p is h none = elim is [ inl q ↦ absurd cc | inr q ↦ absurd cc ]

@@ -1,7 +1,8 @@
--- Each step keeps what is kept.
+-- Each of the four kinds of step keeps the invariant.
 use Rattle.std.proofs.Common.{◌≡◌, ℕ, suc, ◌+◌, ◌*◌, ◌/◌, ◌<◌, ◌≤◌, ◌⊎◌, inl, inr, true, false, ◌≢◌, List, [], ◌∷◌, ◌++◌, length, take, Option, Some, refl, ap, sym, subst, ◌∙◌, arith, length-append, length-set}
 use Rattle.std.specs.Prelude.{slice_get, slice_set}
 use Rattle.std.proofs.lemmas.Bool.{cases_lt}
+use Rattle.tab_core.proofs.TimelineLemmas.{contiguous_push}
 use Rattle.tab_core.specs.Timelines.{HasTimeline}
 use Rattle.tab_core.specs.declared.TheConstants.{ROUND}
 use Rattle.tab_core.specs.declared.stint.Stint.{Stint}
@@ -21,10 +22,10 @@ use Rattle.script_doc.specs.declared.step.Step.TheVariants as steps
 use Rattle.table_form.specs.Running.Phases.{to_decide}
 use Rattle.run_promises.proofs.Lists.{within, same}
 use Rattle.step_machine.proofs.Lists.{set_split, set_here, push_split, push_old, push_new, take_push_old, take_push_new}
-use Rattle.step_machine.proofs.Phases.{deciding, running, entered_below}
+use Rattle.step_machine.proofs.PhaseLemmas.{deciding, running, entered_below}
 use Rattle.run_promises.proofs.ChoiceLemmas.{stint_bounds}
 use Rattle.run_promises.proofs.OneTableLemmas.{entered_counted}
-use Rattle.step_machine.proofs.Pieces.{chain_push, cores_after, won_after}
+use Rattle.step_machine.proofs.ChangedCores.{cores_after, won_after}
 
 -- Post
 
@@ -404,7 +405,7 @@ timeline_ran course rounds c core s ok t next =
     let from : s.from ≡ core.clock = next.from in
     let entered = within core.entries (round_of core) next.entry next.entered in
     record {
-      contiguous = chain_push 0 core.clock core.stints s t.contiguous next.from;
+      contiguous = contiguous_push 0 core.clock core.stints s t.contiguous next.from;
       numbered = t.numbered;
       reach = omega (arith, bounds.1);
       ahead = omega (arith, bounds.0, t.ahead);

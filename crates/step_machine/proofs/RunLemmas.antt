@@ -1,4 +1,4 @@
--- What is kept, over whole runs.
+-- Runs: their opening and each list of steps keep the invariant, and new logs stand for the opening.
 use Rattle.std.proofs.Common.{◌≡◌, ◌≢◌, ℕ, zero, suc, inl, inr, List, [], ◌∷◌, ◌++◌, length, replicate, Some, refl, ap, sym, subst, ◌∙◌, arith}
 use Rattle.std.specs.Prelude.{slice_get}
 use Rattle.tab_core.specs.declared.stint.Stint.{Stint}
@@ -17,13 +17,15 @@ use Rattle.step_machine.specs.Runs.{Leads}
 use Rattle.step_machine.specs.declared.progress.Progress.{Progress}
 use Rattle.step_machine.specs.Progresses.{state_of}
 use Rattle.step_machine.proofs.Lists.{push_split}
-use Rattle.step_machine.proofs.Keeping.{moves_keep}
+use Rattle.step_machine.proofs.InvariantLemmas.{moves_keep}
 
+-- each core of the opening is as new
 same_core : (n c : ℕ) (x core : CoreState) → slice_get (replicate n x) c ≡ Some core → core ≡ x
 same_core zero c x core h = absurd cc
 same_core (suc n) zero x core h = cc
 same_core (suc n) (suc c) x core h = same_core n c x core h
 
+-- and they are as many as the course has
 length-replicate_of : {X : Type 0} (n : ℕ) (x : X) → length (replicate n x) ≡ n
 length-replicate_of zero x = refl
 length-replicate_of (suc n) x = ap suc (length-replicate_of n x)
@@ -65,7 +67,7 @@ opening_kept course rounds = record {
       (let x = ap (λ (y : CoreState). y.clock) (same_core course.cores c opening_core core h) in omega arith);
 }
 
--- an answer keeps what is kept
+-- whatever the answer to a step is, the state after it keeps the invariant
 pub answers_keep : (course : CourseView) (rounds : ℕ) (old : State) (step : Step) (answer : Answer)
     (new : State) → IsCourse course → Answers course rounds old step answer new
     → StateInvariant course rounds old → StateInvariant course rounds new
@@ -74,6 +76,7 @@ answers_keep course rounds old step Done new ok moves kept =
 answers_keep course rounds old step (Behind who tick) new ok waits kept = rw waits.1 kept
 answers_keep course rounds old step (NotNow found) new ok waits kept = rw waits.1 kept
 
+-- so does a list of steps
 pub leads_keep : (course : CourseView) (rounds : ℕ) (old : State) (steps : List Step) (new : State)
     → IsCourse course → Leads course rounds old steps new → StateInvariant course rounds old
     → StateInvariant course rounds new
@@ -82,6 +85,7 @@ leads_keep course rounds old (step ∷ steps) new ok leads kept =
     leads_keep course rounds leads.0 steps new ok leads.2
     (moves_keep course rounds old step leads.0 ok leads.1 kept)
 
+-- new logs stand for the cores of the opening
 pub cores_new : (count rounds turns : ℕ) (logs : List CoreLog) → AreNew count rounds turns logs
     → cores_of logs ≡ replicate count opening_core
 cores_new zero rounds turns [] new = refl
@@ -96,6 +100,7 @@ cores_new (suc count) rounds turns (log ∷ logs) new =
     }) in
     rw (first, rest) refl
 
+-- one more new log leaves all new
 pub new_more : (count rounds turns : ℕ) (logs : List CoreLog) (log : CoreLog)
     → AreNew count rounds turns logs → IsNew rounds turns log
     → AreNew (length (logs ++ log ∷ [])) rounds turns (logs ++ log ∷ [])
@@ -108,11 +113,13 @@ new_more count rounds turns logs log are is = record {
   ];
 }
 
+-- a state of new logs is the opening
 pub new_state : (count rounds turns : ℕ) (p : Progress) → p.posted ≡ 0 → p.decided.items ≡ []
     → AreNew count rounds turns p.logs.items → state_of p ≡ opening count
 new_state count rounds turns p posted decided new =
     rw (posted, decided, cores_new count rounds turns p.logs.items new) refl
 
+-- new logs know that nobody was picked
 pub new_know : (course : CourseView) (count rounds turns : ℕ) (logs : List CoreLog)
     → AreNew count rounds turns logs → KnowLast course logs
 new_know course count rounds turns logs new = λ k log h.
@@ -120,10 +127,12 @@ new_know course count rounds turns logs new = λ k log h.
     let none = ap (λ (x : CoreState). x.stints) is.core in
     is.last ∙ sym (ap (λ (ss : List Stint). last_shared course k ss) none)
 
+-- and have room for the steps that are to come
 pub new_room : (count rounds turns : ℕ) (logs : List CoreLog) → AreNew count rounds turns logs
     → HaveRoom rounds turns logs
 new_room count rounds turns logs new = λ k log h. (new.new k log h).room
 
+-- one step more at the end of a list
 pub leads_more : (course : CourseView) (rounds : ℕ) (old : State) (steps : List Step) (mid : State)
     (step : Step) (new : State) → Leads course rounds old steps mid
     → Moves course rounds mid step new → Leads course rounds old (steps ++ step ∷ []) new

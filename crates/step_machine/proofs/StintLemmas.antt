@@ -1,10 +1,10 @@
--- A core's next stint is determined.
+-- A core's next stint is determined: the end of its span, its pick, and so all of it.
 use Rattle.std.proofs.Common.{◌≡◌, ℕ, ◌%◌, ◌<◌, inl, inr, Bool, true, false, List, Option, Some, None, refl, ap, subst, sym, ◌∙◌, arith}
 use Rattle.std.specs.Prelude.{slice_get}
-use Rattle.std.proofs.lemmas.Bool.{cases_lt}
 use Rattle.std.specs.Option.{ForSome}
 use denote.Struct.Props.{props}
 use Rattle.tab_core.specs.declared.TheConstants.{MAX_VCPUS, ROUND}
+use Rattle.table_form.proofs.SpotLemmas.{one_end}
 use Rattle.table_form.specs.Tables.Serves.{owner_at}
 use Rattle.tab_core.specs.declared.stint.Stint.{Stint}
 use Rattle.tab_core.specs.declared.entry.Entry.{Entry}
@@ -17,28 +17,13 @@ use Rattle.table_form.specs.Running.Stints.{IsNextStint}
 use Rattle.table_form.specs.Running.Phases.{round_of}
 use Rattle.run_promises.proofs.Lists.{same}
 
-no_shorter : (plan : PlanView) (c place e f : ℕ) → IsSpanEnd plan c place e
-    → IsSpanEnd plan c place f → e < f → ⊥
-no_shorter plan c place e f a b lt = elim a.maximal [
-  | inl whole ↦ (let most = b.within in absurd (omega arith))
-  | inr unlike ↦ unlike (b.alike e (let after = a.after in omega arith) lt)
-]
-
-one_end : (plan : PlanView) (c place e f : ℕ) → IsSpanEnd plan c place e → IsSpanEnd plan c place f → e ≡ f
-one_end plan c place e f a b = elim (cases_lt e f) [
-  | inl lt ↦ absurd (no_shorter plan c place e f a b lt)
-  | inr le ↦ elim (cases_lt f e) [
-    | inl lt ↦ absurd (no_shorter plan c place f e b a lt)
-    | inr le' ↦
-        omega arith
-  ]
-]
-
+-- the least number from one on that passes a test is one
 one_least : (P Q : ℕ → Type 0) (above v w : ℕ) → ((u : ℕ) → P u → Q u) → ((u : ℕ) → Q u → P u)
     → IsLeast P above v → IsLeast Q above w → v ≡ w
 one_least P Q above v w to back a b =
     (let le = a.first w (back w b.holds) b.high in let le' = b.first v (to v a.holds) a.high in omega arith)
 
+-- so a pick is one
 one_pick : (P Q : ℕ → Type 0) (last x y : Option ℕ) → ((u : ℕ) → P u → Q u) → ((u : ℕ) → Q u → P u)
     → IsPick P last x → IsPick Q last y → x ≡ y
 one_pick P Q last None None to back a b = refl
@@ -59,6 +44,7 @@ one_pick P Q last (Some v) (Some w) to back a b = elim a [
   ]
 ]
 
+-- and a choice, since the test of the owner decides who is asked
 one_choice : (plan : PlanView) (c place : ℕ) (runnable : List Bool) (last x y : Option ℕ)
     → IsChoice plan c place runnable last x → IsChoice plan c place runnable last y → x ≡ y
 one_choice plan c place runnable last x y f g = go (owner_runs (owner_at plan.rows c place) runnable) refl
@@ -84,13 +70,16 @@ one_follows course c earlier s t from seen used f g =
     let end : f.span_end ≡ g.span_end = one_end plan c place f.span_end g.span_end span g.span in
     (ran, f.end ∙ (rw (end, from, used, ran) refl ∙ sym g.end))
 
+-- a stint of its parts; so that equal parts make equal stints
 build : ℕ → ℕ → ℕ → ℕ → (ran : Option ℕ) → ForSome ran (λ v. v < MAX_VCPUS) → Stint
 build from end seen used ran small =
     record { from = from; end = end; seen = seen; used = used; ran = ran; ran_small = small }
 
+-- that a vCPU is small has one proof
 one_small : (ran : Option ℕ) (x y : ForSome ran (λ v. v < MAX_VCPUS)) → x ≡ y
 one_small ran x y = (let one : IsProp (ForSome ran (λ v. v < MAX_VCPUS)) = hlevel props in one x y)
 
+-- stints whose vCPUs are equal
 build_alike : (a b c d : ℕ) (e e' : Option ℕ) (x : ForSome e (λ v. v < MAX_VCPUS)) → e ≡ e'
     → (y : ForSome e' (λ v. v < MAX_VCPUS)) → build a b c d e x ≡ build a b c d e' y
 build_alike a b c d e e' x is =
@@ -98,17 +87,20 @@ build_alike a b c d e e' x is =
     → build a b c d e x ≡ build a b c d o y) is
     (λ y. ap (λ (z : ForSome e (λ v. v < MAX_VCPUS)). build a b c d e z) (one_small e x y))
 
+-- stints all of whose parts are equal
 build_same : (a a' b b' c c' d d' : ℕ) (e e' : Option ℕ) (x : ForSome e (λ v. v < MAX_VCPUS))
     (y : ForSome e' (λ v. v < MAX_VCPUS)) → a ≡ a' → b ≡ b' → c ≡ c' → d ≡ d' → e ≡ e'
     → build a b c d e x ≡ build a' b' c' d' e' y
 build_same a a' b b' c c' d d' e e' x y p q r s t = rw (p, q, r, s) (build_alike a' b' c' d' e e' x t y)
 
+-- two stints of equal numbers are the same
 same_stint : (s t : Stint) → s.from ≡ t.from → s.end ≡ t.end → s.seen ≡ t.seen → s.used ≡ t.used
     → s.ran ≡ t.ran → s ≡ t
 unfolding build
 same_stint s t a b c d e = build_same s.from t.from s.end t.end s.seen t.seen s.used t.used s.ran
     t.ran s.ran_small t.ran_small a b c d e
 
+-- the law: a core has one next stint
 pub one_next : (course : CourseView) (rounds c : ℕ) (core : CoreState) (s t : Stint)
     → IsNextStint course rounds c core s → IsNextStint course rounds c core t → s ≡ t
 one_next course rounds c core s t a b =

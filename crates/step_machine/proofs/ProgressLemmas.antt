@@ -17,11 +17,12 @@ use Rattle.step_machine.specs.Logs.{core_of, KnowLast, Edits, IsLowestOf}
 use Rattle.step_machine.specs.Progresses.{state_of, HasSpare}
 use Rattle.std.proofs.lemmas.Bool.{cases_lt}
 use Rattle.table_form.specs.Running.Phases.{to_decide}
-use Rattle.step_machine.proofs.Phases.{deciding, entered_below}
+use Rattle.step_machine.proofs.PhaseLemmas.{deciding, entered_below}
 use Rattle.run_promises.proofs.Lists.{element_at}
 use Rattle.step_machine.proofs.Lists.{set_split}
 use Rattle.step_machine.proofs.LogLemmas.{log_at, core_at}
 
+-- there is a log for each core of the course
 pub logs_count : (course : CourseView) (rounds : ℕ) (p : Progress) → StateInvariant course rounds (state_of p)
     → length p.logs.items ≡ course.cores
 logs_count course rounds p kept = sym (length-map p.logs.items core_of) ∙ kept.size
@@ -34,6 +35,7 @@ log_found course rounds p c log kept lt is =
     slice_get_read p.logs.items (length p.logs.items) c log refl
     (let n = logs_count course rounds p kept in omega arith) is
 
+-- a log stands for a core that keeps the invariant
 pub log_kept : (course : CourseView) (rounds : ℕ) (p : Progress) (c : ℕ) (log : CoreLog)
     → StateInvariant course rounds (state_of p) → slice_get p.logs.items c ≡ Some log
     → CoreInvariant course rounds p.posted p.decided.items c (core_of log)
@@ -46,6 +48,7 @@ pub clock_small : (course : CourseView) (rounds : ℕ) (p : Progress) (c : ℕ) 
 clock_small course rounds p c log kept ok few at =
     (let k = log_kept course rounds p c log kept at in omega (arith, k.clock.in_run, ok.form.small_lag))
 
+-- the logs know their last picks after one of them is edited
 pub last_edited : (course : CourseView) (old new : List CoreLog) (c : ℕ) (before : CoreLog)
     (changed : CoreState) (last : Option ℕ) → Edits old new c before changed last
     → last ≡ last_shared course c changed.stints → KnowLast course old → KnowLast course new
@@ -59,6 +62,7 @@ last_edited course old new c before changed last e is know =
       | inr other ↦ know k log other.1
     ]
 
+-- a fold over a list and one more
 pub fold_push : {A B : Type 0} (f : B → A → B) (b : B) (xs : List A) (x : A)
     → fold f b (xs ++ x ∷ []) ≡ f (fold f b xs) x
 fold_push f b [] x = refl
@@ -101,6 +105,7 @@ starts_round course rounds p c log kept at due =
     let few = entries_few course rounds p c log kept at due in
     omega (arith, k.timeline.reach)
 
+-- room for some steps is room for one
 pub spare_some : (rounds n : ℕ) (p : Progress) → 1 ≤ n → HasSpare rounds n p → HasSpare rounds 1 p
 spare_some rounds n p some spare = record {
   decided = omega (arith, spare.decided);
@@ -122,6 +127,7 @@ round_small course rounds p c log kept at due =
     let low : log.clock < rounds * ROUND = omega (arith, k.clock.in_run) in
     omega arith
 
+-- so the room is there
 pub entry_room : (course : CourseView) (rounds : ℕ) (p : Progress) (c : ℕ) (log : CoreLog)
     → StateInvariant course rounds (state_of p) → HasSpare rounds 1 p → slice_get p.logs.items c ≡ Some log
     → phase_of rounds (core_of log) ≡ to_decide →
@@ -131,6 +137,7 @@ entry_room course rounds p c log kept spare at due =
     let small = round_small course rounds p c log kept at due in
     omega (arith, (spare.logs c log at).entries)
 
+-- a step takes at most the room of one
 pub spare_less : (rounds n : ℕ) (p : Progress) → HasSpare rounds (n + 1) p → HasSpare rounds n p
 spare_less rounds n p spare = record {
   decided = omega (arith, spare.decided);

@@ -1,5 +1,5 @@
--- Contiguous stints cover each tick below the clock once.
-use Rattle.std.proofs.Common.{◌≡◌, ℕ, zero, suc, ◌<◌, ◌≤◌, inl, inr, List, [], ◌∷◌, Some, refl, ap, arith}
+-- Contiguous stints cover each tick below the clock once, and grow at their end.
+use Rattle.std.proofs.Common.{◌≡◌, ℕ, zero, suc, ◌<◌, ◌≤◌, inl, inr, List, [], ◌∷◌, ◌++◌, Some, refl, ap, sym, ◌∙◌, arith}
 use Rattle.std.specs.Prelude.{slice_get}
 use Rattle.std.proofs.lemmas.Bool.{cases_lt}
 use Rattle.tab_core.specs.Timelines.{AreContiguous}
@@ -47,3 +47,9 @@ one_stint from to (u ∷ us) (suc j) zero x s t chain ticks h g a b a' b' =
     absurd (omega arith)
 one_stint from to (u ∷ us) (suc j) (suc k) x s t chain ticks h g a b a' b' =
     one_stint u.end to us j k x s t chain.1 (λ i v r. ticks (suc i) v r) h g a b a' b'
+
+-- contiguous stints and one more from where they end are contiguous
+pub contiguous_push : (from to : ℕ) (ss : List Stint) (s : Stint) → AreContiguous from ss to → s.from ≡ to
+    → AreContiguous from (ss ++ s ∷ []) s.end
+contiguous_push from to [] s chain at = (at ∙ sym chain, refl)
+contiguous_push from to (t ∷ ts) s chain at = (chain.0, contiguous_push t.end to ts s chain.1 at)

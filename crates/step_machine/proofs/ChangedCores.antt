@@ -1,19 +1,12 @@
--- Parts of the proof that a step keeps what is kept.
-use Rattle.std.proofs.Common.{◌≡◌, ℕ, inl, inr, true, List, [], ◌∷◌, ◌++◌, Some, refl, sym, subst, ◌∙◌}
+-- The cores after one of them has changed.
+use Rattle.std.proofs.Common.{◌≡◌, ℕ, inl, inr, true, List, Some, sym, subst, ◌∙◌}
 use Rattle.std.specs.Prelude.{slice_get, slice_set}
 use Rattle.std.proofs.lemmas.Bool.{cases_eq}
-use Rattle.tab_core.specs.Timelines.{AreContiguous}
-use Rattle.tab_core.specs.declared.stint.Stint.{Stint}
 use Rattle.tab_core.specs.declared.entry.Entry.{Entry}
 use Rattle.table_form.specs.Running.State.{CoreState}
 use Rattle.table_form.specs.Running.OneTable.{HasOneWinner}
 use Rattle.run_promises.proofs.Lists.{same}
 use Rattle.step_machine.proofs.Lists.{set_split, set_here, set_other}
-
-pub chain_push : (from to : ℕ) (ss : List Stint) (s : Stint) → AreContiguous from ss to → s.from ≡ to
-    → AreContiguous from (ss ++ s ∷ []) s.end
-chain_push from to [] s chain at = (at ∙ sym chain, refl)
-chain_push from to (t ∷ ts) s chain at = (chain.0, chain_push t.end to ts s chain.1 at)
 
 -- what holds of each core after one of them has changed
 pub cores_after : (P : ℕ → CoreState → Type 0) (cores : List CoreState) (c : ℕ) (changed : CoreState) →
