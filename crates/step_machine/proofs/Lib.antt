@@ -17,5 +17,6 @@ pub mod Shown
 pub mod Supply
 pub mod Ticks
 pub mod Totals
+pub mod TraceLemmas
 pub mod Unique
 pub mod Waiting

@@ -6,4 +6,5 @@ pub mod Progresses
 pub mod Promises
 pub mod Refusals
 pub mod Runs
+pub mod Traces
 pub mod Worlds
