@@ -1,4 +1,2 @@
-pub mod Counting
 pub mod ReplayText
-pub mod RunsOf
 pub mod StintLine
