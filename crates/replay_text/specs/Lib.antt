@@ -1,5 +1,4 @@
 pub mod Counting
 pub mod Refusal
 pub mod ReplayText
-pub mod RunsOf
 pub mod StintLine

@@ -1,11 +1,11 @@
 //! The text of a replay.
 //!
-//! `write_replay` writes exactly the `replay_text` of `specs/ReplayText.antt`: a line for each step
-//! by which a core enters a round, and for each by which it runs a stint. A stint's line is the
-//! `stint_line` of `specs/StintLine.antt`.
+//! `write_replay` writes exactly the `replay_text` of `specs/ReplayText.antt`: a line for each entry
+//! and each stint of a trace, which has what the steps of a run made in their order, as `IsTrace` of
+//! `step_machine/specs/Traces.antt` says. A stint's line is the `stint_line` of
+//! `specs/StintLine.antt`.
 #![tactic(auto)]
 
-mod counts;
 mod entry_line;
 mod refusal;
 mod stint_line;

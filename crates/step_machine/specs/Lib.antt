@@ -5,4 +5,5 @@ pub mod Next
 pub mod Progresses
 pub mod Refusals
 pub mod Runs
+pub mod Traces
 pub mod Worlds

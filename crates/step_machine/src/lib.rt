@@ -5,7 +5,8 @@
 //! steps the run keeps what `KeepsPromises` of `table_form/specs/Running/Promises.antt` says: all
 //! cores use one plan in a round, no vCPU runs on two cores at one tick, each is offered its cost in
 //! each of its periods and has no gap between offers that exceeds what its budgets leave out, and no
-//! core idles while somebody may run there.
+//! core idles while somebody may run there. The entries and stints that the steps make stand in their
+//! order, as `IsTrace` of `specs/Traces.antt` says.
 #![tactic(auto)]
 
 mod answer;
@@ -13,7 +14,6 @@ mod fault;
 mod laws;
 mod log;
 mod looks;
-mod machine_state;
 mod moves;
 mod next;
 mod progress;
@@ -22,6 +22,7 @@ mod steps;
 mod stints;
 #[cfg(test)]
 mod tests;
+mod trace;
 mod world;
 
 pub use answer::{Answer, Phase};
@@ -30,6 +31,6 @@ pub use laws::{
     a_step_has_one_answer, a_step_keeps, every_run_keeps_its_promises, next_stint_is_determined,
     the_opening_is_kept,
 };
-pub use machine_state::MachineState;
 pub use replaying::replay;
+pub use trace::{Made, Trace};
 pub use world::World;

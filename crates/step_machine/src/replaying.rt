@@ -1,11 +1,12 @@
-ghost use Rattle.std.specs.Prelude.{◌≡◌, ◌^◌, ◌<◌, ℕ, Some, IfOk, IfErr, length, slice_get};
+ghost use Rattle.std.specs.Prelude.{◌≡◌, ℕ, Some, IfOk, IfErr, slice_get};
 ghost use Rattle.script_doc.specs.declared.step.Step.{Step};
-ghost use Rattle.table_form.specs.Running.Courses.{FitsRounds};
+ghost use Rattle.table_form.specs.Running.Courses.{FitsRounds, IsCourse};
 ghost use Rattle.table_form.specs.Running.Invariant.{StateInvariant};
 ghost use Rattle.table_form.specs.Running.State.{opening};
 ghost use Rattle.step_machine.specs.Answers.{NamesCore};
 ghost use Rattle.step_machine.specs.Refusals.{IsFaultOf};
 ghost use Rattle.step_machine.specs.Runs.{Leads};
+ghost use Rattle.step_machine.specs.Traces.{AreOfCourse, IsTrace};
 
 use crate::answer::Answer;
 use crate::fault::ReplayFault;
@@ -18,7 +19,8 @@ use table_form::Course;
 /// isn't, with the answer to that step.
 ///
 /// The rounds are 1 to 10,000 and hold every event, and a core that a step names is below the
-/// course's cores. There are less than 2^32 steps, and each core gets room for as many stints.
+/// course's cores. Each core gets room for as many stints as there are steps. For 2^32 steps or more
+/// memory is wanting.
 pub fn replay<'a>(
     alloc: Global,
     course: &'a Course,
@@ -26,14 +28,20 @@ pub fn replay<'a>(
     steps: &[Step],
 ) -> Result<World<'a>, ReplayFault>
     requires fits { FitsRounds course.now rounds }
-    requires short { length steps.now < 2 ^ 32 }
     requires names { (k : ℕ) (step : Step) → slice_get steps.now k ≡ Some step → NamesCore course.now step }
     ensures course { IfOk result (λ w. (w.course ≡ course.now) × (w.rounds ≡ rounds)) }
     ensures ok { IfOk result (λ w. Leads course.now rounds (opening course.now.cores) steps.now w.state) }
+    ensures trace { IfOk result
+        (λ w. IsTrace course.now rounds (opening course.now.cores) steps.now w.state w.made) }
+    ensures of_course { IfOk result (λ w. AreOfCourse course.now w.made) }
+    ensures course_kept { IfOk result (λ _. IsCourse course.now) }
     ensures kept { IfOk result (λ w. StateInvariant course.now rounds w.state) }
     ensures refused { IfErr result (λ fault. IsFaultOf course.now rounds steps.now fault) }
 {
-    let mut world = World::make(alloc, course, rounds, steps.len() as u32)?;
+    let Ok(turns) = u32::try_from(steps.len()) else {
+        return Err(ReplayFault::NoMemory);
+    };
+    let mut world = World::make(alloc, course, rounds, turns)?;
     for (place, step) in steps.iter().enumerate() {
         let answer = world.apply(*step);
         let Answer::Done = answer else {
@@ -43,7 +51,5 @@ pub fn replay<'a>(
             });
         };
     }
-    // the world keeps what its type says
-    let _posted = world.posted();
     Ok(world)
 }

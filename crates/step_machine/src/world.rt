@@ -1,20 +1,23 @@
-ghost use Rattle.std.specs.Prelude.{◌≡◌, ◌+◌, ◌<◌, ◌≤◌, ℕ, min, Some, IfOk, IfSome, IfNone, slice_get};
+ghost use Rattle.std.specs.Prelude.{◌≡◌, ◌+◌, ◌<◌, ◌≤◌, ℕ, [], ◌++◌, List, min, Some, IfOk, IfSome, IfNone, length, slice_get, vec_capacity};
 ghost use Rattle.tab_core.specs.declared.TheConstants.{MAX_ROUNDS};
 ghost use Rattle.script_doc.specs.declared.step.Step.{Step};
-ghost use Rattle.table_form.specs.Running.Courses.{FitsRounds};
+ghost use Rattle.table_form.specs.Running.Courses.{FitsRounds, IsCourse};
 ghost use Rattle.table_form.specs.Running.Invariant.{StateInvariant, IsComplete};
 ghost use Rattle.table_form.specs.Running.State.{CoreState, opening};
 ghost use Rattle.step_machine.specs.Answers.{Answers, NamesCore};
 ghost use Rattle.step_machine.specs.Logs.{KnowLast, IsNew, AreNew};
 ghost use Rattle.step_machine.specs.Next.{IsNextStep};
 ghost use Rattle.step_machine.specs.Progresses.{state_of, HasSpare};
+ghost use Rattle.step_machine.specs.Traces.{AddsMade, AreMadeBy};
+ghost use Rattle.step_machine.specs.declared.answer.Answer.TheVariants.{Done};
+ghost use Rattle.step_machine.specs.declared.trace.Made.{Made as MadeValue};
 
 use crate::answer::Answer;
 use crate::log::CoreLog;
-use crate::machine_state::MachineState;
 use crate::next::next_step;
 use crate::progress::Progress;
 use crate::steps::{decide, post, run, see};
+use crate::trace::{Made, Trace};
 use script_doc::Step;
 use std::alloc::Global;
 use std::cmp::min;
@@ -23,13 +26,14 @@ use tab_core::{CoreNo, Entry, NoMemory, Stint};
 use table_form::Course;
 
 /// A run of the machine so far, with room for some more steps. Contracts see the course, the count
-/// of rounds, how many steps there is room for, and the state.
+/// of rounds, how many steps there is room for, the state, and what the steps made.
 #[derive(Debug, Drop)]
 pub struct World<'a> {
     course: &'a Course,
     rounds: u32,
     spare: u32,
     progress: Progress,
+    made: Vec<Made>,
 }
 
 impl<'a> Model for World<'a> {
@@ -43,9 +47,10 @@ impl<'a> Model for World<'a> {
       rounds = w.rounds;
       spare = w.spare;
       state = state_of w.progress;
+      made = w.made.items;
     } };
 
-    ghost invariant = { λ w. IsWorld w.course.now w.rounds w.spare w.progress };
+    ghost invariant = { λ w. IsWorld w.course.now w.rounds w.spare w.progress w.made };
 }
 
 impl World<'_> {
@@ -65,11 +70,14 @@ impl World<'_> {
               rounds = rounds;
               spare = turns;
               state = opening course.now.cores;
+              made = [];
             }) }
+        ensures course_kept { IfOk result (λ _. IsCourse course.now) }
         ensures kept { IfOk result (λ w. StateInvariant w.course w.rounds w.state) }
     {
         let decided = Vec::with_capacity(alloc, lesser(turns, rounds) as usize)?;
         let logs = new_logs(alloc, course.cores(), rounds, turns)?;
+        let made = Vec::with_capacity(alloc, turns as usize)?;
         let progress = Progress {
             posted: 0,
             decided,
@@ -80,6 +88,7 @@ impl World<'_> {
             rounds,
             spare: turns,
             progress,
+            made,
         })
     }
 
@@ -94,11 +103,13 @@ impl World<'_> {
         requires spare { 1 ≤ self.old.spare }
         requires core { NamesCore self.old.course step }
         ensures answer { Answers self.old.course self.old.rounds self.old.state step result self.new.state }
+        ensures made { AddsMade step result self.new.state self.old.made self.new.made }
         ensures spare { self.new.spare + 1 ≡ self.old.spare }
         ensures same { (self.new.course ≡ self.old.course) × (self.new.rounds ≡ self.old.rounds) }
         ensures kept { StateInvariant self.new.course self.new.rounds self.new.state }
     {
-        let answer = take_step(self.course, self.rounds, &mut self.progress, step);
+        let answer = take_step(self.course, self.rounds, &mut self.progress, &step);
+        note(&mut self.made, &self.progress, &step, &answer);
         self.spare -= 1;
         answer
     }
@@ -157,30 +168,60 @@ impl World<'_> {
         &self.progress.logs[at].entries
     }
 
-    /// The state alone, which no longer needs the course.
-    pub fn into_state(self) -> MachineState
-        ensures { result ≡ self.entry.state }
+    /// What the steps made, and how many events they posted.
+    pub fn into_trace(self) -> Trace
+        ensures made { result.made.items ≡ self.entry.made }
+        ensures posted { result.posted ≡ self.entry.state.posted }
     {
-        let World { progress, .. } = self;
-        MachineState { progress }
+        let World { progress, made, .. } = self;
+        Trace {
+            made,
+            posted: progress.posted,
+        }
     }
 }
 
-fn take_step(course: &Course, rounds: u32, progress: &mut Progress, step: Step) -> Answer
+fn take_step(course: &Course, rounds: u32, progress: &mut Progress, step: &Step) -> Answer
     requires few { rounds ≤ MAX_ROUNDS }
-    requires core { NamesCore course.now step }
+    requires core { NamesCore course.now step.now }
     requires kept { StateInvariant course.now rounds (state_of progress.old) }
     requires spare { HasSpare rounds 1 progress.old }
     requires known { KnowLast course.now progress.old.logs.items }
-    ensures answer { Answers course.now rounds (state_of progress.old) step result (state_of progress.new) }
+    ensures answer { Answers course.now rounds (state_of progress.old) step.now result (state_of progress.new) }
     ensures spare { (n : ℕ) → HasSpare rounds (n + 1) progress.old → HasSpare rounds n progress.new }
     ensures last { KnowLast course.now progress.old.logs.items → KnowLast course.now progress.new.logs.items }
 {
-    match step {
+    match *step {
         Step::Post => post(course, rounds, progress),
         Step::See(c) => see(course, rounds, progress, c.index()),
         Step::Decide(c) => decide(course, rounds, progress, c.index()),
         Step::Run(c) => run(course, rounds, progress, c.index()),
+    }
+}
+
+// Notes what the step made, where it is done. It led to this progress.
+fn note(made: &mut Vec<Made>, progress: &Progress, step: &Step, answer: &Answer)
+    requires room { length made.old.items < vec_capacity made.old }
+    requires makes { answer.now ≡ Done → (more : List MadeValue) × AreMadeBy step.now (state_of progress.now) more }
+    ensures made { AddsMade step.now answer.now (state_of progress.now) made.old.items made.new.items }
+    ensures room { vec_capacity made.new ≡ vec_capacity made.old }
+    ensures few { length made.new.items ≤ length made.old.items + 1 }
+{
+    let Answer::Done = *answer else {
+        return;
+    };
+    match *step {
+        Step::Post | Step::See(_) => {}
+        Step::Decide(core) => {
+            let entries = &progress.logs[core.index()].entries;
+            let entry = entries[entries.len() - 1];
+            made.push_reserved(Made::Entered { core, entry });
+        }
+        Step::Run(core) => {
+            let stints = &progress.logs[core.index()].stints;
+            let stint = stints[stints.len() - 1];
+            made.push_reserved(Made::Ran { core, stint });
+        }
     }
 }
 

@@ -3,6 +3,7 @@ use Rattle.step_machine.specs.Worlds.{WorldView}
 use Rattle.step_machine.specs.Progresses.{state_of}
 use Rattle.step_machine.proofs.ProgressLemmas.{spare_some}
 use Rattle.step_machine.proofs.RunLemmas.{answers_keep}
+use Rattle.step_machine.proofs.TraceLemmas.{makes_done}
 use Rattle.step_machine.proofs.world.World.apply.Goals as goal
 
 pub take_step-answer-requires-clause-spare : goal.take_step-answer-requires-clause-spare
@@ -26,8 +27,15 @@ invariant_of-self c =
           (state_of c.take_step-answer.new.progress) kept.course_kept
           c.take_step-answer.ensures.answer kept.kept;
       room = c.take_step-answer.ensures.spare (was.spare - 1) (rw (← back) kept.room);
+      made_room = omega (arith, kept.made_room, c.note.ensures.few, c.note.ensures.room);
       last = c.take_step-answer.ensures.last kept.last;
     }
+
+pub note-requires-clause-makes : goal.note-requires-clause-makes
+note-requires-clause-makes c = λ done.
+    let was = c.self.inside in
+    makes_done was.course.now was.rounds (state_of was.progress) c.args.step c.take_step-answer.result
+    (state_of c.take_step-answer.new.progress) c.take_step-answer.ensures.answer done
 
 pub returns-clause-kept : goal.returns-clause-kept
 returns-clause-kept c =

@@ -26,6 +26,7 @@ invariant_of-result c =
         );
         logs = new_room course.cores c.args.rounds c.args.turns logs.items new;
       };
+      made_room = omega (arith, ap length c.in_ok-made.ensures.items, c.in_ok-made.ensures.exact);
       last = new_know course course.cores c.args.rounds c.args.turns logs.items new;
     }
 
@@ -35,10 +36,12 @@ returns-clause-opens c =
     let logs = c.in_ok-logs.logs in
     let new : AreNew course.cores c.args.rounds c.args.turns logs.items =
     rw c.cores.ensures.cores at c.in_ok-logs.ensures in
-    ap (λ (s : State). record { course = course; rounds = c.args.rounds; spare = c.args.turns; state = s })
-    (new_state course.cores c.args.rounds c.args.turns
-    (record { posted = 0; decided = c.in_ok-decided.decided; logs = logs }) refl
-    c.in_ok-decided.ensures.items new)
+    rw (
+      new_state course.cores c.args.rounds c.args.turns
+          (record { posted = 0; decided = c.in_ok-decided.decided; logs = logs }) refl
+          c.in_ok-decided.ensures.items new,
+      c.in_ok-made.ensures.items,
+    ) refl
 
 pub returns-clause-kept : goal.returns-clause-kept
 returns-clause-kept c =
