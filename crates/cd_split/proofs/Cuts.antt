@@ -1,5 +1,5 @@
 -- Cuts of fewer ticks than one that overloads an interval, and of more.
-use Rattle.std.proofs.Common.{◌≡◌, ℕ, zero, suc, ◌+◌, ◌-◌, ◌*◌, ◌/◌, ◌<◌, ◌≤◌, true, cond, leb, List, [], ◌∷◌, ◌++◌, ap, subst, ◌∙◌, inl, inr, ◌⊎◌, arith}
+use Rattle.std.proofs.Common.{◌≡◌, ℕ, zero, suc, ◌+◌, ◌-◌, ◌*◌, ◌/◌, ◌<◌, ◌≤◌, true, cond, leb, List, [], ◌∷◌, ap, subst, ◌∙◌, inl, inr, ◌⊎◌, arith}
 use Rattle.std.proofs.lemmas.Bool.{cases_Bool, and_parts, leb-true, le-leb}
 use Rattle.std.proofs.Math.Nat.{mul-le-mul_left, div-mul-le_self}
 use Rattle.std.proofs.lemmas.Nat.{le-div}
@@ -11,7 +11,7 @@ use Rattle.table_form.specs.Planning.Jobs.{Job, Subtask, job_of, first_jobs, job
 use Rattle.table_form.specs.Planning.Demand.{demand_in, is_inside}
 use Rattle.edf_table.specs.Beside.{FitsBeside, tight}
 use Rattle.edf_table.proofs.Pieces.{first_jobs-suc, first_jobs-zero}
-use Rattle.edf_table.proofs.Whole.{demand_in-append, demand_in-none, demand_in-one}
+use Rattle.edf_table.proofs.LoadLemmas.{demand_in-append, demand_in-none, demand_in-one}
 use Rattle.edf_table.proofs.Shorter.{shorter_fits}
 use Rattle.cd_split.specs.Cores.{pieces_on}
 use Rattle.cd_split.specs.Splitting.{FitsWith, IsOverloadWith}
@@ -36,6 +36,7 @@ longer_misses jobs v x more f t is some le within miss fits =
     miss (fits_down jobs v x f t (more - x) is some (omega arith)
     (subst (λ y. FitsBeside jobs (tight v y f t)) same fits))
 
+-- one window more of a subtask adds its cost where it is inside the interval
 demand_next : (s : Subtask) (n from to : ℕ)
     → demand_in (first_jobs s (suc n)) from to
     ≡ demand_in (first_jobs s n) from to + cond (is_inside from to (job_of s n)) s.cost 0

@@ -1,8 +1,8 @@
 pub mod CoresLemmas
 pub mod Cuts
 pub mod Loads
-pub mod Orders
-pub mod Shares
-pub mod Steps
+pub mod OrderLemmas
+pub mod SearchLemmas
+pub mod SharesLemmas
 pub mod Trials
 pub mod Unique

@@ -10,7 +10,7 @@ use Rattle.table_form.specs.Planning.Jobs.{Subtask, job_of, subtask_of, first_jo
 use Rattle.table_form.specs.Planning.Demand.{demand_in, is_inside, Fits}
 use Rattle.edf_table.specs.Load.{load}
 use Rattle.edf_table.proofs.Pieces.{first_jobs-suc, first_jobs-zero, jobs_of-cons, jobs_of-nil}
-use Rattle.edf_table.proofs.Whole.{demand_in-append, demand_in-none, demand_in-one}
+use Rattle.edf_table.proofs.LoadLemmas.{demand_in-append, demand_in-none, demand_in-one}
 use Rattle.cd_split.specs.Splitting.{FitsWith}
 
 -- each job lies inside the round
@@ -36,6 +36,7 @@ subtask_load s within is =
     let facts = period_facts s.period is in
     round_demand s (ROUND / s.period) within (omega (arith, facts.whole))
 
+-- so the load of pieces is their demand of the whole round
 pub load_demand : (ps : List Piece) → demand_in (jobs_of ps) 0 ROUND ≡ load ps
 load_demand [] = rw jobs_of-nil (demand_in-none 0 ROUND)
 load_demand (p ∷ ps) =
@@ -45,9 +46,11 @@ load_demand (p ∷ ps) =
     ap (λ js. demand_in js 0 ROUND) (jobs_of-cons p ps)
     ∙ demand_in-append (jobs_of_subtask (subtask_of p)) (jobs_of ps) 0 ROUND ∙ omega arith
 
+-- the round is an interval with ticks
 round_positive : 0 < ROUND
 round_positive = lit< tt
 
+-- the criterion at the whole round: a core is not loaded beyond it, so its sum never overflows
 pub fits_load : (ps : List Piece) → Fits (jobs_of ps) → load ps ≤ ROUND
 fits_load ps fits = let bound = fits 0 ROUND round_positive (omega arith) in omega (arith, load_demand ps)
 
@@ -64,6 +67,7 @@ fits_with_load ps s within is fits =
       subtask_load s within is,
     )
 
+-- loads add up
 pub load-append : (ps qs : List Piece) → load (ps ++ qs) ≡ load ps + load qs
 load-append [] qs = omega arith
 load-append (p ∷ ps) qs = omega (arith, load-append ps qs)
@@ -75,6 +79,7 @@ load_more ps i p lt is =
     ap load (take_more ps i p lt) ∙ load-append (take i ps) (get_or ps i p ∷ [])
     ∙ ap (λ q. load (take i ps) + load (q ∷ [])) (sym is) ∙ omega arith
 
+-- the load of the first pieces is at most that of all, so no step overflows
 pub load_take : (ps : List Piece) (i : ℕ) → load (take i ps) ≤ load ps
 load_take [] zero = omega arith
 load_take [] (suc i) = omega arith

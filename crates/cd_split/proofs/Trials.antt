@@ -11,7 +11,7 @@ use Rattle.table_form.specs.Planning.Jobs.{Subtask, jobs_of, jobs_of_subtask, su
 use Rattle.table_form.specs.Planning.Demand.{Fits}
 use Rattle.table_form.specs.Planning.Windows.{DistinctVcpus}
 use Rattle.edf_table.proofs.Pieces.{jobs_of-nil}
-use Rattle.edf_table.proofs.Whole.{demand_in-none}
+use Rattle.edf_table.proofs.LoadLemmas.{demand_in-none}
 use Rattle.edf_table.specs.Overloads.{IsReported, IsReportedOf, core_of}
 use Rattle.cd_split.specs.Cores.{LackVcpu, ShareCore, pieces_on}
 use Rattle.cd_split.specs.Splitting.{FitsWith, IsOverloadWith, IsPieceOf}
@@ -25,6 +25,7 @@ jobs_of-push (q ∷ ps) p =
     ap (λ js. jobs_of_subtask (subtask_of q) ++ js) (jobs_of-push ps p)
     ∙ sym (append_assoc (jobs_of_subtask (subtask_of q)) (jobs_of ps) (jobs_of_subtask (subtask_of p)))
 
+-- where a core has no piece yet
 pub none_share : ShareCore []
 none_share = record {
   distinct = λ i j a b at at' same. absurd (cc);

@@ -7,7 +7,7 @@ use Rattle.tab_core.specs.declared.TheConstants.{ROUND}
 use Rattle.tab_core.specs.declared.piece.Piece.{Piece}
 use Rattle.table_form.specs.Planning.EdfRow.{edf_cells, owner_of}
 use Rattle.table_form.specs.Planning.Jobs.{Job, jobs_of}
-use Rattle.edf_table.specs.Progress.{IsCalm, AreCalm, GoesTo, IsCounted, MetBefore, IsMostUrgent, IsDueFirst, ServedBelow, cell, window_no, is_ready, due_at}
+use Rattle.edf_table.specs.Inside.Progress.{IsCalm, AreCalm, GoesTo, IsCounted, MetBefore, IsMostUrgent, IsDueFirst, ServedBelow, cell, window_no, is_ready, due_at}
 use Rattle.table_form.specs.Planning.Windows.{DistinctVcpus}
 use Rattle.edf_table.proofs.Cells.{edf_cells-suc}
 use Rattle.edf_table.proofs.Steps.{counted_idle, counted_run, idle_cell_any, met_more_any, one_more}
@@ -31,13 +31,16 @@ calm_window_begun p tick until x calm le lt from =
       | inr same ↦ omega arith
     ]
 
+-- before its first window a piece is at window 0
 no_window_yet : (p : Piece) (tick : ℕ) → tick < p.from → window_no p tick ≡ 0
 no_window_yet p tick lt = let none : tick - p.from ≡ 0 = omega arith in ap (λ n. n / p.period) none
     ∙ div-eq_of_lt (some_period p)
 
+-- and no first window begins in a calm stretch
 calm_from : (p : Piece) (tick until x : ℕ) → IsCalm p tick until → x < until → tick < p.from → x < p.from
 calm_from p tick until x calm lt early = let first = calm.no_begin 0 (omega arith) in omega arith
 
+-- in a calm stretch a piece stays at one window, begun or not
 pub calm_window : (p : Piece) (tick until x : ℕ) → IsCalm p tick until → tick ≤ x → x < until
     → window_no p x ≡ window_no p tick
 calm_window p tick until x calm le lt = elim (cases_lt tick p.from) [
@@ -45,6 +48,7 @@ calm_window p tick until x calm le lt = elim (cases_lt tick p.from) [
   | inr from ↦ calm_window_begun p tick until x calm le lt from
 ]
 
+-- so whether one has begun stays too
 calm_begun : (p : Piece) (tick until x : ℕ) → IsCalm p tick until → tick ≤ x → x < until
     → leb p.from x ≡ leb p.from tick
 calm_begun p tick until x calm le lt = elim (cases_lt tick p.from) [
@@ -52,12 +56,14 @@ calm_begun p tick until x calm le lt = elim (cases_lt tick p.from) [
   | inr from ↦ le-leb p.from x (omega arith) ∙ sym (le-leb p.from tick from)
 ]
 
+-- and whether the piece is ready, of equal ticks given
 calm_ready : (p : Piece) (given tick until x : ℕ) → IsCalm p tick until → tick ≤ x → x < until
     → is_ready p given x ≡ is_ready p given tick
 calm_ready p given tick until x calm le lt =
     ap (λ b. b && ltb given ((window_no p x + 1) * p.cost)) (calm_begun p tick until x calm le lt)
     ∙ ap (λ n. leb p.from tick && ltb given ((n + 1) * p.cost)) (calm_window p tick until x calm le lt)
 
+-- and when it is due
 calm_due : (p : Piece) (tick until x : ℕ) → IsCalm p tick until → tick ≤ x → x < until
     → due_at p x ≡ due_at p tick
 calm_due p tick until x calm le lt = ap (λ n. n * p.period + p.to) (calm_window p tick until x calm le lt)
@@ -68,6 +74,7 @@ calm_served : (ps : List Piece) (gs : List ℕ) (tick until x : ℕ) → AreCalm
 calm_served ps gs tick until x calm gt lt i d i-in k at =
     absurd (let far = (calm i d i-in).no_end k (omega arith) in omega arith)
 
+-- no deadline passes within the stretch, so what was met stays so from tick to tick
 met_along : (ps : List Piece) (gs : List ℕ) (tick until x : ℕ) → AreCalm ps (length ps) tick until
     → tick ≤ x → x < until → IsCounted ps gs x → MetBefore (jobs_of ps) (tick + 1)
     → MetBefore (jobs_of ps) x →
@@ -77,6 +84,7 @@ met_along ps gs tick until x calm le lt counted start met = elim (cases_eq tick 
   | inr ne ↦ met_more_any ps gs x counted met (calm_served ps gs tick until x calm (omega arith) lt)
 ]
 
+-- what is met up to and at a tick is met up to it
 met_less : (js : List Job) (tick : ℕ) → MetBefore js (tick + 1) → MetBefore js tick
 met_less js tick met j a lt = met j a (omega arith)
 
@@ -84,9 +92,11 @@ met_less js tick met j a lt = met j a (omega arith)
 abbrev pub more_given : List ℕ → ℕ → ℕ → List ℕ
 more_given gs i n = set gs i (get_or gs i 0 + n)
 
+-- a turn of no ticks gives nothing
 more-zero : (gs : List ℕ) (i : ℕ) → more_given gs i 0 ≡ gs
 more-zero gs i = ap (set gs i) (add-zero (get_or gs i 0)) ∙ set-get_or gs i 0
 
+-- and one tick more is one tick given
 more-suc : (gs : List ℕ) (i n : ℕ) → i < length gs → one_more (more_given gs i n) i ≡ more_given gs i (suc n)
 more-suc gs i n lt =
     set-set gs i (get_or gs i 0 + n) (get_or (more_given gs i n) i 0 + 1)
@@ -170,6 +180,7 @@ run_along ps gs tick until i (suc n) now urgent le lacks =
       subst (MetBefore (jobs_of ps)) e met,
     )
 
+-- so each of the ticks goes to that piece: what `run_turn` says of its owner
 pub run_goes : (ps : List Piece) (gs : List ℕ) (tick until i n : ℕ) (d : Piece)
     → BeforeTurn ps gs tick until → IsMostUrgent ps gs tick (length ps) i → tick + n ≤ until
     → ((m : ℕ) → m < n → LacksMore ps gs tick i m) →
@@ -191,6 +202,7 @@ abbrev pub NoneReady : List Piece → List ℕ → ℕ → Type 0
 NoneReady ps gs tick = (i : ℕ) (d : Piece) → i < length ps
     → is_ready (get_or ps i d) (get_or gs i 0) tick ≡ false
 
+-- a tick of the stretch is idle where no piece was ready at its begin
 idle_at : (ps : List Piece) (gs : List ℕ) (tick until x : ℕ) → BeforeTurn ps gs tick until
     → NoneReady ps gs tick → tick ≤ x → x < until → IsCounted ps gs x
     → MetBefore (jobs_of ps) (x + 1) → cell (jobs_of ps) x ≡ None
@@ -215,6 +227,7 @@ idle_along ps gs tick until (suc n) now unready le =
     let e : tick + n + 1 ≡ tick + suc n = omega arith in
     (subst (IsCounted ps gs) e after, subst (MetBefore (jobs_of ps)) e met)
 
+-- so all of them are: what `run_turn` says without an owner
 pub idle_goes : (ps : List Piece) (gs : List ℕ) (tick until : ℕ) → BeforeTurn ps gs tick until
     → NoneReady ps gs tick → GoesTo (jobs_of ps) tick until None
 idle_goes ps gs tick until now unready x ge lt =
@@ -247,6 +260,7 @@ cells_along js tick (suc n) owner goes =
     ∙ sym (map-append owner_of (edf_cells js (tick + n)) (cell js (tick + n) ∷ []))
     ∙ ap (map owner_of) (sym (edf_cells-suc js (tick + n)) ∙ ap (edf_cells js) (sym (add-suc tick n)))
 
+-- the row that the builder has after the turn is that of the definition
 pub row_along : (js : List Job) (row next : List (Option ℕ)) (tick n : ℕ) (owner : Option ℕ)
     → row ≡ map owner_of (edf_cells js tick) → GoesTo js tick (tick + n) owner
     → next ≡ row ++ replicate n owner →

@@ -10,15 +10,18 @@ pub cells_of-push : (j : Job) (cells : List (Option Job)) (c : Option Job)
 unfolding cells_of
 cells_of-push j cells c = sum_by_push (λ cell. cond (is_run_of j cell) 1 0) cells c
 
+-- a job has none of no cells
 pub cells_of-none : (j : Job) → cells_of j [] ≡ 0
 unfolding cells_of
 cells_of-none j = refl
 
+-- the next cell goes to the first pending job
 pub edf_cells-suc : (js : List Job) (n : ℕ)
     → edf_cells js (suc n) ≡ edf_cells js n ++ first_pending (edf_cells js n) n js ∷ []
 unfolding edf_cells
 edf_cells-suc js n = refl
 
+-- there is one for each tick
 pub length-edf_cells : (js : List Job) (n : ℕ) → length (edf_cells js n) ≡ n
 unfolding edf_cells
 length-edf_cells js zero = refl
@@ -28,6 +31,7 @@ length-edf_cells js (suc n) = omega (
   length-append (edf_cells js n) (first_pending (edf_cells js n) n js ∷ []),
 )
 
+-- and none before the first
 pub edf_cells-zero : (js : List Job) → edf_cells js 0 ≡ []
 unfolding edf_cells
 edf_cells-zero js = refl

@@ -3,7 +3,7 @@ use Rattle.std.proofs.Common.{◌≡◌, ℕ, zero, suc, ◌+◌, ◌-◌, ◌<�
 use Rattle.std.proofs.lemmas.Bool.{cases_Bool, false≢true, and_parts, leb-true, ltb-true, eqb-true}
 use Rattle.table_form.specs.Planning.Jobs.{Job}
 use Rattle.table_form.specs.Planning.EdfRow.{cells_of, is_run_of, is_pending, edf_cells}
-use Rattle.edf_table.specs.Progress.{Among, cell, had}
+use Rattle.edf_table.specs.Inside.Progress.{Among, cell, had}
 use Rattle.edf_table.proofs.Cells.{cells_of-push, cells_of-none, edf_cells-suc, edf_cells-zero}
 use Rattle.edf_table.proofs.First.{IsFirst, first_pending_is}
 
@@ -12,6 +12,7 @@ abbrev pub Distinct : List Job → Type 0
 Distinct [] = Unit {0}
 Distinct (j ∷ js) = ((k : Job) → Among js k → k.vcpu ≡ j.vcpu → k.deadline ≡ j.deadline → ⊥) × Distinct js
 
+-- so two of them with both in common are one
 pub distinct_same : (js : List Job) (i j : Job) → Distinct js → Among js i → Among js j
     → i.vcpu ≡ j.vcpu → i.deadline ≡ j.deadline → i ≡ j
 distinct_same [] i j d a b v t = absurd a
@@ -24,13 +25,16 @@ distinct_same (x ∷ xs) i j d (inr a) (inl f) v t =
     (t ∙ sym (ap (λ (y : Job). y.deadline) f)))
 distinct_same (x ∷ xs) i j d (inr a) (inr b) v t = distinct_same xs i j d.1 a b v t
 
+-- a job has one cell more where the tick is its
 pub had-suc : (js : List Job) (j : Job) (n : ℕ)
     → had js j (suc n) ≡ had js j n + cond (is_run_of j (cell js n)) 1 0
 had-suc js j n = ap (cells_of j) (edf_cells-suc js n) ∙ cells_of-push j (edf_cells js n) (cell js n)
 
+-- and none at the begin
 pub had-zero : (js : List Job) (j : Job) → had js j 0 ≡ 0
 had-zero js j = ap (cells_of j) (edf_cells-zero js) ∙ cells_of-none j
 
+-- the tick goes to the first pending job, so whoever has it was pending
 first_run : (cells : List (Option Job)) (n : ℕ) (js : List Job) (c : Option Job) (j : Job)
     → IsFirst cells n js c → Distinct js → Among js j →
     is_run_of j c ≡ true → is_pending cells n j ≡ true
@@ -75,5 +79,6 @@ had_later js j n (suc m) =
     let here : had js j n ≤ had js j (n + m) = had_later js j n m in
     rw (add-suc n m) (rw (had-suc js j (n + m)) (omega arith))
 
+-- the same between any two ticks
 pub had_le_had : (js : List Job) (j : Job) (n e : ℕ) → n ≤ e → had js j n ≤ had js j e
 had_le_had js j n e le = subst (λ m. had js j n ≤ had js j m) (omega arith) (had_later js j n (e - n))

@@ -8,7 +8,7 @@ use Rattle.std.proofs.lemmas.Bool.Decides.{nat_tests}
 use Rattle.table_form.specs.Planning.Jobs.{Job}
 use Rattle.table_form.specs.Planning.Demand.{is_inside, demand_in}
 use Rattle.table_form.specs.Planning.EdfRow.{cells_of, is_run_of, is_same_job, is_pending, edf_cells}
-use Rattle.edf_table.specs.Progress.{Among, cell, had}
+use Rattle.edf_table.specs.Inside.Progress.{Among, cell, had}
 use Rattle.edf_table.proofs.Sums.{sum_le, sum_lt, sum_zero, sum_le_add}
 use Rattle.edf_table.proofs.Cells.{cells_of-push, edf_cells-suc}
 use Rattle.edf_table.proofs.First.{IsFirst, first_pending_is}
@@ -18,6 +18,7 @@ use Rattle.edf_table.proofs.Counts.{Distinct, nothing_early, had-le-cost, had_le
 abbrev pub given : ℕ → ℕ → List Job → List (Option Job) → ℕ
 given start end js cells = sum_by (λ j. cond (is_inside start end j) (cells_of j cells) 0) js
 
+-- a cell of one job is no later job's, since they differ
 no_other_run : (i x : Job) (xs : List Job) → is_same_job i x ≡ true
     → ((k : Job) → Among xs k → k.vcpu ≡ x.vcpu → k.deadline ≡ x.deadline → ⊥) →
     (k : Job) → Among xs k → ◌≡◌ {A = ℕ} (cond (is_same_job i k) 1 0) 0
@@ -43,6 +44,7 @@ one_cell (Some i) (x ∷ xs) d =
           rw (sum_by-cons (λ j. cond (is_same_job i j) 1 0) x xs) (rw r (omega arith)))
     ]
 
+-- one cell more adds at most one to each term of the sum
 term_push : (b : Bool) (j : Job) (cells : List (Option Job)) (c : Option Job) →
     cond b (cells_of j (cells ++ c ∷ [])) 0 ≤ cond b (cells_of j cells) 0 + cond (is_run_of j c) 1 0
 term_push true j cells c = rw (cells_of-push j cells c) (omega arith)
@@ -61,10 +63,12 @@ given_push s e js cells c d =
 abbrev pub given_by : ℕ → ℕ → List Job → ℕ → ℕ
 given_by s e js n = given s e js (edf_cells js n)
 
+-- so each tick gives the jobs of an interval at most one
 given_by-suc : (s e : ℕ) (js : List Job) (n : ℕ) → Distinct js
     → given_by s e js (suc n) ≤ given_by s e js n + 1
 given_by-suc s e js n d = rw (edf_cells-suc js n) (given_push s e js (edf_cells js n) (cell js n) d)
 
+-- a job inside the interval has had nothing where the interval begins
 term_early : (b : Bool) (s e : ℕ) (js : List Job) (j : Job) → is_inside s e j ≡ b → Distinct js
     → Among js j → cond b (had js j s) 0 ≡ 0
 term_early true s e js j inside d a =
@@ -72,10 +76,12 @@ term_early true s e js j inside d a =
     (leb-true _ _ ((and_parts (leb s j.release) (leb j.deadline e) inside).0))
 term_early false s e js j inside d a = refl
 
+-- so all of them together have had nothing there
 given_before : (s e : ℕ) (js : List Job) → Distinct js → given_by s e js s ≡ 0
 given_before s e js d = sum_zero (λ j. cond (is_inside s e j) (had js j s) 0) js
     (λ j a. term_early (is_inside s e j) s e js j refl d a)
 
+-- and after m ticks at most m: an interval gives no more than its ticks
 given_within : (s e : ℕ) (js : List Job) (m : ℕ) → Distinct js → given_by s e js (s + m) ≤ m
 given_within s e js zero d = rw (add-zero s) (let none = given_before s e js d in omega arith)
 given_within s e js (suc m) d =
@@ -86,6 +92,7 @@ given_within s e js (suc m) d =
 abbrev pub MetBy : List Job → ℕ → Type 0
 MetBy js end = (j : Job) → Among js j → j.deadline ≤ end → j.cost ≤ had js j j.deadline
 
+-- a job inside that met its deadline has had its cost at the end of the interval
 term_met : (b : Bool) (s e : ℕ) (js : List Job) (j : Job) → is_inside s e j ≡ b → Among js j
     → MetBy js e → cond b j.cost 0 ≤ cond b (had js j e) 0
 term_met true s e js j inside a met =
@@ -116,6 +123,7 @@ abbrev pub IsSlackCell : ℕ → Option Job → Type 0
 IsSlackCell end None = Unit {0}
 IsSlackCell end (Some i) = end < i.deadline
 
+-- each tick from the start to the end goes to a job that is due by the end
 abbrev pub BusyFrom : List Job → ℕ → ℕ → Type 0
 BusyFrom js start end = (x : ℕ) → start ≤ x → x < end → IsDueCell end (cell js x)
 
@@ -123,6 +131,7 @@ BusyFrom js start end = (x : ℕ) → start ≤ x → x < end → IsDueCell end 
 abbrev pub BeginsFresh : List Job → ℕ → ℕ → Type 0
 BeginsFresh js start end = (start ≡ 0) ⊎ ((p : ℕ) × (start ≡ suc p) × IsSlackCell end (cell js p))
 
+-- each cell is one or the other, so the busy stretch has a begin
 due_or_slack : (end : ℕ) (c : Option Job) → IsDueCell end c ⊎ IsSlackCell end c
 due_or_slack end None = inr tt
 due_or_slack end (Some i) = elim (cases_lt end i.deadline) [ inl late ↦ inr late | inr due ↦ inl due ]
@@ -150,6 +159,7 @@ no_pending_at_slack js end p (Some k) i first slack a due pending = elim (first.
   | inr same ↦ (let e : k.deadline ≡ i.deadline = same.0 in omega arith)
 ]
 
+-- so it was released in the stretch: at the slack cell before, it would have come first
 released_inside : (js : List Job) (end t n : ℕ) (i : Job) → BeginsFresh js t end → Among js i
     → i.deadline ≤ end → t ≤ n → had js i n < i.cost → t ≤ i.release
 released_inside js end t n i (inl e) a due le lacks = omega arith
@@ -160,9 +170,11 @@ released_inside js end t n i (inr (p, e, slack)) a due le lacks = elim (cases_lt
       (and_from (leb i.release p) (ltb (had js i p) i.cost) (le-leb _ _ before) (lt-ltb _ _ (omega arith)))))
 ]
 
+-- a job is itself by its vCPU and deadline
 pub self_run : (i : Job) → is_same_job i i ≡ true
 self_run i = grind (arith, nat_tests)
 
+-- one cell more takes nothing from a term
 term_grows : (b : Bool) (j : Job) (cells : List (Option Job)) (c : Option Job)
     → cond b (cells_of j cells) 0 ≤ cond b (cells_of j (cells ++ c ∷ [])) 0
 term_grows true j cells c = rw (cells_of-push j cells c) (omega arith)
@@ -177,6 +189,7 @@ grows_by_one s e js cells i a inside =
     (λ j b. term_grows (is_inside s e j) j cells (Some i)) i a
     (rw inside (rw (cells_of-push i cells (Some i)) (rw (self_run i) (omega arith))))
 
+-- in the stretch each tick goes to a job inside it
 busy_tick : (js : List Job) (end t n : ℕ) (c : Option Job) → Distinct js → BeginsFresh js t end
     → t ≤ n → IsFirst (edf_cells js n) n js c → IsDueCell end c →
     given t end js (edf_cells js n) < given t end js (edf_cells js n ++ c ∷ [])
@@ -187,6 +200,7 @@ busy_tick js end t n (Some i) d fresh le first due =
     grows_by_one t end js (edf_cells js n) i first.0
     (and_from (leb t i.release) (leb i.deadline end) (le-leb _ _ inside) (le-leb _ _ due))
 
+-- so m ticks of it give these jobs at least m
 busy_given : (js : List Job) (end t m : ℕ) → Distinct js → BeginsFresh js t end → BusyFrom js t end
     → t + m ≤ end → m ≤ given_by t end js (t + m)
 busy_given js end t zero d fresh busy le = omega arith
@@ -197,6 +211,7 @@ busy_given js end t (suc m) d fresh busy le =
     (busy (t + m) (omega arith) (omega arith)) in
     rw (add-suc t m) (rw (edf_cells-suc js (t + m)) (omega arith))
 
+-- no job inside has had more than its cost
 term_at_most : (b : Bool) (js : List Job) (j : Job) (n : ℕ) → Distinct js → Among js j
     → cond b (had js j n) 0 ≤ cond b j.cost 0
 term_at_most true js j n d a = had-le-cost js j n d a

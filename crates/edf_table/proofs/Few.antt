@@ -12,23 +12,28 @@ below : ℕ → List Piece → ℕ
 below n [] = 0
 below n (p ∷ ps) = cond (ltb p.vcpu n) 1 0 + below n ps
 
+-- and of one vCPU
 of_vcpu : ℕ → List Piece → ℕ
 of_vcpu v [] = 0
 of_vcpu v (p ∷ ps) = cond (eqb p.vcpu v) 1 0 + of_vcpu v ps
 
+-- no vCPU is below 0
 below-zero : (ps : List Piece) → below 0 ps ≡ 0
 unfolding below
 below-zero [] = refl
 below-zero (p ∷ ps) = let rest = below-zero ps in grind (arith, nat_tests)
 
+-- a vCPU is below n + 1 where it is below n or is n
 one_step : (v n : ℕ) → cond (ltb v (suc n)) 1 0 ≡ cond (ltb v n) 1 0 + cond (eqb v n) 1 0
 one_step v n = grind (arith, nat_tests)
 
+-- so the pieces of vCPUs below n + 1 are those below n and those of n
 below-suc : (n : ℕ) (ps : List Piece) → below (suc n) ps ≡ below n ps + of_vcpu n ps
 unfolding below of_vcpu
 below-suc n [] = refl
 below-suc n (p ∷ ps) = omega (arith, below-suc n ps, one_step p.vcpu n)
 
+-- no piece counts where none is of the vCPU
 of_no_other : (v : ℕ) (ps : List Piece)
     → ((i : ℕ) (q : Piece) → slice_get ps i ≡ Some q → q.vcpu ≡ v → ⊥) → of_vcpu v ps ≡ 0
 unfolding of_vcpu
@@ -37,6 +42,7 @@ of_no_other v (p ∷ ps) other =
     let rest = of_no_other v ps (λ i q at. other (suc i) q at) in
     rw (ne_eqb p.vcpu v (other 0 p refl)) (omega arith)
 
+-- and one at most where the vCPUs are distinct
 of_one : (v : ℕ) (ps : List Piece) → DistinctVcpus ps → of_vcpu v ps ≤ 1
 unfolding of_vcpu
 of_one v [] apart = omega arith
@@ -48,10 +54,12 @@ of_one v (p ∷ ps) apart = elim (cases_Bool (eqb p.vcpu v)) [
   | inr other ↦ rw other (omega (arith, of_one v ps (tail_distinct p ps apart)))
 ]
 
+-- so there are at most n of vCPUs below n
 below_few : (n : ℕ) (ps : List Piece) → DistinctVcpus ps → below n ps ≤ n
 below_few zero ps apart = omega (arith, below-zero ps)
 below_few (suc n) ps apart = omega (arith, below-suc n ps, below_few n ps apart, of_one n ps apart)
 
+-- each vCPU is below the greatest number
 all_below : (ps : List Piece) → below MAX_VCPUS ps ≡ length ps
 unfolding below
 all_below [] = refl

@@ -4,24 +4,28 @@ use Rattle.std.proofs.lemmas.Bool.{false≢true}
 use Rattle.std.proofs.lemmas.Bool.Decides.{nat_tests}
 use Rattle.table_form.specs.Planning.Jobs.{Job}
 use Rattle.table_form.specs.Planning.EdfRow.{is_pending, comes_before, sooner, first_pending}
-use Rattle.edf_table.specs.Progress.{Among}
+use Rattle.edf_table.specs.Inside.Progress.{Among}
 
 -- b is not after a in the order of jobs, as a fact on numbers
 abbrev pub NotAfter : Job → Job → Type 0
 NotAfter a b = (a.deadline < b.deadline) ⊎ ((a.deadline ≡ b.deadline) × (a.vcpu ≤ b.vcpu))
 
+-- what the test of the definition says where it fails
 pub not_after_from_test : (a b : Job) → comes_before b a ≡ false → NotAfter a b
 not_after_from_test a b h = grind (arith, nat_tests)
 
+-- and where it holds
 pub not_after_from_before : (a b : Job) → comes_before a b ≡ true → NotAfter a b
 not_after_from_before a b h = grind (arith, nat_tests)
 
+-- the order is transitive, ties included, so a least one can be carried along the list
 pub not_after_trans : (a b c : Job) → NotAfter a b → NotAfter b c → NotAfter a c
 not_after_trans a b c (inl x) (inl y) = inl (omega arith)
 not_after_trans a b c (inl x) (inr y) = inl (omega arith)
 not_after_trans a b c (inr x) (inl y) = inl (omega arith)
 not_after_trans a b c (inr x) (inr y) = inr (omega arith, omega arith)
 
+-- a job is not after itself
 pub not_after_refl : (a : Job) → NotAfter a a
 not_after_refl a = inr (refl, omega arith)
 
@@ -31,6 +35,7 @@ IsFirst cells tick js None = (j : Job) → Among js j → is_pending cells tick 
 IsFirst cells tick js (Some i) = Among js i × (is_pending cells tick i ≡ true)
     × ((j : Job) → Among js j → is_pending cells tick j ≡ true → NotAfter i j)
 
+-- a job that isn't pending changes nothing where there is no first
 none_first : (cells : List (Option Job)) (tick : ℕ) (j : Job) (js : List Job)
     → is_pending cells tick j ≡ false →
     IsFirst cells tick js None → IsFirst cells tick (j ∷ js) None
@@ -38,6 +43,7 @@ none_first cells tick j js unready rest k (inl e) =
     subst (λ (x : Job). is_pending cells tick x ≡ false) e unready
 none_first cells tick j js unready rest k (inr a) = rest k a
 
+-- nor where there is one
 stays_first : (cells : List (Option Job)) (tick : ℕ) (j : Job) (js : List Job) (i : Job)
     → is_pending cells tick j ≡ false →
     IsFirst cells tick js (Some i) → IsFirst cells tick (j ∷ js) (Some i)
@@ -47,6 +53,7 @@ stays_first cells tick j js i unready (a, p, least) = (inr a, p, least')
     least' k (inl e) pk = absurd (false≢true (sym unready ∙ (ap (is_pending cells tick) e ∙ pk)))
     least' k (inr b) pk = least k b pk
 
+-- the only pending job is the first
 alone_first : (cells : List (Option Job)) (tick : ℕ) (j : Job) (js : List Job)
     → is_pending cells tick j ≡ true →
     IsFirst cells tick js None → IsFirst cells tick (j ∷ js) (Some j)
@@ -56,6 +63,7 @@ alone_first cells tick j js ready rest = (inl refl, ready, least')
     least' k (inl e) pk = subst (λ (x : Job). NotAfter j x) e (not_after_refl j)
     least' k (inr b) pk = absurd (false≢true (sym (rest k b) ∙ pk))
 
+-- a later job leaves the first one
 kept_first : (cells : List (Option Job)) (tick : ℕ) (j : Job) (js : List Job) (i : Job) → NotAfter i j →
     IsFirst cells tick js (Some i) → IsFirst cells tick (j ∷ js) (Some i)
 kept_first cells tick j js i le (a, p, least) = (inr a, p, least')
@@ -64,6 +72,7 @@ kept_first cells tick j js i le (a, p, least) = (inr a, p, least')
     least' k (inl e) pk = subst (λ (x : Job). NotAfter i x) e le
     least' k (inr b) pk = least k b pk
 
+-- an earlier one takes its place
 new_first : (cells : List (Option Job)) (tick : ℕ) (j : Job) (js : List Job) (i : Job)
     → is_pending cells tick j ≡ true → NotAfter j i →
     IsFirst cells tick js (Some i) → IsFirst cells tick (j ∷ js) (Some j)
@@ -73,6 +82,7 @@ new_first cells tick j js i ready le (a, p, least) = (inl refl, ready, least')
     least' k (inl e) pk = subst (λ (x : Job). NotAfter j x) e (not_after_refl j)
     least' k (inr b) pk = not_after_trans j i k le (least k b pk)
 
+-- either of them, by the test
 choose_first : (cells : List (Option Job)) (tick : ℕ) (j : Job) (js : List Job) (i : Job) (b : Bool)
     → comes_before i j ≡ b → is_pending cells tick j ≡ true →
     IsFirst cells tick js (Some i) → IsFirst cells tick (j ∷ js) (Some (cond b i j))
@@ -80,6 +90,7 @@ choose_first cells tick j js i true e ready h = kept_first cells tick j js i (no
 choose_first cells tick j js i false e ready h =
     new_first cells tick j js i ready (not_after_from_test j i e) h
 
+-- so one job more keeps the statement, pending or not
 first_more : (cells : List (Option Job)) (tick : ℕ) (j : Job) (js : List Job) (rest : Option Job)
     (b : Bool) → is_pending cells tick j ≡ b →
     IsFirst cells tick js rest → IsFirst cells tick (j ∷ js) (cond b (Some (sooner j rest)) rest)
@@ -88,6 +99,7 @@ first_more cells tick j js (Some i) true e h = choose_first cells tick j js i (c
 first_more cells tick j js None false e h = none_first cells tick j js e h
 first_more cells tick j js (Some i) false e h = stays_first cells tick j js i e h
 
+-- the definition's walk down the list gives the first job: on this all else rests
 pub first_pending_is : (cells : List (Option Job)) (tick : ℕ) (js : List Job)
     → IsFirst cells tick js (first_pending cells tick js)
 unfolding first_pending

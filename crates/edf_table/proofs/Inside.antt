@@ -8,7 +8,7 @@ use Rattle.tab_core.specs.declared.TheConstants.{ROUND}
 use Rattle.tab_core.specs.declared.piece.Piece.{Piece}
 use Rattle.table_form.specs.Planning.EdfRow.{edf_cells, edf_row, owner_of}
 use Rattle.table_form.specs.Planning.Jobs.{Job, jobs_of}
-use Rattle.edf_table.specs.Progress.{MetBefore, cell, had}
+use Rattle.edf_table.specs.Inside.Progress.{MetBefore, cell, had}
 use Rattle.table_form.specs.Planning.Windows.{IsInWindow}
 use Rattle.edf_table.proofs.Cells.{edf_cells-suc, length-edf_cells}
 use Rattle.edf_table.proofs.Counts.{had_le_had}
@@ -36,6 +36,7 @@ row_at js x lt =
     ∙ ap (option_map owner_of) (slice_get-get_or (edf_cells js ROUND) x None
     (omega (arith, length-edf_cells js ROUND)) ∙ ap Some (cell_at js ROUND x lt))
 
+-- a row has a cell for each tick of the round
 pub length-edf_row : (js : List Job) → length (edf_row js) ≡ ROUND
 unfolding edf_row
 length-edf_row js = length-map (edf_cells js ROUND) owner_of ∙ length-edf_cells js ROUND
@@ -56,6 +57,7 @@ not_late js j x met lt first =
       ],
     )
 
+-- the owner of a cell has a piece, one of whose windows has the tick
 in_window : (ps : List Piece) (d : Piece) (x v : ℕ) (c : Option Job)
     → MetBefore (jobs_of ps) (ROUND + 1) → x < ROUND
     → IsFirst (edf_cells (jobs_of ps) x) x (jobs_of ps) c → owner_of c ≡ Some v →
@@ -78,17 +80,20 @@ in_window ps d x v (Some j) met lt first owner =
       before_end = window.1;
     }
 
+-- without pieces no cell has an owner
 idle_alone : (x v : ℕ) (c : Option Job) → IsFirst (edf_cells (jobs_of []) x) x (jobs_of []) c
     → owner_of c ≡ Some v → ⊥
 idle_alone x v None first owner = cc
 idle_alone x v (Some j) first owner = no_jobs j first.0
 
+-- so the statement holds of any list of pieces
 cell_in_window : (ps : List Piece) (x v : ℕ) (c : Option Job) → MetBefore (jobs_of ps) (ROUND + 1)
     → x < ROUND → IsFirst (edf_cells (jobs_of ps) x) x (jobs_of ps) c → owner_of c ≡ Some v →
     IsInWindow ps v x
 cell_in_window [] x v c met lt first owner = absurd (idle_alone x v c first owner)
 cell_in_window (p ∷ ps) x v c met lt first owner = in_window (p ∷ ps) p x v c met lt first owner
 
+-- read off the row: the clause `inside`
 pub row_in_windows : (ps : List Piece) (v x : ℕ) → MetBefore (jobs_of ps) (ROUND + 1) → x < ROUND
     → slice_get (edf_row (jobs_of ps)) x ≡ Some (Some v) → IsInWindow ps v x
 row_in_windows ps v x met lt at =

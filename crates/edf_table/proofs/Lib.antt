@@ -5,6 +5,7 @@ pub mod Criterion
 pub mod Few
 pub mod First
 pub mod Inside
+pub mod LoadLemmas
 pub mod Misses
 pub mod OverloadsLemmas
 pub mod Pieces
@@ -13,6 +14,5 @@ pub mod Starts
 pub mod Steps
 pub mod Sums
 pub mod Turns
-pub mod Whole
 pub mod Windowed
 pub mod Windows

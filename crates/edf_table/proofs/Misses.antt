@@ -9,9 +9,9 @@ use Rattle.tab_core.specs.declared.piece.Piece.{Piece}
 use Rattle.tab_core.proofs.Periods.{period_facts}
 use Rattle.table_form.specs.Planning.Jobs.{Job, job_of, subtask_of, jobs_of}
 use Rattle.table_form.specs.Planning.Demand.{demand_in, Fits, IsOverloaded}
-use Rattle.edf_table.specs.Progress.{IsCounted, MetBefore, SomeMissed, ServedBelow, IsMissedAt, IsFirstEnd, had}
+use Rattle.edf_table.specs.Inside.Progress.{IsCounted, MetBefore, SomeMissed, ServedBelow, IsMissedAt, IsFirstEnd, had}
 use Rattle.table_form.specs.Planning.Windows.{DistinctVcpus}
-use Rattle.edf_table.specs.Progress.{demand_from}
+use Rattle.edf_table.specs.Inside.Progress.{demand_from}
 use Rattle.edf_table.proofs.Criterion.{met_fits, miss_overloads}
 use Rattle.edf_table.proofs.Steps.{met_more_any}
 use Rattle.edf_table.proofs.Pieces.{job_among, jobs_of_distinct}
@@ -46,6 +46,7 @@ window_overloads ps gs tick i d apart counted i-in window le =
     let at = subst P window.1 (found.1, found.2) in
     (found.0, record { some_ticks = at.0; within = le; too_much = at.1 })
 
+-- the same of the piece that a search found
 missed_overloads : (ps : List Piece) (gs : List ℕ) (tick : ℕ) (d : Piece) → DistinctVcpus ps
     → IsCounted ps gs tick → SomeMissed ps gs tick → tick ≤ ROUND →
     (start : ℕ) × IsOverloaded (jobs_of ps) start tick
@@ -63,15 +64,18 @@ fits_served ps gs tick apart counted fits le i d i-in k at =
       | inr served ↦ served
     ]
 
+-- so the simulation of pieces that fit goes on with all met
 pub fits_met : (ps : List Piece) (gs : List ℕ) (tick : ℕ) → DistinctVcpus ps → IsCounted ps gs tick
     → MetBefore (jobs_of ps) tick → Fits (jobs_of ps) → tick ≤ ROUND
     → MetBefore (jobs_of ps) (tick + 1)
 fits_met ps gs tick apart counted met fits le =
     met_more_any ps gs tick counted met (fits_served ps gs tick apart counted fits le)
 
+-- without pieces nothing is missed
 no_piece_missed : (gs : List ℕ) (tick : ℕ) → SomeMissed [] gs tick → ⊥
 no_piece_missed gs tick missed = let lt = missed.in_range in omega arith
 
+-- so a first piece need not be given
 missed_overloads_any : (ps : List Piece) (gs : List ℕ) (tick : ℕ) → DistinctVcpus ps
     → IsCounted ps gs tick → SomeMissed ps gs tick → tick ≤ ROUND →
     (start : ℕ) × IsOverloaded (jobs_of ps) start tick
@@ -116,6 +120,7 @@ demand_term : (s e : ℕ) (j : Job) → cond (leb s j.release && leb j.deadline 
     + cond (eqb j.release s && leb j.deadline e) j.cost 0
 demand_term s e j = grind (arith, nat_tests)
 
+-- the interval that begins a tick later, and the windows that begin at the tick: the search goes back by this
 pub demand_step : (js : List Job) (s e : ℕ) → demand_in js s e ≡ demand_in js (s + 1) e + demand_from js s e
 unfolding demand_in demand_from
 demand_step [] s e = refl

@@ -5,7 +5,7 @@ use Rattle.table_form.specs.Planning.Jobs.{jobs_of}
 use Rattle.table_form.specs.Planning.Demand.{IsOverloaded, demand_in}
 use Rattle.edf_table.specs.Overloads.{core_of}
 use Rattle.edf_table.proofs.Pieces.{jobs_of-nil}
-use Rattle.edf_table.proofs.Whole.{demand_in-none}
+use Rattle.edf_table.proofs.LoadLemmas.{demand_in-none}
 
 -- no pieces ask for nothing, so the first piece may be read where an interval is overloaded
 pub some_piece : (ps : List Piece) (start end : ℕ) → IsOverloaded (jobs_of ps) start end → 0 < length ps

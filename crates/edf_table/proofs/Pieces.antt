@@ -8,32 +8,38 @@ use Rattle.tab_core.specs.declared.piece.Piece.{Piece}
 use Rattle.tab_core.proofs.Periods.{period_facts}
 use Rattle.table_form.specs.Planning.Jobs.{Job, Subtask, job_of, subtask_of, first_jobs, jobs_of}
 use Rattle.table_form.specs.Planning.EdfRow.{first_pending}
-use Rattle.edf_table.specs.Progress.{Among}
+use Rattle.edf_table.specs.Inside.Progress.{Among}
 use Rattle.table_form.specs.Planning.Windows.{DistinctVcpus}
 use Rattle.edf_table.proofs.Counts.{Distinct}
 
+-- a job of the first list is one of both
 among_left : (xs ys : List Job) (j : Job) → Among xs j → Among (xs ++ ys) j
 among_left [] ys j a = absurd a
 among_left (x ∷ xs) ys j (inl e) = inl e
 among_left (x ∷ xs) ys j (inr a) = inr (among_left xs ys j a)
 
+-- and one of the second is
 among_right : (xs ys : List Job) (j : Job) → Among ys j → Among (xs ++ ys) j
 among_right [] ys j a = a
 among_right (x ∷ xs) ys j a = inr (among_right xs ys j a)
 
+-- and a job of both is one of either
 among_either : (xs ys : List Job) (j : Job) → Among (xs ++ ys) j → Among xs j ⊎ Among ys j
 among_either [] ys j a = inr a
 among_either (x ∷ xs) ys j (inl e) = inl (inl e)
 among_either (x ∷ xs) ys j (inr a) = elim (among_either xs ys j a) [ inl b ↦ inl (inr b) | inr b ↦ inr b ]
 
+-- a subtask has one window more
 pub first_jobs-suc : (s : Subtask) (n : ℕ) → first_jobs s (suc n) ≡ first_jobs s n ++ job_of s n ∷ []
 unfolding first_jobs
 first_jobs-suc s n = refl
 
+-- and none of no windows
 pub first_jobs-zero : (s : Subtask) → first_jobs s 0 ≡ []
 unfolding first_jobs
 first_jobs-zero s = refl
 
+-- each window of the subtask has a job among its first ones
 pub first_job_among : (s : Subtask) (n k : ℕ) → k < n → Among (first_jobs s n) (job_of s k)
 first_job_among s zero k lt = absurd (omega arith)
 first_job_among s (suc n) k lt = rw (first_jobs-suc s n) (elim (cases_eq k n) [
@@ -41,6 +47,7 @@ first_job_among s (suc n) k lt = rw (first_jobs-suc s n) (elim (cases_eq k n) [
   | inr ne ↦ among_left (first_jobs s n) (job_of s n ∷ []) (job_of s k) (first_job_among s n k (omega arith))
 ])
 
+-- and each of these has a window
 pub first_job_place : (s : Subtask) (n : ℕ) (j : Job) → Among (first_jobs s n) j
     → (k : ℕ) × (k < n) × (job_of s k ≡ j)
 first_job_place s zero j a = absurd (rw (first_jobs-zero s) at a)
@@ -50,11 +57,13 @@ first_job_place s (suc n) j a =
       | inr b ↦ elim b [ inl e ↦ (n, omega arith, e) | inr none ↦ absurd none ]
     ]
 
+-- the jobs of pieces are those of the first, then those of the others
 pub jobs_of-cons : (p : Piece) (ps : List Piece)
     → jobs_of (p ∷ ps) ≡ first_jobs (subtask_of p) (ROUND / p.period) ++ jobs_of ps
 unfolding jobs_of
 jobs_of-cons p ps = refl
 
+-- no pieces have no jobs
 pub jobs_of-nil : jobs_of [] ≡ []
 unfolding jobs_of
 jobs_of-nil = refl
@@ -75,6 +84,7 @@ job_place (p ∷ ps) d j a =
           (suc place.0, omega (arith, place.1), place.2, place.3, place.4))
     ]
 
+-- the other way: each window of a piece is a job of the round
 pub job_among : (ps : List Piece) (d : Piece) (i k : ℕ) → i < length ps → k < ROUND / (get_or ps i d).period →
     Among (jobs_of ps) (job_of (subtask_of (get_or ps i d)) k)
 job_among [] d i k lt lt' = absurd (omega arith)
@@ -85,6 +95,7 @@ job_among (p ∷ ps) d (suc i) k lt lt' =
     rw (jobs_of-cons p ps) (among_right (first_jobs (subtask_of p) (ROUND / p.period)) (jobs_of ps)
     (job_of (subtask_of (get_or ps i d)) k) (job_among ps d i k (omega arith) lt'))
 
+-- two lists of distinct jobs without a job in common
 distinct_append : (xs ys : List Job) → Distinct xs → Distinct ys
     → ((i j : Job) → Among xs i → Among ys j → j.vcpu ≡ i.vcpu → j.deadline ≡ i.deadline → ⊥)
     → Distinct (xs ++ ys)
@@ -108,6 +119,7 @@ same_multiple period a b c some e = elim (cases_order a b) [
   ]
 ]
 
+-- the windows of a subtask end at ticks that differ
 pub first_jobs_distinct : (s : Subtask) (n : ℕ) → 0 < s.period → Distinct (first_jobs s n)
 first_jobs_distinct s zero some = rw (first_jobs-zero s) tt
 first_jobs_distinct s (suc n) some =
@@ -122,9 +134,11 @@ first_jobs_distinct s (suc n) some =
       | inr none ↦ none
     ])))
 
+-- distinct vCPUs without the first piece
 pub tail_distinct : (p : Piece) (ps : List Piece) → DistinctVcpus (p ∷ ps) → DistinctVcpus ps
 tail_distinct p ps h i j a b at at' same = let e = h (suc i) (suc j) a b at at' same in omega arith
 
+-- pieces of distinct vCPUs have distinct jobs, so a job is known by its vCPU and its deadline
 pub jobs_of_distinct : (ps : List Piece) → DistinctVcpus ps → Distinct (jobs_of ps)
 jobs_of_distinct [] h = rw jobs_of-nil tt
 jobs_of_distinct (p ∷ ps) h =
@@ -139,9 +153,11 @@ jobs_of_distinct (p ∷ ps) h =
     (ap (λ (x : Job). x.vcpu) here.2 ∙ sym v ∙ sym (ap (λ (x : Job). x.vcpu) there.4)) in
     omega arith)))
 
+-- no pieces, nobody among their jobs
 pub no_jobs : (j : Job) → Among (jobs_of []) j → ⊥
 no_jobs j a = rw jobs_of-nil at a
 
+-- and nobody first
 pub none_of_none : (cells : List (Option Job)) (tick : ℕ) → first_pending cells tick (jobs_of []) ≡ None
 unfolding first_pending
 none_of_none cells tick = rw jobs_of-nil refl

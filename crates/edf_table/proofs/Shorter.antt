@@ -9,7 +9,7 @@ use Rattle.tab_core.proofs.Periods.{period_facts}
 use Rattle.table_form.specs.Planning.Jobs.{Job, Subtask, job_of, first_jobs}
 use Rattle.table_form.specs.Planning.Demand.{demand_in, is_inside}
 use Rattle.edf_table.proofs.Pieces.{first_jobs-suc, first_jobs-zero}
-use Rattle.edf_table.proofs.Whole.{demand_in-append, demand_in-one, demand_in-none}
+use Rattle.edf_table.proofs.LoadLemmas.{demand_in-append, demand_in-one, demand_in-none}
 use Rattle.edf_table.specs.Beside.{FitsBeside, tight}
 
 -- a longer interval needs no less
@@ -18,6 +18,7 @@ demand_term : (s e : ℕ) (j : Job)
     ≤ cond (leb s j.release && leb j.deadline (e + 1)) j.cost 0
 demand_term s e j = grind (arith, nat_tests)
 
+-- so is its demand, over all jobs
 demand_longer : (js : List Job) (s e : ℕ) → demand_in js s e ≤ demand_in js s (e + 1)
 unfolding demand_in
 demand_longer [] s e = omega arith
@@ -30,6 +31,7 @@ demand_longer (j ∷ js) s e =
       sum_by-cons (λ j. cond (leb s j.release && leb j.deadline (e + 1)) j.cost 0) j js,
     )
 
+-- one window more adds its cost where it is inside
 demand_split : (p : Subtask) (n s e : ℕ)
     → demand_in (first_jobs p (suc n)) s e
     ≡ demand_in (first_jobs p n) s e + cond (is_inside s e (job_of p n)) p.cost 0
@@ -37,6 +39,7 @@ demand_split p n s e = ap (λ js. demand_in js s e) (first_jobs-suc p n)
     ∙ demand_in-append (first_jobs p n) (job_of p n ∷ []) s e
     ∙ ap (λ x. demand_in (first_jobs p n) s e + x) (demand_in-one (job_of p n) s e)
 
+-- no windows need nothing
 demand_start : (p : Subtask) (s e : ℕ) → demand_in (first_jobs p 0) s e ≡ 0
 demand_start p s e = ap (λ js. demand_in js s e) (first_jobs-zero p) ∙ demand_in-none s e
 
@@ -98,6 +101,7 @@ no_more_at_end v x f t (suc n) s two window round =
     last false b true h = omega arith
     last a b false h = cc
 
+-- so bisection may search for the longest piece that fits
 pub shorter_fits : (jobs : List Job) (vcpu cost from period : ℕ) → IsPeriod period → 2 ≤ cost
     → from + cost ≤ period → FitsBeside jobs (tight vcpu cost from period) →
     FitsBeside jobs (tight vcpu (cost - 1) from period)

@@ -7,24 +7,27 @@ use Rattle.tab_core.specs.declared.TheConstants.{ROUND}
 use Rattle.tab_core.specs.declared.piece.Piece.{Piece}
 use Rattle.table_form.specs.Planning.Jobs.{Job, Subtask, job_of, subtask_of, first_jobs, jobs_of}
 use Rattle.table_form.specs.Planning.Demand.{IsOverloaded, demand_in, is_inside}
-use Rattle.edf_table.specs.Progress.{Among, NoBegin}
-use Rattle.edf_table.specs.Progress.{demand_from}
+use Rattle.edf_table.specs.Inside.Progress.{Among, NoBegin}
+use Rattle.edf_table.specs.Inside.Progress.{demand_from}
 use Rattle.edf_table.proofs.Sums.{sum_le, sum_zero}
 use Rattle.edf_table.proofs.Turns.{some_period}
 use Rattle.edf_table.proofs.Misses.{ends_in_round, demand_step}
 use Rattle.edf_table.proofs.Windows.{whole_at}
 use Rattle.edf_table.proofs.Pieces.{first_job_place, job_place, same_multiple, first_jobs-suc, jobs_of-cons, jobs_of-nil, no_jobs}
 
+-- the demand of two lists of jobs is a sum
 demand_from-append : (xs ys : List Job) (s e : ℕ)
     → demand_from (xs ++ ys) s e ≡ demand_from xs s e + demand_from ys s e
 unfolding demand_from
 demand_from-append xs ys s e = sum_by-append (λ j. cond (eqb j.release s && leb j.deadline e) j.cost 0) xs ys
 
+-- that of one job is its cost or nothing
 demand_from-one : (j : Job) (s e : ℕ)
     → demand_from (j ∷ []) s e ≡ cond (eqb j.release s && leb j.deadline e) j.cost 0
 unfolding demand_from
 demand_from-one j s e = zero-add (cond (eqb j.release s && leb j.deadline e) j.cost 0)
 
+-- nothing, where it doesn't begin there and end in time
 begins_not : (j : Job) (s e : ℕ) → (j.release ≡ s → j.deadline ≤ e → ⊥)
     → ◌≡◌ {A = ℕ} (cond (eqb j.release s && leb j.deadline e) j.cost 0) 0
 begins_not j s e unfit = elim (cases_Bool (eqb j.release s && leb j.deadline e)) [
@@ -34,6 +37,7 @@ begins_not j s e unfit = elim (cases_Bool (eqb j.release s && leb j.deadline e))
   | inr no' ↦ rw no' refl
 ]
 
+-- its cost, where it does
 begins_here : (j : Job) (s e : ℕ) → j.release ≡ s → j.deadline ≤ e
     → cond (eqb j.release s && leb j.deadline e) j.cost 0 ≡ j.cost
 begins_here j s e at le =
@@ -78,17 +82,20 @@ pub starts_early : (p : Piece) (start end : ℕ) → start < p.from
 starts_early p start end lt = starts_none (subtask_of p) (ROUND / p.period) start end
     (λ k k-lt at le. omega arith)
 
+-- no window begins at a tick between two begins
 pub starts_between : (p : Piece) (start end : ℕ) → (start - p.from) % p.period ≢ 0
     → demand_from (first_jobs (subtask_of p) (ROUND / p.period)) start end ≡ 0
 starts_between p start end ne =
     starts_none (subtask_of p) (ROUND / p.period) start end
     (λ k k-lt at le. ne (whole_at start p.from p.period k (some_period p) at))
 
+-- the window that begins there ends too late
 pub starts_late : (p : Piece) (start end : ℕ) → end < start - p.from + p.to → p.from ≤ start
     → demand_from (first_jobs (subtask_of p) (ROUND / p.period)) start end ≡ 0
 starts_late p start end late le =
     starts_none (subtask_of p) (ROUND / p.period) start end (λ k k-lt at in_time. omega arith)
 
+-- one window begins there and ends in time
 pub starts_here : (p : Piece) (start end : ℕ) → end ≤ ROUND → p.from ≤ start
     → (start - p.from) % p.period ≡ 0 → start - p.from + p.to ≤ end →
     demand_from (first_jobs (subtask_of p) (ROUND / p.period)) start end ≡ p.cost
@@ -108,10 +115,12 @@ jobs_of-append (p ∷ ps) qs =
     (sym (append_assoc (first_jobs (subtask_of p) (ROUND / p.period)) (jobs_of ps)
     (jobs_of qs)))))
 
+-- jobs and no more
 append_empty : (js : List Job) → js ++ [] ≡ js
 append_empty [] = refl
 append_empty (j ∷ js) = ap (λ xs. j ∷ xs) (append_empty js)
 
+-- the loop over the pieces adds one piece's at each step
 pub demand_from_more : (ps : List Piece) (i : ℕ) (d : Piece) (s e : ℕ) → i < length ps →
     demand_from (jobs_of (take (i + 1) ps)) s e
     ≡ demand_from (jobs_of (take i ps)) s e
@@ -124,10 +133,12 @@ demand_from_more ps i d s e lt =
     (jobs_of-cons p []
     ∙ (rw jobs_of-nil (append_empty (first_jobs (subtask_of p) (ROUND / p.period)))))))
 
+-- and begins with none
 pub demand_from_nothing : (s e : ℕ) → demand_from (jobs_of []) s e ≡ 0
 unfolding demand_from
 demand_from_nothing s e = rw jobs_of-nil refl
 
+-- no job lies inside an empty interval, since its window has ticks
 empty_inside : (e : ℕ) (j : Job) → j.release < j.deadline → ◌≡◌ {A = ℕ} (cond (is_inside e e j) j.cost 0) 0
 empty_inside e j lt = elim (cases_Bool (is_inside e e j)) [
   | inl yes' ↦ (let both = and_parts (leb e j.release) (leb j.deadline e) yes' in
@@ -135,6 +146,7 @@ empty_inside e j lt = elim (cases_Bool (is_inside e e j)) [
   | inr no' ↦ rw no' refl
 ]
 
+-- which each window of a piece has
 window_is_some : (ps : List Piece) (d : Piece) (j : Job) → Among (jobs_of ps) j → j.release < j.deadline
 window_is_some ps d j a =
     let place = job_place ps d j a in
@@ -156,6 +168,7 @@ inside_alike s m e j le none = ap (λ b. b && leb j.deadline e) (elim (cases_lt 
   | inr from ↦ le-leb s j.release from ∙ sym (le-leb m j.release (none from))
 ])
 
+-- so over all jobs, term by term
 same_demand : (js : List Job) (s m e : ℕ) → s ≤ m
     → ((j : Job) → Among js j → s ≤ j.release → m ≤ j.release) → demand_in js s e ≡ demand_in js m e
 unfolding demand_in
@@ -175,6 +188,7 @@ no_release (p ∷ ps) from tick none j a later =
     let P : Job → Type 0 = λ i. from < i.release → tick ≤ i.release in
     subst P place.4 (none place.0 p place.1 place.2) later
 
+-- so the search may skip the ticks between two begins
 demand_between : (ps : List Piece) (from s tick e : ℕ) → NoBegin ps (length ps) from tick → from < s
     → s ≤ tick → demand_in (jobs_of ps) s e ≡ demand_in (jobs_of ps) tick e
 demand_between ps from s tick e none lt le =

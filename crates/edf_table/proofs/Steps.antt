@@ -10,18 +10,20 @@ use Rattle.tab_core.specs.declared.TheConstants.{ROUND}
 use Rattle.tab_core.specs.declared.piece.Piece.{Piece}
 use Rattle.table_form.specs.Planning.Jobs.{Job, job_of, subtask_of, jobs_of}
 use Rattle.table_form.specs.Planning.EdfRow.{is_run_of, is_same_job, edf_cells, edf_row, owner_of}
-use Rattle.edf_table.specs.Progress.{IsCounted, MetBefore, IsMostUrgent, ServedBelow, cell, had, window_no, is_ready}
+use Rattle.edf_table.specs.Inside.Progress.{IsCounted, MetBefore, IsMostUrgent, ServedBelow, cell, had, window_no, is_ready}
 use Rattle.table_form.specs.Planning.Windows.{DistinctVcpus}
 use Rattle.edf_table.proofs.Counts.{had-suc, had-zero, had_le_had}
 use Rattle.edf_table.proofs.Pieces.{job_among, job_place, same_multiple, no_jobs, none_of_none}
 use Rattle.edf_table.proofs.Turns.{urgent_cell, idle_cell, some_period, ready_parts, earlier_is_over, in_round}
 
+-- what a job has had after a tick, by whom the tick goes to
 had_more : (js : List Job) (j : Job) (tick : ℕ) (c : Option Job) (b : Bool) → cell js tick ≡ c
     → is_run_of j c ≡ b → had js j (tick + 1) ≡ had js j tick + cond b 1 0
 had_more js j tick c b at run =
     rw (add-one tick) (had-suc js j tick ∙ ap (λ r. had js j tick + cond r 1 0)
     (ap (is_run_of j) at ∙ run))
 
+-- as much as before, where it goes to another
 had_same : (js : List Job) (j : Job) (tick : ℕ) (c : Option Job) → cell js tick ≡ c
     → is_run_of j c ≡ false → had js j (tick + 1) ≡ had js j tick
 had_same js j tick c at run = let more = had_more js j tick c false at run in omega arith
@@ -55,15 +57,18 @@ counted_idle ps gs tick counted idle = record {
       (job_of (subtask_of (get_or ps i d)) k) tick None idle refl ∙ counted.each i d lt k;
 }
 
+-- pieces at two places are of two vCPUs
 pub distinct_at : (ps : List Piece) (i k : ℕ) (d : Piece) → DistinctVcpus ps → i < length ps
     → k < length ps → i ≢ k → (get_or ps i d).vcpu ≢ (get_or ps k d).vcpu
 distinct_at ps i k d apart i-in k-in ne e =
     ne (apart i k (get_or ps i d) (get_or ps k d) (slice_get-get_or ps i d i-in)
     (slice_get-get_or ps k d k-in) e)
 
+-- a tick of another vCPU is not the job's
 not_run_by_vcpu : (i j : Job) → i.vcpu ≢ j.vcpu → is_same_job i j ≡ false
 not_run_by_vcpu i j ne = and_left (eqb i.vcpu j.vcpu) (eqb i.deadline j.deadline) (ne_eqb i.vcpu j.vcpu ne)
 
+-- nor is one of another window
 not_run_by_deadline : (i j : Job) → i.deadline ≢ j.deadline → is_same_job i j ≡ false
 not_run_by_deadline i j ne = and_right (eqb i.vcpu j.vcpu) (eqb i.deadline j.deadline)
     (ne_eqb i.deadline j.deadline ne)
@@ -91,6 +96,7 @@ served_before ps gs tick i d counted met lt i-in (suc k) w-in from le =
     let has = counted.each i d i-in k in
     omega (arith, p.costs)
 
+-- a tick of the job itself is
 same_job_self : (j : Job) → is_same_job j j ≡ true
 same_job_self j = and_from (eqb j.vcpu j.vcpu) (eqb j.deadline j.deadline) (eqb_refl j.vcpu)
     (eqb_refl j.deadline)
@@ -102,6 +108,7 @@ same_job_self j = and_from (eqb j.vcpu j.vcpu) (eqb j.deadline j.deadline) (eqb_
 abbrev pub one_more : List ℕ → ℕ → List ℕ
 one_more gs i = set gs i (get_or gs i 0 + 1)
 
+-- what the counts say of the piece that has the tick
 each_of_run : (ps : List Piece) (gs : List ℕ) (tick i : ℕ) (d : Piece) → DistinctVcpus ps
     → IsCounted ps gs tick → MetBefore (jobs_of ps) (tick + 1) → tick < ROUND →
     IsMostUrgent ps gs tick (length ps) i → (k : ℕ) →
@@ -164,6 +171,7 @@ counted_run ps gs tick i apart counted met lt urgent = record {
   ];
 }
 
+-- where each window that ends at the tick has its cost, all is met one tick further
 pub met_more : (ps : List Piece) (gs : List ℕ) (tick : ℕ) (d : Piece) → IsCounted ps gs tick
     → MetBefore (jobs_of ps) tick → ServedBelow ps gs tick (length ps)
     → MetBefore (jobs_of ps) (tick + 1)
@@ -188,6 +196,7 @@ pub met_more_any : (ps : List Piece) (gs : List ℕ) (tick : ℕ) → IsCounted 
 met_more_any [] gs tick counted met served = λ j a lt. absurd (no_jobs j a)
 met_more_any (p ∷ ps) gs tick counted met served = met_more (p ∷ ps) gs tick p counted met served
 
+-- the same of an idle tick
 pub idle_cell_any : (ps : List Piece) (gs : List ℕ) (tick : ℕ) → IsCounted ps gs tick
     → MetBefore (jobs_of ps) (tick + 1) → tick < ROUND →
     ((i : ℕ) (d : Piece) → i < length ps → is_ready (get_or ps i d) (get_or gs i 0) tick ≡ false)
@@ -201,6 +210,7 @@ pub row_length : (js : List Job) (row : List (Option ℕ)) (tick : ℕ)
     → row ≡ map owner_of (edf_cells js tick) → length row ≡ tick
 row_length js row tick e = ap length e ∙ length-map (edf_cells js tick) owner_of ∙ length-edf_cells js tick
 
+-- the builder's row begins empty, as the definition's
 pub row_start : (js : List Job) (row : List (Option ℕ)) → row ≡ [] → row ≡ map owner_of (edf_cells js 0)
 row_start js row e = rw (edf_cells-zero js) e
 

@@ -3,8 +3,9 @@ use Rattle.std.proofs.Common.{◌≡◌, ℕ, ◌+◌, ◌<◌, ◌≤◌, List,
 use Rattle.std.specs.List.{sum_by}
 use Rattle.std.proofs.lemmas.List.Sums.{sum_by-cons}
 use Rattle.table_form.specs.Planning.Jobs.{Job}
-use Rattle.edf_table.specs.Progress.{Among}
+use Rattle.edf_table.specs.Inside.Progress.{Among}
 
+-- sums are compared term by term, over the jobs of the list alone
 pub sum_le : (f g : Job → ℕ) (js : List Job) → ((j : Job) → Among js j → f j ≤ g j)
     → sum_by f js ≤ sum_by g js
 sum_le f g [] h = omega arith

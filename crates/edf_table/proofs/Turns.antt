@@ -7,15 +7,17 @@ use Rattle.tab_core.specs.declared.piece.Piece.{Piece}
 use Rattle.tab_core.proofs.Periods.{period_facts}
 use Rattle.table_form.specs.Planning.Jobs.{Job, job_of, subtask_of, jobs_of}
 use Rattle.table_form.specs.Planning.EdfRow.{is_pending, edf_cells}
-use Rattle.edf_table.specs.Progress.{Among, IsCounted, MetBefore, IsMostUrgent, cell, had, window_no, is_ready}
+use Rattle.edf_table.specs.Inside.Progress.{Among, IsCounted, MetBefore, IsMostUrgent, cell, had, window_no, is_ready}
 use Rattle.table_form.specs.Planning.Windows.{DistinctVcpus}
 use Rattle.edf_table.proofs.Counts.{Distinct, distinct_same, had_le_had}
 use Rattle.edf_table.proofs.First.{IsFirst, NotAfter, first_pending_is}
 use Rattle.edf_table.proofs.Pieces.{job_among, job_place, jobs_of_distinct}
 
+-- a period has ticks, so it may divide
 pub some_period : (p : Piece) → 0 < p.period
 some_period p = let facts = period_facts p.period p.listed in omega (arith, facts.at_least)
 
+-- and no more than a round, so products of it are small
 pub short_period : (p : Piece) → p.period ≤ ROUND
 short_period p = let facts = period_facts p.period p.listed in omega (arith, facts.at_most)
 
@@ -44,12 +46,14 @@ in_round p tick le lt = elim (cases_lt (window_no p tick) (ROUND / p.period)) [
       absurd (omega (arith, begun p tick le, facts.whole)))
 ]
 
+-- the test of readiness, as facts on numbers
 pub ready_parts : (p : Piece) (given tick : ℕ) → is_ready p given tick ≡ true
     → (p.from ≤ tick) × (given < (window_no p tick + 1) * p.cost)
 ready_parts p given tick h =
     let both = and_parts (leb p.from tick) (ltb given ((window_no p tick + 1) * p.cost)) h in
     (leb-true _ _ both.0, ltb-true _ _ both.1)
 
+-- the window that a ready piece is at is a pending job
 ready_pending : (ps : List Piece) (gs : List ℕ) (tick i : ℕ) (d : Piece) → IsCounted ps gs tick
     → i < length ps →
     is_ready (get_or ps i d) (get_or gs i 0) tick ≡ true →
@@ -66,6 +70,7 @@ ready_pending ps gs tick i d counted lt ready =
     (ltb (had (jobs_of ps) (job_of (subtask_of p) w) tick) p.cost) (le-leb _ _ started)
     (lt-ltb _ _ lacks)
 
+-- and a pending job is the window that a ready piece is at: earlier ones are over and were met
 pending_ready : (ps : List Piece) (gs : List ℕ) (tick i : ℕ) (d : Piece) (k : ℕ)
     → IsCounted ps gs tick → MetBefore (jobs_of ps) (tick + 1) →
     i < length ps → k < ROUND / (get_or ps i d).period
@@ -139,6 +144,7 @@ urgent_cell ps gs tick i d apart counted met lt urgent =
     subst (λ (x : Job). NotAfter (job_of (subtask_of p) w) x) job_is
     (urgent.first place.0 d place.1 there.1)))
 
+-- nobody is first where nobody is pending
 idle_first : (cells : List (Option Job)) (tick : ℕ) (js : List Job) (c : Option Job)
     → IsFirst cells tick js c → ((k : Job) → Among js k → is_pending cells tick k ≡ true → ⊥)
     → c ≡ None

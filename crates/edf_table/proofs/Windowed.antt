@@ -12,7 +12,7 @@ use Rattle.tab_core.proofs.Periods.{period_facts}
 use Rattle.table_form.specs.Planning.Jobs.{Job, Subtask, job_of, subtask_of, first_jobs, jobs_of}
 use Rattle.table_form.specs.Planning.EdfRow.{is_run_of, is_same_job, edf_cells, edf_row, owner_of}
 use Rattle.table_form.specs.Tables.Serves.{is_cell_of, cells_within}
-use Rattle.edf_table.specs.Progress.{Among, MetBefore, cell, had}
+use Rattle.edf_table.specs.Inside.Progress.{Among, MetBefore, cell, had}
 use Rattle.table_form.specs.Planning.Windows.{DistinctVcpus}
 use Rattle.edf_table.proofs.Sums.{sum_lt, sum_zero}
 use Rattle.edf_table.proofs.Cells.{edf_cells-suc, edf_cells-zero, length-edf_cells}
@@ -28,15 +28,18 @@ use Rattle.edf_table.proofs.Steps.{distinct_at}
 owned : ℕ → List (Option Job) → ℕ
 owned v cells = count_by (λ c. is_cell_of v (owner_of c)) cells
 
+-- one cell more counts where it is the vCPU's
 owned-push : (v : ℕ) (cells : List (Option Job)) (c : Option Job)
     → owned v (cells ++ c ∷ []) ≡ owned v cells + cond (is_cell_of v (owner_of c)) 1 0
 unfolding owned
 owned-push v cells c = sum_by_push (λ x. cond (is_cell_of v (owner_of x)) 1 0) cells c
 
+-- and no cells count nothing
 owned-none : (v : ℕ) → owned v [] ≡ 0
 unfolding owned
 owned-none v = refl
 
+-- a sum of sums, term by term
 sum_sum : (f g h : Job → ℕ) (js : List Job) → ((j : Job) → f j ≡ g j + h j)
     → sum_by f js ≡ sum_by g js + sum_by h js
 sum_sum f g h [] e = refl
@@ -48,6 +51,7 @@ sum_sum f g h (j ∷ js) e =
 all_had : List Job → Subtask → ℕ → ℕ → ℕ
 all_had js s m n = sum_by (λ j. had js j n) (first_jobs s m)
 
+-- each job of a subtask is of its vCPU
 vcpu_of_subtask : (s : Subtask) (m : ℕ) (j : Job) → Among (first_jobs s m) j → j.vcpu ≡ s.vcpu
 vcpu_of_subtask s m j a = let place = first_job_place s m j a in sym (ap (λ (x : Job). x.vcpu) place.2)
 
@@ -61,6 +65,7 @@ runs_none (Some i) s m h = sum_zero (λ j. cond (is_same_job i j) 1 0) (first_jo
     ap (λ b. cond b 1 0) (and_left (eqb i.vcpu j.vcpu) (eqb i.deadline j.deadline)
     (ne_eqb i.vcpu j.vcpu other))))
 
+-- a cell of one of the subtask's jobs counts once over all of them
 runs_one : (i : Job) (s : Subtask) (m : ℕ) → 0 < s.period → Among (first_jobs s m) i
     → sum_by (λ j. cond (is_same_job i j) 1 0) (first_jobs s m) ≡ 1
 runs_one i s m some a =
@@ -92,6 +97,7 @@ of_piece ps i d j apart lt a v =
           (ap (λ (x : Job). x.vcpu) place.4 ∙ v))
     ]
 
+-- so whether a cell is the vCPU's is counted over the jobs of its piece
 runs_is : (ps : List Piece) (i n : ℕ) (d : Piece) (c : Option Job) → DistinctVcpus ps
     → i < length ps → IsFirst (edf_cells (jobs_of ps) n) n (jobs_of ps) c →
     sum_by (λ j. cond (is_run_of j c) 1 0)
@@ -186,10 +192,12 @@ prefix_is js n (suc m) =
     (take-append-le n (edf_cells js (n + m)) (cell js (n + m) ∷ [])
     (omega (arith, length-edf_cells js (n + m))) ∙ prefix_is js n m))
 
+-- the same by the longer row's end
 prefix_of : (js : List Job) (n e : ℕ) → n ≤ e → take n (edf_cells js e) ≡ edf_cells js n
 prefix_of js n e le = subst (λ k. take n (edf_cells js k) ≡ edf_cells js n) (omega arith)
     (prefix_is js n (e - n))
 
+-- a row's cells are counted by their owners
 count_map : (v : ℕ) (cells : List (Option Job))
     → count_by (λ c. is_cell_of v c) (map owner_of cells) ≡ owned v cells
 unfolding owned
@@ -258,6 +266,7 @@ window_has_cost ps i k d apart lt met k-lt =
     let between = count_between p.vcpu (edf_row js) a b some in
     omega arith
 
+-- read by the piece at a place: the clause `windows`
 pub window_of_piece : (ps : List Piece) (i k : ℕ) (p : Piece) → DistinctVcpus ps
     → slice_get ps i ≡ Some p → MetBefore (jobs_of ps) (ROUND + 1) → k < ROUND / p.period →
     cells_within p.vcpu (edf_row (jobs_of ps)) (k * p.period + p.from) (k * p.period + p.to) ≡ p.cost

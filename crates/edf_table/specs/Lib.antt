@@ -1,4 +1,4 @@
 pub mod Beside
+pub mod Inside
 pub mod Load
 pub mod Overloads
-pub mod Progress

@@ -1,6 +1,6 @@
 ghost use Rattle.std.specs.Prelude.{◌≡◌, ◌+◌, ◌-◌, ◌*◌, ◌<◌, ◌≤◌, ℕ, false, min, nat_lt, true};
 ghost use Rattle.tab_core.specs.declared.TheConstants.{ROUND};
-ghost use Rattle.edf_table.specs.Progress.{IsCalm, IsDueFirst, IsMissedAt, IsServedAt, due_at, is_ready, window_no};
+ghost use Rattle.edf_table.specs.Inside.Progress.{IsCalm, IsDueFirst, IsMissedAt, IsServedAt, due_at, is_ready, window_no};
 
 use tab_core::{Piece, ROUND};
 

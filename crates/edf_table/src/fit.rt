@@ -2,10 +2,10 @@ ghost use Rattle.std.specs.Prelude.{◌≡◌, IfNone, IfSome, true, false};
 ghost use Rattle.table_form.specs.Planning.Demand.{Fits};
 ghost use Rattle.table_form.specs.Planning.Jobs.{jobs_of};
 ghost use Rattle.edf_table.specs.Overloads.{IsReportedOf};
-ghost use Rattle.edf_table.specs.Progress.{IsFirstEnd};
+ghost use Rattle.edf_table.specs.Inside.Progress.{IsFirstEnd};
 ghost use Rattle.table_form.specs.Planning.Windows.{DistinctVcpus};
 
-use crate::light::are_whole_and_light;
+use crate::light::are_unsplit_and_light;
 use crate::overload::last_overload;
 use crate::turn::{NO_TICKS, any_missed, run_turn};
 use tab_core::{Over, Piece, ROUND};
@@ -16,7 +16,7 @@ fn first_miss(pieces: &[Piece]) -> Option<u32>
     ensures none { IfNone result (Fits (jobs_of pieces.now)) }
     ensures some { IfSome result (λ end. IsFirstEnd (jobs_of pieces.now) end) }
 {
-    if are_whole_and_light(pieces) {
+    if are_unsplit_and_light(pieces) {
         return None;
     }
     let mut given = NO_TICKS;

@@ -6,7 +6,7 @@ ghost use Rattle.tab_core.specs.Period.{IsPeriod};
 ghost use Rattle.table_form.specs.Planning.Demand.{Fits};
 ghost use Rattle.table_form.specs.Planning.Jobs.{Job, jobs_of};
 ghost use Rattle.edf_table.specs.Beside.{FitsBeside, tight};
-ghost use Rattle.edf_table.specs.Load.{AllWhole, load};
+ghost use Rattle.edf_table.specs.Load.{AreUnsplit, load};
 
 /// Where a tight piece fits, one that is a tick shorter fits. So bisection finds the longest.
 pub fn shorter_piece_fits()
@@ -17,6 +17,6 @@ pub fn shorter_piece_fits()
 {}
 
 /// Pieces whose windows are whole periods fit where they take no more than a round.
-pub fn whole_pieces_fit()
-    ensures { (pieces : List Piece) → AllWhole pieces → load pieces ≤ ROUND → Fits (jobs_of pieces) }
+pub fn unsplit_pieces_fit()
+    ensures { (pieces : List Piece) → AreUnsplit pieces → load pieces ≤ ROUND → Fits (jobs_of pieces) }
 {}

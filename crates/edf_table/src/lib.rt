@@ -8,7 +8,7 @@
 mod due;
 mod fault;
 mod fit;
-pub mod laws;
+mod laws;
 mod light;
 mod overload;
 mod simulation;
@@ -18,4 +18,5 @@ mod turn;
 
 pub use fault::EdfFault;
 pub use fit::{find_overload, fits};
+pub use laws::{shorter_piece_fits, unsplit_pieces_fit};
 pub use simulation::{build_row, simulate};

@@ -5,7 +5,7 @@ ghost use Rattle.table_form.specs.Planning.Jobs.{jobs_of};
 use tab_core::{Piece, ROUND};
 
 // Whether all windows are whole periods and the pieces take at most a round. Then they fit.
-pub(crate) fn are_whole_and_light(pieces: &[Piece]) -> bool
+pub(crate) fn are_unsplit_and_light(pieces: &[Piece]) -> bool
     ensures { result ≡ true → Fits (jobs_of pieces.now) }
 {
     let mut load: u64 = 0;

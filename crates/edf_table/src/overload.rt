@@ -2,7 +2,7 @@ ghost use Rattle.std.specs.Prelude.{◌≡◌, ◌+◌, ◌<◌, ℕ, ◌*◌, �
 ghost use Rattle.tab_core.specs.declared.TheConstants.{ROUND};
 ghost use Rattle.table_form.specs.Planning.Jobs.{first_jobs, jobs_of, subtask_of};
 ghost use Rattle.edf_table.specs.Overloads.{IsReportedOf};
-ghost use Rattle.edf_table.specs.Progress.{IsFirstEnd, NoBegin, demand_from};
+ghost use Rattle.edf_table.specs.Inside.Progress.{IsFirstEnd, NoBegin, demand_from};
 ghost use Rattle.table_form.specs.Planning.Windows.{DistinctVcpus};
 
 use tab_core::{Over, Piece, ROUND};

@@ -1,7 +1,7 @@
 ghost use Rattle.std.specs.Prelude.{◌≡◌, ◌+◌, ◌<◌, ◌≤◌, true, false, length};
 ghost use Rattle.tab_core.specs.declared.TheConstants.{ROUND};
 ghost use Rattle.table_form.specs.Planning.Jobs.{jobs_of};
-ghost use Rattle.edf_table.specs.Progress.{AreCalm, GoesTo, IsCounted, IsUrgentBelow, MetBefore, ServedBelow, SomeMissed};
+ghost use Rattle.edf_table.specs.Inside.Progress.{AreCalm, GoesTo, IsCounted, IsUrgentBelow, MetBefore, ServedBelow, SomeMissed};
 ghost use Rattle.table_form.specs.Planning.Windows.{DistinctVcpus};
 
 use crate::due::{event_after, has_missed, is_due_before, is_ready_at, lacking};

@@ -1,3 +1,3 @@
-pub mod Best
-pub mod Listed
+pub mod ChoiceLemmas
+pub mod TasksLemmas
 pub mod Unique

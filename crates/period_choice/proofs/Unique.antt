@@ -21,6 +21,7 @@ chosen_unique r a b of_a of_b =
     let period : a.period ≡ b.period = omega arith in
     same_budget a b (of_a.cost_is ∙ ap (cost r.share_ppm) period ∙ sym of_b.cost_is) period
 
+-- so a vCPU has one task, with a reservation or without
 pub task_unique : (reservation : Option Reservation) (a b : Option Periodic)
     → IsTaskOf reservation a → IsTaskOf reservation b → a ≡ b
 task_unique None a b of_a of_b = of_a ∙ sym of_b
@@ -28,6 +29,7 @@ task_unique (Some r) None b of_a of_b = absurd of_a
 task_unique (Some r) (Some a) None of_a of_b = absurd of_b
 task_unique (Some r) (Some a) (Some b) of_a of_b = ap Some (chosen_unique r a b of_a of_b)
 
+-- and a host one list of them, entry by entry: its plan is one for this reason
 pub tasks_unique : (vcpus : List Vcpu) (a b : List (Option Periodic)) → AreTasksOf vcpus a
     → AreTasksOf vcpus b → a ≡ b
 tasks_unique vcpus a b of_a of_b = same_lists a b (of_a.as_many ∙ sym of_b.as_many) (λ k d lt.

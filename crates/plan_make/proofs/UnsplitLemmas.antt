@@ -10,8 +10,8 @@ use Rattle.tab_core.specs.declared.periodic.Periodic.{Periodic}
 use Rattle.tab_core.specs.declared.piece.Piece.{Piece}
 use Rattle.table_form.specs.Planning.Demand.{Fits}
 use Rattle.table_form.specs.Planning.Jobs.{Subtask, jobs_of, subtask_of}
-use Rattle.edf_table.specs.Load.{AllWhole, load}
-use Rattle.edf_table.proofs.Whole.{whole_fits}
+use Rattle.edf_table.specs.Load.{AreUnsplit, load}
+use Rattle.edf_table.proofs.LoadLemmas.{unsplit_fits}
 use Rattle.worst_fit.specs.Load.{is_on, load_on, task_demand}
 use Rattle.plan_make.specs.Unsplit.{unsplit, unsplit_at, unsplit_from}
 
@@ -202,7 +202,7 @@ load_on-take-le core (suc n) (t ∷ tasks) (h ∷ homes) =
 
 -- the pieces fill their periods, and such pieces fit where their load does
 all_whole : (ps : List Piece) → All (λ (s : Subtask). (s.from ≡ 0) × (s.to ≡ s.period)) (map subtask_of ps)
-    → AllWhole ps
+    → AreUnsplit ps
 all_whole [] all = tt
 all_whole (p ∷ ps) all =
     let P : Subtask → Type 0 = λ s. (s.from ≡ 0) × (s.to ≡ s.period) in
@@ -226,5 +226,5 @@ unsplit_fit core n tasks homes ps stand light =
     (unsplit_from core 0 (take n tasks) (take n homes)) on in
     let taken = load_of_subtasks ps ∙ ap (sum_by ticks_of) stand
     ∙ load_of_all_unsplit core 0 (take n tasks) (take n homes) in
-    whole_fits ps (all_whole ps (subst (All P) (sym stand) shapes))
+    unsplit_fits ps (all_whole ps (subst (All P) (sym stand) shapes))
     (omega (arith, load_on-take-le core n tasks homes))

@@ -11,11 +11,13 @@ use Rattle.tab_core.specs.declared.vcpu.Vcpu.{Vcpu}
 
 -- ---- budgets
 
+-- what a budget keeps of its numbers
 record BudgetFacts (cost period : ℕ) : Type 0 where
   pub costs : 1 ≤ cost
   pub within : cost ≤ period
   pub listed : IsPeriod period
 
+-- a budget made of its numbers, so that equal numbers can be put for them
 abbrev budget_with : (cost period : ℕ) → BudgetFacts cost period → Periodic
 budget_with cost period f = record {
   cost = cost;
@@ -25,12 +27,15 @@ budget_with cost period f = record {
   listed = f.listed;
 }
 
+-- the facts of a budget that there is
 abbrev budget_facts : (a : Periodic) → BudgetFacts a.cost a.period
 budget_facts a = record { costs = a.costs; within = a.within; listed = a.listed }
 
+-- the facts have one proof, so they cannot tell two budgets apart
 one_budget_proof : (cost period : ℕ) → IsProp (BudgetFacts cost period)
 one_budget_proof cost period = hlevel props
 
+-- budgets are compared by their numbers
 pub same_budget : (a b : Periodic) → a.cost ≡ b.cost → a.period ≡ b.period → a ≡ b
 same_budget a b cost period =
     let At : ℕ → ℕ → Type 0 = λ c p. (f : BudgetFacts c p) → a ≡ budget_with c p f in
@@ -40,11 +45,13 @@ same_budget a b cost period =
 
 -- ---- reservations
 
+-- what a reservation keeps of its numbers
 record ReservationFacts (share_ppm latency_ns : ℕ) : Type 0 where
   pub shares : 1 ≤ share_ppm
   pub whole : share_ppm ≤ WHOLE_PPM
   pub bounded : latency_ns ≤ MAX_LATENCY_NS
 
+-- a reservation made of its numbers
 abbrev reservation_with : (share_ppm latency_ns : ℕ) → ReservationFacts share_ppm latency_ns → Reservation
 reservation_with share_ppm latency_ns f = record {
   share_ppm = share_ppm;
@@ -54,12 +61,15 @@ reservation_with share_ppm latency_ns f = record {
   bounded = f.bounded;
 }
 
+-- the facts of a reservation that there is
 abbrev reservation_facts : (a : Reservation) → ReservationFacts a.share_ppm a.latency_ns
 reservation_facts a = record { shares = a.shares; whole = a.whole; bounded = a.bounded }
 
+-- they too have one proof
 one_reservation_proof : (share_ppm latency_ns : ℕ) → IsProp (ReservationFacts share_ppm latency_ns)
 one_reservation_proof share_ppm latency_ns = hlevel props
 
+-- reservations are compared by their numbers
 pub same_reservation : (a b : Reservation) → a.share_ppm ≡ b.share_ppm → a.latency_ns ≡ b.latency_ns
     → a ≡ b
 same_reservation a b share latency =
@@ -71,9 +81,11 @@ same_reservation a b share latency =
 
 -- ---- vCPUs
 
+-- a vCPU made of its parts, which keeps no fact of its own
 abbrev vcpu_with : List ℕ → Option Reservation → Bool → Vcpu
 vcpu_with name reservation runnable = record { name = name; reservation = reservation; runnable = runnable }
 
+-- vCPUs are compared by their parts
 pub same_vcpu : (a b : Vcpu) → a.name ≡ b.name → a.reservation ≡ b.reservation → a.runnable ≡ b.runnable
     → a ≡ b
 same_vcpu a b name reservation runnable =
@@ -83,6 +95,7 @@ same_vcpu a b name reservation runnable =
 
 -- ---- hosts
 
+-- what a host keeps of its numbers
 record HostFacts (cores lag sliver quantum : ℕ) : Type 0 where
   pub some_core : 1 ≤ cores
   pub few_cores : cores ≤ MAX_CORES
@@ -92,6 +105,7 @@ record HostFacts (cores lag sliver quantum : ℕ) : Type 0 where
   pub some_quantum : 1 ≤ quantum
   pub quantum_in_round : quantum ≤ ROUND
 
+-- a host made of its numbers and vCPUs
 abbrev host_with : (cores lag sliver quantum : ℕ) (vcpus : List Vcpu)
     → HostFacts cores lag sliver quantum → Host
 host_with cores lag sliver quantum vcpus f = record {
@@ -109,6 +123,7 @@ host_with cores lag sliver quantum vcpus f = record {
   quantum_in_round = f.quantum_in_round;
 }
 
+-- the facts of a host that there is
 abbrev host_facts : (host : Host) → HostFacts host.cores host.lag host.sliver host.quantum
 host_facts host = record {
   some_core = host.some_core;
@@ -120,9 +135,11 @@ host_facts host = record {
   quantum_in_round = host.quantum_in_round;
 }
 
+-- and these have one proof
 one_host_proof : (cores lag sliver quantum : ℕ) → IsProp (HostFacts cores lag sliver quantum)
 one_host_proof cores lag sliver quantum = hlevel props
 
+-- hosts are compared by their numbers and vCPUs
 pub same_host : (a b : Host) → a.cores ≡ b.cores → a.lag ≡ b.lag → a.sliver ≡ b.sliver
     → a.quantum ≡ b.quantum → a.vcpus ≡ b.vcpus → a ≡ b
 same_host a b cores lag sliver quantum vcpus =

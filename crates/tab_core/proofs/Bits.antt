@@ -9,6 +9,7 @@ use Rattle.std.proofs.lemmas.Nat.Bits.{bit_at-zero, bit_at-lt, same_from_bits_be
 use Rattle.std.specs.Int.{bit_at, bit_not}
 use Rattle.tab_core.specs.VcpuSets.{has_bit, bits_below, members_of}
 
+-- the truth values are as many as were asked for, so a set has 256
 pub length-bits_below : (words : List ℕ) (n : ℕ) → length (bits_below words n) ≡ n
 unfolding bits_below
 length-bits_below words zero = refl
@@ -36,9 +37,11 @@ members_by_bits words set size each =
     let low : k < 256 = omega (arith, lt, all) in
     bits_below-at words 256 k d low ∙ sym (each k d low))
 
+-- the words of an empty set have no bit
 no_bit : (k : ℕ) → k < 256 → has_bit (0 ∷ 0 ∷ 0 ∷ 0 ∷ []) k ≡ false
 no_bit k lt = grind (arith, common_steps, nat_tests, bit_at-zero (k % 64))
 
+-- so nobody is in it
 pub empty_members : members_of (0 ∷ 0 ∷ 0 ∷ 0 ∷ []) ≡ replicate 256 false
 empty_members = members_by_bits _ _ (length-replicate 256 false)
     (λ k d lt. get_or-replicate 256 k false d lt ∙ sym (no_bit k lt))
@@ -74,6 +77,7 @@ bit_after words v word value four lt here others k d low =
           ]
     ]
 
+-- a word that differs in one bit changes one truth value
 members_set : (words : List ℕ) (v word : ℕ) (value : Bool) → length words ≡ 4 → v < 256
     → eqb (bit_at word (v % 64)) 1 ≡ value
     → ((i : ℕ) → i < 64 → i ≢ v % 64 → bit_at word i ≡ bit_at (get_or words (v / 64) 0) i)
@@ -82,6 +86,7 @@ members_set words v word value four lt here others =
     members_by_bits _ _ (length-set (members_of words) v value ∙ length-bits_below words 256)
     (bit_after words v word value four lt here others)
 
+-- as the word with a bit more, for `put`
 pub members_put : (words : List ℕ) (v : ℕ) → length words ≡ 4 → v < 256
     → members_of (set words (v / 64) (bit_or (get_or words (v / 64) 0) (1 * 2 ^ (v % 64) % 2 ^ 64)))
     ≡ set (members_of words) v true
@@ -91,6 +96,7 @@ members_put words v four lt =
     (λ i low other. bit_at_set_other w64 (get_or words (v / 64) 0) (v % 64)
     (omega arith) i other)
 
+-- and the word with a bit less, for `take`
 pub members_take : (words : List ℕ) (v : ℕ) → length words ≡ 4 → v < 256
     → members_of
     (set words (v / 64) (bit_and (get_or words (v / 64) 0)
@@ -101,6 +107,7 @@ members_take words v four lt =
     (λ i low other. bit_at_clear_other w64 (get_or words (v / 64) 0) (v % 64)
     (omega arith) i low other)
 
+-- a bit is 0 or 1, so its truth value tells it
 same_bit : (a b v : ℕ) → eqb (bit_at a v) 1 ≡ eqb (bit_at b v) 1 → bit_at a v ≡ bit_at b v
 same_bit a b v same = let lt_a = bit_at-lt a v in let lt_b = bit_at-lt b v in grind (arith, nat_tests)
 

@@ -9,11 +9,13 @@ use Rattle.tab_core.specs.declared.edit.Edit.TheVariants.{Set, Leave}
 use Rattle.tab_core.specs.declared.reservation.Reservation.{Reservation}
 use Rattle.tab_core.specs.declared.vcpu.Vcpu.{Vcpu}
 
+-- a place of a list of names that has a name has a vCPU
 named_in : (o : Option Vcpu) (name : List ℕ) → option_map (λ vcpu. vcpu.name) o ≡ Some name
     → (a : Vcpu) × (o ≡ Some a) × (a.name ≡ name)
 named_in None name e = absurd (grind (arith, e))
 named_in (Some a) name e = (a, refl, grind (arith, e))
 
+-- lists of the same names have at one place vCPUs of one name
 named_at : (vcpus others : List Vcpu) (k : ℕ) (a : Vcpu)
     → map (λ vcpu. vcpu.name) vcpus ≡ map (λ vcpu. vcpu.name) others
     → slice_get vcpus k ≡ Some a → (b : Vcpu) × (slice_get others k ≡ Some b) × (b.name ≡ a.name)
@@ -32,6 +34,7 @@ distinct_names vcpus others same distinct = λ j k a b at_j at_k e.
     let second = named_at vcpus others k b same at_k in
     distinct j k first.0 second.0 first.1 second.1 (first.2 ∙ e ∙ sym second.2)
 
+-- the loop over the edits makes one edit behind those before it
 edited-append : (rs : List (Option Reservation)) (edits : List Edit) (edit : Edit)
     → edited rs (edits ++ edit ∷ []) ≡ edited_once (edited rs edits) edit
 edited-append rs [] edit = refl

@@ -31,6 +31,7 @@ pub record PeriodFacts (period : ℕ) : Type 0 where
   pub at_most : period ≤ 102600
   pub whole : period * (102600 / period) ≡ 102600
 
+-- the test that is computed over the table, read as facts on numbers
 facts_from_test : (t : ℕ) → divides_round t ≡ true → PeriodFacts t
 unfolding divides_round
 facts_from_test t h = record {
@@ -39,6 +40,7 @@ facts_from_test t h = record {
   whole = grind (arith, nat_tests);
 }
 
+-- each crate needs of a period that it is no shorter than 100 ticks, no longer than a round, and divides it
 pub period_facts : (period : ℕ) → IsTrue (is_period period) → PeriodFacts period
 unfolding is_period
 period_facts t h = facts_from_test t (passed_by_listed divides_round t PERIODS table_passes (grind arith))
@@ -52,6 +54,7 @@ below_pass p (suc n) = p n && below_pass p n
 quotient_listed : ℕ → Bool
 quotient_listed k = not (divides_round (102600 / k)) || is_period (102600 / k)
 
+-- that the table has all divisors is computed over the quotients below 1027
 quotients_listed : below_pass quotient_listed 1027 ≡ true
 unfolding below_pass quotient_listed is_period divides_round
 quotients_listed = refl
@@ -61,16 +64,19 @@ rises : List ℕ → Bool
 rises [] = true
 rises (x ∷ xs) = list_all (λ y. leb x y) xs && rises xs
 
+-- and that it rises, over its entries
 table_rises : rises PERIODS ≡ true
 unfolding rises
 table_rises = refl
 
+-- in a rising list the first entry is at most each later one
 first_is_least : (x : ℕ) (xs : List ℕ) (k : ℕ) → list_all (λ y. leb x y) xs ≡ true → k < length xs
     → x ≤ get_or xs k 0
 first_is_least x [] k h lt = grind arith
 first_is_least x (y ∷ ys) zero h lt = grind (arith, nat_tests, common_steps)
 first_is_least x (y ∷ ys) (suc k) h lt = grind (arith, nat_tests, common_steps, first_is_least x ys k)
 
+-- so is each entry, by induction over its place
 rises_at : (xs : List ℕ) (j k : ℕ) → rises xs ≡ true → j ≤ k → k < length xs → get_or xs j 0 ≤ get_or xs k 0
 unfolding rises
 rises_at [] j k h le lt = grind arith
@@ -88,9 +94,11 @@ pub period_at : (k : ℕ) → k < 65 → IsTrue (is_period (get_or PERIODS k 0))
 unfolding is_period
 period_at k lt = list_any_at (λ x. eqb x (get_or PERIODS k 0)) PERIODS k 0 lt (grind (arith, nat_tests))
 
+-- a list with an entry has a first place
 lit_positive : (n : ℕ) → 0 < suc n
 lit_positive n = omega arith
 
+-- what a search through a list finds has a place there
 place_in : (t : ℕ) (xs : List ℕ) → list_any (λ x. eqb x t) xs ≡ true
     → (k : ℕ) × (k < length xs) × (get_or xs k 0 ≡ t)
 place_in t [] h = absurd (grind arith)
@@ -107,5 +115,6 @@ pub place_of_period : (t : ℕ) → IsTrue (is_period t) → (k : ℕ) × (k < 6
 unfolding is_period
 place_of_period t h = place_in t PERIODS h
 
+-- the first of the facts alone, for the tactics
 pub period_at_least : (period : ℕ) → IsTrue (is_period period) → 100 ≤ period
 period_at_least t h = (period_facts t h).at_least

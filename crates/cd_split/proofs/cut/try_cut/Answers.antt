@@ -1,7 +1,7 @@
-use Rattle.std.proofs.Common.{◌≡◌, arith, subst, inl, inr}
+use Rattle.std.proofs.Common.{arith, subst, inl, inr}
 use Rattle.std.proofs.lemmas.Bool.{cases_lt}
 use Rattle.std.proofs.lemmas.Option.{MatchOption-at_some}
-use Rattle.table_form.specs.Planning.Jobs.{Subtask, jobs_of, subtask_of}
+use Rattle.table_form.specs.Planning.Jobs.{jobs_of, subtask_of}
 use Rattle.cd_split.specs.Cores.{pieces_on}
 use Rattle.cd_split.specs.Inside.Search.{left_of}
 use Rattle.cd_split.specs.Splitting.{FitsWith, IsOverloadWith, cut_of}

@@ -1,5 +1,5 @@
 use Rattle.std.proofs.Common.{arith}
-use Rattle.cd_split.proofs.Orders.{order_from_sort}
+use Rattle.cd_split.proofs.OrderLemmas.{order_from_sort}
 use Rattle.cd_split.proofs.order.order_of.Goals as goal
 
 pub returns : goal.returns

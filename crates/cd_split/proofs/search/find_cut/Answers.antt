@@ -5,7 +5,7 @@ use Rattle.cd_split.specs.Inside.Search.{IsTooMuch, left_of}
 use Rattle.cd_split.specs.Splitting.{IsFirstCore, IsGreatestCut, TakesCut, cut_of}
 use Rattle.cd_split.specs.declared.cut.TheConstants.{LEAST_CUT}
 use Rattle.cd_split.specs.declared.order.CoreLoad.{CoreLoad}
-use Rattle.cd_split.proofs.Orders.{first_found, none_found, none_more}
+use Rattle.cd_split.proofs.OrderLemmas.{first_found, none_found, none_more}
 use Rattle.cd_split.proofs.search.find_cut.Goals as goal
 use Rattle.cd_split.proofs.search.find_cut.Goals.{then-is_unused+in_ok-cost+in_default, else-is_unused}
 

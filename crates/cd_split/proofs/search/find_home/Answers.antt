@@ -2,7 +2,7 @@ use Rattle.std.proofs.Common.{sym, ap, subst, arith}
 use Rattle.cd_split.specs.Inside.Search.{left_of}
 use Rattle.cd_split.specs.Splitting.{IsFirstCore, TakesRest}
 use Rattle.cd_split.specs.declared.order.CoreLoad.{CoreLoad}
-use Rattle.cd_split.proofs.Orders.{first_found, none_found}
+use Rattle.cd_split.proofs.OrderLemmas.{first_found, none_found}
 use Rattle.cd_split.proofs.search.find_home.Goals as goal
 
 pub returns-then-branch : goal.returns-then-branch

@@ -9,8 +9,8 @@ use Rattle.std.proofs.lemmas.Option.{MatchOption-at_none, MatchOption-at_some}
 use Rattle.cd_split.specs.Inside.Search.{IsCutPiece, IsHomePiece, IsHomeless, IsUncut, left_of}
 use Rattle.cd_split.specs.Splitting.{IsOverloadWith, IsSplit, Left, Refuses, Splits, all_of, behind, core_numbers, rest_of, without}
 use Rattle.tab_core.proofs.Lists.{numbers_below}
-use Rattle.cd_split.proofs.Shares.{splits_apart, splits_cost, splits_fit, splits_follow, splits_of}
-use Rattle.cd_split.proofs.Steps.{refuses_after_cut, refuses_here, splits_after_cut, splits_at_home}
+use Rattle.cd_split.proofs.SharesLemmas.{splits_apart, splits_cost, splits_fit, splits_follow, splits_of}
+use Rattle.cd_split.proofs.SearchLemmas.{refuses_after_cut, refuses_here, splits_after_cut, splits_at_home}
 use Rattle.cd_split.proofs.Unique.{one_split, split_or_refused}
 use Rattle.cd_split.proofs.splitting.split.Goals as goal
 

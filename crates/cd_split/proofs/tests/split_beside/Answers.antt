@@ -5,13 +5,13 @@ use Rattle.tab_core.specs.declared.piece.Piece.{Piece}
 use Rattle.tab_core.proofs.Periods.{period_facts}
 use Rattle.table_form.specs.Planning.Demand.{Fits}
 use Rattle.table_form.specs.Planning.Jobs.{jobs_of}
-use Rattle.edf_table.specs.Load.{IsWhole}
-use Rattle.edf_table.proofs.Whole.{whole_fits}
+use Rattle.edf_table.specs.Load.{IsUnsplit}
+use Rattle.edf_table.proofs.LoadLemmas.{unsplit_fits}
 use Rattle.cd_split.specs.Cores.{pieces_on}
 use Rattle.cd_split.proofs.tests.split_beside.Goals as goal
 
 -- a whole vCPU has room on an empty core
-whole_alone : (p : Piece) → IsWhole p → Fits (jobs_of (p ∷ []))
+whole_alone : (p : Piece) → IsUnsplit p → Fits (jobs_of (p ∷ []))
 whole_alone p whole =
     let facts = period_facts p.period p.listed in
     let window = p.fits_window in
@@ -19,7 +19,7 @@ whole_alone p whole =
     let few : p.cost ≤ p.period = omega arith in
     let all = mul-le-mul_left {m = p.cost} {n = p.period} (ROUND / p.period) few in
     let round = facts.whole in
-    whole_fits (p ∷ []) (whole, tt) (omega arith)
+    unsplit_fits (p ∷ []) (whole, tt) (omega arith)
 
 pub add-requires-clause-room : goal.add-requires-clause-room
 add-requires-clause-room c =

@@ -1,7 +1,7 @@
 use Rattle.std.proofs.Common.{◌≡◌, arith, subst}
 use Rattle.tab_core.specs.declared.TheConstants.{MAX_VCPUS, ROUND}
 use Rattle.table_form.specs.Planning.Jobs.{jobs_of}
-use Rattle.edf_table.specs.Progress.{IsCounted, MetBefore}
+use Rattle.edf_table.specs.Inside.Progress.{IsCounted, MetBefore}
 use Rattle.edf_table.proofs.Few.{few_pieces}
 use Rattle.edf_table.proofs.Misses.{all_met_fits, first_end}
 use Rattle.edf_table.proofs.Steps.{counted_start, met_more_any}

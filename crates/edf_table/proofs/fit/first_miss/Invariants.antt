@@ -1,7 +1,7 @@
 use Rattle.std.proofs.Common.{◌≤◌, ◌-◌}
 use Rattle.tab_core.specs.declared.TheConstants.{ROUND}
 use Rattle.table_form.specs.Planning.Jobs.{jobs_of}
-use Rattle.edf_table.specs.Progress.{IsCounted, MetBefore}
+use Rattle.edf_table.specs.Inside.Progress.{IsCounted, MetBefore}
 use Rattle.edf_table.proofs.fit.first_miss.Given as goal
 
 abbrev pub invariant-loop-tick : goal.invariant-loop-tick

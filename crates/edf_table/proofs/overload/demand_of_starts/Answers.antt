@@ -1,5 +1,5 @@
 use Rattle.std.proofs.Common.{sym, arith, ap}
-use Rattle.edf_table.specs.Progress.{demand_from}
+use Rattle.edf_table.specs.Inside.Progress.{demand_from}
 use Rattle.edf_table.proofs.Starts.{demand_from_nothing, demand_from_more}
 use Rattle.tab_core.specs.declared.piece.Piece.{Piece}
 use Rattle.tab_core.specs.declared.TheConstants.{ROUND}

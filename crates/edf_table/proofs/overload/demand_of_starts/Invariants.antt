@@ -1,6 +1,6 @@
 use Rattle.std.proofs.Common.{◌≡◌, ◌≤◌, ◌*◌, ◌^◌, take}
 use Rattle.table_form.specs.Planning.Jobs.{jobs_of}
-use Rattle.edf_table.specs.Progress.{demand_from}
+use Rattle.edf_table.specs.Inside.Progress.{demand_from}
 use Rattle.edf_table.proofs.overload.demand_of_starts.Given as goal
 
 abbrev pub invariant-loop-piece : goal.invariant-loop-piece

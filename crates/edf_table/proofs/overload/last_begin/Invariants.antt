@@ -1,5 +1,5 @@
 use Rattle.std.proofs.Common.{◌<◌}
-use Rattle.edf_table.specs.Progress.{NoBegin}
+use Rattle.edf_table.specs.Inside.Progress.{NoBegin}
 use Rattle.edf_table.proofs.overload.last_begin.Given as goal
 
 abbrev pub invariant-loop-i : goal.invariant-loop-i

@@ -4,7 +4,7 @@ use Rattle.tab_core.specs.declared.TheConstants.{MAX_VCPUS, ROUND}
 use Rattle.table_form.specs.Planning.EdfRow.{edf_cells, owner_of}
 use Rattle.table_form.specs.Planning.Jobs.{jobs_of}
 use Rattle.table_form.specs.Tables.Serves.{cells_within}
-use Rattle.edf_table.specs.Progress.{GoesTo, IsCounted, MetBefore}
+use Rattle.edf_table.specs.Inside.Progress.{GoesTo, IsCounted, MetBefore}
 use Rattle.edf_table.proofs.Calm.{row_along}
 use Rattle.edf_table.proofs.Few.{few_pieces}
 use Rattle.edf_table.proofs.Inside.{row_in_windows, length-edf_row}

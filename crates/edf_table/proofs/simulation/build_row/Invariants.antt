@@ -2,7 +2,7 @@ use Rattle.std.proofs.Common.{◌≡◌, ◌≤◌, ◌-◌, map}
 use Rattle.tab_core.specs.declared.TheConstants.{ROUND}
 use Rattle.table_form.specs.Planning.EdfRow.{edf_cells, owner_of}
 use Rattle.table_form.specs.Planning.Jobs.{jobs_of}
-use Rattle.edf_table.specs.Progress.{IsCounted, MetBefore}
+use Rattle.edf_table.specs.Inside.Progress.{IsCounted, MetBefore}
 use Rattle.edf_table.proofs.simulation.build_row.Given as goal
 
 abbrev pub invariant-loop-tick : goal.invariant-loop-tick

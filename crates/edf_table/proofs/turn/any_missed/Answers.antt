@@ -1,7 +1,7 @@
 use Rattle.std.proofs.Common.{refl, subst, arith, get_or}
 use Rattle.std.proofs.lemmas.List.{get_or_read}
 use Rattle.tab_core.specs.declared.piece.Piece.{Piece}
-use Rattle.edf_table.specs.Progress.{IsMissedAt}
+use Rattle.edf_table.specs.Inside.Progress.{IsMissedAt}
 use Rattle.edf_table.proofs.turn.any_missed.Goals as goal
 
 pub returns-then-has_missed-clause-missed : goal.returns-then-has_missed-clause-missed

@@ -1,4 +1,4 @@
-use Rattle.edf_table.specs.Progress.{ServedBelow}
+use Rattle.edf_table.specs.Inside.Progress.{ServedBelow}
 use Rattle.edf_table.proofs.turn.any_missed.Given as goal
 
 abbrev pub invariant-loop-i : goal.invariant-loop-i

@@ -1,4 +1,4 @@
-use Rattle.edf_table.specs.Progress.{IsUrgentBelow}
+use Rattle.edf_table.specs.Inside.Progress.{IsUrgentBelow}
 use Rattle.edf_table.proofs.turn.most_urgent.Given as goal
 
 abbrev pub invariant-loop-i : goal.invariant-loop-i

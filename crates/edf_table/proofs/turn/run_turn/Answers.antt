@@ -2,7 +2,7 @@ use Rattle.std.proofs.Common.{◌≡◌, ℕ, ◌+◌, ◌-◌, ◌*◌, ◌<◌
 use Rattle.std.proofs.lemmas.List.{get_or_read}
 use Rattle.tab_core.specs.declared.piece.Piece.{Piece}
 use Rattle.table_form.specs.Planning.Jobs.{jobs_of}
-use Rattle.edf_table.specs.Progress.{IsCounted, MetBefore, window_no}
+use Rattle.edf_table.specs.Inside.Progress.{IsCounted, MetBefore, window_no}
 use Rattle.edf_table.proofs.Calm.{BeforeTurn, LacksMore, idle_along, idle_goes, run_along, run_goes}
 use Rattle.edf_table.proofs.turn.run_turn.Goals as goal
 

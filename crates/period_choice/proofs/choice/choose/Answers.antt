@@ -2,7 +2,7 @@ use Rattle.std.proofs.Common.{◌≡◌, Option, Some, None, IfSome, arith}
 use Rattle.tab_core.specs.declared.periodic.Periodic.{Periodic}
 use Rattle.tab_core.specs.declared.reservation.Reservation.{Reservation}
 use Rattle.period_choice.specs.Choice.{IsChosen}
-use Rattle.period_choice.proofs.Best.{best_more, chosen_at_end, none_at_end}
+use Rattle.period_choice.proofs.ChoiceLemmas.{best_more, chosen_at_end, none_at_end}
 use Rattle.period_choice.proofs.Unique.{chosen_unique}
 use Rattle.tab_core.proofs.Periods.{period_at}
 use Rattle.period_choice.proofs.choice.choose.Goals as goal

@@ -1,4 +1,4 @@
-use Rattle.period_choice.proofs.Best.{IsBestSoFar}
+use Rattle.period_choice.proofs.ChoiceLemmas.{IsBestSoFar}
 use Rattle.period_choice.proofs.choice.choose.Given as goal
 
 abbrev pub invariant-loop-period : goal.invariant-loop-period

@@ -3,7 +3,8 @@ use Rattle.std.proofs.lemmas.Option.{slice_get_read}
 use Rattle.std.specs.Prelude.{slice_get}
 use Rattle.tab_core.specs.declared.vcpu.Vcpu.{Vcpu}
 use Rattle.period_choice.specs.Tasks.{IsFirstWithoutPeriod}
-use Rattle.period_choice.proofs.Listed.{AreTasksSoFar, no_tasks, task_more, first_without, length_more}
+use Rattle.std.proofs.lemmas.List.{length_push}
+use Rattle.period_choice.proofs.TasksLemmas.{AreTasksSoFar, no_tasks, task_more, first_without}
 use Rattle.period_choice.proofs.Unique.{tasks_unique}
 use Rattle.period_choice.proofs.tasks.tasks_of.Goals as goal
 
@@ -42,7 +43,7 @@ loop-number-preserved c =
     let at = slice_get_read vcpus _ c.loop-number.number _ refl c.loop-number-test.true
     c.index-vcpus-number.is in
     let pushed = c.in_ok-push.ensures.items in
-    let longer = length_more tasks c.in_ok-task_of.field-0 in
+    let longer = length_push tasks c.in_ok-task_of.field-0 in
     record {
       as_many = ap length pushed ∙ longer ∙ ap (λ n. n + 1) before.as_many;
       each = rw pushed

@@ -1,5 +1,5 @@
 use Rattle.std.proofs.Common.{◌≡◌, length}
-use Rattle.period_choice.proofs.Listed.{AreTasksSoFar}
+use Rattle.period_choice.proofs.TasksLemmas.{AreTasksSoFar}
 use Rattle.period_choice.proofs.tasks.tasks_of.Given as goal
 
 abbrev pub invariant-loop-number : goal.invariant-loop-number

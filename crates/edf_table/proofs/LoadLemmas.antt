@@ -9,18 +9,21 @@ use Rattle.tab_core.specs.declared.piece.Piece.{Piece}
 use Rattle.tab_core.proofs.Periods.{period_facts}
 use Rattle.table_form.specs.Planning.Jobs.{Job, Subtask, job_of, subtask_of, first_jobs, jobs_of}
 use Rattle.table_form.specs.Planning.Demand.{demand_in, is_inside, Fits}
-use Rattle.edf_table.specs.Load.{AllWhole, IsWhole, load}
+use Rattle.edf_table.specs.Load.{AreUnsplit, IsUnsplit, load}
 use Rattle.edf_table.proofs.Pieces.{first_jobs-suc, first_jobs-zero, jobs_of-cons, jobs_of-nil}
 
+-- the demand of two lists of jobs is a sum
 pub demand_in-append : (xs ys : List Job) (s e : ℕ)
     → demand_in (xs ++ ys) s e ≡ demand_in xs s e + demand_in ys s e
 unfolding demand_in
 demand_in-append xs ys s e = sum_by-append (λ j. cond (is_inside s e j) j.cost 0) xs ys
 
+-- that of one job is its cost or nothing
 pub demand_in-one : (j : Job) (s e : ℕ) → demand_in (j ∷ []) s e ≡ cond (is_inside s e j) j.cost 0
 unfolding demand_in
 demand_in-one j s e = zero-add (cond (is_inside s e j) j.cost 0)
 
+-- that of none is nothing
 pub demand_in-none : (s e : ℕ) → demand_in [] s e ≡ 0
 unfolding demand_in
 demand_in-none s e = refl
@@ -59,7 +62,7 @@ whole_room s (suc n) start end from to =
     ])
 
 -- what one piece asks for, against its part of a round
-piece_room : (p : Piece) (start end : ℕ) → IsWhole p → end ≤ ROUND →
+piece_room : (p : Piece) (start end : ℕ) → IsUnsplit p → end ≤ ROUND →
     demand_in (first_jobs (subtask_of p) (ROUND / p.period)) start end * ROUND ≤ (end - start)
     * (p.cost * (ROUND / p.period))
 piece_room p start end whole within =
@@ -81,7 +84,8 @@ piece_room p start end whole within =
     regroup : (a b c : ℕ) → a * (b * c) ≡ b * (c * a)
     regroup a b c = omega arith
 
-all_room : (ps : List Piece) (start end : ℕ) → AllWhole ps → end ≤ ROUND
+-- so all pieces ask for no more than their part of the interval
+all_room : (ps : List Piece) (start end : ℕ) → AreUnsplit ps → end ≤ ROUND
     → demand_in (jobs_of ps) start end * ROUND ≤ (end - start) * load ps
 all_room [] start end whole within = rw jobs_of-nil (rw (demand_in-none start end) (omega arith))
 all_room (p ∷ ps) start end whole within =
@@ -103,27 +107,30 @@ all_room (p ∷ ps) start end whole within =
     sum_bound a b x c d h g = omega arith
 
 -- pieces of whole periods fit where they take no more than a round
-pub whole_fits : (ps : List Piece) → AllWhole ps → load ps ≤ ROUND → Fits (jobs_of ps)
-whole_fits ps whole light start end lt within =
+pub unsplit_fits : (ps : List Piece) → AreUnsplit ps → load ps ≤ ROUND → Fits (jobs_of ps)
+unsplit_fits ps whole light start end lt within =
     let room : demand_in (jobs_of ps) start end * ROUND ≤ (end - start) * load ps =
     all_room ps start end whole within in
     let more = mul-le-mul_left {m = load ps} {n = ROUND} (end - start) light in
     omega arith
 
 -- one piece more
-all_whole_push : (ps : List Piece) (p : Piece) → AllWhole ps → IsWhole p → AllWhole (ps ++ p ∷ [])
-all_whole_push [] p all whole = (whole, tt)
-all_whole_push (q ∷ ps) p all whole = (all.0, all_whole_push ps p all.1 whole)
+all_unsplit_push : (ps : List Piece) (p : Piece) → AreUnsplit ps → IsUnsplit p → AreUnsplit (ps ++ p ∷ [])
+all_unsplit_push [] p all whole = (whole, tt)
+all_unsplit_push (q ∷ ps) p all whole = (all.0, all_unsplit_push ps p all.1 whole)
 
+-- the load grows by the piece's
 load_push : (ps : List Piece) (p : Piece) → load (ps ++ p ∷ []) ≡ load ps + p.cost * (ROUND / p.period)
 load_push [] p = omega arith
 load_push (q ∷ ps) p = omega (arith, load_push ps p)
 
-pub all_whole_more : (ps : List Piece) (i : ℕ) (d : Piece) → i < length ps → AllWhole (take i ps)
-    → IsWhole (get_or ps i d) → AllWhole (take (i + 1) ps)
-all_whole_more ps i d lt all whole =
-    rw (take_more ps i d lt) (all_whole_push (take i ps) (get_or ps i d) all whole)
+-- the loop over the pieces looks at one more
+pub all_unsplit_more : (ps : List Piece) (i : ℕ) (d : Piece) → i < length ps → AreUnsplit (take i ps)
+    → IsUnsplit (get_or ps i d) → AreUnsplit (take (i + 1) ps)
+all_unsplit_more ps i d lt all whole =
+    rw (take_more ps i d lt) (all_unsplit_push (take i ps) (get_or ps i d) all whole)
 
+-- and adds its load
 pub load_more : (ps : List Piece) (i : ℕ) (d : Piece) → i < length ps
     → load (take (i + 1) ps) ≡ load (take i ps) + (get_or ps i d).cost
     * (ROUND / (get_or ps i d).period)

@@ -23,6 +23,7 @@ pub record IsBestBelow (r : Reservation) (n : ℕ) (task : Periodic) : Type 0 wh
 abbrev pub NoneBelow : Reservation → ℕ → Type 0
 NoneBelow r n = (k : ℕ) → k < n → MeetsLatency r (get_or PERIODS k 0) → ⊥
 
+-- what the loop keeps: the best of the first n entries, or that there is none
 abbrev pub IsBestSoFar : Reservation → ℕ → Option Periodic → Type 0
 IsBestSoFar r n best = MatchOption best (NoneBelow r n) (λ task. IsBestBelow r n task)
 
@@ -40,6 +41,7 @@ chosen_from_best r task b = record {
       subst P at.2 (b.largest at.0 at.1) a.in_time e);
 }
 
+-- where no entry keeps the latency, no period does, since each has a place in the table
 pub none_from_below : (r : Reservation) → NoneBelow r 65 → ¬ (HasPeriod r)
 none_from_below r none has =
     let a = has.1 in
@@ -144,6 +146,7 @@ chosen_at_end r n (Some task) end h = chosen_from_best r task (record {
   largest = λ k lt w e. h.largest k (omega arith) w e;
 })
 
+-- and where nothing was kept there is no choice
 pub none_at_end : (r : Reservation) (n : ℕ) (best : Option Periodic) → 65 ≤ n → IsBestSoFar r n best
     → IfNone best (¬ (HasPeriod r))
 none_at_end r n None end h = none_from_below r (λ k lt w. h k (omega arith) w)

@@ -1,5 +1,5 @@
 -- What the pieces of a split keep, by induction over the definition.
-use Rattle.std.proofs.Common.{◌≡◌, ◌≢◌, ℕ, zero, suc, ◌+◌, ◌-◌, ◌<◌, ◌==◌, not, true, List, [], ◌∷◌, length, refl, ap, subst, sym, ◌∙◌, arith}
+use Rattle.std.proofs.Common.{◌≡◌, ◌≢◌, ℕ, zero, suc, ◌<◌, ◌==◌, not, true, List, [], ◌∷◌, length, refl, ap, subst, sym, ◌∙◌, arith}
 use Rattle.std.specs.List.{All, Contains, sum_by}
 use Rattle.std.proofs.lemmas.Bool.Decides.{nat_tests}
 use Rattle.std.proofs.lemmas.Option.{gets}
@@ -14,6 +14,7 @@ use Rattle.cd_split.specs.Splitting.{FitsWith, IsPieceOf, Left, Splits, behind, 
 use Rattle.cd_split.specs.Splitting.Splits.{AtHome, Cut}
 use Rattle.cd_split.proofs.Trials.{jobs_of-push}
 
+-- the unused cores behind a cut were unused before it
 pub still_unused : (core other : ℕ) (unused : List ℕ) → Contains (without core unused) other
     → Contains unused other
 still_unused core other unused there =
@@ -21,12 +22,14 @@ still_unused core other unused there =
     (All-filter (λ c. not (c == core)) (Contains unused) unused (All-contains_itself unused))
     there
 
+-- and the core of the cut is none of them, so no core is used twice
 not_without : (core other : ℕ) (unused : List ℕ) → Contains (without core unused) other → other ≢ core
 not_without core other unused there e =
     let passes = All-contains (λ c. not (c == core) ≡ true) (without core unused) other
     (filter_passes (λ c. not (c == core)) unused) there in
     grind (arith, nat_tests)
 
+-- what fits as a subtask beside the pieces fits as a piece among them, as `add` asks it
 pub room_for : (cores : List (List Piece)) (core : ℕ) (s : Subtask) (p : Piece) → IsPieceOf core s p
     → FitsWith (pieces_on cores core) s → HaveRoomFor (pieces_on cores p.core) p
 room_for cores core s p is fits =
@@ -82,11 +85,13 @@ splits_unused cores left unused pieces (Cut l u core cost piece ps cut is next) 
     (λ p there. still_unused core p.core u there) ps
     (splits_unused cores (behind l cost) (without core u) ps next))
 
+-- one piece stands apart
 apart_one : (piece : Piece) → StandApart (piece ∷ [])
 apart_one piece zero zero a b at at' same = refl
 apart_one piece zero (suc j) a b at at' same = absurd (cc)
 apart_one piece (suc i) j a b at at' same = absurd (cc)
 
+-- and a piece on a core of its own before pieces that do
 apart_cons : (piece : Piece) (ps : List Piece) → All (λ p. p.core ≢ piece.core) ps → StandApart ps
     → StandApart (piece ∷ ps)
 apart_cons piece ps others apart zero zero a b at at' same = refl

@@ -26,6 +26,7 @@ none_more order unused P k item none lt is here j d below =
       | inr ne ↦ none j d (omega arith)
     ]
 
+-- a search that came to the end of the order has tried each unused core
 pub none_found : (cores : List (List Piece)) (order : List CoreLoad) (unused : List ℕ) (P : ℕ → Type 0)
     (k : ℕ) → IsOrderOf cores order → All (λ core. core < length cores) unused →
     length order ≤ k → NoneBefore order unused P k → (core : ℕ) → Contains unused core → P core → ⊥
@@ -35,6 +36,7 @@ none_found cores order unused P k ordered there all none core in_unused holds =
     let same : core ≡ (get_or order at.0 d).core = sym (at.2 d) in
     none at.0 d (omega (arith, at.1)) (subst (Contains unused) same in_unused) (subst P same holds)
 
+-- a search that stops has found the first unused core, since the order rises
 pub first_found : (cores : List (List Piece)) (order : List CoreLoad) (unused : List ℕ) (P : ℕ → Type 0)
     (d : CoreLoad) (k core : ℕ) → IsOrderOf cores order →
     All (λ core. core < length cores) unused → k < length order → (get_or order k d).core ≡ core
@@ -63,6 +65,7 @@ first_found cores order unused P d k core ordered there lt is none in_unused hol
 abbrev IsBefore : CoreLoad → CoreLoad → Type 0
 IsBefore r s = (r.load < s.load) ⊎ ((r.load ≡ s.load) × (r.core ≤ s.core))
 
+-- what the sort says of two neighbours, as a fact on loads and numbers
 before_from_cmp : (a b m n : ℕ) → is_lt (ordering_then (nat_cmp a b) (nat_cmp m n)) ≡ false
     → (b < a) ⊎ ((b ≡ a) × (n ≤ m))
 before_from_cmp a b m n h = elim (cases_order a b) [
@@ -76,6 +79,7 @@ before_from_cmp a b m n h = elim (cases_order a b) [
   ]
 ]
 
+-- the order of the loads is transitive, ties included
 before_after : (r s t : CoreLoad) → IsBefore r s → IsBefore s t → IsBefore r t
 before_after r s t (inl a) (inl b) = inl (omega arith)
 before_after r s t (inl a) (inr b) = inl (omega (arith, b.0))
@@ -98,6 +102,7 @@ rises_all ranks d next j (suc n) lt =
     (subst (λ k. IsBefore (get_or ranks (j + suc n) d) (get_or ranks k d)) same
     (next (j + suc n) (omega arith)))
 
+-- it is the order of the rules, where the cores differ
 comes_first : (cores : List (List Piece)) (r s : CoreLoad) → IsCoreLoad cores r → IsCoreLoad cores s
     → IsBefore r s → r.core ≢ s.core → ComesFirst cores r.core s.core
 comes_first cores r s in_r in_s (inl less) ne = inl (omega (arith, in_r.value, in_s.value))

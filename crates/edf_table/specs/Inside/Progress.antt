@@ -1,4 +1,4 @@
--- What the simulation keeps from tick to tick: private to this crate, and in no public contract.
+-- What the simulation keeps from tick to tick, and the search for the overload from begin to begin.
 use Rattle.std.specs.List.{sum_by}
 use Rattle.std.specs.Prelude.{◌==◌, if◌then◌else◌, ◌≡◌, ℕ, ◌+◌, ◌-◌, ◌*◌, ◌/◌, ◌<◌, ◌≤◌, ◌&&◌, ◌⊎◌, Bool, true, nat_le, nat_lt, min, List, [], ◌∷◌, length, slice_index, slice_index_or, Option, MatchOption, false}
 use Rattle.tab_core.specs.declared.TheConstants.{ROUND}
