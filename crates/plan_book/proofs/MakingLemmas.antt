@@ -91,7 +91,8 @@ invariant_first host events so_far numbers runnable first one fits numbers_are r
 }
 
 -- a course asks that each plan is used at some count: the newest is at the newest
-used_next : (plans more : List Plan) (numbers : List ℕ) (n : ℕ) → length numbers ≡ n + 1 → KeepsPlans plans more →
+used_next : (plans more : List Plan) (numbers : List ℕ) (n : ℕ) → length numbers ≡ n + 1
+    → KeepsPlans plans more →
     ((k : ℕ) → k < length plans → (i : ℕ) × (i ≤ n) × (slice_get numbers i ≡ Some k)) →
     (k : ℕ) → k < length more → (i : ℕ) × (i ≤ n + 1)
     × (slice_get (numbers ++ (length more - 1) ∷ []) i ≡ Some k)

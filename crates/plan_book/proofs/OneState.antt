@@ -103,7 +103,8 @@ changed_unique known edits a b (inr of_a) (inl of_b) = absurd (taken_or_refused 
 changed_unique known edits a b (inr of_a) (inr of_b) = refused_unique known edits a b of_a of_b
 
 -- and each event does
-applied_unique : (known : BookState) (act : Act) (a b : BookState) → Applies known act a → Applies known act b → a ≡ b
+applied_unique : (known : BookState) (act : Act) (a b : BookState)
+    → Applies known act a → Applies known act b → a ≡ b
 applied_unique known (Wake vcpu) a b of_a of_b = of_a ∙ sym of_b
 applied_unique known (Block vcpu) a b of_a of_b = of_a ∙ sym of_b
 applied_unique known (Change edits) a b of_a of_b = changed_unique known edits a b of_a of_b

@@ -1,5 +1,5 @@
 -- What is known after the first n events is a host with its plan, for the same vCPUs.
-use Rattle.std.proofs.Common.{◌≡◌, inl, inr, ℕ, zero, suc, List, map, ap, refl, ◌∙◌}
+use Rattle.std.proofs.Common.{inl, inr, ℕ, zero, suc, List}
 use Rattle.tab_core.specs.declared.host.Host.{Host}
 use Rattle.plan_make.specs.Planned.{IsPlanned}
 use Rattle.script_doc.specs.declared.event.Act.{Act}

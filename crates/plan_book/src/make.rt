@@ -44,15 +44,17 @@ pub fn make_book<R: Threads + Sync>(
     ensures ok { IfOk result (IsBookOf host.now script.now) }
     ensures known { IfOk result (λ _. (n : ℕ) → n ≤ length script.now
         → (known : BookState) × IsKnownAfter host.now script.now n known) }
-    ensures only { IfOk result (λ _. (n : ℕ) (known other : BookState) → IsKnownAfter host.now script.now n known
-        → IsKnownAfter host.now script.now n other → other ≡ known) }
+    ensures only { IfOk result (λ _. (n : ℕ) (known other : BookState)
+        → IsKnownAfter host.now script.now n known → IsKnownAfter host.now script.now n other
+        → other ≡ known) }
     ensures changes { IfOk result (λ book. length book.outcomes ≡ changes_in script.now) }
     ensures named { IfOk result (λ book. NameVcpusBelow (length host.now.vcpus) book.outcomes) }
-    ensures fits_host { IfOk result (λ _. (n : ℕ) (known : BookState) → IsKnownAfter host.now script.now n known
-        → IsPlanFor known.host known.plan) }
-    ensures planned_after { IfOk result (λ _. (n : ℕ) (known : BookState) → IsKnownAfter host.now script.now n known
-        → IsPlanned known.host known.plan) }
-    ensures chosen { IfOk result (λ book. (n : ℕ) (known : BookState) → IsKnownAfter host.now script.now n known
+    ensures fits_host { IfOk result (λ _. (n : ℕ) (known : BookState)
+        → IsKnownAfter host.now script.now n known → IsPlanFor known.host known.plan) }
+    ensures planned_after { IfOk result (λ _. (n : ℕ) (known : BookState)
+        → IsKnownAfter host.now script.now n known → IsPlanned known.host known.plan) }
+    ensures chosen { IfOk result (λ book. (n : ℕ) (known : BookState)
+        → IsKnownAfter host.now script.now n known
         → AreTasksOf known.host.vcpus (plan_after book.course n).tasks) }
     ensures vcpus { IfOk result (λ book. (n : ℕ) → n ≤ length script.now
         → length (plan_after book.course n).tasks ≡ length host.now.vcpus) }

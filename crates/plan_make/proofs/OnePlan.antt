@@ -230,16 +230,19 @@ pub record AreAlike (host : Host) (a b : PlanView) (cores : List (List Piece)) :
 pub planned_alike : (host : Host) (a b : PlanView) (of_a : IsPlanned host a) (of_b : IsPlanned host b)
     → AreAlike host a b of_b.cores
 planned_alike host a b of_a of_b =
-    let same = one_start host a.tasks b.tasks of_a.layout.placed of_b.layout.placed of_a.layout.start of_b.layout.start
+    let same = one_start host a.tasks b.tasks of_a.layout.placed of_b.layout.placed
+    of_a.layout.start of_b.layout.start
     of_a.layout.is_start of_b.layout.is_start in
     let moved =
     subst (λ cs. SplitsEach b.tasks cs of_b.layout.placed.core_of of_b.layout.placed.left of_a.cores
     a.homes) same.start_same
     (subst (λ (p : Placed). SplitsEach b.tasks of_a.layout.start p.core_of p.left of_a.cores a.homes)
     same.placed_same
-    (subst (λ ts. SplitsEach ts of_a.layout.start of_a.layout.placed.core_of of_a.layout.placed.left of_a.cores a.homes)
+    (subst (λ ts. SplitsEach ts of_a.layout.start of_a.layout.placed.core_of
+    of_a.layout.placed.left of_a.cores a.homes)
     same.tasks_same of_a.layout.split)) in
-    let ends = each_unique b.tasks of_b.layout.start of_b.layout.placed.core_of of_b.layout.placed.left of_a.cores
+    let ends = each_unique b.tasks of_b.layout.start of_b.layout.placed.core_of
+    of_b.layout.placed.left of_a.cores
     of_b.cores a.homes b.homes moved of_b.layout.split in
     record {
       tasks_same = same.tasks_same;

@@ -105,7 +105,8 @@ one_without_room host vcpu vcpu' rest rest' over over' a b =
     (sticks_of host vcpu rest over a))) in
     let left : a.stuck.before ++ vcpu ∷ a.stuck.after ≡ b.stuck.before ++ vcpu' ∷ b.stuck.after =
     sym a.stuck.left_is ∙ ap (λ (p : Placed). p.left) same.placed_same ∙ b.stuck.left_is in
-    same_stuck b.tasks b.start b.placed.core_of a.stuck.before b.stuck.before vcpu vcpu' a.stuck.after b.stuck.after left
+    same_stuck b.tasks b.start b.placed.core_of a.stuck.before b.stuck.before vcpu vcpu'
+    a.stuck.after b.stuck.after left
     moved (sticks_of host vcpu' rest' over' b)
 
 -- a reservation has an admissible period or lacks one, not both

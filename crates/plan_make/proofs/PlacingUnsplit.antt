@@ -30,7 +30,8 @@ next_is_new n tasks homes count cores core stand there =
     (λ s w same. (let number = ap (λ (x : Subtask). x.vcpu) w.is in
     let within = slice_get_within (take n tasks) w.number (Some w.task) w.at in
     absurd (omega (arith, length-take n tasks))))
-    (unsplit_from core 0 (take n tasks) (take n homes)) (all_unsplit_on core 0 (take n tasks) (take n homes)) in
+    (unsplit_from core 0 (take n tasks) (take n homes))
+    (all_unsplit_on core 0 (take n tasks) (take n homes)) in
     All-from_map subtask_of P (pieces_on cores core) (subst (All P) (sym (stand.stand core there)) below)
 
 -- a core's pieces with that of the next vCPU
@@ -104,7 +105,8 @@ pub next_is_none : (n : ℕ) (tasks : List (Option Periodic)) (homes : List (Opt
 next_is_none n tasks homes count cores task home stand at at' none = record {
   size = stand.size;
   own = stand.own;
-  stand = λ core lt. stand.stand core lt ∙ sym (append-nil (unsplit_from core 0 (take n tasks) (take n homes)))
+  stand = λ core lt. stand.stand core lt
+      ∙ sym (append-nil (unsplit_from core 0 (take n tasks) (take n homes)))
       ∙ ap (λ ss. unsplit_from core 0 (take n tasks) (take n homes) ++ ss) (sym (none core))
       ∙ sym (unsplit_from-take_more core n tasks homes task home at at');
 }

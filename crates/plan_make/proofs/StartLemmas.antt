@@ -22,7 +22,8 @@ use Rattle.plan_make.proofs.SharesLemmas.{cost_on_none}
 use Rattle.plan_make.proofs.UnsplitLemmas.{All-from_map, IsUnsplitOn, all_unsplit_on}
 
 -- a piece on a core is all of a vCPU whose home is the core
-unsplit_on : (tasks : List (Option Periodic)) (homes : List (Option ℕ)) (count : ℕ) (cores : List (List Piece))
+unsplit_on : (tasks : List (Option Periodic)) (homes : List (Option ℕ)) (count : ℕ)
+    (cores : List (List Piece))
     → StandUnsplit tasks homes count cores → (core i : ℕ) (p : Piece) →
     slice_get (pieces_on cores core) i ≡ Some p → IsUnsplitOn core 0 tasks homes (subtask_of p)
 unsplit_on tasks homes count cores stand core i p at = elim (cases_lt core count) [

@@ -182,7 +182,8 @@ load_of_all_unsplit core first (t ∷ tasks) [] = sym (load_on-unplaced core (t 
 load_of_all_unsplit core first (t ∷ tasks) (h ∷ homes) =
     let rest = load_of_all_unsplit core (first + 1) tasks homes in
     let here = load_of_unsplit core first t h in
-    let sum = sum_by-append ticks_of (unsplit_at core first t h) (unsplit_from core (first + 1) tasks homes) in
+    let sum = sum_by-append ticks_of (unsplit_at core first t h)
+    (unsplit_from core (first + 1) tasks homes) in
     let all = load_on-cons core t tasks h homes in
     omega arith
 

@@ -1,7 +1,7 @@
 -- Where the vCPUs of a host stand: placed unsplit by worst fit, and then the left-over ones split.
 -- Source: the partitioning of M. Vanga, A. Gujarati, B. B. Brandenburg, "Tableau: a high-throughput
 -- and predictable VM scheduler for high-density workloads", EuroSys 2018.
-use Rattle.std.specs.Prelude.{◌≡◌, ℕ, List, Option}
+use Rattle.std.specs.Prelude.{ℕ, List, Option}
 use Rattle.tab_core.specs.declared.host.Host.{Host}
 use Rattle.tab_core.specs.declared.periodic.Periodic.{Periodic}
 use Rattle.tab_core.specs.declared.piece.Piece.{Piece}

@@ -25,7 +25,7 @@ use Rattle.period_choice.proofs.Unique.{tasks_unique}
 use Rattle.period_choice.specs.Tasks.{AreTasksOf, IsFirstWithoutPeriod}
 use Rattle.edf_table.proofs.Inside.{length-edf_row}
 use Rattle.coalesce.proofs.Lengths.{joined_length}
-use Rattle.plan_make.proofs.Members.{all_from_places}
+use Rattle.plan_make.proofs.ListMembers.{all_from_places}
 use Rattle.plan_make.specs.Planned.{IsPlanned}
 use Rattle.plan_text.proofs.OneMeaning.{one_meaning}
 use Rattle.vcpu_names.proofs.NamesLemmas.{name_here}
@@ -165,7 +165,7 @@ same_tasks section text p other tasks has =
     let same = one_host section other p.host has.is_host p.is_host in (
       same,
       tasks_unique p.host.vcpus tasks p.plan.tasks
-          (subst (λ (h : Host). AreTasksOf h.vcpus tasks) same has.are_tasks) p.planned.is_start.tasks_are,
+          (subst (λ (h : Host). AreTasksOf h.vcpus tasks) same has.are_tasks) p.planned.layout.is_start.tasks_are,
     )
 
 own_text : (section text : List ℕ) (p : WritesPlan section text) (back : IsReadBack p.host p.plan)
@@ -232,7 +232,7 @@ passes : (section text : List ℕ) (p : WritesPlan section text) (refusal : Stat
     → Checks (section ∷ text ∷ []) (Refuses refusal names) → ⊥
 passes section text p refusal names (Checks.BadHost fault is) = no_host_fault section fault p.host is p.is_host
 passes section text p refusal names (Checks.NoPeriod host vcpu is lacks) =
-    no_vcpu_lacks p.host.vcpus p.plan.tasks vcpu p.planned.is_start.tasks_are
+    no_vcpu_lacks p.host.vcpus p.plan.tasks vcpu p.planned.layout.is_start.tasks_are
     (subst (λ (h : Host). IsFirstWithoutPeriod h.vcpus vcpu) (one_host section host p.host is p.is_host) lacks)
 passes section text p refusal names (Checks.BadLine host tasks line tasked bad) =
     no_text _ 1 _ line bad (some_text section text p host tasks tasked)

@@ -13,12 +13,10 @@ use Rattle.script_doc.specs.Steps.{AreSteps, IsStepWithin, step_words}
 use Rattle.script_doc.specs.declared.event.Event.{Event}
 use Rattle.script_doc.specs.declared.step.Step.{Step}
 use Rattle.script_doc.specs.declared.step.Step.TheVariants as step
-use Rattle.plan_book.specs.After.{IsKnownAfter, BookState}
-use Rattle.plan_book.specs.Books.{BookView, IsBookOf}
+use Rattle.plan_book.specs.Courses.{IsCourseOf}
 use Rattle.step_machine.specs.Answers.{NamesCore}
 use Rattle.step_machine.specs.Refusals.{IsRefused}
 use Rattle.step_machine.specs.declared.answer.Answer.{Answer}
-use Rattle.tableau_sim.specs.Courses.{IsCourseOf}
 use Rattle.tableau_sim.specs.Outcomes.Outcome.{Refuses}
 use Rattle.tableau_sim.specs.Replay.{HasParts, Parts, Replays}
 use Rattle.tableau_sim.specs.declared.status.Status.TheVariants as status
@@ -83,18 +81,6 @@ pub each_names_core : (course : CourseView) (cores : ℕ) (all : List Step) → 
 each_names_core course cores all same within k taken at =
     names_core course cores taken same (subst (IsStepWithin cores) (get_or_from_slice_get all k taken taken at)
     (All-get_or (IsStepWithin cores) all k taken (slice_get_within all k taken at) within))
-
-pub course_of : (host : Host) (events : List Event) (made : BookView) → IsBookOf host events made
-    → ((n : ℕ) → n ≤ length events → (known : BookState) × IsKnownAfter host events n known)
-    → IsCourseOf host events made.course
-course_of host events made is known = record {
-  cores = is.cores;
-  lag = is.lag;
-  quantum = is.quantum;
-  ticks = is.ticks;
-  after = λ n within.
-      (let k = known n within in record { known = k.0; is = k.1; shows = is.after n k.0 k.1 });
-}
 
 -- ---- a step that isn't done
 

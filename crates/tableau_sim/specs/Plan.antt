@@ -6,7 +6,7 @@ use Rattle.host_doc.specs.Document.{IsHostText}
 use Rattle.host_doc.specs.declared.fault.HostFault.{HostFault}
 use Rattle.table_form.specs.Tables.Plans.{IsPlan, IsPlanFor, PlanView}
 use Rattle.period_choice.specs.Tasks.{IsFirstWithoutPeriod}
-use Rattle.plan_make.specs.Planned.{IsPlanned, IsFirstWithoutRoom}
+use Rattle.plan_make.specs.Planned.{IsFirstWithoutRoom, IsPlanned}
 use Rattle.vcpu_names.specs.Names.{names_of}
 use Rattle.plan_text.specs.PlanText.{plan_text}
 use Rattle.tableau_sim.specs.declared.status.Status.TheVariants as status

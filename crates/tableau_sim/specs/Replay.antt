@@ -24,12 +24,12 @@ use Rattle.step_machine.specs.declared.answer.Answer.{Answer}
 use Rattle.replay_text.specs.ReplayText.{replay_text}
 use Rattle.replay_text.specs.RunsOf.{HasMadeAll}
 use Rattle.tableau_sim.specs.declared.status.Status.TheVariants as status
-use Rattle.tableau_sim.specs.Courses.{IsCourseOf}
+use Rattle.plan_book.specs.Courses.{IsCourseOf}
+use Rattle.plan_book.specs.Waits.{WaitsWithinLatency}
 use Rattle.tableau_sim.specs.Hosts.{IsHostFault}
 use Rattle.tableau_sim.specs.Outcomes.{Outcome}
 use Rattle.tableau_sim.specs.Outcomes.Outcome.{Refuses, Writes}
 use Rattle.tableau_sim.specs.Sections.{host_section}
-use Rattle.tableau_sim.specs.Waits.{WaitsWithinLatency}
 
 abbrev pub script_section : List (List ℕ) → List ℕ
 script_section sections = slice_index_or sections 1 []

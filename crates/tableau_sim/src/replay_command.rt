@@ -15,7 +15,7 @@ ghost use Rattle.tableau_sim.specs.Replay.{HasParts, Replays};
 
 use crate::reply::{Reply, Stop, Text, refused};
 use crate::status::Status;
-use crate::stops::{host_of, stop_of_book, stop_of_script};
+use crate::stops::{host_of, stop_of_plan, stop_of_script};
 use plan_book::make_book;
 use script_doc::{Script, Step, StepList, StepsFault, read_script, read_steps};
 use std::alloc::Global;
@@ -76,7 +76,7 @@ fn replay_of_parts<R: Threads + Sync>(
 {
     let book = match make_book(rt, alloc, &host, &script) {
         Ok(book) => book,
-        Err(fault) => return Err(stop_of_book(fault, host)),
+        Err(fault) => return Err(stop_of_plan(fault, host)),
     };
     let StepList { steps, lines } = list;
     match state_after(alloc, book.course(), rounds, steps.items()) {

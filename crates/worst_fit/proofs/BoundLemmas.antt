@@ -70,7 +70,8 @@ room n least takes most rest all low small bound = elim (cases_lt ROUND (least +
 
 -- while the loads, the demands still to place and the reserve stay within the bound, each step finds
 -- room
-keeps_none : (n most : ℕ) (p : PartialPlacement) (order : List ByDemand) → length p.loads ≡ n + 1 → p.left ≡ []
+keeps_none : (n most : ℕ) (p : PartialPlacement) (order : List ByDemand)
+    → length p.loads ≡ n + 1 → p.left ≡ []
     → All (λ rank. rank.demand ≤ most) order
     → total p.loads + wanted order + n * most ≤ (n + 1) * ROUND → (place_all p order).left ≡ []
 unfolding wanted

@@ -29,7 +29,8 @@ first_leads first order k sorted lt =
     (omega arith) lt
 
 -- what is behind the first is sorted too: the induction's step
-falls_behind : (first : ByDemand) (order : List ByDemand) → IsSorted by_falling_demand (first ∷ order) → IsSorted by_falling_demand order
+falls_behind : (first : ByDemand) (order : List ByDemand)
+    → IsSorted by_falling_demand (first ∷ order) → IsSorted by_falling_demand order
 falls_behind first order sorted = λ k d low lt.
     let e : suc k + 1 ≡ suc (k + 1) = omega arith in
     subst (λ n. is_lt (by_falling_demand (get_or (first ∷ order) n d) (get_or (first ∷ order) (suc k) d))
@@ -55,7 +56,8 @@ same_numbers d e v w one other =
     (demand, grind (arith, nat_tests))
 
 -- ranks of which neither comes before the other are one
-neither_before : (a b : ByDemand) → is_lt (by_falling_demand a b) ≡ false → is_lt (by_falling_demand b a) ≡ false → a ≡ b
+neither_before : (a b : ByDemand)
+    → is_lt (by_falling_demand a b) ≡ false → is_lt (by_falling_demand b a) ≡ false → a ≡ b
 neither_before a b not_a not_b =
     let numbers = same_numbers a.demand b.demand a.vcpu b.vcpu not_a not_b in
     let with_demand = λ (n : ℕ). let r : ByDemand = record { demand = n; vcpu = a.vcpu } in r in
@@ -108,7 +110,8 @@ same_head tasks a b behind_a behind_b turn in_a in_b falls_a falls_b =
 -- lists in falling order with the same turns are one
 same_order : (tasks : List (Option Periodic)) (xs ys : List ByDemand)
     → ((vcpu : ℕ) → turns vcpu xs ≡ turns vcpu ys)
-    → All (IsRankIn tasks) xs → All (IsRankIn tasks) ys → IsSorted by_falling_demand xs → IsSorted by_falling_demand ys → xs ≡ ys
+    → All (IsRankIn tasks) xs → All (IsRankIn tasks) ys
+    → IsSorted by_falling_demand xs → IsSorted by_falling_demand ys → xs ≡ ys
 same_order tasks [] [] turn in_x in_y falls_x falls_y = refl
 same_order tasks [] (y ∷ ys) turn in_x in_y falls_x falls_y = absurd (has_turn y ys (sym (turn y.vcpu)))
 same_order tasks (x ∷ xs) [] turn in_x in_y falls_x falls_y = absurd (has_turn x xs (turn x.vcpu))

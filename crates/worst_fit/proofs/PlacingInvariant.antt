@@ -25,7 +25,8 @@ pub record IsRankIn (tasks : List (Option Periodic)) (rank : ByDemand) : Type 0 
   pub takes : rank.demand ≡ task_demand (get_or tasks rank.vcpu None)
 
 -- what holds after each step, with these ranks still to place
-pub record PlacingInvariant (tasks : List (Option Periodic)) (cores : ℕ) (rest : List ByDemand) (p : PartialPlacement) : Type 0 where
+pub record PlacingInvariant (tasks : List (Option Periodic)) (cores : ℕ) (rest : List ByDemand)
+    (p : PartialPlacement) : Type 0 where
   pub cores_are : length p.loads ≡ cores
   pub as_many : length p.core_of ≡ length tasks
   pub loads_are : (core : ℕ) → core < cores → get_or p.loads core 0 ≡ load_on core tasks p.core_of
@@ -50,7 +51,8 @@ at_most_one None = omega arith
 at_most_one (Some x) = omega arith
 
 -- the next vCPU isn't placed yet, and isn't left over
-fresh : (tasks : List (Option Periodic)) (cores : ℕ) (rank : ByDemand) (rest : List ByDemand) (p : PartialPlacement)
+fresh : (tasks : List (Option Periodic)) (cores : ℕ) (rank : ByDemand) (rest : List ByDemand)
+    (p : PartialPlacement)
     → PlacingInvariant tasks cores (rank ∷ rest) p → get_or p.core_of rank.vcpu None ≡ None
 fresh tasks cores rank rest p kept =
     let turn = turns-cons rank.vcpu rank rest in
@@ -146,7 +148,8 @@ keeps_on tasks cores rank rest p some ranked room kept =
 
 -- a vCPU was left over
 keeps_left : (tasks : List (Option Periodic)) (cores : ℕ) (rank : ByDemand) (rest : List ByDemand)
-    (p : PartialPlacement) → PlacingInvariant tasks cores (rank ∷ rest) p → PlacingInvariant tasks cores rest (left_over p rank)
+    (p : PartialPlacement) → PlacingInvariant tasks cores (rank ∷ rest) p
+    → PlacingInvariant tasks cores rest (left_over p rank)
 keeps_left tasks cores rank rest p kept = record {
   cores_are = kept.cores_are;
   as_many = kept.as_many;

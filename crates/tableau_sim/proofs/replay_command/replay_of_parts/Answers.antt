@@ -6,15 +6,15 @@ use Rattle.step_machine.proofs.Waiting.{short_gaps}
 use Rattle.step_machine.proofs.Promised.{promised}
 use Rattle.step_machine.specs.Refusals.{IsFaultOf, IsRefused}
 use Rattle.tableau_sim.specs.Replay.{Replays}
-use Rattle.tableau_sim.proofs.Replayed.{course_of, each_names_core, place_in, step_refused}
-use Rattle.tableau_sim.proofs.Stopped.{book_stopped}
-use Rattle.tableau_sim.proofs.Waiting.{waits}
+use Rattle.tableau_sim.proofs.Replayed.{each_names_core, place_in, step_refused}
+use Rattle.tableau_sim.proofs.Stopped.{plan_stopped}
+use Rattle.plan_book.proofs.WaitsLemmas.{waits}
 use Rattle.tableau_sim.proofs.replay_command.replay_of_parts.Goals as goal
 
 pub returns-in-Err : goal.returns-in-Err
 returns-in-Err g c = λ sections read.
-    rw c.stop_of_book.ensures
-    (book_stopped (Replays c.args.rounds sections) c.args.host c.in-Err.fault
+    rw c.stop_of_plan.ensures
+    (plan_stopped (Replays c.args.rounds sections) c.args.host c.in-Err.fault
     (λ vcpu e. Replays.NoPeriod _ vcpu read (c.in-Err.ensures.no_period vcpu (ap Err e)))
     (λ vcpu rest over e. Replays.NoRoom _ vcpu rest over read
     (c.in-Err.ensures.no_room vcpu rest over (ap Err e))))
@@ -22,12 +22,12 @@ returns-in-Err g c = λ sections read.
 pub state_after-requires-clause-names : goal.state_after-requires-clause-names
 state_after-requires-clause-names g c = λ k taken at.
     each_names_core c.course.result.now c.args.host.cores c.args.list.steps
-    (ap (λ (course : CourseView). course.cores) c.course.ensures ∙ c.in-Ok.ensures.ok.cores)
+    (ap (λ (course : CourseView). course.cores) c.course.ensures ∙ c.in-Ok.ensures.ok.course.cores)
     c.requires.names k taken (rw c.items.ensures at at)
 
 pub returns-in-Ok-state_after : goal.returns-in-Ok-state_after
 returns-in-Ok-state_after g c = λ sections read.
-    let of = course_of c.args.host c.args.script c.in-Ok.book c.in-Ok.ensures.ok c.in-Ok.ensures.known in
+    let of = c.in-Ok.ensures.ok.course in
     let kept = rw c.course.ensures at c.in-Ok-state_after.ensures.kept in
     let course_kept = rw c.course.ensures at c.in-Ok-state_after.ensures.course_kept in
     let is_run = rw (c.course.ensures, c.items.ensures) at c.in-Ok-state_after.ensures.ok in (
@@ -72,5 +72,5 @@ returns-in-Err-Refused g c = λ sections read.
       steps = c.args.list.steps;
       lines = c.args.list.lines;
     }) c.in-Ok.book.course c.in-Err-Refused.place _ c.in-Err-Refused.answer read
-    (course_of c.args.host c.args.script c.in-Ok.book c.in-Ok.ensures.ok c.in-Ok.ensures.known)
+    c.in-Ok.ensures.ok.course
     (slice_get-get_or c.args.list.lines c.in-Err-Refused.place 0 low) refused)
