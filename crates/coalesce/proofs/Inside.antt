@@ -10,12 +10,13 @@ use Rattle.table_form.specs.Tables.Segments.{AreMaximal, SegmentView}
 use Rattle.table_form.specs.Planning.Windows.{DistinctVcpus, ServesWindows}
 use Rattle.coalesce.specs.Joining.{NoBegin, NoEnd, SwapsLeftmost, SwapsTo}
 use Rattle.coalesce.specs.Joining.SwapsTo.{Again, Done}
-use Rattle.coalesce.proofs.Counts.{AreMoved, IsOutside, cells_before-end, same_before}
+use Rattle.coalesce.proofs.Counts.{AreMoved, IsOutside, same_before}
 use Rattle.coalesce.proofs.Counts.IsOutside.{Another, Before, Behind}
 use Rattle.coalesce.proofs.Moved.{CellAfter, cell_after, cells_moved, first_cell, last_cell}
 use Rattle.coalesce.proofs.Moved.CellAfter.{AsBefore, OfFirst, OfSecond}
 use Rattle.coalesce.proofs.Swapping.{parts_of, swap_keeps}
 use Rattle.table_form.proofs.SegmentLemmas.{cells_of}
+use Rattle.table_form.proofs.Supplies.{cells_before-end}
 
 -- the tick is in a window of the vCPU's piece
 pub record InWindow (pieces : List Piece) (vcpu tick : ℕ) : Type 0 where

@@ -6,6 +6,7 @@ ghost use Rattle.edf_table.specs.Progress.{IsFirstEnd, NoBegin, demand_from};
 ghost use Rattle.table_form.specs.Planning.Windows.{DistinctVcpus};
 
 use tab_core::{Piece, ROUND};
+use table_form::last_before;
 
 /// An overloaded interval: the jobs whose windows lie in it cost more than its ticks.
 #[derive(Clone, Copy, Debug, PartialEq, Eq, Hash)]
@@ -47,20 +48,6 @@ fn demand_of_starts(pieces: &[Piece], start: u32, end: u32) -> u64
         sum += u64::from(cost_from(piece, start, end));
     }
     sum
-}
-
-// The greatest tick below `tick` that is `offset` ticks behind a multiple of the period, else 0.
-fn last_before(offset: u32, period: u32, tick: u32) -> u32
-    requires some { 0 < period }
-    requires later { 0 < tick }
-    ensures earlier { result < tick }
-    ensures greatest { (k : ℕ) → result < k * period + offset → tick ≤ k * period + offset }
-{
-    if tick <= offset {
-        0
-    } else {
-        tick - 1 - (tick - 1 - offset) % period
-    }
 }
 
 // The greatest tick below `tick` at which a window begins, else 0.

@@ -50,6 +50,7 @@ segment_goes_on start s (t ∷ ss) end rises with =
           (same_first s.owner (segment_view t) (map segment_view ss) same ∙ front.same) ∙ sym (next ∙ front.is)
     ]
 
+-- the list from a place on begins with the segment there
 segment_at : (ss : List Segment) (i : ℕ) (s : Segment) → slice_get ss i ≡ Some s
     → drop i ss ≡ s ∷ drop (i + 1) ss
 segment_at ss i s at =

@@ -34,6 +34,7 @@ pub record BeginsWith (owner : Option ℕ) (ts : List SegmentView) : Type 0 wher
   pub is : ts ≡ first ∷ rest
   pub same : owner ≡ first.owner
 
+-- each list begins with another owner or with this one, by the test of `put_front`
 pub front_cases : (o : Option ℕ) (ts : List SegmentView) → BeginsOther o ts ⊎ BeginsWith o ts
 front_cases o [] = inl tt
 front_cases o (t ∷ ts) = by_test (option_eq eqb o t.owner) refl
@@ -43,10 +44,12 @@ front_cases o (t ∷ ts) = by_test (option_eq eqb o t.owner) refl
     by_test false differ = inl (λ same. false≢true
         (sym differ ∙ ap (λ x. option_eq eqb x t.owner) same ∙ same_as_itself t.owner))
 
+-- the owner of the first, to compare two ways of naming it
 owner_at_front : List SegmentView → Option ℕ
 owner_at_front [] = None
 owner_at_front (t ∷ ts) = t.owner
 
+-- where a list is known to begin with an owner, its first segment has it
 pub same_first : (o : Option ℕ) (t : SegmentView) (ts : List SegmentView) → BeginsWith o (t ∷ ts) → o ≡ t.owner
 unfolding owner_at_front
 same_first o t ts with = with.same ∙ ap owner_at_front (sym with.is)
@@ -71,6 +74,7 @@ front_twice s t ts same =
     let with = front_begins t ts in
     ap (put_front s) with.is ∙ front_joins s with.first with.rest (same ∙ with.same) ∙ sym with.is
 
+-- in front of a segment of another owner it stays, whatever that one joins
 pub front_differs : (s t : SegmentView) (ts : List SegmentView) → s.owner ≢ t.owner → put_front s
     (put_front t ts) ≡ s ∷ put_front t ts
 front_differs s t ts differ =
@@ -149,10 +153,12 @@ pub cells_of : ℕ → List SegmentView → Row
 cells_of start [] = []
 cells_of start (t ∷ ts) = replicate (t.end - start) t.owner ++ cells_of t.end ts
 
+-- no segment, no cell
 pub cells_of-nil : (start : ℕ) → cells_of start [] ≡ []
 unfolding cells_of
 cells_of-nil start = refl
 
+-- the cells of the first, and those behind it
 pub cells_of-cons : (start : ℕ) (t : SegmentView) (ts : List SegmentView) → cells_of start (t ∷ ts) ≡ replicate
     (t.end - start) t.owner ++ cells_of t.end ts
 unfolding cells_of
@@ -167,6 +173,7 @@ replicate_parts o low middle high cells le le' =
     (sym (replicate-append-replicate (middle - low) (high - middle) o))
     ∙ append_assoc (replicate (middle - low) o) (replicate (high - middle) o) cells
 
+-- joining with the next doesn't change the cells
 pub cells_of_front : (start : ℕ) (s : SegmentView) (ts : List SegmentView) (end : ℕ) → start ≤ s.end
     → AreMaximal s.end ts end
     → cells_of start (put_front s ts) ≡ replicate (s.end - start) s.owner ++ cells_of s.end ts
@@ -223,6 +230,7 @@ segments_are start (s ∷ ss) =
     (segments_are s.end ss) ∙ sym
     (cells_of-cons start (segment_view s) (map segment_view ss))
 
+-- maximal segments rise, so they make a row
 pub segments_rise : (start : ℕ) (ss : List Segment) (end : ℕ) → AreMaximal start (map segment_view ss) end
     → RisesTo start ss end
 segments_rise start [] end m = rises_here start end m
