@@ -1,6 +1,5 @@
 pub mod Clashes
-pub mod Counters
 pub mod Faults
-pub mod Meetings
+pub mod Inside
 pub mod Shapes
 pub mod Shortages
