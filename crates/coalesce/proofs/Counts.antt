@@ -1,11 +1,11 @@
 -- How many of a row's first cells are a vCPU's, where cells of two owners change places.
-use Rattle.std.proofs.Common.{◌≡◌, ◌≢◌, ℕ, zero, suc, ◌+◌, ◌-◌, ◌≤◌, min, Bool, true, false, cond, eqb, [], ◌∷◌, ◌++◌, length, replicate, take, drop, Option, Some, refl, ap, ◌∙◌, arith, take-add}
+use Rattle.std.proofs.Common.{◌≡◌, ◌≢◌, ℕ, zero, suc, ◌+◌, ◌-◌, ◌≤◌, min, Bool, true, false, cond, eqb, [], ◌∷◌, ◌++◌, length, replicate, take, Option, Some, refl, ap, ◌∙◌, arith}
 use Rattle.std.specs.List.{count_by}
 use Rattle.std.proofs.lemmas.Bool.{eqb-true}
-use Rattle.std.proofs.lemmas.List.Sums.{sum_by-append, sum_by-cons}
+use Rattle.std.proofs.lemmas.List.Sums.{sum_by-cons}
 use Rattle.table_form.specs.Tables.Rows.{Row}
-use Rattle.table_form.specs.Tables.Serves.{cells_within, is_cell_of}
-use Rattle.table_form.proofs.Supplies.{cells_before, cells_before-end}
+use Rattle.table_form.specs.Tables.Serves.{is_cell_of}
+use Rattle.table_form.proofs.Supplies.{cells_before}
 
 -- cells of one owner in front of others
 before_replicate : (v w n m : ℕ) (cells : Row) (b : Bool) → eqb v w ≡ b → cells_before v

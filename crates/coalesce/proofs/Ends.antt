@@ -7,7 +7,7 @@ use Rattle.tab_core.specs.declared.piece.Piece.{Piece}
 use Rattle.table_form.specs.Tables.Segments.{AreMaximal, SegmentView, segment_view}
 use Rattle.table_form.specs.declared.segment.Segment.{Segment}
 use Rattle.coalesce.specs.Joining.{CanSwap}
-use Rattle.coalesce.specs.Passing.{CanSwapLast, EndBelow}
+use Rattle.coalesce.specs.Inside.Passing.{CanSwapLast, EndBelow}
 use Rattle.table_form.proofs.AppendingLemmas.{in_parts, last_one, set_last}
 
 -- segments that end with two
@@ -20,6 +20,7 @@ pub record LastTwo (ss : List Segment) (xs : List SegmentView) (u t : SegmentVie
   pub second : segment_view a ≡ u
   pub last : segment_view b ≡ t
 
+-- an equation on the last two views as one on the segments, so that writes by index can be read off
 pub last_two : (ss : List Segment) (xs : List SegmentView) (u t : SegmentView) → map segment_view ss ≡ xs ++ u ∷ t ∷ []
     → LastTwo ss xs u t
 last_two ss xs u t e = let parts = in_parts ss xs
@@ -59,9 +60,11 @@ last_but_one_at ss xs u t i d e last =
     ap segment_view (ap (λ n. get_or ss n d) at ∙ ap (λ ts. get_or ts (length two.front) d) two.is
     ∙ get_or-append_seam two.front two.a (two.b ∷ []) d) ∙ two.second
 
+-- the last two are a last one behind another last one
 pub of_last_two : (xs : List SegmentView) (u t : SegmentView) → xs ++ u ∷ t ∷ [] ≡ (xs ++ u ∷ []) ++ t ∷ []
 of_last_two xs u t = sym (append_assoc xs (u ∷ []) (t ∷ []))
 
+-- writes to the last two places change their views alone
 pub set_last_two : (ss : List Segment) (xs : List SegmentView) (u t : SegmentView) (i j : ℕ) (p q : Segment)
     → map segment_view ss ≡ xs ++ u ∷ t ∷ [] → i + 2 ≡ length ss → j + 1 ≡ length ss
     → map segment_view (set (set ss i p) j q) ≡ xs ++ segment_view p ∷ segment_view q ∷ []
@@ -101,6 +104,7 @@ pub record SameEnds (xs ys : List SegmentView) (u t v w : SegmentView) : Type 0 
   pub first : u ≡ v
   pub second : t ≡ w
 
+-- so what one call names as the last two is what another does
 pub same_ends : (xs ys : List SegmentView) (u t v w : SegmentView) → xs ++ u ∷ t ∷ [] ≡ ys ++ v ∷ w ∷ []
     → SameEnds xs ys u t v w
 same_ends [] [] u t v w e = record { before = refl; first = cc; second = cc }

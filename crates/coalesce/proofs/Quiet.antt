@@ -13,6 +13,7 @@ record Longer (t t' : SegmentView) : Type 0 where
   same : t'.owner ≡ t.owner
   later : t.end ≤ t'.end
 
+-- a segment that stays as it is
 itself : (t : SegmentView) → Longer t t
 itself t = record { same = refl; later = omega arith }
 

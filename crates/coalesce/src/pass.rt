@@ -4,7 +4,7 @@ ghost use Rattle.tab_core.specs.declared.piece.Piece.{Piece};
 ghost use Rattle.table_form.specs.Tables.Segments.{AreMaximal, BeginsOther, SegmentView, segment_view, segments_from};
 ghost use Rattle.table_form.specs.declared.segment.Segment.{Segment};
 ghost use Rattle.coalesce.specs.Joining.{SwapsTo};
-ghost use Rattle.coalesce.specs.Passing.{CanSwapLast, EndBelow, IsPassed, IsTableOf, StandInRow};
+ghost use Rattle.coalesce.specs.Inside.Passing.{CanSwapLast, EndBelow, IsPassed, IsTableOf, StandInRow};
 ghost use Rattle.table_form.specs.Inside.Appending.{EndsWith, put_before};
 
 use crate::swap::can_swap;

@@ -3,7 +3,7 @@ ghost use Rattle.tab_core.specs.declared.TheConstants.{MAX_VCPUS, ROUND};
 ghost use Rattle.tab_core.specs.declared.piece.Piece.{Piece};
 ghost use Rattle.table_form.specs.Tables.Segments.{segment_view};
 ghost use Rattle.coalesce.specs.Joining.{CanSwap, NoBegin, NoEnd};
-ghost use Rattle.coalesce.specs.Passing.{IsTableOf};
+ghost use Rattle.coalesce.specs.Inside.Passing.{IsTableOf};
 
 use tab_core::{Piece, VcpuNo};
 use table_form::{Segment, next_at};
