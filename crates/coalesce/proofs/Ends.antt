@@ -21,7 +21,8 @@ pub record LastTwo (ss : List Segment) (xs : List SegmentView) (u t : SegmentVie
   pub last : segment_view b ≡ t
 
 -- an equation on the last two views as one on the segments, so that writes by index can be read off
-pub last_two : (ss : List Segment) (xs : List SegmentView) (u t : SegmentView) → map segment_view ss ≡ xs ++ u ∷ t ∷ []
+pub last_two : (ss : List Segment) (xs : List SegmentView) (u t : SegmentView)
+    → map segment_view ss ≡ xs ++ u ∷ t ∷ []
     → LastTwo ss xs u t
 last_two ss xs u t e = let parts = in_parts ss xs
     (u ∷ t ∷ []) e in of_parts parts.front parts.bs parts.is parts.first parts.second
@@ -89,7 +90,8 @@ set_last_two ss xs u t i j p q e last last' =
     (of_last_two xs (segment_view p) (segment_view q))
 
 -- two or more have a last one and one before it
-pub two_ends : (ss : List Segment) → 2 ≤ length ss → (xs : List SegmentView) × (u : SegmentView) × (t : SegmentView) ×
+pub two_ends : (ss : List Segment) → 2 ≤ length ss
+    → (xs : List SegmentView) × (u : SegmentView) × (t : SegmentView) ×
     (map segment_view ss ≡ xs ++ u ∷ t ∷ [])
 two_ends [] le = absurd (omega arith)
 two_ends (a ∷ []) le = absurd (omega arith)
@@ -158,7 +160,8 @@ pub last_two_can : (pieces : List Piece) (sliver : ℕ) (ss : List Segment) (nex
     (CanSwapLast pieces sliver (map segment_view ss) next → IsTrue test)
 last_two_can pieces sliver ss next a b test le at_a at_b tells = (if_true, if_can)
   where
-    here : (xs : List SegmentView) (u t : SegmentView) → map segment_view ss ≡ xs ++ u ∷ t ∷ [] → (segment_view a ≡ u) ×
+    here : (xs : List SegmentView) (u t : SegmentView) → map segment_view ss ≡ xs ++ u ∷ t ∷ []
+        → (segment_view a ≡ u) ×
         (segment_view b ≡ t)
     here xs u t is = (
       ap segment_view at_a ∙ last_but_one_at ss xs u t (length ss - 2) a is (omega arith),
@@ -186,7 +189,8 @@ last_two_can pieces sliver ss next a b test le at_a at_b tells = (if_true, if_ca
         (subst (λ y. CanSwap pieces sliver last.x y next) (sym is.1) last.can))
 
 -- the last two take the places of a swap
-pub swap_ends : (ss : List Segment) (end i j : ℕ) (p q a b : Segment) (before : List SegmentView) (x y : SegmentView)
+pub swap_ends : (ss : List Segment) (end i j : ℕ) (p q a b : Segment) (before : List SegmentView)
+    (x y : SegmentView)
     → map segment_view ss ≡ before ++ x ∷ y ∷ []
     → i + 2 ≡ length ss → j + 1 ≡ length ss → a ≡ get_or ss i a → b ≡ get_or ss j b
     → segment_view p ≡ record { owner = a.owner; end = a.end + (end - b.end) }

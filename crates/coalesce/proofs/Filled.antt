@@ -12,7 +12,8 @@ use Rattle.table_form.proofs.AppendingLemmas.{before_nothing, before_one_more}
 use Rattle.table_form.proofs.SegmentLemmas.{maximal_front}
 
 -- a segment ends where it did
-pub given_end : (may_grow : ℕ → Bool) (sliver : ℕ) (x y : SegmentView) → (given may_grow sliver x y).end ≡ y.end
+pub given_end : (may_grow : ℕ → Bool) (sliver : ℕ) (x y : SegmentView)
+    → (given may_grow sliver x y).end ≡ y.end
 given_end may_grow sliver x y = by_test (is_given may_grow sliver x.owner y.owner (y.end - x.end)) refl
   where
     by_test : (b : Bool) → is_given may_grow sliver x.owner y.owner (y.end - x.end) ≡ b →
@@ -33,13 +34,15 @@ filled_after_maximal may_grow sliver start x (y ∷ ts) end m =
     (subst (λ n. AreMaximal n (filled_after may_grow sliver y ts) end) (sym e) rest)
 
 -- and so the whole row does, which makes it a table
-pub filled_maximal : (may_grow : ℕ → Bool) (sliver : ℕ) (ts : List SegmentView) (end : ℕ) → AreMaximal 0 ts end
+pub filled_maximal : (may_grow : ℕ → Bool) (sliver : ℕ) (ts : List SegmentView) (end : ℕ)
+    → AreMaximal 0 ts end
     → AreMaximal 0 (filled may_grow sliver ts) end
 filled_maximal may_grow sliver ts end m = filled_after_maximal may_grow sliver 0
     (record { owner = None; end = 0 }) ts end m
 
 -- and has no more segments
-pub filled_after_length : (may_grow : ℕ → Bool) (sliver : ℕ) (x : SegmentView) (ts : List SegmentView) → length
+pub filled_after_length : (may_grow : ℕ → Bool) (sliver : ℕ) (x : SegmentView) (ts : List SegmentView)
+    → length
     (filled_after may_grow sliver x ts) ≤ length ts
 filled_after_length may_grow sliver x [] = omega arith
 filled_after_length may_grow sliver x (y ∷ ts) =
@@ -51,7 +54,8 @@ filled_after_length may_grow sliver x (y ∷ ts) =
     )
 
 -- the second rule has come to the segment of this index
-pub record HasFilled (may_grow : ℕ → Bool) (sliver : ℕ) (segments : List Segment) (at : ℕ) (before : SegmentView)
+pub record HasFilled (may_grow : ℕ
+    → Bool) (sliver : ℕ) (segments : List Segment) (at : ℕ) (before : SegmentView)
     (out : List SegmentView) : Type 0 where
   pub rises : AreMaximal before.end (map segment_view (drop at segments)) ROUND
   pub leads : put_before out (filled_after may_grow sliver before

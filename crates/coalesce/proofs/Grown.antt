@@ -114,7 +114,8 @@ filled_cells may_grow sliver start x y ts end m =
     (λ n. replicate (n - start) g.owner ++ cells_of n (filled_after may_grow sliver y ts)) e
 
 -- so the filled row has each vCPU's cells of before
-pub filled_grows : (may_grow : ℕ → Bool) (sliver start : ℕ) (x : SegmentView) (ts : List SegmentView) (end : ℕ)
+pub filled_grows : (may_grow : ℕ
+    → Bool) (sliver start : ℕ) (x : SegmentView) (ts : List SegmentView) (end : ℕ)
     → AreMaximal start ts end
     → Grows (cells_of start ts) (cells_of start (filled_after may_grow sliver x ts))
 filled_grows may_grow sliver start x [] end m =
@@ -140,7 +141,8 @@ inside : (o : Option ℕ) (v : ℕ) → ◌≡◌ {A = Option (Option ℕ)} (Som
 inside o v e = cc
 
 -- where each vCPU's cell of the filled row comes from, for the promise that it keeps to one core
-pub grown_cell : (may_grow : ℕ → Bool) (sliver start : ℕ) (x : SegmentView) (ts : List SegmentView) (end place v : ℕ)
+pub grown_cell : (may_grow : ℕ
+    → Bool) (sliver start : ℕ) (x : SegmentView) (ts : List SegmentView) (end place v : ℕ)
     → AreMaximal start ts end
     → slice_get (cells_of start (filled_after may_grow sliver x ts)) place ≡ Some (Some v)
     → IsGrownCell may_grow x.owner (cells_of start ts) place v

@@ -14,7 +14,8 @@ use Rattle.table_form.proofs.SegmentLemmas.{segments_are, segments_of_cells}
 
 -- the filled segments are maximal
 pub still_maximal : (may_grow : ℕ → Bool) (sliver : ℕ) (swapped joined : List Segment) → AreMaximal 0
-    (map segment_view swapped) ROUND → map segment_view joined ≡ filled may_grow sliver (map segment_view swapped)
+    (map segment_view swapped) ROUND
+    → map segment_view joined ≡ filled may_grow sliver (map segment_view swapped)
     → AreMaximal 0 (map segment_view joined) ROUND
 still_maximal may_grow sliver swapped joined m is = subst (λ ts. AreMaximal 0 ts ROUND) (sym is)
     (filled_maximal may_grow sliver (map segment_view swapped) ROUND m)

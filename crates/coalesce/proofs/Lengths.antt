@@ -9,7 +9,8 @@ use Rattle.coalesce.proofs.Swapping.{swaps_keep}
 use Rattle.table_form.proofs.SegmentLemmas.{maximal_of_row}
 
 -- maximal segments have one end, which measures both rows
-one_end : (start : ℕ) (ts : List SegmentView) (a b : ℕ) → AreMaximal start ts a → AreMaximal start ts b → a ≡ b
+one_end : (start : ℕ) (ts : List SegmentView) (a b : ℕ) → AreMaximal start ts a → AreMaximal start ts b
+    → a ≡ b
 one_end start [] a b of_a of_b = sym of_a ∙ of_b
 one_end start (t ∷ ts) a b of_a of_b = one_end t.end ts a b of_a.2 of_b.2
 

@@ -15,7 +15,8 @@ end_of start [] = start
 end_of start (t ∷ ts) = end_of t.end ts
 
 -- the segments behind some are maximal from their end on
-behind_maximal : (start : ℕ) (xs ys : List SegmentView) (end : ℕ) → AreMaximal start (xs ++ ys) end → AreMaximal
+behind_maximal : (start : ℕ) (xs ys : List SegmentView) (end : ℕ) → AreMaximal start (xs ++ ys) end
+    → AreMaximal
     (end_of start xs) ys end
 unfolding end_of
 behind_maximal start [] ys end m = m

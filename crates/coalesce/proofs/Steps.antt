@@ -76,7 +76,8 @@ passed_after_swap pieces sliver row xs u t s rest stand can passed =
     }
 
 -- so does a segment that is appended
-pub stands_after_append : (out : List SegmentView) (s : SegmentView) (rest : List SegmentView) → StandInRow out (s ∷ rest)
+pub stands_after_append : (out : List SegmentView) (s : SegmentView) (rest : List SegmentView)
+    → StandInRow out (s ∷ rest)
     → StandInRow (put_before out (s ∷ [])) rest
 stands_after_append out s rest stand = record {
   reached = s.end;
@@ -132,7 +133,8 @@ pub record Comes (segments : List Segment) (table : List (Option Piece)) (sliver
       → HasPassed segments table sliver (at + 1) new
 
 -- so it is for each index below the count
-pub one_comes : (segments : List Segment) (table : List (Option Piece)) (sliver at : ℕ) (out : List SegmentView)
+pub one_comes : (segments : List Segment) (table : List (Option Piece)) (sliver at : ℕ)
+    (out : List SegmentView)
     (s : Segment) → at < length segments → s ≡ get_or segments at s
     → HasPassed segments table sliver at out → Comes segments table sliver at out s
 one_comes segments table sliver at out s lt is passed =
@@ -152,7 +154,8 @@ one_comes segments table sliver at out s lt is passed =
     }
 
 -- what comes before the next segment ends below its end
-pub below_next : (out : List SegmentView) (s : SegmentView) (rest : List SegmentView) → StandInRow out (s ∷ rest)
+pub below_next : (out : List SegmentView) (s : SegmentView) (rest : List SegmentView)
+    → StandInRow out (s ∷ rest)
     → EndBelow out s.end
 below_next out s rest stand = record {
   reached = stand.reached;
@@ -168,7 +171,8 @@ pub record Ended (segments : List Segment) (table : List (Option Piece)) (sliver
       → SwapsTo pieces sliver out (map segment_view segments)
 
 -- what came is then the row that no swap changes
-pub all_passed : (segments : List Segment) (table : List (Option Piece)) (sliver at : ℕ) (out : List SegmentView)
+pub all_passed : (segments : List Segment) (table : List (Option Piece)) (sliver at : ℕ)
+    (out : List SegmentView)
     → length segments ≤ at → HasPassed segments table sliver at out
     → Ended segments table sliver out
 all_passed segments table sliver at out past passed =

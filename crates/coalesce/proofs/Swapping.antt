@@ -7,7 +7,8 @@ use Rattle.coalesce.specs.Joining.SwapsTo.{Again, Done}
 use Rattle.table_form.proofs.SegmentLemmas.{front_begins, front_cases, front_joins, front_stays, maximal_front, same_first}
 
 -- some of the segments and the rest of them
-pub record Parts (start : ℕ) (xs : List SegmentView) (y : SegmentView) (ys : List SegmentView) (end : ℕ) : Type 0 where
+pub record Parts (start : ℕ) (xs : List SegmentView) (y : SegmentView) (ys : List SegmentView)
+    (end : ℕ) : Type 0 where
   pub middle : ℕ
   pub second : AreMaximal middle (y ∷ ys) end
   pub instead : (z : SegmentView) (zs : List SegmentView) (end' : ℕ) → z.owner ≡ y.owner
@@ -15,7 +16,8 @@ pub record Parts (start : ℕ) (xs : List SegmentView) (y : SegmentView) (ys : L
       → AreMaximal start (xs ++ z ∷ zs) end'
 
 -- each place divides the row so
-pub parts_of : (start : ℕ) (xs : List SegmentView) (y : SegmentView) (ys : List SegmentView) (end : ℕ) → AreMaximal start
+pub parts_of : (start : ℕ) (xs : List SegmentView) (y : SegmentView) (ys : List SegmentView) (end : ℕ)
+    → AreMaximal start
     (xs ++ y ∷ ys) end → Parts start xs y ys end
 parts_of start [] y ys end m = record { middle = start; second = m; instead = λ z zs end' same m'. m' }
 parts_of start (x ∷ []) y ys end m =

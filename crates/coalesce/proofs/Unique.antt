@@ -34,7 +34,8 @@ can_moved pieces sliver x y z u v w a b c can =
     (subst (λ s. CanSwap pieces sliver x s w) b (subst (CanSwap pieces sliver x y) c can))
 
 -- no swap is further left than the leftmost
-none_earlier : (pieces : List Piece) (sliver : ℕ) (x y z : SegmentView) (after : List SegmentView) (w : SegmentView)
+none_earlier : (pieces : List Piece) (sliver : ℕ) (x y z : SegmentView) (after : List SegmentView)
+    (w : SegmentView)
     (ws : List SegmentView) (x' y' z' : SegmentView) (after' : List SegmentView)
     → x ∷ y ∷ z ∷ after ≡ w ∷ (ws ++ x' ∷ y' ∷ z' ∷ after') → CanSwap pieces sliver x y z
     → NoSwap pieces sliver

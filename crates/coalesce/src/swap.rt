@@ -46,7 +46,8 @@ pub(crate) fn can_swap(
     requires rises { x.now.end < y.now.end }
     requires in_round { y.now.end < ROUND }
     ensures { (pieces : List Piece) → IsTableOf pieces table.now
-        → (IsTrue result ↔ CanSwap pieces sliver (segment_view x.now) (segment_view y.now) (segment_view z.now)) }
+        → (IsTrue result
+        ↔ CanSwap pieces sliver (segment_view x.now) (segment_view y.now) (segment_view z.now)) }
 {
     let (Some(first), Some(second)) = (x.owner, y.owner) else {
         return false;

@@ -40,7 +40,8 @@ rows_more raw core segments lt at =
 pub rises_at : (raw : List (List Segment)) (core : ℕ) (segments : List Segment) → HaveGoodShapes raw
     → core < length raw → segments ≡ get_or raw core segments → RisesTo 0 segments ROUND
 rises_at raw core segments good lt is =
-    rises_if_good 0 segments (sym (ap bad_in (slice_get-get_or raw core segments lt ∙ ap Some (sym is))) ∙ good core)
+    rises_if_good 0 segments (sym (ap bad_in (slice_get-get_or raw core segments lt ∙ ap Some (sym is)))
+    ∙ good core)
 
 -- a core's row by its segments
 pub row_here : (raw : List (List Segment)) (core : ℕ) (segments : List Segment) → core < length raw

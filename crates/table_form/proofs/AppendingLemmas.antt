@@ -85,7 +85,8 @@ pub record InParts (ss : List Segment) (xs ys : List SegmentView) : Type 0 where
   pub second : map segment_view bs ≡ ys
 
 -- an equation on views as an equation on the segments themselves, so that writes by index can be read off
-pub in_parts : (ss : List Segment) (xs ys : List SegmentView) → map segment_view ss ≡ xs ++ ys → InParts ss xs ys
+pub in_parts : (ss : List Segment) (xs ys : List SegmentView) → map segment_view ss ≡ xs ++ ys
+    → InParts ss xs ys
 in_parts ss [] ys e = record { front = []; bs = ss; is = refl; first = refl; second = e }
 in_parts [] (x ∷ xs) ys e = absurd cc
 in_parts (s ∷ ss) (x ∷ xs) ys e =
@@ -109,12 +110,14 @@ pub record LastOne (ss : List Segment) (xs : List SegmentView) (t : SegmentView)
   pub last : segment_view b ≡ t
 
 -- the same where one is last
-pub last_one : (ss : List Segment) (xs : List SegmentView) (t : SegmentView) → map segment_view ss ≡ xs ++ t ∷ []
+pub last_one : (ss : List Segment) (xs : List SegmentView) (t : SegmentView)
+    → map segment_view ss ≡ xs ++ t ∷ []
     → LastOne ss xs t
 last_one ss xs t e = let parts = in_parts ss xs
     (t ∷ []) e in of_parts parts.front parts.bs parts.is parts.first parts.second
   where
-    of_parts : (fs bs : List Segment) → ss ≡ fs ++ bs → map segment_view fs ≡ xs → map segment_view bs ≡ t ∷ []
+    of_parts : (fs bs : List Segment) → ss ≡ fs ++ bs → map segment_view fs ≡ xs
+        → map segment_view bs ≡ t ∷ []
         → LastOne ss xs t
     of_parts fs [] is first second = absurd cc
     of_parts fs (b ∷ []) is first second = record { front = fs; b = b; is = is; first = first; last = cc }
@@ -188,7 +191,8 @@ cells_put start (t ∷ u ∷ ts) end n s m some e =
     ∙ ap (λ cells. cells ++ replicate n s.owner) (sym (cells_of-cons start t (u ∷ ts)))
 
 -- so a run of cells is appended to those of the segments
-pub cells_appended : (old new : List Segment) (end n : ℕ) (o : Option ℕ) → AreMaximal 0 (map segment_view old) end
+pub cells_appended : (old new : List Segment) (end n : ℕ) (o : Option ℕ)
+    → AreMaximal 0 (map segment_view old) end
     → 0 < n
     → map segment_view new ≡ put_before (map segment_view old) (record { owner = o; end = end + n } ∷ [])
     → cells_from 0 new ≡ cells_from 0 old ++ replicate n o

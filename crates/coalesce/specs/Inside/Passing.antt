@@ -28,7 +28,8 @@ pub record IsPassed (pieces : List Piece) (sliver : ℕ) (row out rest : List Se
       → SwapsTo pieces sliver end row
 
 -- the last two of the segments may be swapped with the next
-pub record CanSwapLast (pieces : List Piece) (sliver : ℕ) (out : List SegmentView) (next : SegmentView) : Type 0 where
+pub record CanSwapLast (pieces : List Piece) (sliver : ℕ) (out : List SegmentView)
+    (next : SegmentView) : Type 0 where
   pub before : List SegmentView
   pub x : SegmentView
   pub y : SegmentView

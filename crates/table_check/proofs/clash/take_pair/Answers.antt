@@ -27,12 +27,15 @@ returns-in_default c =
     let a = cells_from 0 c.items.result.now in
     let b = cells_from 0 c.items-2.result.now in
     let two : ArePair rows core other a b =
-    are_pair rows core other a b (cells_from 0 c.index-raw-core.result) (cells_from 0 c.index-raw-other.result)
+    are_pair rows core other a b (cells_from 0 c.index-raw-core.result)
+    (cells_from 0 c.index-raw-other.result)
     c.requires.lower (omega (arith, length-rows_of raw, c.requires.there))
-    (row_here raw core c.index-raw-core.result (omega (arith, c.requires.lower, c.requires.there)) c.index-raw-core.is)
+    (row_here raw core c.index-raw-core.result
+    (omega (arith, c.requires.lower, c.requires.there)) c.index-raw-core.is)
     (row_here raw other c.index-raw-other.result c.requires.there c.index-raw-other.is)
     (ap (cells_from 0) c.items.ensures) (ap (cells_from 0) c.items-2.ensures) in
-    none_here rows core other c.args.best c.requires.before (no_clash rows core other a b two c.in_default.ensures)
+    none_here rows core other c.args.best c.requires.before
+    (no_clash rows core other a b two c.in_default.ensures)
 
 pub returns-then-is_sooner : goal.returns-then-is_sooner
 returns-then-is_sooner c =
@@ -43,9 +46,11 @@ returns-then-is_sooner c =
     let a = cells_from 0 c.items.result.now in
     let b = cells_from 0 c.items-2.result.now in
     let two : ArePair rows core other a b =
-    are_pair rows core other a b (cells_from 0 c.index-raw-core.result) (cells_from 0 c.index-raw-other.result)
+    are_pair rows core other a b (cells_from 0 c.index-raw-core.result)
+    (cells_from 0 c.index-raw-other.result)
     c.requires.lower (omega (arith, length-rows_of raw, c.requires.there))
-    (row_here raw core c.index-raw-core.result (omega (arith, c.requires.lower, c.requires.there)) c.index-raw-core.is)
+    (row_here raw core c.index-raw-core.result
+    (omega (arith, c.requires.lower, c.requires.there)) c.index-raw-core.is)
     (row_here raw other c.index-raw-other.result c.requires.there c.index-raw-other.is)
     (ap (cells_from 0) c.items.ensures) (ap (cells_from 0) c.items-2.ensures) in
     becomes_first rows core other c.in-Some.meeting.vcpu c.in-Some.meeting.tick c.args.best c.requires.before
@@ -62,9 +67,11 @@ returns-else-is_sooner c =
     let a = cells_from 0 c.items.result.now in
     let b = cells_from 0 c.items-2.result.now in
     let two : ArePair rows core other a b =
-    are_pair rows core other a b (cells_from 0 c.index-raw-core.result) (cells_from 0 c.index-raw-other.result)
+    are_pair rows core other a b (cells_from 0 c.index-raw-core.result)
+    (cells_from 0 c.index-raw-other.result)
     c.requires.lower (omega (arith, length-rows_of raw, c.requires.there))
-    (row_here raw core c.index-raw-core.result (omega (arith, c.requires.lower, c.requires.there)) c.index-raw-core.is)
+    (row_here raw core c.index-raw-core.result
+    (omega (arith, c.requires.lower, c.requires.there)) c.index-raw-core.is)
     (row_here raw other c.index-raw-other.result c.requires.there c.index-raw-other.is)
     (ap (cells_from 0) c.items.ensures) (ap (cells_from 0) c.items-2.ensures) in
     stays_sooner rows core other c.in-Some.meeting.tick c.args.best c.requires.before
