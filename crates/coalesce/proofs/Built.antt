@@ -14,7 +14,7 @@ use Rattle.tab_core.specs.declared.piece.Piece.{Piece}
 use Rattle.table_form.specs.Planning.Drafts.{HaveOwnCores, pieces_at}
 use Rattle.table_form.proofs.Filters.{slice_get-filter}
 use Rattle.coalesce.specs.Joining.{has_single_piece}
-use Rattle.coalesce.specs.Passing.{IsTableOf}
+use Rattle.coalesce.specs.Inside.Passing.{IsTableOf}
 use Rattle.coalesce.proofs.Members.{slice_get-append_cases, slice_get-append_last, slice_get-append_left, slice_get-set_other, slice_get-set_same}
 
 -- an empty table
@@ -25,6 +25,7 @@ empty_listed zero v p at = absurd cc
 empty_listed (suc n) zero p at = absurd cc
 empty_listed (suc n) (suc v) p at = empty_listed n v p at
 
+-- the table begins without a piece
 pub empty_table : IsTableOf [] (replicate MAX_VCPUS None)
 empty_table = record {
   size = length-replicate MAX_VCPUS (let none : Option Piece = None in none);
@@ -71,16 +72,19 @@ table_more pieces table p others is =
     only p q zero at = same_Some p q at
     only p q (suc j) at = absurd cc
 
+-- the pieces up to the next one, as the loop counts them
 take_suc : (pieces : List Piece) (i : ℕ) (d : Piece) → i < length pieces → take
     (suc i) pieces ≡ take i pieces ++ get_or pieces i d ∷ []
 take_suc [] i d lt = absurd (omega arith)
 take_suc (p ∷ ps) zero d lt = refl
 take_suc (p ∷ ps) (suc i) d lt = ap (λ qs. p ∷ qs) (take_suc ps i d (omega arith))
 
+-- the same in the form of the loop's index
 take_one_more : (pieces : List Piece) (i : ℕ) (d : Piece) → i < length pieces → take
     (i + 1) pieces ≡ take i pieces ++ get_or pieces i d ∷ []
 take_one_more pieces i d lt = ap (λ n. take n pieces) (add-one i) ∙ take_suc pieces i d lt
 
+-- a piece among the first ones stands at an earlier place, so it isn't the next one
 before_is_earlier : (pieces : List Piece) (i j : ℕ) (p : Piece)
     → slice_get (take i pieces) j ≡ Some p → (j < i) ×
     (slice_get pieces j ≡ Some p)
@@ -141,6 +145,7 @@ next_elsewhere pieces core i p table lt is elsewhere of =
 pub count_of : ℕ → List Piece → ℕ
 count_of v pieces = count_by (λ (p : Piece). eqb p.vcpu v) pieces
 
+-- the next piece counts for its own vCPU
 pub count_of-more : (v : ℕ) (pieces : List Piece) (i : ℕ) (p : Piece) → i < length pieces
     → p ≡ get_or pieces i p
     → count_of v (take (i + 1) pieces) ≡ count_of v (take i pieces) + cond (eqb p.vcpu v) 1 0
@@ -157,11 +162,13 @@ pub record HaveSeen (pieces : List Piece) (seen single : List Bool) : Type 0 whe
   pub seen_is : (v : ℕ) → has_vcpu seen v ≡ ltb 0 (count_of v pieces)
   pub single_is : (v : ℕ) → has_vcpu single v ≡ eqb (count_of v pieces) 1
 
+-- nobody is in a set that begins empty
 no_member : (n v : ℕ) → has_vcpu (replicate n false) v ≡ false
 no_member zero v = refl
 no_member (suc n) zero = refl
 no_member (suc n) (suc v) = no_member n v
 
+-- before the first piece no vCPU has one
 pub none_seen : HaveSeen [] (replicate MAX_VCPUS false) (replicate MAX_VCPUS false)
 unfolding count_of
 none_seen = record {
@@ -171,9 +178,11 @@ none_seen = record {
   single_is = λ v. no_member MAX_VCPUS v;
 }
 
+-- a vCPU that is put in or taken out, read back
 member_same : (set : List Bool) (v : ℕ) (b : Bool) → v < length set → has_vcpu (slice_set set v b) v ≡ b
 member_same set v b lt = get_or-set_same set v b false lt
 
+-- and the others, who stay
 member_other : (set : List Bool) (v w : ℕ) (b : Bool) → w ≢ v
     → has_vcpu (slice_set set v b) w ≡ has_vcpu set w
 member_other set v w b other = get_or-set_other set v w b false other
@@ -189,6 +198,7 @@ stays pieces i p v lt is other =
       ap {B = ℕ} (λ b. cond b 1 0) (ne_eqb p.vcpu v (λ e. other (sym e))),
     )
 
+-- the piece's own vCPU has one more
 grows : (pieces : List Piece) (i : ℕ) (p : Piece) → i < length pieces → p ≡ get_or pieces i p
     → count_of p.vcpu
     (take (i + 1) pieces) ≡ count_of p.vcpu (take i pieces) + 1
@@ -258,6 +268,7 @@ seen_first pieces i p seen single lt is new have =
       ];
     }
 
+-- behind the last piece the set is that of the vCPUs with a single piece
 pub all_seen : (pieces : List Piece) (i : ℕ) (seen single : List Bool) → length pieces ≤ i → HaveSeen
     (take i pieces) seen single → (v : ℕ) → has_vcpu single v ≡ has_single_piece pieces v
 unfolding count_of

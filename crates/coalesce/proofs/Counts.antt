@@ -1,23 +1,11 @@
 -- How many of a row's first cells are a vCPU's, where cells of two owners change places.
-use Rattle.std.proofs.Common.{◌≡◌, ◌≢◌, ℕ, zero, suc, ◌+◌, ◌-◌, ◌≤◌, min, Bool, true, false, cond, eqb, [], ◌∷◌, ◌++◌, length, replicate, take, drop, Option, Some, refl, ap, ◌∙◌, arith, take-add}
+use Rattle.std.proofs.Common.{◌≡◌, ◌≢◌, ℕ, zero, suc, ◌+◌, ◌-◌, ◌≤◌, min, Bool, true, false, cond, eqb, [], ◌∷◌, ◌++◌, length, replicate, take, Option, Some, refl, ap, ◌∙◌, arith}
 use Rattle.std.specs.List.{count_by}
 use Rattle.std.proofs.lemmas.Bool.{eqb-true}
-use Rattle.std.proofs.lemmas.List.Sums.{sum_by-append, sum_by-cons}
+use Rattle.std.proofs.lemmas.List.Sums.{sum_by-cons}
 use Rattle.table_form.specs.Tables.Rows.{Row}
-use Rattle.table_form.specs.Tables.Serves.{cells_within, is_cell_of}
-
--- how many of a row's first cells are the vCPU's
-pub cells_before : ℕ → Row → ℕ → ℕ
-cells_before v row to = count_by (λ cell. is_cell_of v cell) (take to row)
-
--- the cells before an interval's end are those before its start and those within
-pub cells_before-end : (v : ℕ) (row : Row) (from to : ℕ) → from ≤ to
-    → cells_before v row to ≡ cells_before v row from + cells_within v row from to
-unfolding cells_before cells_within
-cells_before-end v row from to le =
-    ap (λ n. count_by (λ cell. is_cell_of v cell) (take n row)) (omega arith)
-    ∙ ap (λ cells. count_by (λ cell. is_cell_of v cell) cells) (take-add from (to - from) row)
-    ∙ sum_by-append (λ cell. cond (is_cell_of v cell) 1 0) (take from row) (take (to - from) (drop from row))
+use Rattle.table_form.specs.Tables.Serves.{is_cell_of}
+use Rattle.table_form.proofs.Supplies.{cells_before}
 
 -- cells of one owner in front of others
 before_replicate : (v w n m : ℕ) (cells : Row) (b : Bool) → eqb v w ≡ b → cells_before v

@@ -7,7 +7,7 @@ use Rattle.tab_core.specs.declared.piece.Piece.{Piece}
 use Rattle.table_form.specs.Tables.Segments.{AreMaximal, SegmentView, segment_view}
 use Rattle.table_form.specs.declared.segment.Segment.{Segment}
 use Rattle.coalesce.specs.Joining.{CanSwap}
-use Rattle.coalesce.specs.Passing.{CanSwapLast, EndBelow}
+use Rattle.coalesce.specs.Inside.Passing.{CanSwapLast, EndBelow}
 use Rattle.table_form.proofs.AppendingLemmas.{in_parts, last_one, set_last}
 
 -- segments that end with two
@@ -20,7 +20,9 @@ pub record LastTwo (ss : List Segment) (xs : List SegmentView) (u t : SegmentVie
   pub second : segment_view a ≡ u
   pub last : segment_view b ≡ t
 
-pub last_two : (ss : List Segment) (xs : List SegmentView) (u t : SegmentView) → map segment_view ss ≡ xs ++ u ∷ t ∷ []
+-- an equation on the last two views as one on the segments, so that writes by index can be read off
+pub last_two : (ss : List Segment) (xs : List SegmentView) (u t : SegmentView)
+    → map segment_view ss ≡ xs ++ u ∷ t ∷ []
     → LastTwo ss xs u t
 last_two ss xs u t e = let parts = in_parts ss xs
     (u ∷ t ∷ []) e in of_parts parts.front parts.bs parts.is parts.first parts.second
@@ -59,9 +61,11 @@ last_but_one_at ss xs u t i d e last =
     ap segment_view (ap (λ n. get_or ss n d) at ∙ ap (λ ts. get_or ts (length two.front) d) two.is
     ∙ get_or-append_seam two.front two.a (two.b ∷ []) d) ∙ two.second
 
+-- the last two are a last one behind another last one
 pub of_last_two : (xs : List SegmentView) (u t : SegmentView) → xs ++ u ∷ t ∷ [] ≡ (xs ++ u ∷ []) ++ t ∷ []
 of_last_two xs u t = sym (append_assoc xs (u ∷ []) (t ∷ []))
 
+-- writes to the last two places change their views alone
 pub set_last_two : (ss : List Segment) (xs : List SegmentView) (u t : SegmentView) (i j : ℕ) (p q : Segment)
     → map segment_view ss ≡ xs ++ u ∷ t ∷ [] → i + 2 ≡ length ss → j + 1 ≡ length ss
     → map segment_view (set (set ss i p) j q) ≡ xs ++ segment_view p ∷ segment_view q ∷ []
@@ -86,7 +90,8 @@ set_last_two ss xs u t i j p q e last last' =
     (of_last_two xs (segment_view p) (segment_view q))
 
 -- two or more have a last one and one before it
-pub two_ends : (ss : List Segment) → 2 ≤ length ss → (xs : List SegmentView) × (u : SegmentView) × (t : SegmentView) ×
+pub two_ends : (ss : List Segment) → 2 ≤ length ss
+    → (xs : List SegmentView) × (u : SegmentView) × (t : SegmentView) ×
     (map segment_view ss ≡ xs ++ u ∷ t ∷ [])
 two_ends [] le = absurd (omega arith)
 two_ends (a ∷ []) le = absurd (omega arith)
@@ -101,6 +106,7 @@ pub record SameEnds (xs ys : List SegmentView) (u t v w : SegmentView) : Type 0 
   pub first : u ≡ v
   pub second : t ≡ w
 
+-- so what one call names as the last two is what another does
 pub same_ends : (xs ys : List SegmentView) (u t v w : SegmentView) → xs ++ u ∷ t ∷ [] ≡ ys ++ v ∷ w ∷ []
     → SameEnds xs ys u t v w
 same_ends [] [] u t v w e = record { before = refl; first = cc; second = cc }
@@ -154,7 +160,8 @@ pub last_two_can : (pieces : List Piece) (sliver : ℕ) (ss : List Segment) (nex
     (CanSwapLast pieces sliver (map segment_view ss) next → IsTrue test)
 last_two_can pieces sliver ss next a b test le at_a at_b tells = (if_true, if_can)
   where
-    here : (xs : List SegmentView) (u t : SegmentView) → map segment_view ss ≡ xs ++ u ∷ t ∷ [] → (segment_view a ≡ u) ×
+    here : (xs : List SegmentView) (u t : SegmentView) → map segment_view ss ≡ xs ++ u ∷ t ∷ []
+        → (segment_view a ≡ u) ×
         (segment_view b ≡ t)
     here xs u t is = (
       ap segment_view at_a ∙ last_but_one_at ss xs u t (length ss - 2) a is (omega arith),
@@ -182,7 +189,8 @@ last_two_can pieces sliver ss next a b test le at_a at_b tells = (if_true, if_ca
         (subst (λ y. CanSwap pieces sliver last.x y next) (sym is.1) last.can))
 
 -- the last two take the places of a swap
-pub swap_ends : (ss : List Segment) (end i j : ℕ) (p q a b : Segment) (before : List SegmentView) (x y : SegmentView)
+pub swap_ends : (ss : List Segment) (end i j : ℕ) (p q a b : Segment) (before : List SegmentView)
+    (x y : SegmentView)
     → map segment_view ss ≡ before ++ x ∷ y ∷ []
     → i + 2 ≡ length ss → j + 1 ≡ length ss → a ≡ get_or ss i a → b ≡ get_or ss j b
     → segment_view p ≡ record { owner = a.owner; end = a.end + (end - b.end) }

@@ -12,7 +12,8 @@ use Rattle.table_form.proofs.AppendingLemmas.{before_nothing, before_one_more}
 use Rattle.table_form.proofs.SegmentLemmas.{maximal_front}
 
 -- a segment ends where it did
-pub given_end : (may_grow : ℕ → Bool) (sliver : ℕ) (x y : SegmentView) → (given may_grow sliver x y).end ≡ y.end
+pub given_end : (may_grow : ℕ → Bool) (sliver : ℕ) (x y : SegmentView)
+    → (given may_grow sliver x y).end ≡ y.end
 given_end may_grow sliver x y = by_test (is_given may_grow sliver x.owner y.owner (y.end - x.end)) refl
   where
     by_test : (b : Bool) → is_given may_grow sliver x.owner y.owner (y.end - x.end) ≡ b →
@@ -20,6 +21,7 @@ given_end may_grow sliver x y = by_test (is_given may_grow sliver x.owner y.owne
     by_test true e = rw e refl
     by_test false e = rw e refl
 
+-- giving segments away joins neighbours, so the rest stays maximal, from any start
 pub filled_after_maximal : (may_grow : ℕ → Bool) (sliver start : ℕ) (x : SegmentView)
     (ts : List SegmentView) (end : ℕ)
     → AreMaximal start ts end → AreMaximal start (filled_after may_grow sliver x ts) end
@@ -31,12 +33,16 @@ filled_after_maximal may_grow sliver start x (y ∷ ts) end m =
     (omega (arith, e, m.0))
     (subst (λ n. AreMaximal n (filled_after may_grow sliver y ts) end) (sym e) rest)
 
-pub filled_maximal : (may_grow : ℕ → Bool) (sliver : ℕ) (ts : List SegmentView) (end : ℕ) → AreMaximal 0 ts end
+-- and so the whole row does, which makes it a table
+pub filled_maximal : (may_grow : ℕ → Bool) (sliver : ℕ) (ts : List SegmentView) (end : ℕ)
+    → AreMaximal 0 ts end
     → AreMaximal 0 (filled may_grow sliver ts) end
 filled_maximal may_grow sliver ts end m = filled_after_maximal may_grow sliver 0
     (record { owner = None; end = 0 }) ts end m
 
-pub filled_after_length : (may_grow : ℕ → Bool) (sliver : ℕ) (x : SegmentView) (ts : List SegmentView) → length
+-- and has no more segments
+pub filled_after_length : (may_grow : ℕ → Bool) (sliver : ℕ) (x : SegmentView) (ts : List SegmentView)
+    → length
     (filled_after may_grow sliver x ts) ≤ length ts
 filled_after_length may_grow sliver x [] = omega arith
 filled_after_length may_grow sliver x (y ∷ ts) =
@@ -48,12 +54,14 @@ filled_after_length may_grow sliver x (y ∷ ts) =
     )
 
 -- the second rule has come to the segment of this index
-pub record HasFilled (may_grow : ℕ → Bool) (sliver : ℕ) (segments : List Segment) (at : ℕ) (before : SegmentView)
+pub record HasFilled (may_grow : ℕ
+    → Bool) (sliver : ℕ) (segments : List Segment) (at : ℕ) (before : SegmentView)
     (out : List SegmentView) : Type 0 where
   pub rises : AreMaximal before.end (map segment_view (drop at segments)) ROUND
   pub leads : put_before out (filled_after may_grow sliver before
       (map segment_view (drop at segments))) ≡ filled may_grow sliver (map segment_view segments)
 
+-- before the first segment
 pub none_filled : (may_grow : ℕ → Bool) (sliver : ℕ) (segments : List Segment) → AreMaximal 0
     (map segment_view segments) ROUND
     → HasFilled may_grow sliver segments 0 (record { owner = None; end = 0 }) []
@@ -85,6 +93,7 @@ one_filled may_grow sliver segments at before out s lt is filling =
     left_at ss i t lt is = rw (add-one i) (drop-cons ss i t lt
         ∙ ap (λ (x : Segment). x ∷ drop (suc i) ss) (sym is))
 
+-- behind the last one the list is the filled row
 pub all_filled : (may_grow : ℕ → Bool) (sliver : ℕ) (segments : List Segment) (at : ℕ) (before : SegmentView)
     (out : List SegmentView) → length segments ≤ at → HasFilled may_grow sliver segments at before out
     → out ≡ filled may_grow sliver (map segment_view segments)

@@ -19,10 +19,12 @@ Grows [] (d ∷ ds) = ⊥
 Grows (c ∷ cs) [] = ⊥
 Grows (c ∷ cs) (d ∷ ds) = ((c ≡ None) ⊎ (d ≡ c)) × Grows cs ds
 
+-- rows without cells, where inductions end
 grows_nil : Grows [] []
 unfolding Grows
 grows_nil = tt
 
+-- a run whose owner stays, or that was idle, in front of rows that grow
 grows_run : (n : ℕ) (o p : Option ℕ) (cs ds : Row) → (o ≡ None) ⊎ (p ≡ o) → Grows cs ds
     → Grows (replicate n o ++ cs)
     (replicate n p ++ ds)
@@ -30,6 +32,7 @@ unfolding Grows
 grows_run zero o p cs ds same rest = rest
 grows_run (suc n) o p cs ds same rest = (same, grows_run n o p cs ds same rest)
 
+-- an interval's cells are a part of those behind its start
 grows_drop : (n : ℕ) (cs ds : Row) → Grows cs ds → Grows (drop n cs) (drop n ds)
 unfolding Grows
 grows_drop zero cs ds g = g
@@ -38,6 +41,7 @@ grows_drop (suc n) [] (d ∷ ds) g = absurd g
 grows_drop (suc n) (c ∷ cs) [] g = absurd g
 grows_drop (suc n) (c ∷ cs) (d ∷ ds) g = grows_drop n cs ds g.1
 
+-- no vCPU loses a cell
 count_grows : (v n : ℕ) (cs ds : Row) → Grows cs ds
     → count_by (λ cell. is_cell_of v cell) (take n cs) ≤ count_by
     (λ cell. is_cell_of v cell) (take n ds)
@@ -71,6 +75,7 @@ pub data IsGift (may_grow : ℕ → Bool) (x y : SegmentView) (owner : Option �
   Gift : (v : ℕ) → x.owner ≡ Some v → y.owner ≡ None → may_grow v ≡ true → owner ≡ x.owner
       → IsGift may_grow x y owner
 
+-- the rule's test as one of the two cases
 gift_of : (may_grow : ℕ → Bool) (sliver : ℕ) (x y : SegmentView)
     → IsGift may_grow x y (given may_grow sliver x y).owner
 gift_of may_grow sliver x y = by_test (is_given may_grow sliver x.owner y.owner (y.end - x.end)) refl
@@ -88,6 +93,7 @@ gift_of may_grow sliver x y = by_test (is_given may_grow sliver x.owner y.owner 
     by_test true holds = rw holds (owners x.owner y.owner refl refl holds)
     by_test false no_ = rw no_ (Kept refl)
 
+-- in both only an idle segment changes its owner
 gift_grows : (may_grow : ℕ → Bool) (x y : SegmentView) (owner : Option ℕ) → IsGift may_grow x y owner
     → (y.owner ≡ None) ⊎
     (owner ≡ y.owner)
@@ -107,7 +113,9 @@ filled_cells may_grow sliver start x y ts end m =
     cells_of_front start g (filled_after may_grow sliver y ts) end (omega (arith, e, m.0)) rest ∙ ap
     (λ n. replicate (n - start) g.owner ++ cells_of n (filled_after may_grow sliver y ts)) e
 
-pub filled_grows : (may_grow : ℕ → Bool) (sliver start : ℕ) (x : SegmentView) (ts : List SegmentView) (end : ℕ)
+-- so the filled row has each vCPU's cells of before
+pub filled_grows : (may_grow : ℕ
+    → Bool) (sliver start : ℕ) (x : SegmentView) (ts : List SegmentView) (end : ℕ)
     → AreMaximal start ts end
     → Grows (cells_of start ts) (cells_of start (filled_after may_grow sliver x ts))
 filled_grows may_grow sliver start x [] end m =
@@ -128,10 +136,13 @@ pub data IsGrownCell (may_grow : ℕ → Bool) (owner : Option ℕ) (row : Row) 
   HasCell : may_grow v ≡ true → (other : ℕ) → slice_get row other ≡ Some (Some v)
       → IsGrownCell may_grow owner row place v
 
+-- a cell with an owner has one owner
 inside : (o : Option ℕ) (v : ℕ) → ◌≡◌ {A = Option (Option ℕ)} (Some o) (Some (Some v)) → o ≡ Some v
 inside o v e = cc
 
-pub grown_cell : (may_grow : ℕ → Bool) (sliver start : ℕ) (x : SegmentView) (ts : List SegmentView) (end place v : ℕ)
+-- where each vCPU's cell of the filled row comes from, for the promise that it keeps to one core
+pub grown_cell : (may_grow : ℕ
+    → Bool) (sliver start : ℕ) (x : SegmentView) (ts : List SegmentView) (end place v : ℕ)
     → AreMaximal start ts end
     → slice_get (cells_of start (filled_after may_grow sliver x ts)) place ≡ Some (Some v)
     → IsGrownCell may_grow x.owner (cells_of start ts) place v

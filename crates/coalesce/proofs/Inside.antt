@@ -10,12 +10,13 @@ use Rattle.table_form.specs.Tables.Segments.{AreMaximal, SegmentView}
 use Rattle.table_form.specs.Planning.Windows.{DistinctVcpus, ServesWindows}
 use Rattle.coalesce.specs.Joining.{NoBegin, NoEnd, SwapsLeftmost, SwapsTo}
 use Rattle.coalesce.specs.Joining.SwapsTo.{Again, Done}
-use Rattle.coalesce.proofs.Counts.{AreMoved, IsOutside, cells_before-end, same_before}
+use Rattle.coalesce.proofs.Counts.{AreMoved, IsOutside, same_before}
 use Rattle.coalesce.proofs.Counts.IsOutside.{Another, Before, Behind}
 use Rattle.coalesce.proofs.Moved.{CellAfter, cell_after, cells_moved, first_cell, last_cell}
 use Rattle.coalesce.proofs.Moved.CellAfter.{AsBefore, OfFirst, OfSecond}
 use Rattle.coalesce.proofs.Swapping.{parts_of, swap_keeps}
 use Rattle.table_form.proofs.SegmentLemmas.{cells_of}
+use Rattle.table_form.proofs.Supplies.{cells_before-end}
 
 -- the tick is in a window of the vCPU's piece
 pub record InWindow (pieces : List Piece) (vcpu tick : ℕ) : Type 0 where
@@ -124,6 +125,7 @@ from_sides : (b l a first second v n : ℕ) → (n ≤ b) ⊎ (b + l + a ≤ n) 
 from_sides b l a first second v n (inl le) = Before le
 from_sides b l a first second v n (inr le) = Behind le
 
+-- so counts of cells up to a window's begin and end stay
 ends_outside : (pieces : List Piece) (row row' : Row) (b l a first second : ℕ)
     → MayMove pieces row row' b l a first second → DistinctVcpus pieces → AreInWindows pieces row
     → (i k : ℕ) (p : Piece) → slice_get pieces i ≡ Some p
@@ -152,6 +154,7 @@ ends_outside pieces row row' b l a first second may distinct inside i k p listed
               (k * p.period + p.to) sides.1,
         )
 
+-- and each window keeps its number of cells
 pub move_serves : (pieces : List Piece) (row row' : Row) (b l a first second : ℕ)
     → MayMove pieces row row' b l a first second → DistinctVcpus pieces → AreInWindows pieces row
     → ServesWindows pieces row → ServesWindows pieces row'
@@ -166,6 +169,7 @@ move_serves pieces row row' b l a first second may distinct inside serves i k p 
     let is = cells_before-end p.vcpu row' from to le in
     omega (arith, lead, all, was, is, serves i k p listed lt)
 
+-- and each cell stays in a window
 pub move_keeps : (pieces : List Piece) (row row' : Row) (b l a first second : ℕ)
     → MayMove pieces row row' b l a first second → AreInWindows pieces row → AreInWindows pieces row'
 move_keeps pieces row row' b l a first second may inside v x at = by_cell
@@ -214,6 +218,7 @@ pub record AreServed (pieces : List Piece) (row : Row) : Type 0 where
   pub serves : ServesWindows pieces row
   pub inside : AreInWindows pieces row
 
+-- one swap after the other
 pub swaps_serve : (pieces : List Piece) (sliver bound : ℕ) (end row : List SegmentView) → DistinctVcpus pieces
     → SwapsTo pieces sliver end row → AreMaximal 0 row bound
     → AreServed pieces (cells_of 0 row) → AreServed pieces (cells_of 0 end)

@@ -14,11 +14,13 @@ use Rattle.table_form.proofs.SegmentLemmas.{segments_are, segments_of_cells}
 
 -- the filled segments are maximal
 pub still_maximal : (may_grow : ℕ → Bool) (sliver : ℕ) (swapped joined : List Segment) → AreMaximal 0
-    (map segment_view swapped) ROUND → map segment_view joined ≡ filled may_grow sliver (map segment_view swapped)
+    (map segment_view swapped) ROUND
+    → map segment_view joined ≡ filled may_grow sliver (map segment_view swapped)
     → AreMaximal 0 (map segment_view joined) ROUND
 still_maximal may_grow sliver swapped joined m is = subst (λ ts. AreMaximal 0 ts ROUND) (sym is)
     (filled_maximal may_grow sliver (map segment_view swapped) ROUND m)
 
+-- the row of the filled segments is the joined row
 pub row_joined : (pieces : List Piece) (may_grow : ℕ → Bool) (sliver : ℕ) (row joined : Row)
     (swapped segments : List Segment) → SwapsTo pieces sliver (map segment_view swapped) (segments_from 0 row)
     → AreMaximal 0 (map segment_view swapped) ROUND → map segment_view segments ≡ filled may_grow sliver
@@ -42,6 +44,7 @@ same_given f g sliver x y same = ap (λ b. cond b (record { owner = x.owner; end
     same_test (Some v) (Some w) ticks = refl
     same_test (Some v) None ticks = ap (λ b. ltb ticks sliver && b) (same v)
 
+-- so sets that agree on each vCPU fill alike
 same_filled : (f g : ℕ → Bool) (sliver : ℕ) (x : SegmentView) (ts : List SegmentView) → ((v : ℕ) → f v ≡ g v)
     → filled_after f sliver x ts ≡ filled_after g sliver x ts
 same_filled f g sliver x [] same = refl
@@ -49,6 +52,7 @@ same_filled f g sliver x (y ∷ ts) same =
     ap (λ s. put_front s (filled_after f sliver y ts)) (same_given f g sliver x y same) ∙ ap
     (put_front (given g sliver x y)) (same_filled f g sliver y ts same)
 
+-- which lets the code's set stand for the count of pieces
 pub joined_by : (pieces : List Piece) (f g : ℕ → Bool) (sliver : ℕ) (row joined : Row) → ((v : ℕ) → f v ≡ g v)
     → IsJoined pieces f sliver row joined → IsJoined pieces g sliver row joined
 joined_by pieces f g sliver row joined same is = record {
@@ -65,6 +69,7 @@ pub record JoinedSoFar (pieces : List Piece) (sliver : ℕ) (rows : List Row) (c
   pub each : (c : ℕ) (row new : Row) → slice_get rows c ≡ Some row → slice_get joined c ≡ Some new → IsJoined
       (pieces_at pieces c) (has_single_piece pieces) sliver row new
 
+-- one row more
 pub one_joined : (pieces : List Piece) (sliver : ℕ) (rows : List Row) (core : ℕ) (joined : List Row)
     (row new : Row)
     → slice_get rows core ≡ Some row

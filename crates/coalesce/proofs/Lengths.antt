@@ -8,10 +8,13 @@ use Rattle.coalesce.proofs.Filled.{filled_maximal}
 use Rattle.coalesce.proofs.Swapping.{swaps_keep}
 use Rattle.table_form.proofs.SegmentLemmas.{maximal_of_row}
 
-one_end : (start : ℕ) (ts : List SegmentView) (a b : ℕ) → AreMaximal start ts a → AreMaximal start ts b → a ≡ b
+-- maximal segments have one end, which measures both rows
+one_end : (start : ℕ) (ts : List SegmentView) (a b : ℕ) → AreMaximal start ts a → AreMaximal start ts b
+    → a ≡ b
 one_end start [] a b of_a of_b = sym of_a ∙ of_b
 one_end start (t ∷ ts) a b of_a of_b = one_end t.end ts a b of_a.2 of_b.2
 
+-- a plan's rows are whole, since the rows of a draft are
 pub joined_length : (pieces : List Piece) (may_grow : ℕ → Bool) (sliver : ℕ) (row joined : Row)
     → IsJoined pieces may_grow sliver row joined → length joined ≡ length row
 joined_length pieces may_grow sliver row joined is =

@@ -9,12 +9,14 @@ slice_get-append_cases [] ys i x at = inr (i, at)
 slice_get-append_cases (z ∷ xs) ys zero x at = inl at
 slice_get-append_cases (z ∷ xs) ys (suc i) x at = slice_get-append_cases xs ys i x at
 
+-- what stands in the first list stands there in both
 pub slice_get-append_left : {X : Type 0} (xs ys : List X) (i : ℕ) (x : X) → slice_get xs i ≡ Some x
     → slice_get (xs ++ ys) i ≡ Some x
 slice_get-append_left [] ys i x at = absurd cc
 slice_get-append_left (z ∷ xs) ys zero x at = at
 slice_get-append_left (z ∷ xs) ys (suc i) x at = slice_get-append_left xs ys i x at
 
+-- what is appended stands at the old length
 pub slice_get-append_last : {X : Type 0} (xs : List X) (x : X) → slice_get (xs ++ x ∷ []) (length xs) ≡ Some x
 slice_get-append_last [] x = refl
 slice_get-append_last (z ∷ xs) x = slice_get-append_last xs x
@@ -26,6 +28,7 @@ slice_get-set_same xs i y lt =
     slice_get-get_or (set xs i y) i y (omega (arith, length-set xs i y))
     ∙ ap Some (get_or-set_same xs i y y lt)
 
+-- a write leaves the other places as they are
 pub slice_get-set_other : {X : Type 0} (xs : List X) (i j : ℕ) (y : X) → (j ≡ i → ⊥)
     → slice_get (set xs i y) j ≡ slice_get xs j
 slice_get-set_other [] i j y ne = refl

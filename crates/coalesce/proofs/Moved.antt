@@ -14,12 +14,15 @@ end_of : ℕ → List SegmentView → ℕ
 end_of start [] = start
 end_of start (t ∷ ts) = end_of t.end ts
 
-behind_maximal : (start : ℕ) (xs ys : List SegmentView) (end : ℕ) → AreMaximal start (xs ++ ys) end → AreMaximal
+-- the segments behind some are maximal from their end on
+behind_maximal : (start : ℕ) (xs ys : List SegmentView) (end : ℕ) → AreMaximal start (xs ++ ys) end
+    → AreMaximal
     (end_of start xs) ys end
 unfolding end_of
 behind_maximal start [] ys end m = m
 behind_maximal start (x ∷ xs) ys end m = behind_maximal x.end xs ys end m.2
 
+-- the cells of segments in two parts
 cells_of_append : (start : ℕ) (xs ys : List SegmentView)
     → cells_of start (xs ++ ys) ≡ cells_of start xs ++ cells_of
     (end_of start xs) ys
@@ -32,6 +35,7 @@ cells_of_append start (x ∷ xs) ys =
     (cells_of (end_of x.end xs) ys))
     ∙ ap (λ cells. cells ++ cells_of (end_of x.end xs) ys) (sym (cells_of-cons start x xs))
 
+-- and how many those of the first part are
 length-cells_of : (start : ℕ) (xs ys : List SegmentView) (end : ℕ) → AreMaximal start (xs ++ ys) end → length
     (cells_of start xs) + start ≡ end_of start xs
 unfolding end_of
@@ -128,20 +132,24 @@ get_front [] ys i lt = absurd (omega arith)
 get_front (x ∷ xs) ys zero lt = refl
 get_front (x ∷ xs) ys (suc i) lt = get_front xs ys i (omega arith)
 
+-- a cell behind the first list
 pub get_behind : (xs ys : Row) (i j : ℕ) → i ≡ length xs + j → slice_get (xs ++ ys) i ≡ slice_get ys j
 get_behind [] ys i j e = ap (slice_get ys) (omega (arith, e))
 get_behind (x ∷ xs) ys zero j e = absurd (omega (arith, e))
 get_behind (x ∷ xs) ys (suc i) j e = get_behind xs ys i j (omega (arith, e))
 
+-- a cell of a run
 pub get_replicate : (n : ℕ) (o : Option ℕ) (i : ℕ) → i < n → slice_get (replicate n o) i ≡ Some o
 get_replicate zero o i lt = absurd (omega arith)
 get_replicate (suc n) o zero lt = refl
 get_replicate (suc n) o (suc i) lt = get_replicate n o i (omega arith)
 
+-- a cell of a run in front of others
 get_run : (n : ℕ) (o : Option ℕ) (cells : Row) (i : ℕ) → i < n → slice_get (replicate n o ++ cells) i ≡ Some o
 get_run n o cells i lt = get_front (replicate n o) cells i (omega (arith, length-replicate n o, lt))
     ∙ get_replicate n o i lt
 
+-- and one behind it
 get_past_run : (n : ℕ) (o : Option ℕ) (cells : Row) (i j : ℕ) → i ≡ n + j → slice_get
     (replicate n o ++ cells) i ≡ slice_get cells j
 get_past_run n o cells i j e = get_behind (replicate n o) cells i j (omega (arith, length-replicate n o, e))
@@ -153,6 +161,7 @@ first_cell row row' b l a first second moved some =
     ap (λ r. slice_get r b) moved.old ∙ get_behind moved.front _ b 0 (omega (arith, moved.size)) ∙ get_run l
     (Some second) _ 0 some
 
+-- so windows of both vCPUs are known at the two ends
 pub last_cell : (row row' : Row) (b l a first second y : ℕ) → AreMoved row row' b l a first second → b + l ≤ y
     → y < b + l + a → slice_get row y ≡ Some (Some first)
 last_cell row row' b l a first second y moved le lt =
@@ -167,9 +176,11 @@ pub data CellAfter (row : Row) (b l a first second x v : ℕ) : Type 0 where
   OfFirst : v ≡ first → b ≤ x → x < b + l + a → CellAfter row b l a first second x v
   OfSecond : v ≡ second → b ≤ x → x < b + l + a → CellAfter row b l a first second x v
 
+-- a cell with an owner has one owner
 inside : (v w : ℕ) → ◌≡◌ {A = Option (Option ℕ)} (Some (Some v)) (Some (Some w)) → w ≡ v
 inside v w e = cc
 
+-- which of these a cell is, by its place
 pub cell_after : (row row' : Row) (b l a first second x v : ℕ) → AreMoved row row' b l a first second
     → slice_get row' x ≡ Some (Some v) → CellAfter row b l a first second x v
 cell_after row row' b l a first second x v moved at =

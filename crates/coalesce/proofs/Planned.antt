@@ -52,6 +52,7 @@ pub record IsGrownRow (pieces : List Piece) (core : ℕ) (new : Row) : Type 0 wh
   pub cells : (place v : ℕ) → slice_get new place ≡ Some (Some v) → IsGrownCell
       (has_single_piece pieces) None swapped place v
 
+-- both rules, one after the other, on one core's row
 joined_row : (pieces : List Piece) (sliver core : ℕ) (row new : Row) → HaveOwnCores pieces → AreServed
     (pieces_at pieces core) row → IsJoined (pieces_at pieces core) (has_single_piece pieces) sliver row new
     → IsGrownRow pieces core new
@@ -102,6 +103,7 @@ jobs_served pieces core new grown i k p at lt =
           (k * p.period + p.to) grown.swapped new grown.grows,
     )
 
+-- so each period has the cost, since the window lies in it
 costs_given : (pieces : List Piece) (joined : List Row) →
     ((core : ℕ) (new : Row) → slice_get joined core ≡ Some new → IsGrownRow pieces core new)
     → GiveCosts pieces joined
@@ -134,6 +136,7 @@ count_none v (q ∷ ps) none (suc i) p at own =
     count_none v ps (omega (arith, none, sum_by-cons (λ (r : Piece). cond (eqb r.vcpu v) 1 0) q ps))
     i p at own
 
+-- so two of its pieces are the same, and it can't be on two cores
 single_is_one : (v : ℕ) (ps : List Piece) → count_by (λ (p : Piece). eqb p.vcpu v) ps ≡ 1
     → (i j : ℕ) (p q : Piece)
     → slice_get ps i ≡ Some p → slice_get ps j ≡ Some q → p.vcpu ≡ v → q.vcpu ≡ v → p ≡ q
@@ -218,6 +221,7 @@ owner_in_row rows core tick v owned = in_row (slice_get rows core) refl owned
     in_row None is e = absurd cc
     in_row (Some row) is e = (row, is, in_cell row (slice_get row tick) refl e)
 
+-- so the owners of all cells are, which keeps the rows apart
 places_kept : (pieces : List Piece) (joined : List Row) →
     ((core : ℕ) (new : Row) → slice_get joined core ≡ Some new → IsGrownRow pieces core new)
     → KeepPlaces pieces joined

@@ -13,6 +13,7 @@ record Longer (t t' : SegmentView) : Type 0 where
   same : t'.owner ≡ t.owner
   later : t.end ≤ t'.end
 
+-- a segment that stays as it is
 itself : (t : SegmentView) → Longer t t
 itself t = record { same = refl; later = omega arith }
 
@@ -32,7 +33,8 @@ shorter_swap pieces sliver x y y' z z' of_y of_z can = record {
 }
 
 -- the last may end later
-pub last_grows : (pieces : List Piece) (sliver : ℕ) (xs : List SegmentView) (t t' : SegmentView) → t'.owner ≡ t.owner
+pub last_grows : (pieces : List Piece) (sliver : ℕ) (xs : List SegmentView) (t t' : SegmentView)
+    → t'.owner ≡ t.owner
     → t.end ≤ t'.end
     → NoSwap pieces sliver (xs ++ t ∷ []) → NoSwap pieces sliver (xs ++ t' ∷ [])
 last_grows pieces sliver [] t t' same le quiet = tt
@@ -74,7 +76,8 @@ one_more_quiet pieces sliver (x ∷ []) u t s cannot quiet =
     (quiet.0, one_more_quiet pieces sliver [] u t s cannot quiet.1)
 one_more_quiet pieces sliver (x ∷ y ∷ xs) u t s cannot quiet = several x y xs cannot quiet
   where
-    several : (x y : SegmentView) (xs : List SegmentView) → (CanSwap pieces sliver u t s → ⊥) → NoSwap pieces sliver
+    several : (x y : SegmentView) (xs : List SegmentView) → (CanSwap pieces sliver u t s → ⊥)
+        → NoSwap pieces sliver
         (x ∷ y ∷ (xs ++ u ∷ t ∷ [])) → NoSwap pieces sliver (x ∷ y ∷ (xs ++ u ∷ t ∷ s ∷ []))
     several x y [] cannot quiet = (quiet.0, (quiet.1.0, (cannot, tt)))
     several x y (z ∷ xs) cannot quiet = (quiet.0, several y z xs cannot quiet.1)
@@ -82,7 +85,8 @@ one_more_quiet pieces sliver (x ∷ y ∷ xs) u t s cannot quiet = several x y x
 -- the next segment is appended, where it can't be swapped with the last two
 pub append_quiet : (pieces : List Piece) (sliver : ℕ) (out : List SegmentView) (s : SegmentView)
     → NoSwap pieces sliver out
-    → ((before : List SegmentView) (x y : SegmentView) → out ≡ before ++ x ∷ y ∷ [] → CanSwap pieces sliver x y s → ⊥)
+    → ((before : List SegmentView) (x y : SegmentView) → out ≡ before ++ x ∷ y ∷ []
+    → CanSwap pieces sliver x y s → ⊥)
     → ((before : List SegmentView) (t : SegmentView) → out ≡ before ++ t ∷ [] → t.end ≤ s.end)
     → NoSwap pieces sliver (put_before out (s ∷ []))
 append_quiet pieces sliver [] s quiet cannot rises = tt

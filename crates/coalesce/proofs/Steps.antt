@@ -11,7 +11,7 @@ use Rattle.table_form.proofs.AppendingLemmas.{before_last_two, before_nothing, b
 use Rattle.table_form.proofs.SegmentLemmas.{front_stays, maximal_end}
 use Rattle.coalesce.specs.Joining.{CanSwap, NoSwap, SwapsLeftmost, SwapsTo, swapped}
 use Rattle.coalesce.specs.Joining.SwapsTo.{Again, Done}
-use Rattle.coalesce.specs.Passing.{CanSwapLast, EndBelow, IsPassed, IsTableOf, StandInRow}
+use Rattle.coalesce.specs.Inside.Passing.{CanSwapLast, EndBelow, IsPassed, IsTableOf, StandInRow}
 use Rattle.coalesce.proofs.Ends.{ends_before}
 use Rattle.coalesce.proofs.Quiet.{append_quiet, two_grow}
 use Rattle.coalesce.proofs.Swapping.{parts_of}
@@ -20,9 +20,11 @@ use Rattle.coalesce.proofs.Swapping.{parts_of}
 abbrev pub first_after : SegmentView → SegmentView → SegmentView → SegmentView
 first_after u t s = record { owner = u.owner; end = u.end + (s.end - t.end) }
 
+-- and the second of them, which comes to the end
 abbrev pub second_after : SegmentView → SegmentView → SegmentView
 second_after t s = record { owner = t.owner; end = s.end }
 
+-- a swap keeps the two parts of the row
 pub stands_after_swap : (xs : List SegmentView) (u t s : SegmentView) (rest : List SegmentView)
     → StandInRow (xs ++ u ∷ t ∷ [])
     (s ∷ rest)
@@ -37,6 +39,7 @@ stands_after_swap xs u t s rest stand =
       after = stand.after.2;
     }
 
+-- and is one leftmost swap of the row
 pub passed_after_swap : (pieces : List Piece) (sliver : ℕ) (row xs : List SegmentView) (u t s : SegmentView)
     (rest : List SegmentView)
     → StandInRow (xs ++ u ∷ t ∷ []) (s ∷ rest) → CanSwap pieces sliver u t s → IsPassed pieces sliver row
@@ -72,7 +75,9 @@ passed_after_swap pieces sliver row xs u t s rest stand can passed =
       leads = λ end swaps. passed.leads end (Again _ _ swap swaps);
     }
 
-pub stands_after_append : (out : List SegmentView) (s : SegmentView) (rest : List SegmentView) → StandInRow out (s ∷ rest)
+-- so does a segment that is appended
+pub stands_after_append : (out : List SegmentView) (s : SegmentView) (rest : List SegmentView)
+    → StandInRow out (s ∷ rest)
     → StandInRow (put_before out (s ∷ [])) rest
 stands_after_append out s rest stand = record {
   reached = s.end;
@@ -80,6 +85,7 @@ stands_after_append out s rest stand = record {
   after = stand.after.2;
 }
 
+-- which makes no swap possible before it
 pub passed_after_append : (pieces : List Piece) (sliver : ℕ) (row out : List SegmentView) (s : SegmentView)
     (rest : List SegmentView) → StandInRow out (s ∷ rest)
     → (CanSwapLast pieces sliver out s → ⊥) → IsPassed pieces sliver row out (s ∷ rest)
@@ -126,7 +132,9 @@ pub record Comes (segments : List Segment) (table : List (Option Piece)) (sliver
       → IsPassed pieces sliver (map segment_view segments) new rest)
       → HasPassed segments table sliver (at + 1) new
 
-pub one_comes : (segments : List Segment) (table : List (Option Piece)) (sliver at : ℕ) (out : List SegmentView)
+-- so it is for each index below the count
+pub one_comes : (segments : List Segment) (table : List (Option Piece)) (sliver at : ℕ)
+    (out : List SegmentView)
     (s : Segment) → at < length segments → s ≡ get_or segments at s
     → HasPassed segments table sliver at out → Comes segments table sliver at out s
 one_comes segments table sliver at out s lt is passed =
@@ -146,7 +154,8 @@ one_comes segments table sliver at out s lt is passed =
     }
 
 -- what comes before the next segment ends below its end
-pub below_next : (out : List SegmentView) (s : SegmentView) (rest : List SegmentView) → StandInRow out (s ∷ rest)
+pub below_next : (out : List SegmentView) (s : SegmentView) (rest : List SegmentView)
+    → StandInRow out (s ∷ rest)
     → EndBelow out s.end
 below_next out s rest stand = record {
   reached = stand.reached;
@@ -161,7 +170,9 @@ pub record Ended (segments : List Segment) (table : List (Option Piece)) (sliver
   pub swaps : (pieces : List Piece) → IsTableOf pieces table
       → SwapsTo pieces sliver out (map segment_view segments)
 
-pub all_passed : (segments : List Segment) (table : List (Option Piece)) (sliver at : ℕ) (out : List SegmentView)
+-- what came is then the row that no swap changes
+pub all_passed : (segments : List Segment) (table : List (Option Piece)) (sliver at : ℕ)
+    (out : List SegmentView)
     → length segments ≤ at → HasPassed segments table sliver at out
     → Ended segments table sliver out
 all_passed segments table sliver at out past passed =

@@ -7,14 +7,17 @@ use Rattle.coalesce.specs.Joining.SwapsTo.{Again, Done}
 use Rattle.table_form.proofs.SegmentLemmas.{front_begins, front_cases, front_joins, front_stays, maximal_front, same_first}
 
 -- some of the segments and the rest of them
-pub record Parts (start : ℕ) (xs : List SegmentView) (y : SegmentView) (ys : List SegmentView) (end : ℕ) : Type 0 where
+pub record Parts (start : ℕ) (xs : List SegmentView) (y : SegmentView) (ys : List SegmentView)
+    (end : ℕ) : Type 0 where
   pub middle : ℕ
   pub second : AreMaximal middle (y ∷ ys) end
   pub instead : (z : SegmentView) (zs : List SegmentView) (end' : ℕ) → z.owner ≡ y.owner
       → AreMaximal middle (z ∷ zs) end'
       → AreMaximal start (xs ++ z ∷ zs) end'
 
-pub parts_of : (start : ℕ) (xs : List SegmentView) (y : SegmentView) (ys : List SegmentView) (end : ℕ) → AreMaximal start
+-- each place divides the row so
+pub parts_of : (start : ℕ) (xs : List SegmentView) (y : SegmentView) (ys : List SegmentView) (end : ℕ)
+    → AreMaximal start
     (xs ++ y ∷ ys) end → Parts start xs y ys end
 parts_of start [] y ys end m = record { middle = start; second = m; instead = λ z zs end' same m'. m' }
 parts_of start (x ∷ []) y ys end m =
@@ -40,6 +43,7 @@ swap_differs pieces sliver start x y z after end m can =
     let rest = maximal_front first.end t after end (omega (arith, m.2.0, m.2.2.0)) m.2.2.2 in
     (omega (arith, m.0), subst (BeginsOther x.owner) (sym with.is) (λ same. m.1 (same ∙ sym with.same)), rest)
 
+-- one swap keeps the row maximal
 pub swap_keeps : (pieces : List Piece) (sliver : ℕ) (start end : ℕ) (row next : List SegmentView)
     → SwapsLeftmost pieces sliver row next → AreMaximal start row end → AreMaximal start next end
 swap_keeps pieces sliver start end row next swap m =
@@ -49,6 +53,7 @@ swap_keeps pieces sliver start end row next swap m =
     (parts.instead _ _ end refl
     (swap_differs pieces sliver parts.middle swap.x swap.y swap.z swap.after end parts.second swap.can))
 
+-- and so do all of them
 pub swaps_keep : (pieces : List Piece) (sliver : ℕ) (start bound : ℕ) (end row : List SegmentView)
     → SwapsTo pieces sliver end row → AreMaximal start row bound → AreMaximal start end bound
 swaps_keep pieces sliver start bound end _ (Done row quiet same) m =
@@ -65,6 +70,7 @@ front_length s (t ∷ ts) = elim (front_cases s.owner (t ∷ ts)) [
   | inr with ↦ rw (front_joins s t ts (same_first s.owner t ts with)) (omega arith)
 ]
 
+-- one swap takes a segment away, since the third joins the first
 pub swap_shortens : (pieces : List Piece) (sliver : ℕ) (row next : List SegmentView)
     → SwapsLeftmost pieces sliver row next → length next < length row
 swap_shortens pieces sliver row next swap =
@@ -78,6 +84,7 @@ swap_shortens pieces sliver row next swap =
       front_length t swap.after,
     )
 
+-- so all swaps leave no more segments, and there is an end of them
 pub swaps_shorten : (pieces : List Piece) (sliver : ℕ) (end row : List SegmentView)
     → SwapsTo pieces sliver end row
     → length end ≤ length row

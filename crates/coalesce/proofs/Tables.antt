@@ -10,7 +10,7 @@ use Rattle.tab_core.specs.declared.piece.Piece.{Piece}
 use Rattle.table_form.specs.Tables.Segments.{SegmentView}
 use Rattle.table_form.proofs.RowLemmas.{same_owner}
 use Rattle.coalesce.specs.Joining.{CanSwap, NoBegin, NoEnd}
-use Rattle.coalesce.specs.Passing.{IsTableOf}
+use Rattle.coalesce.specs.Inside.Passing.{IsTableOf}
 
 -- what stands at the vCPU's number
 pub at_number : (table : List (Option Piece)) (v i : ℕ) (d o : Option Piece)
@@ -19,6 +19,7 @@ pub at_number : (table : List (Option Piece)) (v i : ℕ) (d o : Option Piece)
 at_number table v i d o size same lt is = ap (slice_get table) (sym same) ∙ slice_get-get_or table i d
     (omega (arith, size, lt)) ∙ ap Some is
 
+-- where the table has nothing the vCPU has no piece here
 pub none_listed : (pieces : List Piece) (table : List (Option Piece)) (v at : ℕ) (p : Piece)
     → IsTableOf pieces table
     → slice_get table v ≡ Some None
@@ -29,6 +30,7 @@ none_listed pieces table v at p is none listed own = clash
     clash : ◌≡◌ {A = Option (Option Piece)} (Some None) (Some (Some p)) → ⊥
     clash e = cc
 
+-- where it has a piece the vCPU has that one alone
 pub one_listed : (pieces : List Piece) (table : List (Option Piece)) (v at : ℕ) (p q : Piece)
     → IsTableOf pieces table
     → slice_get table v ≡ Some (Some q)
@@ -39,6 +41,7 @@ one_listed pieces table v at p q is some listed own = inside
     inside : ◌≡◌ {A = Option (Option Piece)} (Some (Some p)) (Some (Some q)) → p ≡ q
     inside e = cc
 
+-- the test for begins fails, so the three can't be swapped
 pub swap_needs_begin : (pieces : List Piece) (sliver : ℕ) (x y z : SegmentView) (v : ℕ) → x.owner ≡ Some v
     → CanSwap pieces sliver x y z → NoBegin pieces v x.end z.end
 swap_needs_begin pieces sliver x y z v is can = subst (λ w. NoBegin pieces w x.end z.end)
@@ -47,6 +50,7 @@ swap_needs_begin pieces sliver x y z v is can = subst (λ w. NoBegin pieces w x.
     inside : Some can.first ≡ Some v → can.first ≡ v
     inside e = cc
 
+-- the test for ends fails, so they can't either
 pub swap_needs_end : (pieces : List Piece) (sliver : ℕ) (x y z : SegmentView) (v : ℕ) → y.owner ≡ Some v
     → CanSwap pieces sliver x y z → NoEnd pieces v x.end z.end
 swap_needs_end pieces sliver x y z v is can = subst (λ w. NoEnd pieces w x.end z.end)

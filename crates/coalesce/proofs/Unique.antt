@@ -10,6 +10,7 @@ use Rattle.coalesce.specs.Joining.{AreJoined, CanSwap, IsJoined, NoSwap, has_sin
 use Rattle.coalesce.specs.Joining.SwapsTo.{Again, Done}
 use Rattle.table_form.proofs.SegmentLemmas.{same_row}
 
+-- what holds of a row holds of the rest of it
 no_swap_behind : (pieces : List Piece) (sliver : ℕ) (w : SegmentView) (ws : List SegmentView)
     → NoSwap pieces sliver (w ∷ ws)
     → NoSwap pieces sliver ws
@@ -17,6 +18,7 @@ no_swap_behind pieces sliver w [] quiet = tt
 no_swap_behind pieces sliver w (x ∷ []) quiet = tt
 no_swap_behind pieces sliver w (x ∷ y ∷ ws) quiet = quiet.1
 
+-- a quiet row has no swap at any place
 no_swap_at : (pieces : List Piece) (sliver : ℕ) (before : List SegmentView) (x y z : SegmentView)
     (after : List SegmentView)
     → NoSwap pieces sliver (before ++ x ∷ y ∷ z ∷ after) → CanSwap pieces sliver x y z → ⊥
@@ -24,6 +26,7 @@ no_swap_at pieces sliver [] x y z after quiet can = quiet.0 can
 no_swap_at pieces sliver (w ∷ before) x y z after quiet can = no_swap_at pieces sliver before x y z after
     (no_swap_behind pieces sliver w (before ++ x ∷ y ∷ z ∷ after) quiet) can
 
+-- equal segments may be swapped alike
 can_moved : (pieces : List Piece) (sliver : ℕ) (x y z u v w : SegmentView) → x ≡ u → y ≡ v → z ≡ w
     → CanSwap pieces sliver x y z → CanSwap pieces sliver u v w
 can_moved pieces sliver x y z u v w a b c can =
@@ -31,7 +34,8 @@ can_moved pieces sliver x y z u v w a b c can =
     (subst (λ s. CanSwap pieces sliver x s w) b (subst (CanSwap pieces sliver x y) c can))
 
 -- no swap is further left than the leftmost
-none_earlier : (pieces : List Piece) (sliver : ℕ) (x y z : SegmentView) (after : List SegmentView) (w : SegmentView)
+none_earlier : (pieces : List Piece) (sliver : ℕ) (x y z : SegmentView) (after : List SegmentView)
+    (w : SegmentView)
     (ws : List SegmentView) (x' y' z' : SegmentView) (after' : List SegmentView)
     → x ∷ y ∷ z ∷ after ≡ w ∷ (ws ++ x' ∷ y' ∷ z' ∷ after') → CanSwap pieces sliver x y z
     → NoSwap pieces sliver
@@ -43,6 +47,7 @@ none_earlier pieces sliver x y z after w (v ∷ []) x' y' z' after' same can qui
 none_earlier pieces sliver x y z after w (v ∷ u ∷ ws) x' y' z' after' same can quiet = quiet.0
     (can_moved pieces sliver x y z w v u (cc) (cc) (cc) can)
 
+-- two leftmost swaps of a row are at one place
 same_swap : (pieces : List Piece) (sliver : ℕ) (before : List SegmentView) (x y z : SegmentView)
     (after before' : List SegmentView) (x' y' z' : SegmentView) (after' : List SegmentView)
     → before ++ x ∷ y ∷ z ∷ after ≡ before' ++ x' ∷ y' ∷ z' ∷ after' → CanSwap pieces sliver x y z
@@ -69,6 +74,7 @@ same_swap pieces sliver (w ∷ ws) x y z after (w' ∷ ws') x' y' z' after' same
     (no_swap_behind pieces sliver w' (ws' ++ x' ∷ y' ∷ []) quiet') in
     ap (λ s. s ∷ (ws ++ swapped x y z after)) here ∙ ap (λ ss. w' ∷ ss) rest
 
+-- so they lead to one row
 leftmost_unique : (pieces : List Piece) (sliver : ℕ) (row a b : List SegmentView)
     → SwapsLeftmost pieces sliver row a
     → SwapsLeftmost pieces sliver row b → a ≡ b
@@ -76,12 +82,14 @@ leftmost_unique pieces sliver row a b s t =
     s.next_is ∙ same_swap pieces sliver s.before s.x s.y s.z s.after t.before t.x t.y t.z t.after
     (sym s.row_is ∙ t.row_is) s.can t.can s.leftmost t.leftmost ∙ sym t.next_is
 
+-- a row without a swap is an end
 quiet_or_swap : (pieces : List Piece) (sliver : ℕ) (row next : List SegmentView) → NoSwap pieces sliver row
     → SwapsLeftmost pieces sliver row next → ⊥
 quiet_or_swap pieces sliver row next quiet swap =
     no_swap_at pieces sliver swap.before swap.x swap.y swap.z swap.after
     (subst (NoSwap pieces sliver) swap.row_is quiet) swap.can
 
+-- so the swaps of a row end in one row
 swaps_unique : (pieces : List Piece) (sliver : ℕ) (a b row : List SegmentView) → SwapsTo pieces sliver a row
     → SwapsTo pieces sliver b row → a ≡ b
 swaps_unique pieces sliver a b row (Done r quiet same) (Done q quiet' same') = sym same ∙ same'
@@ -93,6 +101,7 @@ swaps_unique pieces sliver a b row (Again r next swap swaps) (Again q next' swap
     let same = leftmost_unique pieces sliver row next' next swap' swap in
     swaps_unique pieces sliver a b next swaps (subst (SwapsTo pieces sliver b) same swaps')
 
+-- and the joined row is one
 pub joined_unique : (pieces : List Piece) (may_grow : ℕ → Bool) (sliver : ℕ) (row a b : Row)
     → IsJoined pieces may_grow sliver row a → IsJoined pieces may_grow sliver row b → a ≡ b
 joined_unique pieces may_grow sliver row a b s t =

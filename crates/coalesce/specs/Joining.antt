@@ -61,7 +61,8 @@ pub record SwapsLeftmost (pieces : List Piece) (sliver : ℕ) (row next : List S
 -- swaps at the leftmost place, one after the other, until none is left
 pub data SwapsTo (pieces : List Piece) (sliver : ℕ) (end : List SegmentView) : List SegmentView → Type 0 where
   Done : (row : List SegmentView) → NoSwap pieces sliver row → row ≡ end → SwapsTo pieces sliver end row
-  Again : (row next : List SegmentView) → SwapsLeftmost pieces sliver row next → SwapsTo pieces sliver end next →
+  Again : (row next : List SegmentView) → SwapsLeftmost pieces sliver row next
+      → SwapsTo pieces sliver end next →
       SwapsTo pieces sliver end row
 
 -- the second is idle and short, and the one before it is of a vCPU that may have more

@@ -1,2 +1,2 @@
+pub mod Inside
 pub mod Joining
-pub mod Passing

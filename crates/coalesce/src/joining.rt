@@ -7,7 +7,7 @@ ghost use Rattle.table_form.specs.Tables.Rows.{Row};
 ghost use Rattle.table_form.specs.Tables.Serves.{cells_within};
 ghost use Rattle.table_form.specs.Tables.Segments.{segments_from};
 ghost use Rattle.coalesce.specs.Joining.{AreJoined, IsJoined};
-ghost use Rattle.coalesce.specs.Passing.{IsTableOf};
+ghost use Rattle.coalesce.specs.Inside.Passing.{IsTableOf};
 
 use crate::filling::fill_all;
 use crate::pass::swap_all;

@@ -1,11 +1,10 @@
-ghost use Rattle.std.specs.Prelude.{◌≡◌, ℕ, suc, ◌+◌, ◌-◌, ◌<◌, ◌≤◌, ◌↔◌, Bool, IsTrue, List, [], ◌∷◌, ◌++◌, IfOk, OnOk, Some, drop, length, map, slice_get};
+ghost use Rattle.std.specs.Prelude.{◌≡◌, ◌+◌, ◌-◌, ◌<◌, ◌≤◌, ◌↔◌, IsTrue, List, [], ◌∷◌, ◌++◌, IfOk, OnOk, length, map};
 ghost use Rattle.tab_core.specs.declared.TheConstants.{MAX_VCPUS, ROUND};
 ghost use Rattle.tab_core.specs.declared.piece.Piece.{Piece};
-ghost use Rattle.table_form.specs.Tables.Segments.{AreMaximal, BeginsOther, SegmentView, segment_view, segments_from};
+ghost use Rattle.table_form.specs.Tables.Segments.{AreMaximal, SegmentView, segment_view};
 ghost use Rattle.table_form.specs.declared.segment.Segment.{Segment};
 ghost use Rattle.coalesce.specs.Joining.{SwapsTo};
-ghost use Rattle.coalesce.specs.Passing.{CanSwapLast, EndBelow, IsPassed, IsTableOf, StandInRow};
-ghost use Rattle.table_form.specs.Inside.Appending.{EndsWith, put_before};
+ghost use Rattle.coalesce.specs.Inside.Passing.{CanSwapLast, EndBelow, IsPassed, IsTableOf, StandInRow};
 
 use crate::swap::can_swap;
 use std::alloc::Global;
@@ -16,7 +15,8 @@ use table_form::{Segment, push_segment};
 fn swap_last(out: &mut Vec<Segment>, end: u32)
     requires two { 2 ≤ length out.old.items }
     requires below { EndBelow (map segment_view out.old.items) end }
-    ensures { (before : List SegmentView) (x y : SegmentView) → map segment_view out.old.items ≡ before ++ x ∷ y ∷ []
+    ensures { (before : List SegmentView) (x y : SegmentView)
+        → map segment_view out.old.items ≡ before ++ x ∷ y ∷ []
         → map segment_view out.new.items ≡ before
         ++ record { owner = x.owner; end = x.end + (end - y.end) }
         ∷ record { owner = y.owner; end = end } ∷ [] }

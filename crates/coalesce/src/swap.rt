@@ -1,28 +1,12 @@
-ghost use Rattle.std.specs.Prelude.{◌≡◌, ℕ, ◌+◌, ◌*◌, ◌<◌, ◌≤◌, ◌↔◌, IsTrue, List, length};
+ghost use Rattle.std.specs.Prelude.{◌≡◌, ◌<◌, ◌↔◌, IsTrue, List, length};
 ghost use Rattle.tab_core.specs.declared.TheConstants.{MAX_VCPUS, ROUND};
 ghost use Rattle.tab_core.specs.declared.piece.Piece.{Piece};
 ghost use Rattle.table_form.specs.Tables.Segments.{segment_view};
 ghost use Rattle.coalesce.specs.Joining.{CanSwap, NoBegin, NoEnd};
-ghost use Rattle.coalesce.specs.Passing.{IsTableOf};
+ghost use Rattle.coalesce.specs.Inside.Passing.{IsTableOf};
 
-use tab_core::{Piece, ROUND, VcpuNo};
-use table_form::Segment;
-
-// The least tick after `tick` that is `offset` ticks behind a multiple of the period.
-fn next_at(offset: u32, period: u32, tick: u32) -> u32
-    requires some { 0 < period }
-    requires small { period ≤ ROUND }
-    requires in_round { tick < ROUND }
-    ensures later { tick < result }
-    ensures one { (k : ℕ) × (result ≡ k * period + offset) }
-    ensures least { (k : ℕ) → tick < k * period + offset → result ≤ k * period + offset }
-{
-    if tick < offset {
-        offset
-    } else {
-        tick - (tick - offset) % period + period
-    }
-}
+use tab_core::{Piece, VcpuNo};
+use table_form::{Segment, next_at};
 
 // Whether no window of the vCPU's piece begins strictly between the ticks.
 fn has_no_begin(table: &[Option<Piece>], vcpu: VcpuNo, low: u32, high: u32) -> bool
@@ -62,7 +46,8 @@ pub(crate) fn can_swap(
     requires rises { x.now.end < y.now.end }
     requires in_round { y.now.end < ROUND }
     ensures { (pieces : List Piece) → IsTableOf pieces table.now
-        → (IsTrue result ↔ CanSwap pieces sliver (segment_view x.now) (segment_view y.now) (segment_view z.now)) }
+        → (IsTrue result
+        ↔ CanSwap pieces sliver (segment_view x.now) (segment_view y.now) (segment_view z.now)) }
 {
     let (Some(first), Some(second)) = (x.owner, y.owner) else {
         return false;

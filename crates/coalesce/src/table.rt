@@ -2,7 +2,7 @@ ghost use Rattle.std.specs.Prelude.{◌≡◌, ℕ, IfOk};
 ghost use Rattle.tab_core.specs.VcpuSets.{has_vcpu};
 ghost use Rattle.table_form.specs.Planning.Drafts.{HaveOwnCores, pieces_at};
 ghost use Rattle.coalesce.specs.Joining.{has_single_piece};
-ghost use Rattle.coalesce.specs.Passing.{IsTableOf};
+ghost use Rattle.coalesce.specs.Inside.Passing.{IsTableOf};
 
 use std::alloc::Global;
 use tab_core::{CoreNo, MAX_VCPUS, NoMemory, Piece, VcpuSet};

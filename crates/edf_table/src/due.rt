@@ -1,8 +1,9 @@
-ghost use Rattle.std.specs.Prelude.{◌≡◌, ◌+◌, ◌-◌, ◌*◌, ◌<◌, ◌≤◌, ℕ, false, min, nat_lt, true};
+ghost use Rattle.std.specs.Prelude.{◌≡◌, ◌+◌, ◌-◌, ◌*◌, ◌<◌, false, min, nat_lt, true};
 ghost use Rattle.tab_core.specs.declared.TheConstants.{ROUND};
 ghost use Rattle.edf_table.specs.Inside.Progress.{IsCalm, IsDueFirst, IsMissedAt, IsServedAt, due_at, is_ready, window_no};
 
-use tab_core::{Piece, ROUND};
+use tab_core::Piece;
+use table_form::next_at;
 
 // The number of the window that began last.
 fn window_at(piece: &Piece, tick: u32) -> u32
@@ -66,21 +67,6 @@ pub(crate) fn lacking(piece: &Piece, given: u32, tick: u32, most: u32) -> u32
         lacks as u32
     } else {
         most
-    }
-}
-
-// The least tick after `tick` that is `offset` ticks behind a multiple of the period.
-fn next_at(offset: u32, period: u32, tick: u32) -> u32
-    requires some { 0 < period }
-    requires small { period ≤ ROUND }
-    requires in_round { tick < ROUND }
-    ensures later { tick < result }
-    ensures least { (k : ℕ) → tick < k * period + offset → result ≤ k * period + offset }
-{
-    if tick < offset {
-        offset
-    } else {
-        tick - (tick - offset) % period + period
     }
 }
 

@@ -1,4 +1,4 @@
-ghost use Rattle.std.specs.Prelude.{◌≡◌, ◌+◌, ◌<◌, ℕ, ◌*◌, ◌/◌, ◌^◌, ◌≤◌, length};
+ghost use Rattle.std.specs.Prelude.{◌≡◌, ◌+◌, ◌<◌, ◌*◌, ◌/◌, ◌^◌, ◌≤◌, length};
 ghost use Rattle.tab_core.specs.declared.TheConstants.{ROUND};
 ghost use Rattle.table_form.specs.Planning.Jobs.{first_jobs, jobs_of, subtask_of};
 ghost use Rattle.edf_table.specs.Overloads.{IsReportedOf};
@@ -6,6 +6,7 @@ ghost use Rattle.edf_table.specs.Inside.Progress.{IsFirstEnd, NoBegin, demand_fr
 ghost use Rattle.table_form.specs.Planning.Windows.{DistinctVcpus};
 
 use tab_core::{Over, Piece, ROUND};
+use table_form::last_before;
 
 // What the piece's window that begins at `start` costs, if there is one that ends by `end`.
 fn cost_from(piece: &Piece, start: u32, end: u32) -> u32
@@ -36,20 +37,6 @@ fn demand_of_starts(pieces: &[Piece], start: u32, end: u32) -> u64
         sum += u64::from(cost_from(piece, start, end));
     }
     sum
-}
-
-// The greatest tick below `tick` that is `offset` ticks behind a multiple of the period, else 0.
-fn last_before(offset: u32, period: u32, tick: u32) -> u32
-    requires some { 0 < period }
-    requires later { 0 < tick }
-    ensures earlier { result < tick }
-    ensures greatest { (k : ℕ) → result < k * period + offset → tick ≤ k * period + offset }
-{
-    if tick <= offset {
-        0
-    } else {
-        tick - 1 - (tick - 1 - offset) % period
-    }
 }
 
 // The greatest tick below `tick` at which a window begins, else 0.

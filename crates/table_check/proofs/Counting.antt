@@ -6,7 +6,7 @@ use Rattle.std.proofs.lemmas.List.{get_or-set_other}
 use Rattle.std.proofs.lemmas.Option.{same_Some, slice_get_within}
 use Rattle.tab_core.specs.declared.TheConstants.{ROUND}
 use Rattle.tab_core.specs.declared.periodic.Periodic.{Periodic}
-use Rattle.table_check.specs.Counters.{AreAtMost, GrowBy, IsPeriodOf, count_at, ticks_given, ticks_shared}
+use Rattle.table_check.specs.Inside.Counters.{AreAtMost, GrowBy, IsPeriodOf, count_at, ticks_given, ticks_shared}
 use Rattle.table_check.specs.declared.counters.TheConstants.{MAX_PERIODS}
 use Rattle.table_check.proofs.Periods.{HoldsTick, few_periods, holds_tick, shared_elsewhere, shared_here, shared_none, shared_within}
 
@@ -16,6 +16,7 @@ pub given_own : (vcpu from to v begin over : ℕ) → v ≡ vcpu
 given_own vcpu from to v begin over own =
     ap (λ b. cond b (ticks_shared from to begin over) 0) (eq-eqb v vcpu own)
 
+-- a run of one owner gives other vCPUs nothing, so their counters stay
 pub given_other : (vcpu from to v begin over : ℕ) → v ≢ vcpu
     → ticks_given (Some vcpu) from to v begin over ≡ 0
 given_other vcpu from to v begin over other =
@@ -29,12 +30,14 @@ one_task tasks v k period vcpu task of own at =
     same_Some {A = Periodic} of.task task
     (same_Some {A = Option Periodic} (Some of.task) (Some task) (sym of.at ∙ ap (slice_get tasks) own ∙ at))
 
+-- a vCPU has one task, so its counters are of one period
 pub one_period : (tasks : List (Option Periodic)) (v k period vcpu : ℕ) (task : Periodic)
     (of : IsPeriodOf tasks v k period) → v ≡ vcpu
     → slice_get tasks vcpu ≡ Some (Some task) → period ≡ task.period
 one_period tasks v k period vcpu task of own at = of.period_is
     ∙ ap (λ (t : Periodic). t.period) (one_task tasks v k period vcpu task of own at)
 
+-- a counter lies in its vCPU's block, apart from the other vCPUs'
 pub block_of : (tasks : List (Option Periodic)) (v k period : ℕ) → IsPeriodOf tasks v k period
     → (k < MAX_PERIODS) × (v < length tasks)
 block_of tasks v k period of =

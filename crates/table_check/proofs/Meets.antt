@@ -6,7 +6,7 @@ use Rattle.tab_core.specs.declared.TheConstants.{ROUND}
 use Rattle.table_form.specs.declared.segment.Segment.{Segment}
 use Rattle.table_form.specs.Tables.Rows.{cells_from, RisesTo}
 use Rattle.table_form.proofs.RowLemmas.{length-cells_from}
-use Rattle.table_check.specs.Meetings.{MeetsAt, MeetNoneBefore}
+use Rattle.table_check.specs.Inside.Meetings.{MeetsAt, MeetNoneBefore}
 use Rattle.table_check.proofs.Sweep.{GoesOnFrom, next_parts, owner_now}
 
 -- the rows meet where both segments have one owner

@@ -9,30 +9,34 @@ use Rattle.table_form.specs.Tables.Serves.{Apart, supply}
 use Rattle.table_check.specs.Clashes.{IsClash, IsFirstClash}
 use Rattle.table_check.specs.Faults.{HasCheckFault}
 use Rattle.table_check.specs.Shapes.{HaveGoodShapes, IsFirstBad, bad_at, rows_of}
-use Rattle.table_check.specs.Shortages.{IsFirstShort, IsShort, IsShortageOf}
-use Rattle.table_check.specs.declared.shortage.Shortage.{Shortage}
+use Rattle.table_check.specs.Shortages.{IsFirstShort, IsShort}
 use Rattle.table_check.specs.declared.fault.CheckFault.{CheckFault}
 use Rattle.table_check.specs.declared.fault.CheckFault.TheVariants.{BadShape, Twice, Short, NoMemory}
 
+-- each of two least numbers is at most the other
 both_low : (a b : ℕ) → a ≤ b → b ≤ a → a ≡ b
 both_low a b le ge = omega arith
 
+-- a bad shape excludes the faults that come after good ones
 bad_not_good : (raw : List (List Segment)) (core place : ℕ) → IsFirstBad raw core place
     → HaveGoodShapes raw → ⊥
 bad_not_good raw core place bad good = none-some place (sym (good core) ∙ bad.bad)
 
+-- a clash excludes a shortage, which comes after apart rows
 clash_not_apart : (rows : List Row) (v x c d : ℕ) → IsFirstClash rows v x c d → Apart rows → ⊥
 clash_not_apart rows v x c d first apart =
     let same : c ≡ d = apart v x c d first.among.here first.among.there in
     let lower = first.among.lower in
     omega arith
 
+-- a lowest core with a bad shape is no higher than another such
 one_bad_core : (raw : List (List Segment)) (c p d q : ℕ) → IsFirstBad raw c p → IsFirstBad raw d q → c ≤ d
 one_bad_core raw c p d q a b = elim (cases_lt d c) [
   | inl lt ↦ absurd (none-some q (sym (a.lowest d lt) ∙ b.bad))
   | inr le ↦ le
 ]
 
+-- so it is one, and so is its place
 one_bad : (raw : List (List Segment)) (c p d q : ℕ) → IsFirstBad raw c p → IsFirstBad raw d q
     → BadShape c p ≡ BadShape d q
 one_bad raw c p d q a b =
@@ -40,6 +44,7 @@ one_bad raw c p d q a b =
     let place : p ≡ q = same_Some {A = ℕ} p q (sym a.bad ∙ ap (bad_at raw) core ∙ b.bad) in
     cc
 
+-- the first clash is one: tick, then core, then other core, then the vCPU there
 one_clash : (rows : List Row) (v x c d w y e f : ℕ) → IsFirstClash rows v x c d → IsFirstClash rows w y e f
     → Twice v x c d ≡ Twice w y e f
 one_clash rows v x c d w y e f a b =
@@ -64,6 +69,7 @@ short_numbers tasks rows v k g c g' c' a b =
       a.cost_is ∙ ap (λ (t : Periodic). t.cost) task ∙ sym b.cost_is,
     )
 
+-- the first shortage is one: vCPU, then period
 one_short : (tasks : List (Option Periodic)) (rows : List Row) (v k g c w j g' c' : ℕ)
     → IsFirstShort tasks rows v k g c → IsFirstShort tasks rows w j g' c'
     → Short v k g c ≡ Short w j g' c'
@@ -97,27 +103,3 @@ one_fault tasks raw (Short v k g c) (Short w j g' c') a b =
     one_short tasks (rows_of raw) v k g c w j g' c' a.2 b.2
 one_fault tasks raw (Short v k g c) NoMemory a b = absurd b
 one_fault tasks raw NoMemory other a b = absurd a
-
--- the first shortage of apart rows of good shapes is the first fault
-pub is_short_fault : (tasks given : List (Option Periodic)) (raw : List (List Segment))
-    (rows rows' : List Row)
-    (found : Option Shortage) (shortage : Shortage) (fault : CheckFault)
-    → given ≡ tasks → rows ≡ rows_of raw → rows' ≡ rows → HaveGoodShapes raw → Apart rows
-    → IsShortageOf given rows' found → found ≡ Some shortage
-    → fault ≡ Short shortage.vcpu shortage.period_no shortage.got shortage.cost
-    → HasCheckFault tasks raw fault
-is_short_fault tasks given raw rows rows' found shortage fault of_tasks of_raw same good apart short
-    is fault_is =
-    let first : IsFirstShort given rows' shortage.vcpu shortage.period_no shortage.got shortage.cost =
-    subst (IsShortageOf given rows') is short in
-    let of_given : IsFirstShort tasks rows' shortage.vcpu shortage.period_no shortage.got shortage.cost
-    = subst (λ (ts : List (Option Periodic)). IsFirstShort ts rows' shortage.vcpu shortage.period_no
-    shortage.got
-    shortage.cost) of_tasks first in
-    subst (HasCheckFault tasks raw) (sym fault_is) (
-      good,
-      subst Apart of_raw apart,
-      subst (λ (rs : List Row). IsFirstShort tasks rs shortage.vcpu shortage.period_no shortage.got
-          shortage.cost)
-          (same ∙ of_raw) of_given,
-    )

@@ -13,12 +13,14 @@ use Rattle.table_check.specs.Shapes.{AreOfTasks, AreOwnedByTasks, rows_of}
 use Rattle.table_check.proofs.Pairs.{flat_some}
 use Rattle.table_check.proofs.Sweep.{get_front}
 
+-- a cell behind a run is one of the rest
 get_back : (n t : ℕ) (o : Option ℕ) (cells : Row) → n ≤ t
     → slice_get (replicate n o ++ cells) t ≡ slice_get cells (t - n)
 get_back zero t o cells le = ap (slice_get cells) (omega arith)
 get_back (suc n) zero o cells le = absurd (omega arith)
 get_back (suc n) (suc t) o cells le = get_back n t o cells (omega arith) ∙ ap (slice_get cells) (omega arith)
 
+-- what `AreOfTasks` asks of each segment
 OwnedByTask : List (Option Periodic) → Segment → Type 0
 OwnedByTask tasks s = ForSome s.owner (λ v. has_task tasks v ≡ true)
 
@@ -40,6 +42,7 @@ cell_has_task tasks start x v (s ∷ ss) owned at =
           (sym (get_back (s.end - start) x s.owner (cells_from s.end ss) later) ∙ cell)
     ]
 
+-- so an owner in a core's row, if the core has one
 row_has_tasks : (tasks : List (Option Periodic)) (place v : ℕ) (row : Option (List Segment))
     → ((ss : List Segment) → row ≡ Some ss → AreOfTasks tasks ss)
     → cell_of (option_map (cells_from 0) row) place ≡ Some v → has_task tasks v ≡ true
@@ -48,12 +51,14 @@ row_has_tasks tasks place v None owned at = absurd (none-some v at)
 row_has_tasks tasks place v (Some ss) owned at = cell_has_task tasks 0 place v ss (owned ss refl)
     (flat_some (slice_get (cells_from 0 ss) place) v at)
 
+-- what holds of each core's segments holds of this core's
 all_at : (P : List Segment → Type 0) (raw : List (List Segment)) (c : ℕ) (ss : List Segment) → All P raw
     → slice_get raw c ≡ Some ss → P ss
 all_at P [] c ss all at = absurd (none-some ss at)
 all_at P (x ∷ xs) zero ss all at = subst P (same_Some {A = List Segment} x ss at) (All-head P x xs all)
 all_at P (x ∷ xs) (suc c) ss all at = all_at P xs c ss (All-tail P x xs all) at
 
+-- so the rows are of tasks, as a plan's type asks
 pub owners_have_tasks : (tasks : List (Option Periodic)) (raw : List (List Segment))
     → AreOwnedByTasks tasks raw
     → OwnersHaveTasks tasks (rows_of raw)

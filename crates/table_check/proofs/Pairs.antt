@@ -4,10 +4,12 @@ use Rattle.std.proofs.lemmas.Bool.{cases_lt, cases_eq}
 use Rattle.std.proofs.lemmas.Option.{none-some, slice_get_past, slice_get_read}
 use Rattle.table_form.specs.Tables.Rows.{Row}
 use Rattle.table_form.specs.Tables.Serves.{Apart, cell_of, flat, owner_at}
-use Rattle.table_check.specs.Clashes.{IsClash, IsClashBefore, IsEarlierPair, IsFirstBefore, IsFirstClash, IsLeastClash}
-use Rattle.table_check.specs.Meetings.{MeetsAt, MeetNoneBefore}
+use Rattle.table_check.specs.Clashes.{IsClash, IsFirstClash, IsLeastClash}
+use Rattle.table_check.specs.Inside.Meetings.{MeetsAt, MeetNoneBefore}
 use Rattle.table_check.specs.declared.clash.Clash.{Clash}
+use Rattle.table_check.specs.Inside.Pairs.{IsClashBefore, IsEarlierPair, IsFirstBefore}
 
+-- a cell with an owner stands in the row
 pub flat_some : (cell : Option (Option ℕ)) (v : ℕ) → flat cell ≡ Some v → cell ≡ Some (Some v)
 flat_some None v e = absurd (none-some v e)
 flat_some (Some cell) v e = ap Some e
@@ -28,6 +30,7 @@ meets_from_clash rows core other v x a b at_a at_b clash = record {
   there = flat_some (slice_get b x) v (sym (ap (λ row. cell_of row x) at_b) ∙ clash.there);
 }
 
+-- two rows that meet are a clash of their cores
 clash_from_meeting : (rows : List Row) (core other v x : ℕ) (a b : Row) → slice_get rows core ≡ Some a
     → slice_get rows other ≡ Some b
     → core < other → MeetsAt a b v x → IsClash rows v x core other
@@ -46,14 +49,17 @@ split_pair core other c d (inr both) = elim (cases_lt d other) [
   | inr le ↦ inr (both.0, omega (arith, both.1))
 ]
 
+-- the pairs before this one come before the next too
 more_pairs : (core other c d : ℕ) → IsEarlierPair core other c d → IsEarlierPair core (other + 1) c d
 more_pairs core other c d (inl lt) = inl lt
 more_pairs core other c d (inr both) = inr (both.0, omega (arith, both.1))
 
+-- an earlier pair's first core is no higher
 low_core : (core other c d : ℕ) → IsEarlierPair core other c d → c ≤ core
 low_core core other c d (inl lt) = omega arith
 low_core core other c d (inr both) = omega (arith, both.0)
 
+-- and with the same first core its second is lower
 low_other : (core other c d : ℕ) → IsEarlierPair core other c d → c ≡ core → d < other
 low_other core other c d (inl lt) e = absurd (omega arith)
 low_other core other c d (inr both) e = both.1
@@ -92,6 +98,7 @@ stays_first rows core other first before later =
       ];
     }
 
+-- a meeting that is no sooner leaves the first clash as it was
 pub stays_sooner : (rows : List Row) (core other tick : ℕ) (best : Option Clash)
     → IsFirstBefore rows core other best
     → IsSomeAnd best (λ first. first.tick ≤ tick) → ((v x : ℕ) → IsClash rows v x core other → tick ≤ x)
@@ -203,6 +210,7 @@ next_core rows core other best past before = same_pairs rows core other (core + 
     ]
     back v x c d clash (inr both) = absurd (omega (arith, both.1))
 
+-- before the first pair there is no clash
 pub no_pair_yet : (rows : List Row) → IsFirstBefore rows 0 0 None
 no_pair_yet rows v x c d h = absurd (none c d h.earlier)
   where
@@ -218,6 +226,7 @@ before_all rows count v x c d all clash = record {
   earlier = inl (let within = owner_within rows c x v clash.here in omega arith);
 }
 
+-- behind the last pair no clash means that the rows are apart
 pub apart_if_none : (rows : List Row) (count : ℕ) → length rows ≤ count
     → IsFirstBefore rows count 0 None → Apart rows
 apart_if_none rows count all none v place c d here there = elim (cases_eq c d) [
@@ -230,6 +239,7 @@ apart_if_none rows count all none v place c d here there = elim (cases_eq c d) [
   ]
 ]
 
+-- and a first one is the first of all
 pub first_of_all : (rows : List Row) (count : ℕ) (first : Clash) → length rows ≤ count
     → IsFirstBefore rows count 0 (Some first)
     → IsFirstClash rows first.vcpu first.tick first.core first.other
@@ -247,6 +257,7 @@ pub record ArePair (rows : List Row) (core other : ℕ) (a b : Row) : Type 0 whe
   pub there : slice_get rows other ≡ Some b
   pub lower : core < other
 
+-- the two rows that are swept are those of the two cores
 pub are_pair : (rows : List Row) (core other : ℕ) (a b x y : Row) → core < other → other < length rows
     → x ≡ get_or rows core x → y ≡ get_or rows other y
     → a ≡ x → b ≡ y → ArePair rows core other a b
@@ -256,18 +267,21 @@ are_pair rows core other a b x y lower there at_x at_y is_a is_b = record {
   lower = lower;
 }
 
+-- so what the sweep says of the rows is said of the cores: no clash
 pub no_clash : (rows : List Row) (core other : ℕ) (a b : Row) → ArePair rows core other a b
     → ((v x : ℕ) → MeetsAt a b v x → ⊥)
     → (v x : ℕ) → IsClash rows v x core other → ⊥
 no_clash rows core other a b pair none v x clash = none v x
     (meets_from_clash rows core other v x a b pair.here pair.there clash)
 
+-- no earlier clash of these cores
 pub first_clash : (rows : List Row) (core other tick : ℕ) (a b : Row) → ArePair rows core other a b
     → MeetNoneBefore a b tick
     → (v x : ℕ) → IsClash rows v x core other → tick ≤ x
 first_clash rows core other tick a b pair none v x clash = none v x
     (meets_from_clash rows core other v x a b pair.here pair.there clash)
 
+-- and a clash where they meet
 pub is_clash : (rows : List Row) (core other v x : ℕ) (a b : Row) → ArePair rows core other a b
     → MeetsAt a b v x
     → IsClash rows v x core other

@@ -5,7 +5,7 @@ use Rattle.std.proofs.lemmas.Bool.{cases_lt}
 use Rattle.tab_core.specs.declared.TheConstants.{ROUND}
 use Rattle.tab_core.specs.declared.periodic.Periodic.{Periodic}
 use Rattle.tab_core.proofs.Periods.{period_facts}
-use Rattle.table_check.specs.Counters.{ticks_shared}
+use Rattle.table_check.specs.Inside.Counters.{ticks_shared}
 use Rattle.table_check.specs.declared.counters.TheConstants.{MAX_PERIODS}
 
 -- a round has at most so many periods of a task
@@ -28,6 +28,7 @@ pub record HoldsTick (period p tick : ℕ) : Type 0 where
   pub few : p < MAX_PERIODS
   pub short : period ≤ ROUND
 
+-- the period of this number holds the tick, as the division by the period says
 pub holds_tick : (task : Periodic) (tick : ℕ) → tick < ROUND → HoldsTick task.period (tick / task.period) tick
 holds_tick task tick lt =
     let facts = period_facts task.period task.listed in
@@ -48,6 +49,7 @@ pub shared_here : (from tick end begin over : ℕ) → from ≤ tick → tick �
     → ticks_shared from end begin over ≡ ticks_shared from tick begin over + (end - tick)
 shared_here from tick end begin over low rises begun within = omega arith
 
+-- a cut within one period gives another period nothing
 pub shared_elsewhere : (from tick end period p k : ℕ) → tick ≤ end → HoldsTick period p tick
     → end ≤ (p + 1) * period → k ≢ p
     → ticks_shared from end (k * period) ((k + 1) * period)
@@ -61,8 +63,10 @@ shared_elsewhere from tick end period p k rises holds within other = elim (cases
       omega arith
 ]
 
+-- no interval shares more than it has
 pub shared_within : (from to begin over : ℕ) → ticks_shared from to begin over ≤ to - from
 shared_within from to begin over = omega arith
 
+-- and an empty one shares nothing
 pub shared_none : (from begin over : ℕ) → ticks_shared from from begin over ≡ 0
 shared_none from begin over = omega arith

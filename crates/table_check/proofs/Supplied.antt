@@ -10,11 +10,12 @@ use Rattle.tab_core.specs.declared.periodic.Periodic.{Periodic}
 use Rattle.tab_core.proofs.Periods.{period_facts}
 use Rattle.table_form.specs.Tables.Rows.{Row}
 use Rattle.table_form.specs.Tables.Serves.{Serves, cells_within, supply}
-use Rattle.table_check.specs.Counters.{AreAtMost, CountSupply, GrowBy, IsFirstLow, count_at}
+use Rattle.table_check.specs.Inside.Counters.{AreAtMost, CountSupply, GrowBy, IsFirstLow, count_at}
 use Rattle.table_check.specs.Shortages.{IsFirstShort}
 use Rattle.table_check.specs.declared.counters.TheConstants.{MAX_PERIODS}
 use Rattle.table_check.proofs.Supplying.{supply-le}
 
+-- counters begin with 0
 zero_at : (n i : ℕ) → ◌≡◌ {A = ℕ} (get_or (replicate n 0) i 0) 0
 zero_at zero i = refl
 zero_at (suc n) zero = refl
@@ -50,6 +51,7 @@ room_for_row tasks rows i counters few so_far v k period of =
     {m₂ = ROUND} (omega arith) (omega (arith, of.period_is)) in
     omega (arith, so_far v k period of, most, product)
 
+-- behind the last row the counters have what all rows give
 pub supplied_all : (tasks : List (Option Periodic)) (rows : List Row) (i : ℕ) (counters : List ℕ)
     → length rows ≤ i
     → CountSupply tasks (take i rows) counters → CountSupply tasks rows counters
@@ -62,6 +64,7 @@ pub IsServedBy : List (Option Periodic) → List ℕ → ℕ → Type 0
 IsServedBy tasks counters v = (task : Periodic) → slice_get tasks v ≡ Some (Some task) → (k : ℕ)
     → k < ROUND / task.period → task.cost ≤ count_at counters v k
 
+-- a vCPU without a low counter is served
 pub served_if_none_low : (tasks : List (Option Periodic)) (counters : List ℕ) (v : ℕ) (task : Periodic)
     → slice_get tasks v ≡ Some (Some task)
     → IsFirstLow counters v task None → IsServedBy tasks counters v
@@ -72,6 +75,7 @@ served_if_none_low tasks counters v task at none other other_at k lt =
     subst (λ (t : Periodic). t.cost ≤ count_at counters v k) same
     (none k (subst (λ (t : Periodic). k < ROUND / t.period) (sym same) lt))
 
+-- and so is one without a task
 pub served_if_no_task : (tasks : List (Option Periodic)) (counters : List ℕ) (v : ℕ)
     → slice_get tasks v ≡ Some None
     → IsServedBy tasks counters v

@@ -13,21 +13,11 @@ use Rattle.table_form.specs.declared.segment.Segment.{Segment}
 use Rattle.table_form.specs.Tables.Rows.{Row, RisesTo, cells_from}
 use Rattle.table_form.specs.Tables.Serves.{cells_within, is_cell_of, supply}
 use Rattle.table_form.proofs.RowLemmas.{length-cells_from}
-use Rattle.table_check.specs.Counters.{AreAtMost, GrowBy, ticks_given, ticks_shared}
+use Rattle.table_form.proofs.Supplies.{cells_before, cells_before-end}
+use Rattle.table_check.specs.Inside.Counters.{AreAtMost, GrowBy, ticks_given, ticks_shared}
 use Rattle.table_check.proofs.Sweep.{GoesOnFrom, cells_now, end_in_round, next_parts}
 
--- how many of a row's first cells are the vCPU's
-cells_before : ℕ → Row → ℕ → ℕ
-cells_before v row to = count_by (λ cell. is_cell_of v cell) (take to row)
-
-cells_before-end : (v : ℕ) (row : Row) (from to : ℕ) → from ≤ to
-    → cells_before v row to ≡ cells_before v row from + cells_within v row from to
-unfolding cells_before cells_within
-cells_before-end v row from to le =
-    ap (λ n. count_by (λ cell. is_cell_of v cell) (take n row)) (omega arith)
-    ∙ ap (λ cells. count_by (λ cell. is_cell_of v cell) cells) (take-add from (to - from) row)
-    ∙ sum_by-append (λ cell. cond (is_cell_of v cell) 1 0) (take from row) (take (to - from) (drop from row))
-
+-- a run counts for its owner alone
 count_replicate : (v n : ℕ) (o : Option ℕ)
     → count_by (λ cell. is_cell_of v cell) (replicate n o) ≡ n * cond (is_cell_of v o) 1 0
 count_replicate v n o = sum_by-replicate (λ cell. cond (is_cell_of v cell) 1 0) n o
@@ -128,9 +118,11 @@ cells_to_end ss from place s on lt at =
 pub CountsTo : List (Option Periodic) → List Segment → ℕ → List ℕ → List ℕ → Type 0
 CountsTo tasks ss tick old new = GrowBy tasks (λ v. cells_within v (take tick (cells_from 0 ss))) old new
 
+-- a period ends no earlier than it begins
 period_rises : (k period : ℕ) → k * period ≤ (k + 1) * period
 period_rises k period = omega arith
 
+-- before the first segment nothing is counted
 pub counts_none : (tasks : List (Option Periodic)) (ss : List Segment) (counters : List ℕ)
     → CountsTo tasks ss 0 counters counters
 unfolding cells_within CountsTo
@@ -144,6 +136,7 @@ counts_none tasks ss counters v k period of =
     none_of : (m n : ℕ) → ◌≡◌ {A = Row} (take m (drop n [])) []
     none_of m n = rw (drop-nil n) (take-nil m)
 
+-- one segment more adds its run
 pub counts_more : (tasks : List (Option Periodic)) (ss : List Segment) (from place : ℕ) (s : Segment)
     (old mid new : List ℕ)
     → GoesOnFrom ss from place → place < length ss → s ≡ get_or ss place s → RisesTo 0 ss ROUND
@@ -168,6 +161,7 @@ counts_more tasks ss from place s old mid new on lt at whole so_far grown v k pe
     let to_end = ap (λ row. cells_within v row begin over) (cells_to_end ss from place s on lt at) in
     omega (arith, so_far v k period of, grown v k period of, more, run, to_end)
 
+-- behind the last segment the counters have grown by the row's cells
 pub counts_all : (tasks : List (Option Periodic)) (ss : List Segment) (from : ℕ) (old new : List ℕ)
     → RisesTo 0 ss ROUND → ROUND ≤ from
     → CountsTo tasks ss from old new → GrowBy tasks (λ v. cells_within v (cells_from 0 ss)) old new
@@ -184,6 +178,7 @@ within-le v row from to =
     let most = count_by-le-length (λ cell. is_cell_of v cell) (take (to - from) (drop from row)) in
     omega (arith, most, length-take (to - from) (drop from row))
 
+-- rows can't give more than their ticks, so no counter overflows
 pub supply-le : (v : ℕ) (rows : List Row) (from to : ℕ) → supply v rows from to ≤ length rows * (to - from)
 unfolding supply
 supply-le v [] from to = omega arith

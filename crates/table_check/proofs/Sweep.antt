@@ -14,12 +14,14 @@ pub record GoesOnFrom (ss : List Segment) (tick place : ℕ) : Type 0 where
   pub rises : RisesTo tick (drop place ss) ROUND
   pub cells : drop tick (cells_from 0 ss) ≡ cells_from tick (drop place ss)
 
+-- the cell at a tick is one of those from an earlier tick on
 get-drop : (xs : Row) (a n b : ℕ) → b ≡ a + n → slice_get (drop a xs) n ≡ slice_get xs b
 get-drop xs zero n b is = ap (slice_get xs) (omega arith)
 get-drop [] (suc a) n b is = refl
 get-drop (x ∷ xs) (suc a) n zero is = absurd (omega arith)
 get-drop (x ∷ xs) (suc a) n (suc b) is = get-drop xs a n b (omega arith)
 
+-- dropping less than a run leaves the rest of it
 drop_front : (m n : ℕ) (o : Option ℕ) (cells : Row) → m ≤ n
     → drop m (replicate n o ++ cells) ≡ replicate (n - m) o ++ cells
 drop_front zero n o cells le = (let e : n ≡ n - 0 = omega arith in ap (λ k. replicate k o ++ cells) e)
@@ -27,6 +29,7 @@ drop_front (suc m) zero o cells le = absurd (omega arith)
 drop_front (suc m) (suc n) o cells le =
     (let e : suc n - suc m ≡ n - m = omega arith in rw e (drop_front m n o cells (omega arith)))
 
+-- a cell of a run has its owner
 pub get_front : (n t : ℕ) (o : Option ℕ) (cells : Row) → t < n → slice_get (replicate n o ++ cells) t ≡ Some o
 get_front zero t o cells lt = absurd (omega arith)
 get_front (suc n) zero o cells lt = refl
@@ -38,6 +41,7 @@ left_at : (ss : List Segment) (place : ℕ) (s : Segment) → place < length ss 
 left_at ss place s lt at = rw (add-one place)
     (drop-cons ss place s lt ∙ ap (λ (x : Segment). x ∷ drop (suc place) ss) (sym at))
 
+-- the sweep begins at the first segment
 pub goes_on-start : (ss : List Segment) → RisesTo 0 ss ROUND → GoesOnFrom ss 0 0
 goes_on-start ss rises = record { rises = rises; cells = refl }
 
@@ -78,6 +82,7 @@ next_parts ss tick place s on lt at =
     rises_parts tick s (drop (place + 1) ss) ROUND
     (subst (λ xs. RisesTo tick xs ROUND) (left_at ss place s lt at) on.rises)
 
+-- the segment that holds the tick ends within the round, so the sweep goes on
 pub end_in_round : (ss : List Segment) (tick place : ℕ) (s : Segment) → GoesOnFrom ss tick place
     → place < length ss
     → s ≡ get_or ss place s → s.end ≤ ROUND

@@ -1,7 +1,7 @@
 pub mod Clashes
-pub mod Counters
 pub mod Faults
 pub mod Meetings
 pub mod Refusal
+pub mod Inside
 pub mod Shapes
 pub mod Shortages

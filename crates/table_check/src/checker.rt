@@ -1,5 +1,5 @@
-ghost use Rattle.std.specs.Prelude.{◌≡◌, ◌⊎◌, ◌≤◌, IfErr, IfOk, IsErr, IsTrue, length};
-ghost use Rattle.tab_core.specs.declared.TheConstants.{MAX_CORES};
+ghost use Rattle.std.specs.Prelude.{◌≡◌, ◌⊎◌, ◌≤◌, IfErr, IfNone, IfOk, IfSome, IsErr, IsTrue, length};
+ghost use Rattle.tab_core.specs.declared.TheConstants.{MAX_CORES, MAX_VCPUS};
 ghost use Rattle.table_form.specs.Tables.Homes.{are_housed};
 ghost use Rattle.table_form.specs.Tables.Views.{plan_view};
 ghost use Rattle.table_check.specs.Faults.{AreGood, HasCheckFault};
@@ -7,11 +7,34 @@ ghost use Rattle.table_check.specs.Shapes.{AreOwnedByTasks, rows_of};
 
 use crate::clash::find_clash;
 use crate::fault::CheckFault;
-use crate::shape::build_rows;
+use crate::shape::{build_rows, find_bad_shape};
 use crate::shortage::find_shortage;
 use std::alloc::Global;
-use tab_core::Tasks;
-use table_form::{Homes, Plan, RawTables, Tables};
+use tab_core::{NoMemory, Periodic, Tasks};
+use table_form::{Homes, Plan, RawTables, Segments, Tables};
+
+// The first fault of the tables, if they have one. No table is copied.
+fn first_fault(
+    alloc: Global,
+    tasks: &[Option<Periodic>],
+    raw: &[Segments],
+) -> Result<Option<CheckFault>, NoMemory>
+    requires few { length tasks.now ≤ MAX_VCPUS }
+    requires few_rows { length raw.now ≤ MAX_CORES }
+    ensures none { IfOk result (λ fault. IfNone fault (AreGood tasks.now raw.now)) }
+    ensures some { IfOk result (λ fault. IfSome fault (HasCheckFault tasks.now raw.now)) }
+{
+    if let Some(fault) = find_bad_shape(raw) {
+        return Ok(Some(fault));
+    }
+    if let Some(clash) = find_clash(raw) {
+        return Ok(Some(clash.fault()));
+    }
+    if let Some(shortage) = find_shortage(alloc, tasks, raw)? {
+        return Ok(Some(shortage.fault()));
+    }
+    Ok(None)
+}
 
 /// The plan of these tasks with these tables, or the first fault of the tables.
 ///
@@ -36,13 +59,10 @@ pub fn check(alloc: Global, tasks: &Tasks, raw: &RawTables) -> Result<Plan, Chec
     ensures one_fault { (fault other : CheckFault) → HasCheckFault tasks.now raw.now.rows fault
         → HasCheckFault tasks.now raw.now.rows other → fault ≡ other }
 {
+    if let Some(fault) = first_fault(alloc, tasks.items(), raw.rows.items())? {
+        return Err(fault);
+    }
     let rows = build_rows(alloc, raw.rows.items())?;
-    if let Some(clash) = find_clash(rows.items()) {
-        return Err(clash.fault());
-    }
-    if let Some(shortage) = find_shortage(alloc, tasks.items(), rows.items())? {
-        return Err(shortage.fault());
-    }
     let homes = Homes::of(Vec::from_slice(alloc, raw.homes.items())?);
     Ok(Plan {
         tasks: Tasks::of(Vec::from_slice(alloc, tasks.items())?),

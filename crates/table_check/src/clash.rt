@@ -1,13 +1,15 @@
 ghost use Rattle.std.specs.Prelude.{◌≡◌, ◌+◌, ◌<◌, ◌≤◌, true, false, Some, IfNone, IfSome, IsSomeAnd, length};
 ghost use Rattle.tab_core.specs.declared.TheConstants.{MAX_CORES};
 ghost use Rattle.table_form.specs.Tables.Serves.{Apart};
-ghost use Rattle.table_check.specs.Clashes.{IsFirstBefore, IsFirstClash};
+ghost use Rattle.table_check.specs.Clashes.{IsFirstClash};
+ghost use Rattle.table_check.specs.Shapes.{HaveGoodShapes, rows_of};
 ghost use Rattle.table_check.specs.declared.clash.Clash.{Clash};
+ghost use Rattle.table_check.specs.Inside.Pairs.{IsFirstBefore};
 
 use crate::fault::CheckFault;
 use crate::meeting::find_meeting;
 use tab_core::{CoreNo, VcpuNo};
-use table_form::CoreTable;
+use table_form::Segments;
 
 // A vCPU that stands in the rows of two cores at one tick, of which `core` is the lower one.
 #[derive(Clone, Copy, Debug)]
@@ -43,14 +45,15 @@ fn is_sooner(tick: u32, best: &Option<Clash>) -> bool
 }
 
 // The first clash of the pairs of cores up to this one, of which `best` is that of the earlier ones.
-fn take_pair(rows: &[CoreTable], core: usize, other: usize, best: Option<Clash>) -> Option<Clash>
+fn take_pair(raw: &[Segments], core: usize, other: usize, best: Option<Clash>) -> Option<Clash>
+    requires good { HaveGoodShapes raw.now }
     requires lower { core < other }
-    requires there { other < length rows.now }
-    requires few { length rows.now ≤ MAX_CORES }
-    requires before { IsFirstBefore rows.now core other best }
-    ensures { IsFirstBefore rows.now core (other + 1) result }
+    requires there { other < length raw.now }
+    requires few { length raw.now ≤ MAX_CORES }
+    requires before { IsFirstBefore (rows_of raw.now) core other best }
+    ensures { IsFirstBefore (rows_of raw.now) core (other + 1) result }
 {
-    let Some(meeting) = find_meeting(rows[core].segments(), rows[other].segments()) else {
+    let Some(meeting) = find_meeting(raw[core].items(), raw[other].items()) else {
         return best;
     };
     if is_sooner(meeting.tick, &best) {
@@ -66,29 +69,31 @@ fn take_pair(rows: &[CoreTable], core: usize, other: usize, best: Option<Clash>)
 }
 
 // The first clash of the pairs whose first core is at most this one.
-fn take_core(rows: &[CoreTable], core: usize, best: Option<Clash>) -> Option<Clash>
-    requires there { core < length rows.now }
-    requires few { length rows.now ≤ MAX_CORES }
-    requires before { IsFirstBefore rows.now core 0 best }
-    ensures { IsFirstBefore rows.now (core + 1) 0 result }
+fn take_core(raw: &[Segments], core: usize, best: Option<Clash>) -> Option<Clash>
+    requires good { HaveGoodShapes raw.now }
+    requires there { core < length raw.now }
+    requires few { length raw.now ≤ MAX_CORES }
+    requires before { IsFirstBefore (rows_of raw.now) core 0 best }
+    ensures { IsFirstBefore (rows_of raw.now) (core + 1) 0 result }
 {
     let mut best = best;
-    for other in core + 1..rows.len() {
-        best = take_pair(rows, core, other, best);
+    for other in core + 1..raw.len() {
+        best = take_pair(raw, core, other, best);
     }
     best
 }
 
 // The first clash of the rows, each pair of which is swept from end to end of a segment.
-pub(crate) fn find_clash(rows: &[CoreTable]) -> Option<Clash>
-    requires few { length rows.now ≤ MAX_CORES }
-    ensures none { IfNone result (Apart rows.now) }
+pub(crate) fn find_clash(raw: &[Segments]) -> Option<Clash>
+    requires good { HaveGoodShapes raw.now }
+    requires few { length raw.now ≤ MAX_CORES }
+    ensures none { IfNone result (Apart (rows_of raw.now)) }
     ensures some { IfSome result
-        (λ clash. IsFirstClash rows.now clash.vcpu clash.tick clash.core clash.other) }
+        (λ clash. IsFirstClash (rows_of raw.now) clash.vcpu clash.tick clash.core clash.other) }
 {
     let mut best = None;
-    for core in 0..rows.len() {
-        best = take_core(rows, core, best);
+    for core in 0..raw.len() {
+        best = take_core(raw, core, best);
     }
     best
 }

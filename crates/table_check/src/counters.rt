@@ -2,12 +2,13 @@ ghost use Rattle.std.specs.Prelude.{◌≡◌, ◌+◌, ◌*◌, ◌^◌, ◌<�
 ghost use Rattle.tab_core.specs.declared.TheConstants.{MAX_CORES, MAX_VCPUS, ROUND};
 ghost use Rattle.table_form.specs.Tables.Rows.{RisesTo, cells_from};
 ghost use Rattle.table_form.specs.Tables.Serves.{cells_within};
-ghost use Rattle.table_check.specs.Counters.{AreAtMost, CountSupply, GrowBy, ticks_given};
+ghost use Rattle.table_check.specs.Inside.Counters.{AreAtMost, CountSupply, GrowBy, ticks_given};
+ghost use Rattle.table_check.specs.Shapes.{HaveGoodShapes, rows_of};
 ghost use Rattle.table_check.specs.declared.counters.TheConstants.{MAX_PERIODS};
 
 use std::alloc::Global;
 use tab_core::{NoMemory, Periodic, ROUND, VcpuNo};
-use table_form::{CoreTable, Segment};
+use table_form::{Segment, Segments};
 
 // How many periods a round has at most.
 pub(crate) const MAX_PERIODS: usize = 1026;
@@ -79,16 +80,17 @@ fn add_row(counters: &mut Vec<u32>, tasks: &[Option<Periodic>], segments: &[Segm
 pub(crate) fn count_supply(
     alloc: Global,
     tasks: &[Option<Periodic>],
-    rows: &[CoreTable],
+    raw: &[Segments],
 ) -> Result<Vec<u32>, NoMemory>
     requires few { length tasks.now ≤ MAX_VCPUS }
-    requires few_rows { length rows.now ≤ MAX_CORES }
+    requires few_rows { length raw.now ≤ MAX_CORES }
+    requires good { HaveGoodShapes raw.now }
     ensures size { IfOk result (λ counters. length counters.items ≡ length tasks.now * MAX_PERIODS) }
-    ensures supply { IfOk result (λ counters. CountSupply tasks.now rows.now counters.items) }
+    ensures supply { IfOk result (λ counters. CountSupply tasks.now (rows_of raw.now) counters.items) }
 {
     let mut counters = vec![in alloc; 0u32; tasks.len() * MAX_PERIODS]?;
-    for row in rows {
-        add_row(&mut counters, tasks, row.segments());
+    for row in raw {
+        add_row(&mut counters, tasks, row.items());
     }
     Ok(counters)
 }

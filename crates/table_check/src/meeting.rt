@@ -1,7 +1,7 @@
 ghost use Rattle.std.specs.Prelude.{◌≡◌, ◌+◌, ◌<◌, ◌^◌, ◌==◌, ℕ, IfSome, IfNone, Some, if◌then◌else◌};
 ghost use Rattle.tab_core.specs.declared.TheConstants.{ROUND};
 ghost use Rattle.table_form.specs.Tables.Rows.{RisesTo, cells_from};
-ghost use Rattle.table_check.specs.Meetings.{IsFirstMeeting};
+ghost use Rattle.table_check.specs.Inside.Meetings.{IsFirstMeeting};
 
 use tab_core::{ROUND, VcpuNo};
 use table_form::Segment;

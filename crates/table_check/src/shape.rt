@@ -1,41 +1,40 @@
-ghost use Rattle.std.specs.Prelude.{◌≡◌, ◌⊎◌, ◌<◌, ◌≤◌, IfErr, IfOk, None, length};
+ghost use Rattle.std.specs.Prelude.{◌≡◌, ◌≤◌, IfNone, IfOk, IfSome, length};
 ghost use Rattle.tab_core.specs.declared.TheConstants.{MAX_CORES};
-ghost use Rattle.table_form.specs.Tables.Rows.{bad_place, cells_from};
-ghost use Rattle.table_check.specs.Faults.{IsRowFault, IsShapeFault};
+ghost use Rattle.table_check.specs.Faults.{IsShapeFault};
 ghost use Rattle.table_check.specs.Shapes.{HaveGoodShapes, rows_of};
 
 use crate::fault::CheckFault;
 use std::alloc::Global;
-use tab_core::CoreNo;
-use table_form::{CoreTable, Rows, Segment, Segments};
+use tab_core::{CoreNo, NoMemory};
+use table_form::{CoreTable, Rows, Segments, first_bad_place};
 
-// The row of the core's segments.
-fn build_row(alloc: Global, segments: &[Segment], core: usize) -> Result<CoreTable, CheckFault>
-    requires { core < MAX_CORES }
-    ensures row { IfOk result (λ row. row ≡ cells_from 0 segments.now) }
-    ensures good { IfOk result (λ _. bad_place 0 segments.now ≡ None) }
-    ensures fault { IfErr result (λ fault. (fault ≡ CheckFault.NoMemory)
-        ⊎ IsRowFault core segments.now fault) }
+// The fault of the lowest core whose segments make no row.
+pub(crate) fn find_bad_shape(raw: &[Segments]) -> Option<CheckFault>
+    requires { length raw.now ≤ MAX_CORES }
+    ensures none { IfNone result (HaveGoodShapes raw.now) }
+    ensures some { IfSome result (IsShapeFault raw.now) }
 {
-    match CoreTable::of(Vec::from_slice(alloc, segments)?) {
-        Ok(row) => Ok(row),
-        Err(bad) => Err(CheckFault::BadShape {
-            core: CoreNo(core as u32),
-            place: bad.place,
-        }),
+    for core in 0..raw.len() {
+        if let Some(place) = first_bad_place(raw[core].items()) {
+            return Some(CheckFault::BadShape {
+                core: CoreNo(core as u32),
+                place,
+            });
+        }
     }
+    None
 }
 
-// The rows of the cores, unless the segments of one make no row.
-pub(crate) fn build_rows(alloc: Global, raw: &[Segments]) -> Result<Rows, CheckFault>
-    requires { length raw.now ≤ MAX_CORES }
-    ensures rows { IfOk result (λ rows. rows ≡ rows_of raw.now) }
-    ensures good { IfOk result (λ _. HaveGoodShapes raw.now) }
-    ensures fault { IfErr result (λ fault. (fault ≡ CheckFault.NoMemory) ⊎ IsShapeFault raw.now fault) }
+// The rows of the cores, whose segments make rows.
+pub(crate) fn build_rows(alloc: Global, raw: &[Segments]) -> Result<Rows, NoMemory>
+    requires few { length raw.now ≤ MAX_CORES }
+    requires good { HaveGoodShapes raw.now }
+    ensures { IfOk result (λ rows. rows ≡ rows_of raw.now) }
 {
     let mut rows = Vec::with_capacity(alloc, raw.len())?;
-    for core in 0..raw.len() {
-        rows.push(build_row(alloc, raw[core].items(), core)?)?;
+    for segments in raw {
+        let copy = Vec::from_slice(alloc, segments.items())?;
+        rows.push(CoreTable::of_rising(copy))?;
     }
     Ok(Rows::of(rows))
 }

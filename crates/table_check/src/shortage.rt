@@ -1,7 +1,8 @@
 ghost use Rattle.std.specs.Prelude.{◌≡◌, ◌+◌, ◌*◌, ◌≤◌, IfOk, List, length};
 ghost use Rattle.tab_core.specs.declared.TheConstants.{MAX_CORES, MAX_VCPUS};
 ghost use Rattle.table_form.specs.Tables.Rows.{Row};
-ghost use Rattle.table_check.specs.Counters.{CountSupply, IsFirstLow};
+ghost use Rattle.table_check.specs.Inside.Counters.{CountSupply, IsFirstLow};
+ghost use Rattle.table_check.specs.Shapes.{HaveGoodShapes, rows_of};
 ghost use Rattle.table_check.specs.Shortages.{IsShortageOf};
 ghost use Rattle.table_check.specs.declared.counters.TheConstants.{MAX_PERIODS};
 
@@ -9,7 +10,7 @@ use crate::counters::{MAX_PERIODS, count_supply};
 use crate::fault::CheckFault;
 use std::alloc::Global;
 use tab_core::{NoMemory, Periodic, ROUND, VcpuNo};
-use table_form::CoreTable;
+use table_form::Segments;
 
 // A vCPU that gets less than its cost in one of its periods.
 #[derive(Clone, Copy, Debug)]
@@ -72,12 +73,13 @@ fn first_shortage(counters: &[u32], tasks: &[Option<Periodic>]) -> Option<Shorta
 pub(crate) fn find_shortage(
     alloc: Global,
     tasks: &[Option<Periodic>],
-    rows: &[CoreTable],
+    raw: &[Segments],
 ) -> Result<Option<Shortage>, NoMemory>
     requires few { length tasks.now ≤ MAX_VCPUS }
-    requires few_rows { length rows.now ≤ MAX_CORES }
-    ensures { IfOk result (IsShortageOf tasks.now rows.now) }
+    requires few_rows { length raw.now ≤ MAX_CORES }
+    requires good { HaveGoodShapes raw.now }
+    ensures { IfOk result (IsShortageOf tasks.now (rows_of raw.now)) }
 {
-    let counters = count_supply(alloc, tasks, rows)?;
+    let counters = count_supply(alloc, tasks, raw)?;
     Ok(first_shortage(&counters, tasks))
 }

@@ -15,12 +15,14 @@ before_last [] t rest = refl
 before_last (x ∷ []) t rest = refl
 before_last (x ∷ y ∷ xs) t rest = ap (λ ts. x ∷ ts) (before_last (y ∷ xs) t rest)
 
+-- so the one before the last keeps its place, as a swap of the last two needs
 pub before_last_two : (xs : List SegmentView) (u t : SegmentView) (rest : List SegmentView) → put_before
     (xs ++ u ∷ t ∷ []) rest ≡ xs ++ u ∷ put_front t rest
 before_last_two [] u t rest = refl
 before_last_two (x ∷ []) u t rest = refl
 before_last_two (x ∷ y ∷ xs) u t rest = ap (λ ts. x ∷ ts) (before_last_two (y ∷ xs) u t rest)
 
+-- with nothing behind them they are as they were, as at the end of a pass
 pub before_nothing : (xs : List SegmentView) → put_before xs [] ≡ xs
 before_nothing [] = refl
 before_nothing (x ∷ []) = refl
@@ -82,7 +84,9 @@ pub record InParts (ss : List Segment) (xs ys : List SegmentView) : Type 0 where
   pub first : map segment_view front ≡ xs
   pub second : map segment_view bs ≡ ys
 
-pub in_parts : (ss : List Segment) (xs ys : List SegmentView) → map segment_view ss ≡ xs ++ ys → InParts ss xs ys
+-- an equation on views as an equation on the segments themselves, so that writes by index can be read off
+pub in_parts : (ss : List Segment) (xs ys : List SegmentView) → map segment_view ss ≡ xs ++ ys
+    → InParts ss xs ys
 in_parts ss [] ys e = record { front = []; bs = ss; is = refl; first = refl; second = e }
 in_parts [] (x ∷ xs) ys e = absurd cc
 in_parts (s ∷ ss) (x ∷ xs) ys e =
@@ -97,6 +101,7 @@ in_parts (s ∷ ss) (x ∷ xs) ys e =
       second = rest.second;
     }
 
+-- segments that end with one
 pub record LastOne (ss : List Segment) (xs : List SegmentView) (t : SegmentView) : Type 0 where
   pub front : List Segment
   pub b : Segment
@@ -104,17 +109,21 @@ pub record LastOne (ss : List Segment) (xs : List SegmentView) (t : SegmentView)
   pub first : map segment_view front ≡ xs
   pub last : segment_view b ≡ t
 
-pub last_one : (ss : List Segment) (xs : List SegmentView) (t : SegmentView) → map segment_view ss ≡ xs ++ t ∷ []
+-- the same where one is last
+pub last_one : (ss : List Segment) (xs : List SegmentView) (t : SegmentView)
+    → map segment_view ss ≡ xs ++ t ∷ []
     → LastOne ss xs t
 last_one ss xs t e = let parts = in_parts ss xs
     (t ∷ []) e in of_parts parts.front parts.bs parts.is parts.first parts.second
   where
-    of_parts : (fs bs : List Segment) → ss ≡ fs ++ bs → map segment_view fs ≡ xs → map segment_view bs ≡ t ∷ []
+    of_parts : (fs bs : List Segment) → ss ≡ fs ++ bs → map segment_view fs ≡ xs
+        → map segment_view bs ≡ t ∷ []
         → LastOne ss xs t
     of_parts fs [] is first second = absurd cc
     of_parts fs (b ∷ []) is first second = record { front = fs; b = b; is = is; first = first; last = cc }
     of_parts fs (b ∷ c ∷ bs) is first second = absurd cc
 
+-- a write to the last place, as `push_segment` makes it, changes the last view alone
 pub set_last : (ss : List Segment) (xs : List SegmentView) (t : SegmentView) (i : ℕ) (s : Segment)
     → map segment_view ss ≡ xs ++ t ∷ [] → i + 1 ≡ length ss
     → map segment_view (set ss i s) ≡ xs ++ segment_view s ∷ []
@@ -182,7 +191,8 @@ cells_put start (t ∷ u ∷ ts) end n s m some e =
     ∙ ap (λ cells. cells ++ replicate n s.owner) (sym (cells_of-cons start t (u ∷ ts)))
 
 -- so a run of cells is appended to those of the segments
-pub cells_appended : (old new : List Segment) (end n : ℕ) (o : Option ℕ) → AreMaximal 0 (map segment_view old) end
+pub cells_appended : (old new : List Segment) (end n : ℕ) (o : Option ℕ)
+    → AreMaximal 0 (map segment_view old) end
     → 0 < n
     → map segment_view new ≡ put_before (map segment_view old) (record { owner = o; end = end + n } ∷ [])
     → cells_from 0 new ≡ cells_from 0 old ++ replicate n o

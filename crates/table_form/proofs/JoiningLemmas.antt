@@ -22,7 +22,8 @@ segment_ends start s [] end rises other =
     let parts = rises_parts start s [] end rises in
     segments_from-segment start s [] parts.0
     ∙ front_stays (segment_view s) (segments_from s.end (cells_from s.end []))
-    (subst (BeginsOther s.owner) (sym (ap (segments_from s.end) (cells-nil s.end) ∙ segments_from-nil s.end)) tt)
+    (subst (BeginsOther s.owner)
+    (sym (ap (segments_from s.end) (cells-nil s.end) ∙ segments_from-nil s.end)) tt)
 segment_ends start s (t ∷ ss) end rises other =
     let parts = rises_parts start s (t ∷ ss) end rises in
     let after = rises_parts s.end t ss end parts.1 in
@@ -47,9 +48,11 @@ segment_goes_on start s (t ∷ ss) end rises with =
       | inr same ↦
           segments_from-segment start s (t ∷ ss) parts.0 ∙ ap (put_front (segment_view s)) (next ∙ front.is)
           ∙ front_joins (segment_view s) front.first front.rest
-          (same_first s.owner (segment_view t) (map segment_view ss) same ∙ front.same) ∙ sym (next ∙ front.is)
+          (same_first s.owner (segment_view t) (map segment_view ss) same ∙ front.same)
+          ∙ sym (next ∙ front.is)
     ]
 
+-- the list from a place on begins with the segment there
 segment_at : (ss : List Segment) (i : ℕ) (s : Segment) → slice_get ss i ≡ Some s
     → drop i ss ≡ s ∷ drop (i + 1) ss
 segment_at ss i s at =
@@ -108,7 +111,8 @@ none_joined old rises = record {
 }
 
 -- the rest behind one more index stays as it was
-rest_later : (old now : List Segment) (at : ℕ) → drop at now ≡ drop at old → drop (at + 1) now ≡ drop (at + 1) old
+rest_later : (old now : List Segment) (at : ℕ) → drop at now ≡ drop at old
+    → drop (at + 1) now ≡ drop (at + 1) old
 rest_later old now at rest =
     ap (λ n. drop n now) (add-one at) ∙ one_less at now ∙ ap (λ ss. drop 1 ss) rest ∙ sym (one_less at old)
     ∙ ap (λ n. drop n old) (sym (add-one at))

@@ -24,7 +24,8 @@ front_stays s (t ∷ ts) other = by_test (option_eq eqb s.owner t.owner) refl
     by_test false differ = rw differ refl
 
 -- and in front of one of its owner it joins that
-pub front_joins : (s t : SegmentView) (ts : List SegmentView) → s.owner ≡ t.owner → put_front s (t ∷ ts) ≡ t ∷ ts
+pub front_joins : (s t : SegmentView) (ts : List SegmentView) → s.owner ≡ t.owner
+    → put_front s (t ∷ ts) ≡ t ∷ ts
 front_joins s t ts same = rw same (rw (same_as_itself t.owner) refl)
 
 -- the first of the segments has the owner
@@ -34,6 +35,7 @@ pub record BeginsWith (owner : Option ℕ) (ts : List SegmentView) : Type 0 wher
   pub is : ts ≡ first ∷ rest
   pub same : owner ≡ first.owner
 
+-- each list begins with another owner or with this one, by the test of `put_front`
 pub front_cases : (o : Option ℕ) (ts : List SegmentView) → BeginsOther o ts ⊎ BeginsWith o ts
 front_cases o [] = inl tt
 front_cases o (t ∷ ts) = by_test (option_eq eqb o t.owner) refl
@@ -43,11 +45,14 @@ front_cases o (t ∷ ts) = by_test (option_eq eqb o t.owner) refl
     by_test false differ = inl (λ same. false≢true
         (sym differ ∙ ap (λ x. option_eq eqb x t.owner) same ∙ same_as_itself t.owner))
 
+-- the owner of the first, to compare two ways of naming it
 owner_at_front : List SegmentView → Option ℕ
 owner_at_front [] = None
 owner_at_front (t ∷ ts) = t.owner
 
-pub same_first : (o : Option ℕ) (t : SegmentView) (ts : List SegmentView) → BeginsWith o (t ∷ ts) → o ≡ t.owner
+-- where a list is known to begin with an owner, its first segment has it
+pub same_first : (o : Option ℕ) (t : SegmentView) (ts : List SegmentView) → BeginsWith o (t ∷ ts)
+    → o ≡ t.owner
 unfolding owner_at_front
 same_first o t ts with = with.same ∙ ap owner_at_front (sym with.is)
 
@@ -71,6 +76,7 @@ front_twice s t ts same =
     let with = front_begins t ts in
     ap (put_front s) with.is ∙ front_joins s with.first with.rest (same ∙ with.same) ∙ sym with.is
 
+-- in front of a segment of another owner it stays, whatever that one joins
 pub front_differs : (s t : SegmentView) (ts : List SegmentView) → s.owner ≢ t.owner → put_front s
     (put_front t ts) ≡ s ∷ put_front t ts
 front_differs s t ts differ =
@@ -132,12 +138,14 @@ segments_from-segment start s ss lt = rw (cells-cons start s ss) (some_cells (s.
         → segments_from start (replicate n s.owner ++ cells_from s.end ss)
         ≡ put_front (segment_view s) (segments_from s.end (cells_from s.end ss))
     some_cells zero e = absurd (omega arith)
-    some_cells (suc n) e = segments_from-replicate n start s.end s.owner (cells_from s.end ss) (omega (arith, e))
+    some_cells (suc n) e = segments_from-replicate n start s.end s.owner (cells_from s.end ss)
+        (omega (arith, e))
 
 -- a row's segments are maximal, as the type of a table keeps them
 pub maximal_of_row : (at : ℕ) (row : Row) (end : ℕ) → at + length row ≡ end
     → AreMaximal at (segments_from at row) end
-maximal_of_row at [] end e = subst (λ ts. AreMaximal at ts end) (sym (segments_from-nil at)) (omega (arith, e))
+maximal_of_row at [] end e = subst (λ ts. AreMaximal at ts end) (sym (segments_from-nil at))
+    (omega (arith, e))
 maximal_of_row at (cell ∷ cells) end e =
     subst (λ ts. AreMaximal at ts end) (sym (segments_from-cons at cell cells))
     (maximal_front at (record { owner = cell; end = at + 1 }) (segments_from (at + 1) cells) end
@@ -149,11 +157,14 @@ pub cells_of : ℕ → List SegmentView → Row
 cells_of start [] = []
 cells_of start (t ∷ ts) = replicate (t.end - start) t.owner ++ cells_of t.end ts
 
+-- no segment, no cell
 pub cells_of-nil : (start : ℕ) → cells_of start [] ≡ []
 unfolding cells_of
 cells_of-nil start = refl
 
-pub cells_of-cons : (start : ℕ) (t : SegmentView) (ts : List SegmentView) → cells_of start (t ∷ ts) ≡ replicate
+-- the cells of the first, and those behind it
+pub cells_of-cons : (start : ℕ) (t : SegmentView) (ts : List SegmentView)
+    → cells_of start (t ∷ ts) ≡ replicate
     (t.end - start) t.owner ++ cells_of t.end ts
 unfolding cells_of
 cells_of-cons start t ts = refl
@@ -167,6 +178,7 @@ replicate_parts o low middle high cells le le' =
     (sym (replicate-append-replicate (middle - low) (high - middle) o))
     ∙ append_assoc (replicate (middle - low) o) (replicate (high - middle) o) cells
 
+-- joining with the next doesn't change the cells
 pub cells_of_front : (start : ℕ) (s : SegmentView) (ts : List SegmentView) (end : ℕ) → start ≤ s.end
     → AreMaximal s.end ts end
     → cells_of start (put_front s ts) ≡ replicate (s.end - start) s.owner ++ cells_of s.end ts
@@ -209,20 +221,23 @@ segments_of_cells at (t ∷ ts) end m =
         → segments_from at (replicate n t.owner ++ cells_of t.end ts) ≡ put_front t
         (segments_from t.end (cells_of t.end ts))
     some_cells zero e = absurd (omega (arith, e, m.0))
-    some_cells (suc n) e = segments_from-replicate n at t.end t.owner (cells_of t.end ts) (omega (arith, e, m.0))
+    some_cells (suc n) e = segments_from-replicate n at t.end t.owner (cells_of t.end ts)
+        (omega (arith, e, m.0))
 
 -- two rows of the same segments are one
 pub same_row : (row row' : Row) → segments_from 0 row ≡ segments_from 0 row' → row ≡ row'
 same_row row row' e = sym (cells_of_segments 0 row) ∙ ap (cells_of 0) e ∙ cells_of_segments 0 row'
 
 -- segments stand for the cells of their segments
-pub segments_are : (start : ℕ) (ss : List Segment) → cells_from start ss ≡ cells_of start (map segment_view ss)
+pub segments_are : (start : ℕ) (ss : List Segment)
+    → cells_from start ss ≡ cells_of start (map segment_view ss)
 segments_are start [] = cells-nil start ∙ sym (cells_of-nil start)
 segments_are start (s ∷ ss) =
     cells-cons start s ss ∙ ap (λ cells. replicate (s.end - start) s.owner ++ cells)
     (segments_are s.end ss) ∙ sym
     (cells_of-cons start (segment_view s) (map segment_view ss))
 
+-- maximal segments rise, so they make a row
 pub segments_rise : (start : ℕ) (ss : List Segment) (end : ℕ) → AreMaximal start (map segment_view ss) end
     → RisesTo start ss end
 segments_rise start [] end m = rises_here start end m
@@ -250,7 +265,8 @@ maximal_are ss m =
     sym (ap (segments_from 0) (segments_are 0 ss) ∙ segments_of_cells 0 (map segment_view ss) ROUND m)
 
 -- and segments that are those of a row's cells stand for them
-pub cells_are : (ss : List Segment) (row : Row) → map segment_view ss ≡ segments_from 0 row → cells_from 0 ss ≡ row
+pub cells_are : (ss : List Segment) (row : Row) → map segment_view ss ≡ segments_from 0 row
+    → cells_from 0 ss ≡ row
 cells_are ss row is = segments_are 0 ss ∙ ap (cells_of 0) is ∙ cells_of_segments 0 row
 
 -- the segments of a whole row's cells are maximal up to the round

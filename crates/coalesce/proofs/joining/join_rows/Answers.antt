@@ -3,7 +3,7 @@ use Rattle.std.proofs.lemmas.Option.{slice_get-get_or}
 use Rattle.tab_core.specs.VcpuSets.{has_vcpu}
 use Rattle.table_form.specs.Planning.Drafts.{pieces_at}
 use Rattle.coalesce.specs.Joining.{has_single_piece}
-use Rattle.coalesce.specs.Passing.{IsTableOf}
+use Rattle.coalesce.specs.Inside.Passing.{IsTableOf}
 use Rattle.coalesce.proofs.Joined.{JoinedSoFar, joined_by, one_joined}
 use Rattle.coalesce.proofs.joining.join_rows.Goals as goal
 

@@ -13,10 +13,12 @@ take_next-requires-clause-below c =
     let next = one_comes c.args.segments.now c.args.table.now c.args.sliver c.loop-segment.segment-index
     (map segment_view c.loop-segment.out.items) c.segment-item.result c.loop-segment-test.true c.segment-item.is
     c.loop-segment.invariant in
-    below_next (map segment_view c.loop-segment.out.items) (segment_view c.segment-item.result) next.rest next.stands
+    below_next (map segment_view c.loop-segment.out.items)
+    (segment_view c.segment-item.result) next.rest next.stands
 
 pub take_next-requires-clause-in_round : goal.take_next-requires-clause-in_round
-take_next-requires-clause-in_round c = (one_comes c.args.segments.now c.args.table.now c.args.sliver c.loop-segment.segment-index
+take_next-requires-clause-in_round c =
+    (one_comes c.args.segments.now c.args.table.now c.args.sliver c.loop-segment.segment-index
     (map segment_view c.loop-segment.out.items) c.segment-item.result c.loop-segment-test.true c.segment-item.is
     c.loop-segment.invariant).in_round
 

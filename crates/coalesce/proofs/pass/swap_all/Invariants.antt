@@ -5,4 +5,5 @@ use Rattle.coalesce.proofs.pass.swap_all.Given as goal
 
 -- the segments up to this one have come
 abbrev pub invariant-loop-segment : goal.invariant-loop-segment
-invariant-loop-segment l = HasPassed l.segments l.table l.sliver l.segment-index (map segment_view l.out.items)
+invariant-loop-segment l = HasPassed l.segments l.table l.sliver l.segment-index
+    (map segment_view l.out.items)

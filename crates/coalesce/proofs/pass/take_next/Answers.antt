@@ -2,7 +2,7 @@ use Rattle.std.proofs.Common.{List, ◌≤◌, ◌∷◌, length, map, subst, sy
 use Rattle.std.proofs.lemmas.Bool.{false≢true}
 use Rattle.table_form.specs.Tables.Segments.{segment_view}
 use Rattle.table_form.specs.declared.segment.Segment.{Segment}
-use Rattle.coalesce.specs.Passing.{CanSwapLast, IsPassed, StandInRow}
+use Rattle.coalesce.specs.Inside.Passing.{CanSwapLast, IsPassed, StandInRow}
 use Rattle.coalesce.proofs.Ends.{two_ends}
 use Rattle.coalesce.proofs.Steps.{passed_after_append, passed_after_swap, stands_after_append, stands_after_swap}
 use Rattle.coalesce.proofs.pass.take_next.Goals as goal

@@ -1,6 +1,6 @@
 use Rattle.std.proofs.Common.{set, Some, take, subst, sym, ◌+◌, ◌∙◌}
 use Rattle.std.proofs.lemmas.Bool.{eq-eqb, eqb-true, false≢true}
-use Rattle.coalesce.specs.Passing.{IsTableOf}
+use Rattle.coalesce.specs.Inside.Passing.{IsTableOf}
 use Rattle.table_form.specs.Planning.Drafts.{pieces_at}
 use Rattle.coalesce.proofs.Built.{next_elsewhere, next_here}
 use Rattle.coalesce.proofs.table.table_of.Goals.{then-eq, else-eq}

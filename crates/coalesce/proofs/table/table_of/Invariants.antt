@@ -1,6 +1,6 @@
 use Rattle.std.proofs.Common.{take}
 use Rattle.table_form.specs.Planning.Drafts.{pieces_at}
-use Rattle.coalesce.specs.Passing.{IsTableOf}
+use Rattle.coalesce.specs.Inside.Passing.{IsTableOf}
 use Rattle.coalesce.proofs.table.table_of.Given as goal
 
 -- the table is that of the pieces so far

@@ -1,53 +1,41 @@
-use Rattle.std.proofs.Common.{◌≡◌, inr, subst, sym, ap, ◌∙◌, IsTrue, length, ℕ, List, Option}
+use Rattle.std.proofs.Common.{◌≡◌, subst, sym, ap, ◌∙◌, IsTrue, length, ℕ, List, Option}
+use Rattle.std.specs.Prelude.{IfNone}
 use Rattle.std.proofs.lemmas.List.{length-map}
 use Rattle.tab_core.specs.declared.periodic.Periodic.{Periodic}
 use Rattle.table_form.specs.Tables.Homes.{HaveHomes, are_housed}
 use Rattle.table_form.specs.Tables.Rows.{Row, cells_from}
 use Rattle.table_form.specs.Tables.Serves.{Apart, OwnersHaveTasks, Serves}
-use Rattle.table_check.specs.Shapes.{HaveGoodShapes, rows_of}
-use Rattle.table_check.specs.Shortages.{IsShortageOf}
-use Rattle.table_check.proofs.OneFault.{is_short_fault, one_fault}
+use Rattle.table_check.specs.Faults.{AreGood}
+use Rattle.table_check.specs.Shapes.{rows_of}
+use Rattle.table_check.proofs.OneFault.{one_fault}
 use Rattle.table_check.proofs.Owned.{owners_have_tasks}
 use Rattle.table_check.proofs.checker.check.Goals as goal
 
-pub returns-in_err-rows-clause-one_fault : goal.returns-in_err-rows-clause-one_fault
-returns-in_err-rows-clause-one_fault c = one_fault c.args.tasks.now c.args.raw.now.rows
+pub returns-in_err-fault-clause-one_fault : goal.returns-in_err-fault-clause-one_fault
+returns-in_err-fault-clause-one_fault c = one_fault c.args.tasks.now c.args.raw.now.rows
 
 pub returns-in-Some-clause-one_fault : goal.returns-in-Some-clause-one_fault
 returns-in-Some-clause-one_fault c = one_fault c.args.tasks.now c.args.raw.now.rows
-
-pub returns-in_err-shortage-clause-one_fault : goal.returns-in_err-shortage-clause-one_fault
-returns-in_err-shortage-clause-one_fault c = one_fault c.args.tasks.now c.args.raw.now.rows
-
-pub returns-in-Some-2-clause-one_fault : goal.returns-in-Some-2-clause-one_fault
-returns-in-Some-2-clause-one_fault c = one_fault c.args.tasks.now c.args.raw.now.rows
-
-pub returns-in-Some-2-clause-fault : goal.returns-in-Some-2-clause-fault
-returns-in-Some-2-clause-fault c =
-    let raw = c.args.raw.now.rows in
-    inr (is_short_fault c.args.tasks.now c.items-3.result.now raw c.in_ok-rows.rows c.items-4.result.now
-    c.in_ok-shortage.field-0 c.in-Some-2.shortage c.fault-in-Some-2.result
-    c.items-3.ensures.same (c.in_ok-rows.ensures.rows ∙ ap rows_of c.items.ensures) c.items-4.ensures.same
-    (subst HaveGoodShapes c.items.ensures c.in_ok-rows.ensures.good)
-    (subst Apart c.items-2.ensures.same c.in_default.ensures.none)
-    c.in_ok-shortage.ensures c.in-Some-2.is c.fault-in-Some-2.ensures)
 
 pub invariant_of-result : goal.invariant_of-result
 invariant_of-result c =
     let raw = c.args.raw.now.rows in
     let tasks : c.of.result ≡ c.args.tasks.now = c.of.ensures ∙ c.in_ok-from_slice-2.ensures.items
-    ∙ c.items-6.ensures.same in
+    ∙ c.items-5.ensures.same in
     let homes : c.of-homes.result ≡ c.args.raw.now.homes =
     c.of-homes.ensures ∙ c.in_ok-from_slice.ensures.items
-    ∙ c.items-5.ensures.same in
-    let rows : c.in_ok-rows.rows ≡ rows_of raw = c.in_ok-rows.ensures.rows ∙ ap rows_of c.items.ensures in
+    ∙ c.items-4.ensures.same in
+    let rows : c.in_ok-rows.rows ≡ rows_of raw = c.in_ok-rows.ensures ∙ ap rows_of c.items-3.ensures in
+    let found : AreGood c.items.result.now c.items-2.result.now =
+    subst (λ fault. IfNone fault (AreGood c.items.result.now c.items-2.result.now)) c.in_default.is
+    c.in_ok-fault.ensures.none in
+    let good : AreGood c.args.tasks.now raw =
+    subst (AreGood c.args.tasks.now) c.items-2.ensures
+    (subst (λ (ts : List (Option Periodic)). AreGood ts c.items-2.result.now) c.items.ensures.same found) in
     record {
-      serves = subst (λ (ts : List (Option Periodic)). Serves ts c.in_ok-rows.rows)
-          (c.items-3.ensures.same ∙ sym tasks)
-          (subst (Serves c.items-3.result.now) c.items-4.ensures.same
-          (subst (IsShortageOf c.items-3.result.now c.items-4.result.now) c.in_default-2.is
-          c.in_ok-shortage.ensures));
-      apart = subst Apart c.items-2.ensures.same c.in_default.ensures.none;
+      serves = subst (λ (ts : List (Option Periodic)). Serves ts c.in_ok-rows.rows) (sym tasks)
+          (subst (Serves c.args.tasks.now) (sym rows) good.serves);
+      apart = subst Apart (sym rows) good.apart;
       housed = subst
           (λ (ts : List (Option Periodic)). HaveHomes ts c.of-homes.result c.in_ok-rows.rows)
           (sym tasks)

@@ -2,7 +2,7 @@ use Rattle.std.proofs.Common.{◌≡◌, ℕ, ◌+◌, ◌*◌, ◌/◌, ◌<◌
 use Rattle.std.proofs.lemmas.List.{length-set}
 use Rattle.tab_core.specs.declared.TheConstants.{ROUND}
 use Rattle.tab_core.specs.declared.periodic.Periodic.{Periodic}
-use Rattle.table_check.specs.Counters.{GrowBy, ticks_given}
+use Rattle.table_check.specs.Inside.Counters.{GrowBy, ticks_given}
 use Rattle.table_check.specs.declared.counters.TheConstants.{MAX_PERIODS}
 use Rattle.table_check.proofs.Counting.{no_cut_yet, one_more_cut, place_in_list, read_count, room_for_cut}
 use Rattle.table_check.proofs.Periods.{holds_tick}

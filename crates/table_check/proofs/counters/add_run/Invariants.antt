@@ -1,6 +1,6 @@
 -- the ticks up to this one are counted
 use Rattle.std.proofs.Common.{◌≡◌, ◌-◌, ◌≤◌, Some, length}
-use Rattle.table_check.specs.Counters.{GrowBy, ticks_given}
+use Rattle.table_check.specs.Inside.Counters.{GrowBy, ticks_given}
 use Rattle.table_check.proofs.counters.add_run.Given as goal
 
 abbrev pub invariant-cutting : goal.invariant-cutting

@@ -2,7 +2,7 @@
 use Rattle.std.proofs.Common.{◌-◌, ◌≤◌, length}
 use Rattle.tab_core.specs.declared.TheConstants.{ROUND}
 use Rattle.table_form.specs.Tables.Rows.{cells_from}
-use Rattle.table_check.specs.Meetings.{MeetNoneBefore}
+use Rattle.table_check.specs.Inside.Meetings.{MeetNoneBefore}
 use Rattle.table_check.proofs.Sweep.{GoesOnFrom}
 use Rattle.table_check.proofs.meeting.find_meeting.Given as goal
 

@@ -1,28 +1,26 @@
-use Rattle.std.proofs.Common.{◌≡◌, List, [], ◌∷◌, ◌++◌, None, take, ap, refl, sym, ◌∙◌}
-use Rattle.std.proofs.lemmas.Option.{slice_get_read}
-use Rattle.table_form.specs.Tables.Rows.{Row, bad_place, cells_from}
+use Rattle.std.proofs.Common.{List, [], ◌∷◌, ◌++◌, take, ap, subst, sym, ◌∙◌}
+use Rattle.std.proofs.lemmas.List.{take_all}
+use Rattle.tab_core.specs.declared.TheConstants.{ROUND}
+use Rattle.table_form.specs.Tables.Rows.{Row, RisesTo, cells_from}
 use Rattle.table_check.specs.Shapes.{rows_of}
-use Rattle.table_check.proofs.RawShapes.{good_all, good_more, rows_more}
+use Rattle.table_check.proofs.RawShapes.{rises_at, rows_more}
 use Rattle.table_check.proofs.shape.build_rows.Goals as goal
 
-pub loop-core-preserved : goal.loop-core-preserved
-loop-core-preserved c =
-    let at = slice_get_read c.args.raw.now _ c.loop-core.core c.index-raw-core.result refl
-    c.loop-core-test.true
-    c.index-raw-core.is in
-    let good : bad_place 0 c.index-raw-core.result ≡ None = ap (bad_place 0) (sym c.items.ensures)
-    ∙ c.in_ok-build_row.ensures.good in
-    record {
-      rows_are = c.in_ok-push.ensures.items
-          ∙ ap (λ (rows : List Row). rows ++ c.in_ok-build_row.field-0 ∷ []) c.loop-core.invariant.rows_are
-          ∙ ap (λ (row : Row). rows_of (take c.loop-core.core c.args.raw.now) ++ row ∷ [])
-          (c.in_ok-build_row.ensures.row ∙ ap (cells_from 0) c.items.ensures)
-          ∙ sym (rows_more c.args.raw.now c.loop-core.core c.index-raw-core.result c.loop-core-test.true
-          c.index-raw-core.is);
-      good = good_more c.args.raw.now c.loop-core.core c.index-raw-core.result at good
-          c.loop-core.invariant.good;
-    }
+pub of_rising-requires : goal.of_rising-requires
+of_rising-requires c =
+    subst (λ ss. RisesTo 0 ss ROUND) (sym (c.in_ok-copy.ensures.items ∙ c.items.ensures))
+    (rises_at c.args.raw.now c.loop-segments.segments-index c.segments-item.result c.requires.good
+    c.loop-segments-test.true c.segments-item.is)
 
-pub returns-clause-good : goal.returns-clause-good
-returns-clause-good c = good_all c.args.raw.now c.loop-core.core c.loop-core-test.false
-    c.loop-core.invariant.good
+pub loop-segments-preserved : goal.loop-segments-preserved
+loop-segments-preserved c =
+    c.in_ok-push.ensures.items
+    ∙ ap (λ (rows : List Row). rows ++ c.of_rising.result ∷ []) c.loop-segments.invariant
+    ∙ ap (λ (row : Row). rows_of (take c.loop-segments.segments-index c.args.raw.now) ++ row ∷ [])
+    (c.of_rising.ensures ∙ ap (cells_from 0) (c.in_ok-copy.ensures.items ∙ c.items.ensures))
+    ∙ sym (rows_more c.args.raw.now c.loop-segments.segments-index c.segments-item.result
+    c.loop-segments-test.true c.segments-item.is)
+
+pub returns : goal.returns
+returns c = c.of.ensures ∙ c.loop-segments.invariant
+    ∙ ap rows_of (take_all c.loop-segments.segments-index c.args.raw.now c.loop-segments-test.false)

@@ -1,5 +1,5 @@
 use Rattle.std.proofs.Common.{ℕ, ◌<◌, ◌≤◌}
-use Rattle.table_check.specs.Counters.{count_at}
+use Rattle.table_check.specs.Inside.Counters.{count_at}
 use Rattle.table_check.proofs.shortage.first_low.Given as goal
 
 abbrev pub invariant-loop-period_no : goal.invariant-loop-period_no

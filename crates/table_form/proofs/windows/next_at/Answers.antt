@@ -1,6 +1,6 @@
 use Rattle.std.proofs.Common.{◌+◌, ◌-◌, ◌/◌, arith}
 use Rattle.std.proofs.Math.Nat.{mod-eq-sub-div-mul, div-mul-le_self}
-use Rattle.coalesce.proofs.swap.next_at.Goals as goal
+use Rattle.table_form.proofs.windows.next_at.Goals as goal
 
 -- the next multiple of the period, counted from the offset
 pub returns-else-tick-offset-clause-one : goal.returns-else-tick-offset-clause-one

@@ -1,0 +1,4 @@
+-- What the code keeps on its way. No reader of a public contract needs these.
+pub mod Counters
+pub mod Meetings
+pub mod Pairs
