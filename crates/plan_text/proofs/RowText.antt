@@ -10,7 +10,7 @@ use Rattle.table_form.proofs.StretchLemmas.{stretches-nil, stretches_join, stret
 use Rattle.tab_words.specs.Texts.{texts_below}
 use Rattle.plan_text.specs.PlanText.{row_text, segment_line}
 use Rattle.plan_text.specs.MaximalSegments.{line_at}
-use Rattle.tab_words.proofs.NumberedTexts.{texts_below-zero, texts_below-shift}
+use Rattle.tab_words.proofs.NumberedTextLemmas.{texts_below-zero, texts_below-shift}
 
 behind : (names : List (List ℕ)) (s : Segment) (ss : List Segment)
     → texts_below (λ k. line_at names (s ∷ ss) (suc k)) (length ss)

@@ -14,8 +14,8 @@ use Rattle.tab_words.specs.Pieces.{piece_text, spaced}
 use Rattle.tab_words.specs.Texts.{line_of, text_of}
 use Rattle.tab_words.specs.Words.{words_of}
 use Rattle.tab_words.specs.declared.text.TextPiece.{TextPiece}
-use Rattle.tab_words.proofs.FirstLine.{lines_of-line}
-use Rattle.tab_words.proofs.FirstWord.{words_of-last, words_of-word}
+use Rattle.tab_words.proofs.LineLemmas.{lines_of-line}
+use Rattle.tab_words.proofs.WordLemmas.{words_of-last, words_of-word}
 
 -- ---- what can be read back
 

@@ -1,7 +1,7 @@
 use Rattle.std.proofs.lemmas.Result.{err_from_is_err_and}
 use Rattle.tab_io.proofs.SinkLemmas.{all_left, left_behind, left_broken, none_left}
 use Rattle.vcpu_names.specs.Names.{names_of}
-use Rattle.plan_text.proofs.WritingLemmas.{cores_left, no_cores_left}
+use Rattle.plan_text.proofs.PlanTextLemmas.{cores_left, no_cores_left}
 use Rattle.plan_text.proofs.cores.put_cores.Goals as goal
 
 pub loop-core-init : goal.loop-core-init

@@ -2,7 +2,7 @@ use Rattle.std.proofs.Common.{arith}
 use Rattle.std.proofs.lemmas.Result.{err_from_is_err_and}
 use Rattle.tab_io.proofs.SinkLemmas.{all_left, left_behind, left_broken, none_left}
 use Rattle.vcpu_names.specs.Names.{names_of}
-use Rattle.plan_text.proofs.WritingLemmas.{no_vcpus_left, vcpus_left}
+use Rattle.plan_text.proofs.PlanTextLemmas.{no_vcpus_left, vcpus_left}
 use Rattle.plan_text.proofs.vcpus.put_vcpus.Goals as goal
 
 pub loop-v-init : goal.loop-v-init

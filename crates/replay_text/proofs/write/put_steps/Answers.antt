@@ -1,5 +1,5 @@
 use Rattle.vcpu_names.specs.Names.{names_of}
-use Rattle.tab_words.proofs.NumberedTexts.{none_written, next_written, next_broken, all_written}
+use Rattle.tab_words.proofs.NumberedTextLemmas.{none_written, next_written, next_broken, all_written}
 use Rattle.replay_text.specs.ReplayText.{step_text}
 use Rattle.replay_text.proofs.write.put_steps.Goals as goal
 
