@@ -70,7 +70,8 @@ pub bad_of_both : (Texts Fewer : List Line → Type 0) (first : ℕ) (lines : Li
     → ((some : List Line) → Fewer some → Texts some)
     → ((line : Line) (rest more : List Line) → lines ≡ line ∷ rest → Texts (line ∷ more)
     → Fewer (line ∷ more))
-    → (lines ≡ [] → Texts [] → Fewer []) → IsFirstBadFor Fewer first lines bad → IsFirstBadFor Texts first lines bad
+    → (lines ≡ [] → Texts [] → Fewer []) → IsFirstBadFor Fewer first lines bad
+    → IsFirstBadFor Texts first lines bad
 bad_of_both Texts Fewer first lines bad all same none is = record {
   front = is.front;
   back = is.back;

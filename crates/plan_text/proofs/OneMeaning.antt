@@ -117,18 +117,24 @@ rows_same : (names : List (List ℕ)) (tasks : List (Option Periodic)) (core : �
     (rows others : List (List Segment))
     → length names ≡ length tasks → AreHostNames names
     → AreFineRows tasks rows → AreFineRows tasks others
-    → core_lines (segment_words names) core rows ++ end_words ∷ [] ≡ core_lines (segment_words names) core others ++ end_words ∷ []
+    → core_lines (segment_words names) core rows ++ end_words ∷ []
+    ≡ core_lines (segment_words names) core others ++ end_words ∷ []
     → rows ≡ others
 rows_same names tasks core [] [] many good all all' is = refl
 rows_same names tasks core [] (other ∷ others) many good all all' is = absurd (core_is_no_end core cc)
 rows_same names tasks core (row ∷ rows) [] many good all all' is = absurd (core_is_no_end core cc)
 rows_same names tasks core (row ∷ rows) (other ∷ others) many good all all' is =
-    let tails : (map (segment_words names) row ++ core_lines (segment_words names) (core + 1) rows) ++ end_words ∷ []
-    ≡ (map (segment_words names) other ++ core_lines (segment_words names) (core + 1) others) ++ end_words ∷ [] = cc in
-    let parted : map (segment_words names) row ++ (core_lines (segment_words names) (core + 1) rows ++ end_words ∷ []) ≡ map
+    let tails : (map (segment_words names) row ++ core_lines (segment_words names) (core + 1) rows)
+    ++ end_words ∷ []
+    ≡ (map (segment_words names) other ++ core_lines (segment_words names) (core + 1) others)
+    ++ end_words ∷ [] = cc in
+    let parted : map (segment_words names) row ++ (core_lines (segment_words names) (core + 1) rows
+    ++ end_words ∷ []) ≡ map
     (segment_words names) other ++ (core_lines (segment_words names) (core + 1) others ++ end_words ∷ []) =
-    sym (append_assoc (map (segment_words names) row) (core_lines (segment_words names) (core + 1) rows) (end_words ∷ []))
-    ∙ tails ∙ append_assoc (map (segment_words names) other) (core_lines (segment_words names) (core + 1) others)
+    sym (append_assoc (map (segment_words names) row) (core_lines (segment_words names) (core + 1) rows)
+    (end_words ∷ []))
+    ∙ tails ∙ append_assoc (map (segment_words names) other)
+    (core_lines (segment_words names) (core + 1) others)
     (end_words ∷ []) in
     let both = row_same names tasks row other _ _ many good (all 0 row (omega arith))
     (all' 0 other (omega arith))
@@ -197,8 +203,10 @@ pub one_meaning : (names : List (List ℕ)) (cores : ℕ) (tasks : List (Option 
     → AreLinesOf names cores tasks lines raw → AreLinesOf names cores tasks lines other → raw ≡ other
 one_meaning names cores tasks lines raw other many few good is also =
     let same = sym is.written ∙ also.written in
-    let tails : vcpu_lines names tasks raw.homes ++ (core_lines (segment_words names) 0 raw.rows ++ end_words ∷ [])
-    ≡ vcpu_lines names tasks other.homes ++ (core_lines (segment_words names) 0 other.rows ++ end_words ∷ []) = cc in
+    let tails : vcpu_lines names tasks raw.homes ++ (core_lines (segment_words names) 0 raw.rows
+    ++ end_words ∷ [])
+    ≡ vcpu_lines names tasks other.homes ++ (core_lines (segment_words names) 0 other.rows
+    ++ end_words ∷ []) = cc in
     let homes = homes_same names cores tasks raw.homes other.homes _ _ many few is.fine.housed
     also.fine.housed tails in
     tables_same raw other homes.0 (rows_same names tasks 0 raw.rows other.rows many good is.fine.segments

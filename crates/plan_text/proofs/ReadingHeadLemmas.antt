@@ -140,7 +140,8 @@ head_goes names tasks cores line lines plan =
     let is = plan.text.written in
     cc in
     let rest : lines ≡ vcpu_lines names tasks plan.raw.homes
-    ++ (core_lines (segment_words names) 0 plan.raw.rows ++ end_words ∷ []) = let is = plan.text.written in cc in
+    ++ (core_lines (segment_words names) 0 plan.raw.rows
+    ++ end_words ∷ []) = let is = plan.text.written in cc in
     record {
       is_head = first ∙ ap (λ n. head_words n (count_by is_admitted tasks)) fine.rows;
       more = record {

@@ -74,7 +74,8 @@ rows_back names tasks core count lines are = record {
   written =
       ap (λ ls. core_words core ∷ ls)
       (are.written ∙ (ap (λ ls. map (segment_words names) are.row ++ ls) are.rows.written
-      ∙ sym (append_assoc (map (segment_words names) are.row) (core_lines (segment_words names) (core + 1) are.rows.rows)
+      ∙ sym (append_assoc (map (segment_words names) are.row)
+      (core_lines (segment_words names) (core + 1) are.rows.rows)
       (end_words ∷ []))));
 }
 
@@ -107,7 +108,8 @@ rows_go_parts names tasks core count line lines (row ∷ rows) many fine written
               All-tail (λ row. All (IsFineSegment tasks) row) row rows fine;
           written = refl;
         };
-        written = rest ∙ append_assoc (map (segment_words names) row) (core_lines (segment_words names) (core + 1) rows)
+        written = rest ∙ append_assoc (map (segment_words names) row)
+            (core_lines (segment_words names) (core + 1) rows)
             (end_words ∷ []);
       };
     }
@@ -145,7 +147,8 @@ no_lines_no_rows names tasks core count are = rows_some names core are.rows (sym
 -- no rows begin with a segment
 rows_lack : (names : List (List ℕ)) (tasks : List (Option Periodic)) (core : ℕ) (rows : List (List Segment))
     (s : Segment) (lines : List Line)
-    → IsFineSegment tasks s → segment_words names s ∷ lines ≡ core_lines (segment_words names) core rows ++ end_words ∷ [] → ⊥
+    → IsFineSegment tasks s
+    → segment_words names s ∷ lines ≡ core_lines (segment_words names) core rows ++ end_words ∷ [] → ⊥
 rows_lack names tasks core [] s lines fine is = end_is_no_segment names s cc
 rows_lack names tasks core (row ∷ rows) s lines fine is = core_is_no_segment names tasks core s fine cc
 
@@ -279,8 +282,10 @@ core_lines-last names core (first ∷ rows) row =
     let more = core_lines-last names (core + 1) rows row in
     let count : core + 1 + length rows ≡ core + length (first ∷ rows) = omega arith in
     ap (λ ls. (core_words core ∷ map (segment_words names) first) ++ ls)
-    (more ∙ ap (λ n. core_lines (segment_words names) (core + 1) rows ++ core_words n ∷ map (segment_words names) row) count)
-    ∙ sym (append_assoc (core_words core ∷ map (segment_words names) first) (core_lines (segment_words names) (core + 1) rows)
+    (more ∙ ap (λ n. core_lines (segment_words names) (core + 1) rows
+    ++ core_words n ∷ map (segment_words names) row) count)
+    ∙ sym (append_assoc (core_words core ∷ map (segment_words names) first)
+    (core_lines (segment_words names) (core + 1) rows)
     (core_words (core + length (first ∷ rows)) ∷ map (segment_words names) row))
 
 -- and what holds of each row holds with the new one
@@ -331,7 +336,8 @@ core_is_bad names tasks core cores first lines low other =
 pub end_is_bad : (names : List (List ℕ)) (tasks : List (Option Periodic)) (core cores first : ℕ)
     (lines : List Line)
     → cores ≤ core
-    → IsOtherLine end_words lines → IsFirstBadFor (AreFromCore names tasks core (cores - core)) first lines first
+    → IsOtherLine end_words lines
+    → IsFirstBadFor (AreFromCore names tasks core (cores - core)) first lines first
 end_is_bad names tasks core cores first lines past other =
     let count : cores - core ≡ 0 = omega arith in
     rw count (first_is_bad (AreFromCore names tasks core 0) first lines (rows_begun names tasks core 0)
@@ -362,13 +368,16 @@ line_behind_end names tasks core cores first second lines behind past written ne
 -- the loop's step: the lines so far are those of one core more
 pub core_lines_more : (names : List (List ℕ)) (core : ℕ) (rows : List (List Segment)) (row : List Segment)
     (all left behind rest : List Line)
-    → length rows ≡ core → all ≡ core_lines (segment_words names) 0 rows ++ left → left ≡ core_words core ∷ behind
+    → length rows ≡ core → all ≡ core_lines (segment_words names) 0 rows ++ left
+    → left ≡ core_words core ∷ behind
     → behind ≡ map (segment_words names) row ++ rest
     → all ≡ core_lines (segment_words names) 0 (rows ++ row ∷ []) ++ rest
 core_lines_more names core rows row all left behind rest many before first segments =
     let place : core ≡ 0 + length rows = omega arith in
-    before ∙ (ap (λ ls. core_lines (segment_words names) 0 rows ++ ls) (first ∙ ap (λ ls. core_words core ∷ ls) segments)
-    ∙ (sym (append_assoc (core_lines (segment_words names) 0 rows) (core_words core ∷ map (segment_words names) row) rest)
+    before ∙ (ap (λ ls. core_lines (segment_words names) 0 rows ++ ls)
+    (first ∙ ap (λ ls. core_words core ∷ ls) segments)
+    ∙ (sym (append_assoc (core_lines (segment_words names) 0 rows)
+    (core_words core ∷ map (segment_words names) row) rest)
     ∙ ap (λ ls. ls ++ rest)
     (ap (λ n. core_lines (segment_words names) 0 rows ++ core_words n ∷ map (segment_words names) row) place
     ∙ sym (core_lines-last names 0 rows row))))

@@ -189,7 +189,8 @@ bad_behind_vcpu names tasks cores v first number name None home lines rest bad n
     is_task housed
     written count is =
     let parts = first_is names tasks v name None named tasked is_name is_task in
-    rw written (bad_of_both (AreFromVcpu names tasks cores v) (AreFromVcpu names tasks cores (v + 1)) first rest bad
+    rw written (bad_of_both (AreFromVcpu names tasks cores v)
+    (AreFromVcpu names tasks cores (v + 1)) first rest bad
     (λ some are. vcpus_back names tasks cores v name None home some parts housed are)
     (λ line back more at are. idle_goes names tasks cores v name (line ∷ more)
     (vcpus_go names tasks cores v name None (line ∷ more) parts are))
@@ -272,7 +273,8 @@ bad_behind_vcpus names tasks cores v first lines bad end is =
     no_homes [] homes = refl
     no_homes (n ∷ ns) homes = refl
 
-    only_rows : (some : List Line) → AreFromVcpu names tasks cores v some → AreFromCore names tasks 0 cores some
+    only_rows : (some : List Line) → AreFromVcpu names tasks cores v some
+        → AreFromCore names tasks 0 cores some
     only_rows some are = subst (AreFromCore names tasks 0 cores)
         (sym (are.written ∙ (ap (λ ts. vcpu_lines (drop v names) ts are.homes ++ are.rest) none
         ∙ ap (λ ls. ls ++ are.rest) (no_homes (drop v names) are.homes)))) are.rows

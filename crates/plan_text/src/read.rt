@@ -51,7 +51,8 @@ pub fn read_plan(
         (names_of host.now.vcpus) host.now.cores tasks.now bytes.now raw
         → (result ≡ Ok raw) ⊎ (result ≡ Err ReadPlan.NoMemory) }
     ensures refused { (bad : ℕ)
-        → IsFirstBadFor (IsSomePlan (names_of host.now.vcpus) host.now.cores tasks.now) 1 (worded bytes.now) bad
+        → IsFirstBadFor (IsSomePlan (names_of host.now.vcpus) host.now.cores tasks.now) 1
+          (worded bytes.now) bad
         → (result ≡ Err (ReadPlan.BadLine bad)) ⊎ (result ≡ Err ReadPlan.NoMemory) }
 {
     let names = Names::of(alloc, host.vcpus.items())?;

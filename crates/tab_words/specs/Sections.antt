@@ -6,7 +6,8 @@ use Rattle.std.specs.Str.{bytes_eq}
 -- the lines, each with the line feed that ends it, which the last one may lack
 unfoldable pub raw_lines_of : List ℕ → List (List ℕ)
 raw_lines_of [] = []
-raw_lines_of (byte ∷ bytes) = if byte == 10 then (byte ∷ []) ∷ raw_lines_of bytes else onto_first byte (raw_lines_of bytes)
+raw_lines_of (byte ∷ bytes) =
+    if byte == 10 then (byte ∷ []) ∷ raw_lines_of bytes else onto_first byte (raw_lines_of bytes)
 
 -- a separator: a line that is exactly `%%`
 abbrev pub is_separator : List ℕ → Bool

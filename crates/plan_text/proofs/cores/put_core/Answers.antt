@@ -15,5 +15,6 @@ pub put_row-requires : goal.put_row-requires
 put_row-requires g c = c.segments.ensures.rises
 
 pub returns : goal.returns
-returns g c = rw (core_parts (names_of c.args.vcpus.now) c.args.core c.args.row.now, ← c.segments.ensures.cells)
+returns g c =
+    rw (core_parts (names_of c.args.vcpus.now) c.args.core c.args.row.now, ← c.segments.ensures.cells)
     (writes_then _ _ _ _ _ _ _ _ c.put_line.ensures c.in_ok-put_line.was c.put_row.ensures)

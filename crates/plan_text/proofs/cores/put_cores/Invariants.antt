@@ -11,4 +11,5 @@ use Rattle.plan_text.proofs.cores.put_cores.Given as goal
 abbrev pub invariant-loop-core : goal.invariant-loop-core
 invariant-loop-core g l = IsLeft (g.K.Sink.state l.fn.sink) (g.K.Sink.state l.sink)
     (text_of (core_lines (stretch_words (names_of l.vcpus)) 0 (map (stretches_from 0) l.rows)))
-    (text_of (core_lines (stretch_words (names_of l.vcpus)) l.core (map (stretches_from 0) (drop l.core l.rows))))
+    (text_of (core_lines (stretch_words (names_of l.vcpus)) l.core
+    (map (stretches_from 0) (drop l.core l.rows))))

@@ -21,7 +21,8 @@ loop-at-preserved c = record {
   );
   sections = section_more c.args.bytes.now c.split_at.result.1.now c.first_line.result.0.now
       c.first_line.result.1.now c.loop-at.at
-      c.loop-at.invariant.sections c.split_at.ensures.back c.first_line.ensures.parts c.first_line.ensures.lines
+      c.loop-at.invariant.sections c.split_at.ensures.back c.first_line.ensures.parts
+      c.first_line.ensures.lines
       (search rules) c.loop-at.invariant.within;
 }
 
