@@ -21,7 +21,7 @@ use Rattle.vcpu_names.specs.Names.{name_at, owner_word}
 use Rattle.plan_text.specs.Meaning.{AreFineRows, IsFine, IsFineSegment, segment_words, worded}
 use Rattle.plan_text.specs.Names.{AreHostNames}
 use Rattle.plan_text.specs.PlanLines.{Line, core_lines, core_words, end_words, head_words, is_admitted, plan_lines, vcpu_lines, vcpu_part, vcpu_words}
-use Rattle.plan_text.proofs.Parts.{task_within}
+use Rattle.plan_text.proofs.HomeLemmas.{task_within}
 
 -- ---- words and lines
 
@@ -64,7 +64,8 @@ owner_is_word names (Some v) good = name_word (name_at names v) (good v refl)
 -- words are a line, if there is one
 line_good : (word : List ℕ) (words : List (List ℕ)) → list_all is_word (word ∷ words) ≡ true
     → is_line (word ∷ words) ≡ true
-line_good word words all = let some : nat_lt 0 (length (word ∷ words)) ≡ true = grind (arith, nat_tests) in rw some all
+line_good word words all =
+    let some : nat_lt 0 (length (word ∷ words)) ≡ true = grind (arith, nat_tests) in rw some all
 
 -- lines before such lines
 both_good : (first second : List Line) → list_all is_line first ≡ true → list_all is_line second ≡ true
@@ -123,7 +124,8 @@ row_good names tasks (s ∷ row) good many all =
 
 -- the lines of all cores
 cores_good : (names : List (List ℕ)) (tasks : List (Option Periodic)) (core : ℕ) (rows : List (List Segment))
-    → AreHostNames names → length names ≡ length tasks → core + length rows ≤ MAX_CORES → AreFineRows tasks rows
+    → AreHostNames names → length names ≡ length tasks → core + length rows ≤ MAX_CORES
+    → AreFineRows tasks rows
     → list_all is_line (core_lines (segment_words names) core rows) ≡ true
 cores_good names tasks core [] good many few fine = refl
 cores_good names tasks core (row ∷ rows) good many few fine =
@@ -131,7 +133,8 @@ cores_good names tasks core (row ∷ rows) good many few fine =
     let first : list_all is_line (core_words core ∷ map (segment_words names) row) ≡ true =
     rw (line_good (codes "core") (decimal core ∷ []) words)
     (row_good names tasks row good many (fine 0 row (omega arith))) in
-    both_good (core_words core ∷ map (segment_words names) row) (core_lines (segment_words names) (core + 1) rows)
+    both_good (core_words core ∷ map (segment_words names) row)
+    (core_lines (segment_words names) (core + 1) rows)
     first
     (cores_good names tasks (core + 1) rows good many (omega arith)
     (All-tail (λ r. All (IsFineSegment tasks) r) row rows fine))

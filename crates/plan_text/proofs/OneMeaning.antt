@@ -18,18 +18,21 @@ use Rattle.plan_text.specs.Names.{AreHostNames}
 use Rattle.plan_text.specs.Meaning.{AreFineRows, AreLinesOf, IsFineSegment, segment_words}
 use Rattle.plan_text.specs.PlanLines.{Line, core_lines, end_words, vcpu_lines}
 use Rattle.vcpu_names.specs.Names.{owner_word}
-use Rattle.plan_text.proofs.Languages.{core_is_no_end, core_is_no_segment, end_is_no_segment}
-use Rattle.plan_text.proofs.Parts.{task_within}
-use Rattle.plan_text.proofs.SegmentLines.{dash_is_no_name}
+use Rattle.plan_text.proofs.ReadingLemmas.{core_is_no_end, core_is_no_segment, end_is_no_segment}
+use Rattle.plan_text.proofs.HomeLemmas.{task_within}
+use Rattle.plan_text.proofs.ReadingSegmentLemmas.{dash_is_no_name}
 
 -- ---- segments
 
+-- a segment by its parts, so that equal parts can be put in place of one another
 build : (owner : Option ℕ) (end : ℕ) → ForSome owner (λ v. v < MAX_VCPUS) → Segment
 build owner end small = record { owner = owner; end = end; owner_small = small }
 
+-- the bound on an owner has one proof
 one_small : (owner : Option ℕ) (x y : ForSome owner (λ v. v < MAX_VCPUS)) → x ≡ y
 one_small owner x y = (let one : IsProp (ForSome owner (λ v. v < MAX_VCPUS)) = hlevel props in one x y)
 
+-- equal owners give equal segments
 build_same : (o p : Option ℕ) (end : ℕ) (x : ForSome o (λ v. v < MAX_VCPUS))
     (y : ForSome p (λ v. v < MAX_VCPUS))
     → o ≡ p → build o end x ≡ build p end y
@@ -45,6 +48,7 @@ segment_same s t owner end =
     build_same s.owner t.owner s.end s.owner_small t.owner_small owner in
     here ∙ ap (λ e. build t.owner e t.owner_small) end
 
+-- two owners of one word are one: names differ, and none is `-`
 owner_same : (names : List (List ℕ)) (tasks : List (Option Periodic)) (o p : Option ℕ)
     → length names ≡ length tasks
     → AreHostNames names
@@ -62,6 +66,7 @@ owner_same names tasks (Some v) (Some w) many good of_o of_p is =
     let other : w < length names = let below = task_within tasks w (of_p w refl) in omega arith in
     ap Some (good.distinct v w low other is)
 
+-- two segments of one line are one
 words_same : (names : List (List ℕ)) (tasks : List (Option Periodic)) (s t : Segment)
     → length names ≡ length tasks
     → AreHostNames names
@@ -81,6 +86,7 @@ abbrev NoSegmentFirst : List (List ℕ) → List (Option Periodic) → List Line
 NoSegmentFirst names tasks lines = (s : Segment) (rest : List Line) → IsFineSegment tasks s
     → lines ≡ segment_words names s ∷ rest → ⊥
 
+-- two rows of the same lines are one, and the same lines follow them
 row_same : (names : List (List ℕ)) (tasks : List (Option Periodic)) (row other : List Segment)
     (rest more : List Line) → length names ≡ length tasks → AreHostNames names
     → All (IsFineSegment tasks) row → All (IsFineSegment tasks) other → NoSegmentFirst names tasks rest
@@ -100,27 +106,35 @@ row_same names tasks (s ∷ row) (t ∷ other) rest more many good all all' none
     (All-tail (IsFineSegment tasks) t other all') none none' tails in
     (ap (λ x. x ∷ row) first ∙ ap (λ xs. t ∷ xs) behind.0, behind.1)
 
+-- behind a row there is no segment's line, so where it ends is fixed
 cores_first : (names : List (List ℕ)) (tasks : List (Option Periodic)) (core : ℕ) (rows : List (List Segment))
     → NoSegmentFirst names tasks (core_lines (segment_words names) core rows ++ end_words ∷ [])
 cores_first names tasks core [] s rest fine is = end_is_no_segment names s cc
 cores_first names tasks core (row ∷ rows) s rest fine is = core_is_no_segment names tasks core s fine cc
 
+-- all rows of the same lines are the same
 rows_same : (names : List (List ℕ)) (tasks : List (Option Periodic)) (core : ℕ)
     (rows others : List (List Segment))
     → length names ≡ length tasks → AreHostNames names
     → AreFineRows tasks rows → AreFineRows tasks others
-    → core_lines (segment_words names) core rows ++ end_words ∷ [] ≡ core_lines (segment_words names) core others ++ end_words ∷ []
+    → core_lines (segment_words names) core rows ++ end_words ∷ []
+    ≡ core_lines (segment_words names) core others ++ end_words ∷ []
     → rows ≡ others
 rows_same names tasks core [] [] many good all all' is = refl
 rows_same names tasks core [] (other ∷ others) many good all all' is = absurd (core_is_no_end core cc)
 rows_same names tasks core (row ∷ rows) [] many good all all' is = absurd (core_is_no_end core cc)
 rows_same names tasks core (row ∷ rows) (other ∷ others) many good all all' is =
-    let tails : (map (segment_words names) row ++ core_lines (segment_words names) (core + 1) rows) ++ end_words ∷ []
-    ≡ (map (segment_words names) other ++ core_lines (segment_words names) (core + 1) others) ++ end_words ∷ [] = cc in
-    let parted : map (segment_words names) row ++ (core_lines (segment_words names) (core + 1) rows ++ end_words ∷ []) ≡ map
+    let tails : (map (segment_words names) row ++ core_lines (segment_words names) (core + 1) rows)
+    ++ end_words ∷ []
+    ≡ (map (segment_words names) other ++ core_lines (segment_words names) (core + 1) others)
+    ++ end_words ∷ [] = cc in
+    let parted : map (segment_words names) row ++ (core_lines (segment_words names) (core + 1) rows
+    ++ end_words ∷ []) ≡ map
     (segment_words names) other ++ (core_lines (segment_words names) (core + 1) others ++ end_words ∷ []) =
-    sym (append_assoc (map (segment_words names) row) (core_lines (segment_words names) (core + 1) rows) (end_words ∷ []))
-    ∙ tails ∙ append_assoc (map (segment_words names) other) (core_lines (segment_words names) (core + 1) others)
+    sym (append_assoc (map (segment_words names) row) (core_lines (segment_words names) (core + 1) rows)
+    (end_words ∷ []))
+    ∙ tails ∙ append_assoc (map (segment_words names) other)
+    (core_lines (segment_words names) (core + 1) others)
     (end_words ∷ []) in
     let both = row_same names tasks row other _ _ many good (all 0 row (omega arith))
     (all' 0 other (omega arith))
@@ -132,6 +146,7 @@ rows_same names tasks core (row ∷ rows) (other ∷ others) many good all all' 
 
 -- ---- homes
 
+-- all homes of the same lines are the same, and the same lines follow them
 homes_same : (names : List (List ℕ)) (cores : ℕ) (tasks : List (Option Periodic))
     (homes others : List (Option ℕ))
     (rest more : List Line) → length names ≡ length tasks → cores ≤ MAX_CORES
@@ -174,6 +189,7 @@ homes_same (name ∷ names) cores (Some task ∷ tasks) (Some home ∷ homes)
 
 -- ---- all
 
+-- tables are their homes and their rows
 tables_same : (raw other : RawTables) → raw.homes ≡ other.homes → raw.rows ≡ other.rows → raw ≡ other
 tables_same raw other homes rows =
     let first : raw ≡ record { homes = other.homes; rows = raw.rows } =
@@ -181,13 +197,16 @@ tables_same raw other homes rows =
     first ∙ ap
     (λ (r : List (List Segment)). let t : RawTables = record { homes = other.homes; rows = r } in t) rows
 
+-- the law's proof
 pub one_meaning : (names : List (List ℕ)) (cores : ℕ) (tasks : List (Option Periodic)) (lines : List Line)
     (raw other : RawTables) → length names ≡ length tasks → cores ≤ MAX_CORES → AreHostNames names
     → AreLinesOf names cores tasks lines raw → AreLinesOf names cores tasks lines other → raw ≡ other
 one_meaning names cores tasks lines raw other many few good is also =
     let same = sym is.written ∙ also.written in
-    let tails : vcpu_lines names tasks raw.homes ++ (core_lines (segment_words names) 0 raw.rows ++ end_words ∷ [])
-    ≡ vcpu_lines names tasks other.homes ++ (core_lines (segment_words names) 0 other.rows ++ end_words ∷ []) = cc in
+    let tails : vcpu_lines names tasks raw.homes ++ (core_lines (segment_words names) 0 raw.rows
+    ++ end_words ∷ [])
+    ≡ vcpu_lines names tasks other.homes ++ (core_lines (segment_words names) 0 other.rows
+    ++ end_words ∷ []) = cc in
     let homes = homes_same names cores tasks raw.homes other.homes _ _ many few is.fine.housed
     also.fine.housed tails in
     tables_same raw other homes.0 (rows_same names tasks 0 raw.rows other.rows many good is.fine.segments

@@ -5,7 +5,7 @@ use Rattle.std.proofs.lemmas.Option.{slice_get-get_or}
 use Rattle.table_form.specs.declared.segment.Segment.{Segment}
 use Rattle.table_form.specs.Tables.Segments.{segment_view}
 use Rattle.tab_words.specs.Texts.{texts_below}
-use Rattle.tab_words.proofs.NumberedTexts.{texts_below-zero, texts_below-shift}
+use Rattle.tab_words.proofs.NumberedTextLemmas.{texts_below-zero, texts_below-shift}
 use Rattle.plan_text.specs.PlanText.{segment_line}
 
 -- the line of a segment that may be there

@@ -14,7 +14,7 @@ GoesWrong Texts front (line ∷ back) = IsBegun Texts (front ++ line ∷ []) →
 
 -- of lines that are numbered from `first` on, this one is the first with which no text begins, or
 -- it is one past the last where the lines stop early
-pub record IsFirstBad (Texts : List Line → Type 0) (first : ℕ) (lines : List Line) (bad : ℕ) : Type 0 where
+pub record IsFirstBadFor (Texts : List Line → Type 0) (first : ℕ) (lines : List Line) (bad : ℕ) : Type 0 where
   pub front : List Line
   pub back : List Line
   pub whole : lines ≡ front ++ back

@@ -1,9 +1,8 @@
 pub mod FirstBad
-pub mod MaximalSegments
+pub mod Inside
 pub mod Meaning
 pub mod Names
 pub mod PlanLines
 pub mod PlanText
-pub mod Reading
 pub mod Refusal
 pub mod Written

@@ -1,8 +1,9 @@
 //! The text of a plan.
 //!
-//! `write_plan` writes exactly the `plan_text` of `specs/PlanText.antt`: the vCPUs with their tasks
-//! and homes, and each core's maximal segments. `read_plan` reads lines of words by
-//! `specs/PlanLines.antt`, and names the first bad one by `specs/FirstBad.antt`.
+//! `specs/PlanLines.antt` has its grammar, as lines of words. `write_plan` writes exactly the
+//! `plan_text` of `specs/PlanText.antt`: those lines, with each core's maximal segments. `read_plan`
+//! reads what such lines stand for by `specs/Meaning.antt`, and names the first bad one by
+//! `specs/FirstBad.antt`.
 #![tactic(auto)]
 
 mod cores;

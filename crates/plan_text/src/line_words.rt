@@ -25,14 +25,14 @@ pub(crate) fn words_behind<'a>(line: &'a [u8], expected: &[TextPiece<'_>]) -> Op
         let Some(word) = words.next() else {
             return None;
         };
-        if !is_piece(word, piece) {
+        if !is_word_of(word, piece) {
             return None;
         }
     }
     Some(words)
 }
 
-fn is_piece(word: &[u8], piece: &TextPiece<'_>) -> bool
+fn is_word_of(word: &[u8], piece: &TextPiece<'_>) -> bool
     ensures { IsTrue result ↔ (word.now ≡ piece_text piece.now) }
 {
     match piece {

@@ -2,7 +2,7 @@ ghost use Rattle.std.specs.Prelude.{◌≡◌, ◌+◌, ◌<◌, ◌^◌, [], �
 ghost use Rattle.tab_words.specs.Pieces.{piece_text};
 ghost use Rattle.tab_words.specs.Words.{words_of};
 ghost use Rattle.plan_text.specs.PlanLines.{Line};
-ghost use Rattle.plan_text.specs.Reading.{IsOtherLine, StartsWith};
+ghost use Rattle.plan_text.specs.Inside.Reading.{IsOtherLine, StartsWith};
 ghost use Rattle.plan_text.specs.declared.read_fault.ReadPlan.{ReadPlan};
 
 use crate::line_words::has_words;
@@ -21,7 +21,7 @@ pub(crate) struct LinesLeft<'a> {
 
 impl<'a> Model for LinesLeft<'a> {
     ghost use Rattle.std.specs.Prelude.{◌+◌, ◌<◌, ◌^◌, length};
-    ghost use Rattle.plan_text.specs.Reading.{Left, lines_left};
+    ghost use Rattle.plan_text.specs.Inside.Reading.{Left, lines_left};
 
     ghost Value = { Left };
 

@@ -2,7 +2,7 @@ ghost use Rattle.std.specs.Prelude.{◌≡◌, ◌↔◌, ◌⊎◌, ◌<◌, �
 ghost use Rattle.tab_core.specs.declared.TheConstants.{MAX_CORES, MAX_VCPUS};
 ghost use Rattle.table_form.specs.Tables.Homes.{are_housed};
 ghost use Rattle.table_form.specs.declared.raw_tables.RawTables.{RawTables};
-ghost use Rattle.plan_text.specs.FirstBad.{IsFirstBad};
+ghost use Rattle.plan_text.specs.FirstBad.{IsFirstBadFor};
 ghost use Rattle.plan_text.specs.Names.{AreHostNames};
 ghost use Rattle.plan_text.specs.Meaning.{AreFineRows, IsPlanText, IsSomePlan, worded};
 ghost use Rattle.plan_text.specs.PlanLines.{head_words, is_admitted};
@@ -40,7 +40,7 @@ pub fn read_plan(
     requires short { length bytes.now < 2 ^ 32 }
     ensures ok { IfOk result (IsPlanText (names_of host.now.vcpus) host.now.cores tasks.now bytes.now) }
     ensures bad_line { (bad : ℕ) → IsErrOf result (ReadPlan.BadLine bad)
-        → IsFirstBad (IsSomePlan (names_of host.now.vcpus) host.now.cores tasks.now) 1
+        → IsFirstBadFor (IsSomePlan (names_of host.now.vcpus) host.now.cores tasks.now) 1
         (worded bytes.now) bad }
     // What checked tables need: rows, homes and owners.
     ensures few { IfOk result (λ raw. length raw.rows ≤ MAX_CORES) }
@@ -51,7 +51,8 @@ pub fn read_plan(
         (names_of host.now.vcpus) host.now.cores tasks.now bytes.now raw
         → (result ≡ Ok raw) ⊎ (result ≡ Err ReadPlan.NoMemory) }
     ensures refused { (bad : ℕ)
-        → IsFirstBad (IsSomePlan (names_of host.now.vcpus) host.now.cores tasks.now) 1 (worded bytes.now) bad
+        → IsFirstBadFor (IsSomePlan (names_of host.now.vcpus) host.now.cores tasks.now) 1
+          (worded bytes.now) bad
         → (result ≡ Err (ReadPlan.BadLine bad)) ⊎ (result ≡ Err ReadPlan.NoMemory) }
 {
     let names = Names::of(alloc, host.vcpus.items())?;
@@ -72,7 +73,7 @@ fn read_text(
     requires short { length bytes.now < 2 ^ 32 }
     ensures ok { IfOk result (IsPlanText names.now host.now.cores tasks.now bytes.now) }
     ensures bad_line { (bad : ℕ) → IsErrOf result (ReadPlan.BadLine bad)
-        → IsFirstBad (IsSomePlan names.now host.now.cores tasks.now) 1 (worded bytes.now) bad }
+        → IsFirstBadFor (IsSomePlan names.now host.now.cores tasks.now) 1 (worded bytes.now) bad }
 {
     let mut lines = Lines::over(bytes);
     let Some(head) = lines.next() else {

@@ -4,11 +4,11 @@ ghost use Rattle.tab_core.specs.declared.TheConstants.{MAX_CORES, MAX_VCPUS};
 ghost use Rattle.table_form.specs.Tables.Serves.{has_task};
 ghost use Rattle.table_form.specs.declared.segment.Segment.{Segment};
 ghost use Rattle.tab_words.specs.Words.{words_of};
-ghost use Rattle.plan_text.specs.FirstBad.{IsFirstBad};
+ghost use Rattle.plan_text.specs.FirstBad.{IsFirstBadFor};
 ghost use Rattle.plan_text.specs.Names.{AreHostNames};
 ghost use Rattle.plan_text.specs.Meaning.{AreFineRows, IsFineSegment, segment_words};
 ghost use Rattle.plan_text.specs.PlanLines.{core_lines, end_words};
-ghost use Rattle.plan_text.specs.Reading.{AreRows, IsNoSegment, IsNoSegmentLine, IsPushed};
+ghost use Rattle.plan_text.specs.Inside.Reading.{AreFromCore, IsNoSegment, IsNoSegmentLine, IsPushed};
 ghost use Rattle.plan_text.specs.declared.read_fault.ReadPlan.{ReadPlan};
 
 use crate::lines_left::LinesLeft;
@@ -35,7 +35,7 @@ pub(crate) fn read_cores(
     ensures rows { IfOk result (λ rows. length rows.items ≡ cores) }
     ensures fine { IfOk result (λ rows. AreFineRows tasks.now rows.items) }
     ensures bad_line { (bad : ℕ) → IsErrOf result (ReadPlan.BadLine bad)
-        → IsFirstBad (AreRows names.now tasks.now 0 cores) left.old.number left.old.lines bad }
+        → IsFirstBadFor (AreFromCore names.now tasks.now 0 cores) left.old.number left.old.lines bad }
 {
     let mut rows = Vec::new(alloc);
     for core in 0..cores {

@@ -2,10 +2,10 @@ ghost use Rattle.std.specs.Prelude.{◌≡◌, ◌++◌, ◌+◌, ◌<◌, ◌�
 ghost use Rattle.tab_core.specs.declared.TheConstants.{MAX_CORES};
 ghost use Rattle.table_form.specs.Tables.Homes.{are_housed, is_housed};
 ghost use Rattle.tab_words.specs.Words.{words_of};
-ghost use Rattle.plan_text.specs.FirstBad.{IsFirstBad};
+ghost use Rattle.plan_text.specs.FirstBad.{IsFirstBadFor};
 ghost use Rattle.plan_text.specs.PlanLines.{vcpu_lines, vcpu_part, vcpu_words};
 ghost use Rattle.vcpu_names.specs.Names.{names_of};
-ghost use Rattle.plan_text.specs.Reading.{AreRows, AreVcpus, IsNoVcpu};
+ghost use Rattle.plan_text.specs.Inside.Reading.{AreFromCore, AreFromVcpu, IsNoVcpu};
 ghost use Rattle.plan_text.specs.declared.read_fault.ReadPlan.{ReadPlan};
 
 use crate::line_words::words_behind;
@@ -31,10 +31,13 @@ pub(crate) fn read_vcpus(
     ensures many { IfOk result (λ homes. length homes.items ≡ length tasks.now) }
     ensures housed { IfOk result (λ homes. are_housed cores tasks.now homes.items ≡ true) }
     ensures behind { OnOk result ((bad : ℕ)
-        → IsFirstBad (AreRows (names_of vcpus.now) tasks.now 0 cores) left.new.number left.new.lines bad
-        → IsFirstBad (AreVcpus (names_of vcpus.now) tasks.now cores 0) left.old.number left.old.lines bad) }
+        → IsFirstBadFor (AreFromCore (names_of vcpus.now) tasks.now 0 cores)
+          left.new.number left.new.lines bad
+        → IsFirstBadFor (AreFromVcpu (names_of vcpus.now) tasks.now cores 0)
+          left.old.number left.old.lines bad) }
     ensures bad_line { (bad : ℕ) → IsErrOf result (ReadPlan.BadLine bad)
-        → IsFirstBad (AreVcpus (names_of vcpus.now) tasks.now cores 0) left.old.number left.old.lines bad }
+        → IsFirstBadFor (AreFromVcpu (names_of vcpus.now) tasks.now cores 0)
+          left.old.number left.old.lines bad }
 {
     let mut homes = Vec::new(alloc);
     for v in 0..tasks.len() {

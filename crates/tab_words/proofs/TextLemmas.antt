@@ -14,8 +14,8 @@ use Rattle.tab_words.specs.Pieces.{piece_text, spaced}
 use Rattle.tab_words.specs.Texts.{line_of, text_of}
 use Rattle.tab_words.specs.Words.{words_of}
 use Rattle.tab_words.specs.declared.text.TextPiece.{TextPiece}
-use Rattle.tab_words.proofs.FirstLine.{lines_of-line}
-use Rattle.tab_words.proofs.FirstWord.{words_of-last, words_of-word}
+use Rattle.tab_words.proofs.LineLemmas.{lines_of-line}
+use Rattle.tab_words.proofs.WordLemmas.{words_of-last, words_of-word}
 
 -- ---- what can be read back
 
@@ -53,7 +53,8 @@ words_joined word [] all =
 words_joined word (next ∷ words) all =
     let parts = and_parts (is_word word) (list_all is_word (next ∷ words)) all in
     let is = and_parts (nat_lt 0 (length word)) (list_all is_plain word) parts.0 in
-    words_of-word word (join_with_byte 32 (next ∷ words)) (grind (arith, nat_tests, is.0)) (lacks_space word is.1)
+    words_of-word word (join_with_byte 32 (next ∷ words)) (grind (arith, nat_tests, is.0))
+    (lacks_space word is.1)
     ∙ ap (λ ws. word ∷ ws) (words_joined next words parts.1)
 
 -- what holds of a byte and of those behind it holds of all

@@ -1,8 +1,8 @@
 //! The command line's words, and the small parts that texts are read and written by.
 //!
 //! Texts are lists of bytes. What their numbers, lines, words and sections are, and which words are
-//! a command, is defined in `specs/`, without the code. `proofs/FirstLine.antt` and
-//! `proofs/FirstWord.antt` have the equations by which a text is read line by line and word by word.
+//! a command, is defined in `specs/`, without the code. `proofs/LineLemmas.antt` and
+//! `proofs/WordLemmas.antt` have the equations by which a text is read line by line and word by word.
 #![tactic(auto)]
 
 mod command;

@@ -1,5 +1,5 @@
 ghost use Rattle.std.specs.Prelude.{◌≡◌, ◌+◌, ◌^◌, ◌<◌, ◌≤◌, [], ◌∷◌, ◌++◌, length, IfSome, MatchOption, slice_index_or};
-ghost use Rattle.tab_words.specs.Sections.{is_separator, rows_of, sections_of};
+ghost use Rattle.tab_words.specs.Sections.{is_separator, raw_lines_of, sections_of};
 
 use std::marker::Model;
 
@@ -73,21 +73,21 @@ fn first_section(bytes: &[u8]) -> (&[u8], Option<&[u8]>)
     let mut at = 0;
     while at < bytes.len() {
         let (before, rest) = bytes.split_at(at);
-        let (row, after) = first_row(rest);
-        if is_separator(row) {
+        let (line, after) = first_line(rest);
+        if is_separator(line) {
             return (before, Some(after));
         }
-        at += row.len();
+        at += line.len();
     }
     (bytes, None)
 }
 
 // The first line with the line feed that ends it, and what follows.
-fn first_row(bytes: &[u8]) -> (&[u8], &[u8])
+fn first_line(bytes: &[u8]) -> (&[u8], &[u8])
     requires { 0 < length bytes.now }
-    ensures rows { rows_of bytes.now ≡ result.0.now ∷ rows_of result.1.now }
+    ensures lines { raw_lines_of bytes.now ≡ result.0.now ∷ raw_lines_of result.1.now }
     ensures some { 0 < length result.0.now }
-    ensures whole { bytes.now ≡ result.0.now ++ result.1.now }
+    ensures parts { bytes.now ≡ result.0.now ++ result.1.now }
 {
     match bytes.iter().position(|byte| *byte == b'\n') {
         Some(end) => bytes.split_at(end + 1),
@@ -95,10 +95,10 @@ fn first_row(bytes: &[u8]) -> (&[u8], &[u8])
     }
 }
 
-fn is_separator(row: &[u8]) -> bool
-    ensures { result ≡ is_separator row.now }
+fn is_separator(line: &[u8]) -> bool
+    ensures { result ≡ is_separator line.now }
 {
-    row == b"%%\n".as_slice() || row == b"%%".as_slice()
+    line == b"%%\n".as_slice() || line == b"%%".as_slice()
 }
 
 #[cfg(test)]

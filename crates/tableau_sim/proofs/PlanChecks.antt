@@ -30,13 +30,13 @@ use Rattle.plan_make.specs.Planned.{IsPlanned}
 use Rattle.plan_text.proofs.OneMeaning.{one_meaning}
 use Rattle.vcpu_names.proofs.NamesLemmas.{name_here}
 use Rattle.plan_text.proofs.ReadBack.{read_back}
-use Rattle.plan_text.proofs.WholeText.{host_names}
+use Rattle.plan_text.proofs.ReadingHeadLemmas.{host_names}
 use Rattle.plan_text.specs.Meaning.{AreLinesOf, IsSomePlan, worded}
 use Rattle.plan_text.specs.PlanText.{plan_text}
 use Rattle.plan_text.specs.Written.{AreOfPlan, IsHostWithPlan, IsReadBack}
 use Rattle.table_check.specs.Shapes.{bad_at, rows_of}
 use Rattle.host_doc.specs.Document.{IsHostText}
-use Rattle.plan_text.proofs.FirstBad.{no_text}
+use Rattle.plan_text.proofs.FirstBadLemmas.{no_text}
 use Rattle.table_check.specs.Faults.{AreGood, HasCheckFault}
 use Rattle.table_check.specs.declared.fault.CheckFault.{CheckFault}
 use Rattle.table_check.specs.declared.fault.CheckFault.TheVariants as fault

@@ -1,2 +1,2 @@
-pub mod NameMap
+pub mod NameMapLemmas
 pub mod NamesLemmas

@@ -1,7 +1,7 @@
 use Rattle.std.proofs.lemmas.Result.{err_from_is_err_and}
 use Rattle.tab_io.proofs.SinkLemmas.{writes_broken, writes_then}
 use Rattle.vcpu_names.specs.Names.{names_of}
-use Rattle.plan_text.proofs.WritingLemmas.{core_parts}
+use Rattle.plan_text.proofs.PlanTextLemmas.{core_parts}
 use Rattle.plan_text.proofs.cores.put_core.Goals as goal
 
 pub returns-in_err-put_line : goal.returns-in_err-put_line

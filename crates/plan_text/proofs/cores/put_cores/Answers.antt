@@ -1,7 +1,7 @@
 use Rattle.std.proofs.lemmas.Result.{err_from_is_err_and}
 use Rattle.tab_io.proofs.SinkLemmas.{all_left, left_behind, left_broken, none_left}
 use Rattle.vcpu_names.specs.Names.{names_of}
-use Rattle.plan_text.proofs.WritingLemmas.{cores_left, no_cores_left}
+use Rattle.plan_text.proofs.PlanTextLemmas.{cores_left, no_cores_left}
 use Rattle.plan_text.proofs.cores.put_cores.Goals as goal
 
 pub loop-core-init : goal.loop-core-init
@@ -12,7 +12,8 @@ returns-in_err-put_core g c =
     let p = err_from_is_err_and c.from_residual.result c.from_residual.ensures.1 in
     let parts = cores_left (names_of c.args.vcpus.now) c.args.rows.now c.loop-core.core
     c.index-rows-core.result c.loop-core-test.true c.index-rows-core.is in
-    rw p.1 (left_broken _ _ _ _ _ _ _ _ _ c.loop-core.invariant parts c.put_core.ensures c.in_err-put_core.was)
+    rw p.1 (left_broken _ _ _ _ _ _ _ _ _ c.loop-core.invariant parts c.put_core.ensures
+    c.in_err-put_core.was)
 
 pub loop-core-preserved : goal.loop-core-preserved
 loop-core-preserved g c =

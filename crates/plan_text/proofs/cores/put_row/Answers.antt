@@ -1,5 +1,5 @@
 use Rattle.std.proofs.lemmas.Result.{err_from_is_err_and}
-use Rattle.tab_words.proofs.NumberedTexts.{none_written, next_written, next_broken, all_written}
+use Rattle.tab_words.proofs.NumberedTextLemmas.{none_written, next_written, next_broken, all_written}
 use Rattle.vcpu_names.specs.Names.{names_of}
 use Rattle.plan_text.proofs.RowText.{all_lines, line_at, line_here}
 use Rattle.plan_text.proofs.cores.put_row.Goals as goal

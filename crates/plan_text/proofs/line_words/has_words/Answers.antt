@@ -1,7 +1,7 @@
 use Rattle.std.proofs.Common.{◌≡◌, IsTrue, [], map, sym, ◌∙◌, append-nil, arith}
 use Rattle.std.proofs.lemmas.Grind.{common_steps}
 use Rattle.tab_words.specs.Pieces.{piece_text}
-use Rattle.plan_text.proofs.Matching.{all_matched}
+use Rattle.plan_text.proofs.LineWordLemmas.{all_matched}
 use Rattle.plan_text.proofs.line_words.has_words.Goals as goal
 
 pub returns-in-Some : goal.returns-in-Some

@@ -1,6 +1,6 @@
 use Rattle.std.proofs.Common.{◌≡◌, arith}
 use Rattle.std.proofs.lemmas.Bool.Decides.{nat_tests}
-use Rattle.tab_words.proofs.Numbers.{spelled_once}
+use Rattle.tab_words.proofs.NumberLemmas.{spelled_once}
 use Rattle.plan_text.proofs.line_words.is_number.Goals as goal
 
 pub returns-in-Some : goal.returns-in-Some

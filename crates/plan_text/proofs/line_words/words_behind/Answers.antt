@@ -1,6 +1,6 @@
 use Rattle.std.proofs.Common.{rules, [], subst}
 use Rattle.tab_words.specs.Words.{words_of}
-use Rattle.plan_text.proofs.Matching.{GoesOn, word_lacks}
+use Rattle.plan_text.proofs.LineWordLemmas.{GoesOn, word_lacks}
 use Rattle.plan_text.proofs.line_words.words_behind.Goals as goal
 
 pub returns-in_default : goal.returns-in_default

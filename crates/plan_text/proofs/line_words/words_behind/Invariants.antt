@@ -1,5 +1,5 @@
 use Rattle.tab_words.specs.Words.{words_of}
-use Rattle.plan_text.proofs.Matching.{GoesOn}
+use Rattle.plan_text.proofs.LineWordLemmas.{GoesOn}
 use Rattle.plan_text.proofs.line_words.words_behind.Given as goal
 
 abbrev pub invariant-loop-piece : goal.invariant-loop-piece

@@ -2,12 +2,12 @@ use Rattle.std.proofs.Common.{◌≡◌, ◌⊎◌, ◌∙◌, ℕ, List, Ok, Er
 use Rattle.std.proofs.lemmas.List.{length-map}
 use Rattle.tab_core.specs.declared.vcpu.Vcpu.{Vcpu}
 use Rattle.table_form.specs.declared.raw_tables.RawTables.{RawTables}
-use Rattle.plan_text.specs.FirstBad.{IsFirstBad}
+use Rattle.plan_text.specs.FirstBad.{IsFirstBadFor}
 use Rattle.plan_text.specs.Names.{AreHostNames}
 use Rattle.plan_text.specs.Meaning.{IsPlanText, IsSomePlan, worded}
 use Rattle.vcpu_names.specs.Names.{names_of}
 use Rattle.plan_text.specs.declared.read_fault.ReadPlan.TheVariants.{BadLine, NoMemory}
-use Rattle.plan_text.proofs.WholeText.{host_names, read_is_due, refusal_is_due}
+use Rattle.plan_text.proofs.ReadingHeadLemmas.{host_names, read_is_due, refusal_is_due}
 use Rattle.plan_text.proofs.read.read_plan.Goals as goal
 
 pub read_text-requires-clause-good : goal.read_text-requires-clause-good
@@ -35,7 +35,7 @@ pub returns-clause-refused : goal.returns-clause-refused
 returns-clause-refused c =
     let own : c.in_ok-names.names ≡ names_of c.args.host.now.vcpus = search rules in
     subst (λ (names : List (List ℕ)). (bad : ℕ)
-    → IsFirstBad (IsSomePlan names c.args.host.now.cores c.args.tasks.now) 1 (worded c.args.bytes.now) bad
+    → IsFirstBadFor (IsSomePlan names c.args.host.now.cores c.args.tasks.now) 1 (worded c.args.bytes.now) bad
     → (c.read_text.result ≡ Err (BadLine bad)) ⊎ (c.read_text.result ≡ Err NoMemory)) own
     (refusal_is_due c.in_ok-names.names c.args.tasks.now c.args.host.now.cores
     (worded c.args.bytes.now) c.read_text.result c.read_text.ensures.ok c.read_text.ensures.bad_line)

@@ -3,13 +3,13 @@ use Rattle.std.proofs.lemmas.Grind.{common_steps}
 use Rattle.std.proofs.lemmas.Result.{err_from_is_err_and}
 use Rattle.tab_words.specs.Lines.{lines_of}
 use Rattle.tab_words.specs.Words.{words_of}
-use Rattle.plan_text.specs.FirstBad.{IsFirstBad}
+use Rattle.plan_text.specs.FirstBad.{IsFirstBadFor}
 use Rattle.plan_text.specs.Meaning.{worded}
 use Rattle.plan_text.specs.PlanLines.{head_words, is_admitted}
 use Rattle.vcpu_names.specs.Names.{names_of}
-use Rattle.plan_text.specs.Reading.{AreRows}
+use Rattle.plan_text.specs.Inside.Reading.{AreFromCore}
 use Rattle.plan_text.specs.declared.read_fault.ReadPlan.TheVariants.{BadLine}
-use Rattle.plan_text.proofs.WholeText.{bad_in_text, few_behind, head_is_bad}
+use Rattle.plan_text.proofs.ReadingHeadLemmas.{bad_in_text, few_behind, head_is_bad}
 use Rattle.plan_text.proofs.read.read_text.Goals as goal
 
 pub returns-in_default-clause-bad_line : goal.returns-in_default-clause-bad_line
@@ -77,8 +77,8 @@ returns-in_err-rows-clause-bad_line c = λ bad is.
     bad_in_text c.args.names.now _ c.args.tasks.now _ _ _ _ _ _ _ _ bad own c.items-3.ensures.same
     c.items.ensures.same lines words c.from-left.ensures.lines c.from-left.ensures.number
     (c.in_ok-homes.ensures.behind bad
-    (subst (λ ns. IsFirstBad (AreRows ns c.items-3.result.now 0 c.args.host.now.cores)
+    (subst (λ ns. IsFirstBadFor (AreFromCore ns c.items-3.result.now 0 c.args.host.now.cores)
     c.read_vcpus.new.left.number c.read_vcpus.new.left.lines bad) (sym own)
-    (subst (λ ts. IsFirstBad (AreRows c.args.names.now ts 0 c.args.host.now.cores)
+    (subst (λ ts. IsFirstBadFor (AreFromCore c.args.names.now ts 0 c.args.host.now.cores)
     c.read_vcpus.new.left.number
     c.read_vcpus.new.left.lines bad) tasks here)))

@@ -1,5 +1,5 @@
 use Rattle.std.proofs.Common.{◌≡◌, arith}
-use Rattle.tab_words.proofs.Numbers.{spelled_once}
+use Rattle.tab_words.proofs.NumberLemmas.{spelled_once}
 use Rattle.plan_text.proofs.read_cores.end_of.Goals as goal
 
 pub returns-else-number-from : goal.returns-else-number-from

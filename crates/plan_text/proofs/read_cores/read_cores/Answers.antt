@@ -4,7 +4,7 @@ use Rattle.std.specs.List.{All}
 use Rattle.std.proofs.lemmas.Result.{err_from_is_err_and}
 use Rattle.plan_text.specs.Meaning.{IsFineSegment}
 use Rattle.plan_text.specs.declared.read_fault.ReadPlan.TheVariants.{BadLine}
-use Rattle.plan_text.proofs.Languages.{all_snoc, bad_behind_core, core_is_bad, core_lines_more, end_is_bad, line_behind_end}
+use Rattle.plan_text.proofs.ReadingLemmas.{all_snoc, bad_behind_core, core_is_bad, core_lines_more, end_is_bad, line_behind_end}
 use Rattle.plan_text.proofs.read_cores.read_cores.Goals as goal
 
 pub returns-in_err-take-clause-bad_line : goal.returns-in_err-take-clause-bad_line

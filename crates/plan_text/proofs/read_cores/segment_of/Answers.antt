@@ -2,7 +2,7 @@ use Rattle.std.proofs.Common.{◌≡◌, ◌≢◌, [], ◌∷◌, codes, arith,
 use Rattle.std.proofs.lemmas.Grind.{common_steps}
 use Rattle.tab_words.specs.Words.{words_of}
 use Rattle.vcpu_names.specs.Names.{IsUnknown}
-use Rattle.plan_text.proofs.SegmentLines.{owner_is_unknown}
+use Rattle.plan_text.proofs.ReadingSegmentLemmas.{owner_is_unknown}
 use Rattle.plan_text.proofs.read_cores.segment_of.Goals as goal
 
 pub returns-in_default-number_of : goal.returns-in_default-number_of

@@ -6,7 +6,7 @@ use Rattle.tab_core.specs.declared.vcpu.Vcpu.{Vcpu}
 use Rattle.vcpu_names.specs.Names.{name_at, names_of}
 use Rattle.plan_text.specs.declared.read_fault.ReadPlan.TheVariants.{BadLine}
 use Rattle.vcpu_names.proofs.NamesLemmas.{name_here}
-use Rattle.plan_text.proofs.VcpuLines.{bad_behind_vcpu, bad_behind_vcpus, housed_more, housed_whole, lines_more, no_vcpus_yet, vcpu_is_bad}
+use Rattle.plan_text.proofs.ReadingVcpuLemmas.{bad_behind_vcpu, bad_behind_vcpus, housed_more, housed_whole, lines_more, no_vcpus_yet, vcpu_is_bad}
 use Rattle.plan_text.proofs.read_vcpus.read_vcpus.Goals as goal
 
 pub loop-v-init : goal.loop-v-init

@@ -1,4 +1,4 @@
-use Rattle.plan_text.proofs.WritingLemmas.{line_written}
+use Rattle.plan_text.proofs.PlanTextLemmas.{line_written}
 use Rattle.plan_text.proofs.vcpus.put_vcpu.Goals as goal
 
 pub returns : goal.returns

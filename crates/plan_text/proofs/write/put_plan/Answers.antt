@@ -2,7 +2,7 @@ use Rattle.std.proofs.Common.{refl}
 use Rattle.std.proofs.lemmas.Result.{err_from_is_err_and}
 use Rattle.tab_io.proofs.SinkLemmas.{all_left, left_behind, left_broken, left_last}
 use Rattle.vcpu_names.specs.Names.{names_of}
-use Rattle.plan_text.proofs.WritingLemmas.{plan_parts}
+use Rattle.plan_text.proofs.PlanTextLemmas.{plan_parts}
 use Rattle.plan_text.proofs.write.put_plan.Goals as goal
 
 pub returns-in_err-put_head : goal.returns-in_err-put_head

@@ -1,5 +1,5 @@
 use Rattle.std.proofs.Common.{ap, sym, ◌∙◌, length, arith}
-use Rattle.plan_text.proofs.Parts.{as_many_homes}
+use Rattle.plan_text.proofs.HomeLemmas.{as_many_homes}
 use Rattle.plan_text.proofs.write.write_plan.Goals as goal
 
 pub put_plan-requires : goal.put_plan-requires

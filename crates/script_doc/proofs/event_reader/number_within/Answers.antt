@@ -1,5 +1,5 @@
 use Rattle.std.proofs.Common.{arith, ◌≡◌}
-use Rattle.tab_words.proofs.Numbers.{spelled_once}
+use Rattle.tab_words.proofs.NumberLemmas.{spelled_once}
 use Rattle.script_doc.proofs.event_reader.number_within.Goals as goal
 use Rattle.script_doc.proofs.event_reader.number_within.Goals.{then-number-least-via-then-number-least, then-number-least-via-else-number-least+then-number-most}
 

@@ -1,7 +1,7 @@
 use Rattle.std.proofs.Common.{ap, rules, ◌≡◌, [], ◌∷◌}
 use Rattle.std.proofs.lemmas.List.{nil_from_length}
 use Rattle.tab_words.specs.Commands.{texts}
-use Rattle.tab_words.proofs.Grammar.{fault_without_rounds, fault_of_rounds, fault_of_more}
+use Rattle.tab_words.proofs.CommandLemmas.{fault_without_rounds, fault_of_rounds, fault_of_more}
 use Rattle.tab_words.proofs.command.read_replay.Goals as goal
 
 pub returns-in_default : goal.returns-in_default

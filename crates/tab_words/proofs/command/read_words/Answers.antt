@@ -1,5 +1,5 @@
 use Rattle.tab_words.specs.Commands.{texts}
-use Rattle.tab_words.proofs.Grammar.{command_due, fault_due}
+use Rattle.tab_words.proofs.CommandLemmas.{command_due, fault_due}
 use Rattle.tab_words.proofs.command.read_words.Goals as goal
 
 pub returns-clause-due : goal.returns-clause-due

@@ -1,7 +1,7 @@
 use Rattle.std.proofs.Common.{ap, rules, ◌≡◌, [], ◌∷◌, codes}
 use Rattle.std.proofs.lemmas.List.{nil_from_length}
 use Rattle.tab_words.specs.Commands.{texts}
-use Rattle.tab_words.proofs.Grammar.{reading_plan, reading_check, reading_help, reading_version, fault_of_name, fault_of_none}
+use Rattle.tab_words.proofs.CommandLemmas.{reading_plan, reading_check, reading_help, reading_version, fault_of_name, fault_of_none}
 use Rattle.tab_words.proofs.command.reading_of.Goals as goal
 
 pub returns-in_default : goal.returns-in_default

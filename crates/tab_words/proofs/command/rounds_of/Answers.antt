@@ -1,5 +1,5 @@
 use Rattle.std.proofs.Common.{arith, rules}
-use Rattle.tab_words.proofs.Grammar.{no_spelling, no_other_rounds}
+use Rattle.tab_words.proofs.CommandLemmas.{no_spelling, no_other_rounds}
 use Rattle.tab_words.proofs.command.rounds_of.Goals as goal
 use Rattle.tab_words.proofs.command.rounds_of.Goals.{else-number-gt0-via-then-number-gt0+else-number-from, else-number-gt0-via-else-number-gt0}
 

@@ -1,6 +1,6 @@
 use Rattle.std.proofs.Common.{rules, ◌+◌}
 use Rattle.std.proofs.lemmas.List.{take_rest}
-use Rattle.tab_words.proofs.FirstLine.{first_line, one_line}
+use Rattle.tab_words.proofs.LineLemmas.{first_line, one_line}
 use Rattle.tab_words.proofs.line.first_line.Goals as goal
 
 pub returns-in-Some : goal.returns-in-Some

@@ -23,13 +23,15 @@ returns-in_err-put_spaced g c =
     ∙ line_spaced c.in-Some.word.now c.in-Some.more.now in
     let p = err_from_is_err_and c.from_residual-in_err-put_spaced.result
     c.from_residual-in_err-put_spaced.ensures.1 in
-    let first = left_behind _ _ _ _ _ _ _ _ _ (all_left _ _) parts c.put_piece.ensures c.in_ok-put_piece.was in
+    let first = left_behind _ _ _ _ _ _ _ _ _ (all_left _ _) parts c.put_piece.ensures
+    c.in_ok-put_piece.was in
     rw p.1 (left_broken _ _ _ _ _ _ _ _ _ first refl c.put_spaced.ensures c.in_err-put_spaced.was)
 
 pub returns : goal.returns
 returns g c =
     let parts = ap (λ ws. line_of (map piece_text ws)) c.in-Some.ensures.cases.0
     ∙ line_spaced c.in-Some.word.now c.in-Some.more.now in
-    let first = left_behind _ _ _ _ _ _ _ _ _ (all_left _ _) parts c.put_piece.ensures c.in_ok-put_piece.was in
+    let first = left_behind _ _ _ _ _ _ _ _ _ (all_left _ _) parts c.put_piece.ensures
+    c.in_ok-put_piece.was in
     let more = left_behind _ _ _ _ _ _ _ _ _ first refl c.put_spaced.ensures c.in_ok-put_spaced.was in
     left_last _ _ _ _ _ _ more c.write_all-2.ensures

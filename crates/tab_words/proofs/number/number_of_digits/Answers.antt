@@ -1,7 +1,7 @@
 use Rattle.std.proofs.Common.{arith, ◌≡◌, take, take_all, ap, subst, ◌∙◌}
 use Rattle.std.specs.Str.Parse.{AllDigits, digits_value}
 use Rattle.std.proofs.lemmas.Int.Digits.{digits_more, digits_value_more}
-use Rattle.tab_words.proofs.Numbers.{digit_below, front_value}
+use Rattle.tab_words.proofs.NumberLemmas.{digit_below, front_value}
 use Rattle.tab_words.proofs.number.number_of_digits.Goals as goal
 
 pub returns-in_default : goal.returns-in_default

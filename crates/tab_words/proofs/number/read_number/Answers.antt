@@ -1,6 +1,6 @@
 use Rattle.std.proofs.Common.{arith, ◌≡◌, ◌<◌, length, get_or}
 use Rattle.std.proofs.lemmas.Grind.{common_steps}
-use Rattle.tab_words.proofs.Numbers.{read_spelling, spelled_some, spelled_plain}
+use Rattle.tab_words.proofs.NumberLemmas.{read_spelling, spelled_some, spelled_plain}
 use Rattle.tab_words.proofs.number.read_number.Goals as goal
 use Rattle.tab_words.proofs.number.read_number.Goals.{then-is_empty-via-then-is_empty, then-is_empty-via-else-is_empty+then-has_leading_zero}
 

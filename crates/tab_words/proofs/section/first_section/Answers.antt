@@ -1,5 +1,5 @@
 use Rattle.std.proofs.Common.{arith, rules, length, length-append, ap}
-use Rattle.tab_words.proofs.FirstSection.{sections_of-extend, section_before, section_last, section_more}
+use Rattle.tab_words.proofs.SectionLemmas.{sections_of-extend, section_before, section_last, section_more}
 use Rattle.tab_words.proofs.section.first_section.Goals as goal
 
 pub loop-at-init : goal.loop-at-init
@@ -8,20 +8,21 @@ loop-at-init c = record { within = omega arith; sections = sections_of-extend c.
 pub returns-then-is_separator-clause-sections : goal.returns-then-is_separator-clause-sections
 returns-then-is_separator-clause-sections c =
     rw c.split_at.ensures.front (section_before _ _ _ _ _ c.loop-at.invariant.sections
-    (rw c.split_at.ensures.back at c.first_row.ensures.rows) (search rules))
+    (rw c.split_at.ensures.back at c.first_line.ensures.lines) (search rules))
 
 pub loop-at-preserved : goal.loop-at-preserved
 loop-at-preserved c = record {
   within = omega (
     arith,
-    ap length c.first_row.ensures.whole,
-    length-append c.first_row.result.0.now
-        c.first_row.result.1.now,
+    ap length c.first_line.ensures.parts,
+    length-append c.first_line.result.0.now
+        c.first_line.result.1.now,
     c.split_at.ensures.back_len,
   );
-  sections = section_more c.args.bytes.now c.split_at.result.1.now c.first_row.result.0.now
-      c.first_row.result.1.now c.loop-at.at
-      c.loop-at.invariant.sections c.split_at.ensures.back c.first_row.ensures.whole c.first_row.ensures.rows
+  sections = section_more c.args.bytes.now c.split_at.result.1.now c.first_line.result.0.now
+      c.first_line.result.1.now c.loop-at.at
+      c.loop-at.invariant.sections c.split_at.ensures.back c.first_line.ensures.parts
+      c.first_line.ensures.lines
       (search rules) c.loop-at.invariant.within;
 }
 

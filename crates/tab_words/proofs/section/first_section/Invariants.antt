@@ -1,7 +1,7 @@
 -- the bytes before belong to the first section
 use Rattle.std.proofs.Common.{length, ◌-◌, ◌≡◌, ◌≤◌, take, drop}
 use Rattle.tab_words.specs.Sections.{sections_of}
-use Rattle.tab_words.proofs.FirstSection.{extend}
+use Rattle.tab_words.proofs.SectionLemmas.{extend}
 use Rattle.tab_words.proofs.section.first_section.Given as goal
 
 abbrev pub invariant-loop-at : goal.invariant-loop-at

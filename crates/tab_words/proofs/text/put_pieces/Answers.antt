@@ -1,6 +1,6 @@
 use Rattle.std.proofs.lemmas.Result.{err_from_is_err_and}
 use Rattle.tab_words.specs.Pieces.{piece_text}
-use Rattle.tab_words.proofs.Pieces.{pieces_last, pieces_broken}
+use Rattle.tab_words.proofs.PieceLemmas.{pieces_last, pieces_broken}
 use Rattle.tab_words.proofs.text.put_pieces.Goals as goal
 
 pub returns-in_err-put_piece : goal.returns-in_err-put_piece

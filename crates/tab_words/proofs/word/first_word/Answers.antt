@@ -1,5 +1,5 @@
 use Rattle.std.proofs.Common.{rules}
-use Rattle.tab_words.proofs.FirstWord.{first_word, one_word}
+use Rattle.tab_words.proofs.WordLemmas.{first_word, one_word}
 use Rattle.tab_words.proofs.word.first_word.Goals as goal
 
 pub returns-in-Some : goal.returns-in-Some

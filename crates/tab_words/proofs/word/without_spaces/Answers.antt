@@ -1,7 +1,7 @@
 use Rattle.std.proofs.Common.{arith, rules, length, ap, sym, ◌∙◌}
 use Rattle.std.proofs.lemmas.List.{take_rest, drop_all}
 use Rattle.tab_words.specs.Words.{words_of}
-use Rattle.tab_words.proofs.FirstWord.{words_after_spaces}
+use Rattle.tab_words.proofs.WordLemmas.{words_after_spaces}
 use Rattle.tab_words.proofs.word.without_spaces.Goals as goal
 
 pub returns-in-Some-clause-words : goal.returns-in-Some-clause-words

@@ -2,7 +2,7 @@ use Rattle.std.proofs.Common.{rules, ◌≡◌, ◌<◌, ◌∙◌, sym, Some, l
 use Rattle.std.proofs.lemmas.Option.{slice_get-get_or}
 use Rattle.tab_core.specs.Name.{IsName}
 use Rattle.tab_core.specs.declared.vcpu.Vcpu.{Vcpu}
-use Rattle.vcpu_names.proofs.NameMap.{named}
+use Rattle.vcpu_names.proofs.NameMapLemmas.{named}
 use Rattle.vcpu_names.proofs.names.hinted.Goals as goal
 
 pub returns-then-eq : goal.returns-then-eq

@@ -1,4 +1,4 @@
-use Rattle.tab_words.proofs.FirstLine.{length-lines_of}
+use Rattle.tab_words.proofs.LineLemmas.{length-lines_of}
 use Rattle.tab_words.proofs.line.Lines.over.Goals as goal
 
 pub returns-clause-few : goal.returns-clause-few

@@ -1,7 +1,7 @@
 use Rattle.std.proofs.Common.{rules, ◌≡◌, [], sym, ap, ◌∙◌}
 use Rattle.std.proofs.lemmas.List.{nil_from_length}
 use Rattle.tab_words.specs.Lines.{lines_of}
-use Rattle.tab_words.proofs.FirstLine.{lines_of-nil}
+use Rattle.tab_words.proofs.LineLemmas.{lines_of-nil}
 use Rattle.tab_words.proofs.line.LinesIterator.next.Goals as goal
 
 pub returns-then-is_empty-clause-steps : goal.returns-then-is_empty-clause-steps

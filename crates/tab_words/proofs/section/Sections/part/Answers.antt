@@ -1,5 +1,5 @@
 use Rattle.std.proofs.Common.{arith, sym, ◌∙◌}
-use Rattle.tab_words.proofs.FirstSection.{none_after, rest_more}
+use Rattle.tab_words.proofs.SectionLemmas.{none_after, rest_more}
 use Rattle.tab_words.proofs.section.Sections.part.Goals as goal
 use Rattle.tab_words.proofs.section.Sections.part.Goals.{in-Some, in_default}
 

@@ -1,7 +1,7 @@
 use Rattle.std.proofs.Common.{rules, ◌≡◌, [], sym, ap, ◌∙◌}
 use Rattle.std.proofs.lemmas.List.{nil_from_length}
 use Rattle.tab_words.specs.Words.{words_of}
-use Rattle.tab_words.proofs.FirstWord.{words_of-nil}
+use Rattle.tab_words.proofs.WordLemmas.{words_of-nil}
 use Rattle.tab_words.proofs.word.WordsIterator.next.Goals as goal
 
 pub returns-then-is_empty-clause-steps : goal.returns-then-is_empty-clause-steps

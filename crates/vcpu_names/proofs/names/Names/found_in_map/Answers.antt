@@ -1,6 +1,6 @@
 use Rattle.std.proofs.Common.{◌≡◌, ℕ, List, IfNone, subst, rules}
 use Rattle.vcpu_names.specs.Names.{IsUnknown, names_of, number_at}
-use Rattle.vcpu_names.proofs.NameMap.{unknown_if}
+use Rattle.vcpu_names.proofs.NameMapLemmas.{unknown_if}
 use Rattle.vcpu_names.proofs.names.Names.found_in_map.Goals as goal
 
 pub returns-clause-unknown : goal.returns-clause-unknown

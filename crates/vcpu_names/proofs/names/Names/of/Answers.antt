@@ -3,7 +3,7 @@ use Rattle.std.specs.BTreeMap.{Updates}
 use Rattle.std.specs.Cmp.Lexicographic.{slice_cmp}
 use Rattle.tab_core.specs.Name.{IsName}
 use Rattle.vcpu_names.specs.Names.{HasNumbers, names_of}
-use Rattle.vcpu_names.proofs.NameMap.{good_in_whole, has_more, length_names, names_more}
+use Rattle.vcpu_names.proofs.NameMapLemmas.{good_in_whole, has_more, length_names, names_more}
 use Rattle.vcpu_names.proofs.names.Names.of.Goals as goal
 
 pub loop-index-preserved : goal.loop-index-preserved

@@ -15,7 +15,7 @@ pub record Left : Type 0 where
   pub number : ℕ
 
 -- the cores from this number on, of which there are so many, and the end
-pub record AreRows (names : List (List ℕ)) (tasks : List (Option Periodic)) (core count : ℕ)
+pub record AreFromCore (names : List (List ℕ)) (tasks : List (Option Periodic)) (core count : ℕ)
     (lines : List Line) : Type 0 where
   pub rows : List (List Segment)
   pub many : length rows ≡ count
@@ -23,21 +23,21 @@ pub record AreRows (names : List (List ℕ)) (tasks : List (Option Periodic)) (c
   pub written : lines ≡ core_lines (segment_words names) core rows ++ end_words ∷ []
 
 -- further segments of a core, and such cores
-pub record AreSegments (names : List (List ℕ)) (tasks : List (Option Periodic)) (core count : ℕ)
+pub record AreFromSegment (names : List (List ℕ)) (tasks : List (Option Periodic)) (core count : ℕ)
     (lines : List Line) : Type 0 where
   pub row : List Segment
   pub fine : All (IsFineSegment tasks) row
   pub rest : List Line
-  pub rows : AreRows names tasks core count rest
+  pub rows : AreFromCore names tasks core count rest
   pub written : lines ≡ map (segment_words names) row ++ rest
 
 -- the vCPUs from this number on, and all cores
-pub record AreVcpus (names : List (List ℕ)) (tasks : List (Option Periodic)) (cores vcpu : ℕ)
+pub record AreFromVcpu (names : List (List ℕ)) (tasks : List (Option Periodic)) (cores vcpu : ℕ)
     (lines : List Line) : Type 0 where
   pub homes : List (Option ℕ)
   pub housed : IsTrue (are_housed cores (drop vcpu tasks) homes)
   pub rest : List Line
-  pub rows : AreRows names tasks 0 cores rest
+  pub rows : AreFromCore names tasks 0 cores rest
   pub written : lines ≡ vcpu_lines (drop vcpu names) (drop vcpu tasks) homes ++ rest
 
 -- the first of the lines isn't this one

@@ -4,12 +4,14 @@ use Rattle.std.proofs.lemmas.Bool.Decides.{nat_tests}
 use Rattle.std.specs.Bool.{◌==◌}
 use Rattle.std.specs.List.{All, onto_first}
 use Rattle.tab_words.specs.Lines.{lines_of}
-use Rattle.tab_words.proofs.Cut.{cut, front_lacks, lacks}
+use Rattle.tab_words.proofs.CutLemmas.{cut, front_lacks, lacks}
 
+-- an iterator over no bytes gives no line
 pub lines_of-nil : lines_of [] ≡ []
 unfolding lines_of
 lines_of-nil = refl
 
+-- a byte other than a line feed belongs to the line behind it: the step of the lemmas below
 pub lines_of-byte : (byte : ℕ) (bytes : List ℕ) → byte ≢ 10
     → lines_of (byte ∷ bytes) ≡ onto_first byte (lines_of bytes)
 unfolding lines_of
@@ -55,6 +57,7 @@ length-onto_first : (byte : ℕ) (lines : List (List ℕ)) → length (onto_firs
 length-onto_first byte [] = omega arith
 length-onto_first byte (line ∷ lines) = omega arith
 
+-- a count of lines fits where the count of bytes does
 pub length-lines_of : (bytes : List ℕ) → length (lines_of bytes) ≤ length bytes
 unfolding lines_of
 length-lines_of [] = omega arith

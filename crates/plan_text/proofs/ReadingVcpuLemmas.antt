@@ -6,11 +6,11 @@ use Rattle.std.proofs.lemmas.List.{take_all, take_more}
 use Rattle.tab_core.specs.declared.periodic.Periodic.{Periodic}
 use Rattle.table_form.specs.Tables.Homes.{are_housed, is_housed}
 use Rattle.vcpu_names.specs.Names.{name_at}
-use Rattle.plan_text.specs.FirstBad.{IsBegun, IsFirstBad}
+use Rattle.plan_text.specs.FirstBad.{IsBegun, IsFirstBadFor}
 use Rattle.plan_text.specs.PlanLines.{Line, vcpu_lines, vcpu_part, vcpu_words}
-use Rattle.plan_text.specs.Reading.{AreRows, AreVcpus, IsNoVcpu}
-use Rattle.plan_text.proofs.FirstBad.{bad_behind, bad_of_both, first_is_bad}
-use Rattle.plan_text.proofs.Languages.{rows_begun}
+use Rattle.plan_text.specs.Inside.Reading.{AreFromCore, AreFromVcpu, IsNoVcpu}
+use Rattle.plan_text.proofs.FirstBadLemmas.{bad_behind, bad_of_both, first_is_bad}
+use Rattle.plan_text.proofs.ReadingLemmas.{rows_begun}
 
 -- the first n vCPUs' lines, and one more
 pub vcpu_lines-last : (names : List (List ℕ)) (tasks : List (Option Periodic)) (homes : List (Option ℕ))
@@ -33,6 +33,7 @@ vcpu_lines-last (name ∷ names) (task ∷ tasks) (first ∷ homes) home d named
     ∙ sym (append_assoc (vcpu_part name task first) (vcpu_lines names tasks homes)
     (vcpu_part (name_at names (length homes)) (get_or tasks (length homes) d) home))
 
+-- the lemma below, for whole lists
 housed_last : (cores : ℕ) (tasks : List (Option Periodic)) (homes : List (Option ℕ)) (task : Option Periodic)
     (home : Option ℕ)
     → are_housed cores tasks homes ≡ true → is_housed cores task home ≡ true
@@ -44,6 +45,7 @@ housed_last cores (start ∷ tasks) (first ∷ homes) task home all is =
     let parts = and_parts (is_housed cores start first) (are_housed cores tasks homes) all in
     rw parts.0 (housed_last cores tasks homes task home parts.1 is)
 
+-- the loop's step: one home more is where its task allows it
 pub housed_more : (cores : ℕ) (tasks : List (Option Periodic)) (v : ℕ) (d : Option Periodic)
     (homes : List (Option ℕ)) (home : Option ℕ) → v < length tasks
     → are_housed cores (take v tasks) homes ≡ true → is_housed cores (get_or tasks v d) home ≡ true
@@ -60,6 +62,7 @@ some_homes [] = []
 some_homes (None ∷ tasks) = None ∷ some_homes tasks
 some_homes (Some task ∷ tasks) = Some 0 ∷ some_homes tasks
 
+-- such homes are allowed, since there is a core
 some_housed : (cores : ℕ) (tasks : List (Option Periodic)) → 0 < cores
     → are_housed cores tasks (some_homes tasks) ≡ true
 some_housed cores [] some = refl
@@ -67,8 +70,9 @@ some_housed cores (None ∷ tasks) some = some_housed cores tasks some
 some_housed cores (Some task ∷ tasks) some =
     let low : nat_lt 0 cores ≡ true = grind (arith, nat_tests) in rw low (some_housed cores tasks some)
 
+-- so with some vCPUs read some text is still possible
 pub vcpus_begun : (names : List (List ℕ)) (tasks : List (Option Periodic)) (cores v : ℕ) → 0 < cores
-    → IsBegun (AreVcpus names tasks cores v) []
+    → IsBegun (AreFromVcpu names tasks cores v) []
 vcpus_begun names tasks cores v some =
     let rows = rows_begun names tasks 0 cores in
     let homes = some_homes (drop v tasks) in
@@ -89,6 +93,7 @@ abbrev pub FirstIs : List (List ℕ) → List (Option Periodic) → ℕ → List
 FirstIs names tasks v name task =
     (drop v names ≡ name ∷ drop (v + 1) names) × (drop v tasks ≡ task ∷ drop (v + 1) tasks)
 
+-- the name and the task that a loop reads are the first of those that are left
 pub first_is : (names : List (List ℕ)) (tasks : List (Option Periodic)) (v : ℕ) (name : List ℕ)
     (task : Option Periodic)
     → v < length names → v < length tasks
@@ -100,11 +105,12 @@ first_is names tasks v name task named tasked is_name is_task = (
       ∙ ap (λ k. task ∷ drop k tasks) (sym (add-one v))),
 )
 
+-- a vCPU's line in front of those of the next
 vcpus_back : (names : List (List ℕ)) (tasks : List (Option Periodic)) (cores v : ℕ) (name : List ℕ)
     (task : Option Periodic) (home : Option ℕ) (lines : List Line)
     → FirstIs names tasks v name task → is_housed cores task home ≡ true
-    → AreVcpus names tasks cores (v + 1) lines
-    → AreVcpus names tasks cores v (vcpu_part name task home ++ lines)
+    → AreFromVcpu names tasks cores (v + 1) lines
+    → AreFromVcpu names tasks cores v (vcpu_part name task home ++ lines)
 vcpus_back names tasks cores v name task home lines first is are = record {
   homes = home ∷ are.homes;
   housed = rw first.1 (rw is are.housed);
@@ -121,12 +127,13 @@ pub record VcpusGo (names : List (List ℕ)) (tasks : List (Option Periodic)) (c
   pub home : Option ℕ
   pub housed : is_housed cores task home ≡ true
   pub rest : List Line
-  pub more : AreVcpus names tasks cores (v + 1) rest
+  pub more : AreFromVcpu names tasks cores (v + 1) rest
   pub written : lines ≡ vcpu_part name task home ++ rest
 
+-- the lemma below, by the homes of the text
 go_parts : (names : List (List ℕ)) (tasks : List (Option Periodic)) (cores v : ℕ) (name : List ℕ)
     (task : Option Periodic) (lines : List Line) (homes : List (Option ℕ)) (rest : List Line)
-    → are_housed cores (task ∷ drop (v + 1) tasks) homes ≡ true → AreRows names tasks 0 cores rest
+    → are_housed cores (task ∷ drop (v + 1) tasks) homes ≡ true → AreFromCore names tasks 0 cores rest
     → lines ≡ vcpu_lines (name ∷ drop (v + 1) names) (task ∷ drop (v + 1) tasks) homes ++ rest
     → VcpusGo names tasks cores v name task lines
 go_parts names tasks cores v name task lines [] rest housed rows written = absurd (cc)
@@ -141,9 +148,10 @@ go_parts names tasks cores v name task lines (home ∷ homes) rest housed rows w
           (vcpu_lines (drop (v + 1) names) (drop (v + 1) tasks) homes) rest;
     }
 
+-- where a vCPU is due, the text begins with its line
 vcpus_go : (names : List (List ℕ)) (tasks : List (Option Periodic)) (cores v : ℕ) (name : List ℕ)
     (task : Option Periodic) (lines : List Line)
-    → FirstIs names tasks v name task → AreVcpus names tasks cores v lines
+    → FirstIs names tasks v name task → AreFromVcpu names tasks cores v lines
     → VcpusGo names tasks cores v name task lines
 vcpus_go names tasks cores v name task lines first are =
     go_parts names tasks cores v name task lines are.homes are.rest (rw (← first.1) are.housed) are.rows
@@ -152,21 +160,22 @@ vcpus_go names tasks cores v name task lines first are =
 -- a vCPU without a task has no line
 idle_goes : (names : List (List ℕ)) (tasks : List (Option Periodic)) (cores v : ℕ) (name : List ℕ)
     (lines : List Line)
-    → VcpusGo names tasks cores v name None lines → AreVcpus names tasks cores (v + 1) lines
+    → VcpusGo names tasks cores v name None lines → AreFromVcpu names tasks cores (v + 1) lines
 idle_goes names tasks cores v name lines go =
-    subst (AreVcpus names tasks cores (v + 1)) (sym go.written) go.more
+    subst (AreFromVcpu names tasks cores (v + 1)) (sym go.written) go.more
 
+-- a line that a text has for a vCPU gives it a home below the count of cores
 with_home : (names : List (List ℕ)) (tasks : List (Option Periodic)) (cores v : ℕ) (name : List ℕ)
     (task : Periodic)
     (line : Line) (lines : List Line) (home : Option ℕ) (rest : List Line)
-    → is_housed cores (Some task) home ≡ true → AreVcpus names tasks cores (v + 1) rest
+    → is_housed cores (Some task) home ≡ true → AreFromVcpu names tasks cores (v + 1) rest
     → line ∷ lines ≡ vcpu_part name (Some task) home ++ rest
     → (core : ℕ) × (core < cores) × (line ≡ vcpu_words name task core)
-    × AreVcpus names tasks cores (v + 1) lines
+    × AreFromVcpu names tasks cores (v + 1) lines
 with_home names tasks cores v name task line lines None rest housed more written = absurd (cc)
 with_home names tasks cores v name task line lines (Some core) rest housed more written =
     let same : rest ≡ lines = cc in
-    (core, grind (arith, nat_tests), cc, subst (AreVcpus names tasks cores (v + 1)) same more)
+    (core, grind (arith, nat_tests), cc, subst (AreFromVcpu names tasks cores (v + 1)) same more)
 
 -- behind the line of one vCPU, if it has one
 pub bad_behind_vcpu : (names : List (List ℕ)) (tasks : List (Option Periodic)) (cores v first number : ℕ)
@@ -174,32 +183,34 @@ pub bad_behind_vcpu : (names : List (List ℕ)) (tasks : List (Option Periodic))
     → v < length names → v < length tasks → name_at names v ≡ name → get_or tasks v task ≡ task
     → is_housed cores task home ≡ true
     → lines ≡ vcpu_part name task home ++ rest → number ≡ first + length (vcpu_part name task home)
-    → IsFirstBad (AreVcpus names tasks cores (v + 1)) number rest bad
-    → IsFirstBad (AreVcpus names tasks cores v) first lines bad
+    → IsFirstBadFor (AreFromVcpu names tasks cores (v + 1)) number rest bad
+    → IsFirstBadFor (AreFromVcpu names tasks cores v) first lines bad
 bad_behind_vcpu names tasks cores v first number name None home lines rest bad named tasked is_name
     is_task housed
     written count is =
     let parts = first_is names tasks v name None named tasked is_name is_task in
-    rw written (bad_of_both (AreVcpus names tasks cores v) (AreVcpus names tasks cores (v + 1)) first rest bad
+    rw written (bad_of_both (AreFromVcpu names tasks cores v)
+    (AreFromVcpu names tasks cores (v + 1)) first rest bad
     (λ some are. vcpus_back names tasks cores v name None home some parts housed are)
     (λ line back more at are. idle_goes names tasks cores v name (line ∷ more)
     (vcpus_go names tasks cores v name None (line ∷ more) parts are))
     (λ at are. idle_goes names tasks cores v name [] (vcpus_go names tasks cores v name None [] parts are))
-    (subst (λ n. IsFirstBad (AreVcpus names tasks cores (v + 1)) n rest bad) (omega arith) is))
+    (subst (λ n. IsFirstBadFor (AreFromVcpu names tasks cores (v + 1)) n rest bad) (omega arith) is))
 bad_behind_vcpu names tasks cores v first number name
     (Some task) None lines rest bad named tasked is_name is_task housed written count is = absurd (cc)
 bad_behind_vcpu names tasks cores v first number name (Some task)
     (Some core) lines rest bad named tasked is_name is_task housed written count is =
     let parts = first_is names tasks v name (Some task) named tasked is_name is_task in
-    rw written (bad_behind (AreVcpus names tasks cores v) (AreVcpus names tasks cores (v + 1)) first
+    rw written (bad_behind (AreFromVcpu names tasks cores v) (AreFromVcpu names tasks cores (v + 1)) first
     (vcpu_words name task core) rest bad
     (λ some are. vcpus_back names tasks cores v name (Some task) (Some core) some parts housed are)
     (λ some are.
     let go = vcpus_go names tasks cores v name (Some task) (vcpu_words name task core ∷ some) parts are in
     (with_home names tasks cores v name task
     (vcpu_words name task core) some go.home go.rest go.housed go.more go.written).3)
-    (subst (λ n. IsFirstBad (AreVcpus names tasks cores (v + 1)) n rest bad) (omega arith) is))
+    (subst (λ n. IsFirstBadFor (AreFromVcpu names tasks cores (v + 1)) n rest bad) (omega arith) is))
 
+-- without such a line no text goes on
 no_such_line : (names : List (List ℕ)) (tasks : List (Option Periodic)) (cores v : ℕ) (name : List ℕ)
     (task : Periodic) (lines : List Line)
     → IsNoVcpu name (Some task) cores lines → VcpusGo names tasks cores v name (Some task) lines → ⊥
@@ -214,15 +225,15 @@ no_such_line names tasks cores v name task lines none go = of_home go.home go.ho
 pub vcpu_is_bad : (names : List (List ℕ)) (tasks : List (Option Periodic)) (cores v first : ℕ) (name : List ℕ)
     (task : Option Periodic) (lines : List Line)
     → 0 < cores → v < length names → v < length tasks → name_at names v ≡ name → get_or tasks v task ≡ task
-    → IsNoVcpu name task cores lines → IsFirstBad (AreVcpus names tasks cores v) first lines first
+    → IsNoVcpu name task cores lines → IsFirstBadFor (AreFromVcpu names tasks cores v) first lines first
 vcpu_is_bad names tasks cores v first name None lines some named tasked is_name is_task none = absurd none
 vcpu_is_bad names tasks cores v first name (Some task) lines some named tasked is_name is_task none =
     let parts = first_is names tasks v name (Some task) named tasked is_name is_task in
     let never : (more : List Line) → IsNoVcpu name (Some task) cores more
-    → AreVcpus names tasks cores v more → ⊥ =
+    → AreFromVcpu names tasks cores v more → ⊥ =
     λ more other are. no_such_line names tasks cores v name task more other
     (vcpus_go names tasks cores v name (Some task) more parts are) in
-    first_is_bad (AreVcpus names tasks cores v) first lines (vcpus_begun names tasks cores v some)
+    first_is_bad (AreFromVcpu names tasks cores v) first lines (vcpus_begun names tasks cores v some)
     (λ line back at rest are. never (line ∷ rest)
     (λ home low back' is. none home low back
     (at ∙ (let l : line ≡ vcpu_words name task home = cc in ap (λ l. l ∷ back) l))) are)
@@ -231,10 +242,10 @@ vcpu_is_bad names tasks cores v first name (Some task) lines some named tasked i
 -- behind the last vCPU there are the cores
 pub bad_behind_vcpus : (names : List (List ℕ)) (tasks : List (Option Periodic)) (cores v first : ℕ)
     (lines : List Line) (bad : ℕ) → v ≡ length tasks
-    → IsFirstBad (AreRows names tasks 0 cores) first lines bad
-    → IsFirstBad (AreVcpus names tasks cores v) first lines bad
+    → IsFirstBadFor (AreFromCore names tasks 0 cores) first lines bad
+    → IsFirstBadFor (AreFromVcpu names tasks cores v) first lines bad
 bad_behind_vcpus names tasks cores v first lines bad end is =
-    bad_of_both (AreVcpus names tasks cores v) (AreRows names tasks 0 cores) first lines bad
+    bad_of_both (AreFromVcpu names tasks cores v) (AreFromCore names tasks 0 cores) first lines bad
     (λ some rows. record {
       homes = [];
       housed = rw none refl;
@@ -262,17 +273,20 @@ bad_behind_vcpus names tasks cores v first lines bad end is =
     no_homes [] homes = refl
     no_homes (n ∷ ns) homes = refl
 
-    only_rows : (some : List Line) → AreVcpus names tasks cores v some → AreRows names tasks 0 cores some
-    only_rows some are = subst (AreRows names tasks 0 cores)
+    only_rows : (some : List Line) → AreFromVcpu names tasks cores v some
+        → AreFromCore names tasks 0 cores some
+    only_rows some are = subst (AreFromCore names tasks 0 cores)
         (sym (are.written ∙ (ap (λ ts. vcpu_lines (drop v names) ts are.homes ++ are.rest) none
         ∙ ap (λ ls. ls ++ are.rest) (no_homes (drop v names) are.homes)))) are.rows
 
+-- before the first vCPU no line is read
 pub no_vcpus_yet : (names : List (List ℕ)) (tasks : List (Option Periodic)) (lines : List Line)
     → lines ≡ vcpu_lines names tasks [] ++ lines
 no_vcpus_yet [] tasks lines = refl
 no_vcpus_yet (name ∷ names) [] lines = refl
 no_vcpus_yet (name ∷ names) (task ∷ tasks) lines = refl
 
+-- the loop's step: the lines so far are those of one vCPU more
 pub lines_more : (names : List (List ℕ)) (tasks : List (Option Periodic)) (v : ℕ) (homes : List (Option ℕ))
     (home : Option ℕ) (name : List ℕ) (task : Option Periodic) (all left rest : List Line)
     → length homes ≡ v → v < length names → v < length tasks → name_at names v ≡ name
@@ -288,6 +302,7 @@ lines_more names tasks v homes home name task all left rest many named tasked is
     ∙ ap (λ ls. ls ++ rest) (sym (vcpu_lines-last names tasks homes home task (omega arith) (omega arith)
     ∙ ap (λ ls. vcpu_lines names tasks homes ++ ls) part))))
 
+-- behind the last vCPU all homes are where their tasks allow
 pub housed_whole : (cores : ℕ) (tasks : List (Option Periodic)) (v : ℕ) (homes : List (Option ℕ))
     → length tasks ≤ v
     → are_housed cores (take v tasks) homes ≡ true → are_housed cores tasks homes ≡ true

@@ -13,6 +13,7 @@ use Rattle.tab_core.specs.Name.{IsName}
 use Rattle.tab_core.specs.declared.vcpu.Vcpu.{Vcpu}
 use Rattle.vcpu_names.specs.Names.{AreNames, HasNumbers, IsUnknown, name_at, names_of, number_at}
 
+-- what a look-up finds after an insertion, in the words of the specification
 number_at-added : (numbers more : BTreeMap (Bor (List ℕ)) ℕ) (key : Bor (List ℕ)) (vcpu : ℕ)
     → Updates (λ a b. slice_cmp nat_cmp a.now b.now) numbers more key (Some vcpu)
     → (name : List ℕ) → number_at more name ≡ cond (bytes_eq key.now name) (Some vcpu)
@@ -20,16 +21,20 @@ number_at-added : (numbers more : BTreeMap (Bor (List ℕ)) ℕ) (key : Bor (Lis
 number_at-added numbers more key vcpu updates name =
     btree_map_updates_str key.now numbers more (Some vcpu) updates name
 
+-- the new name is at its number
 at_last : (names : List (List ℕ)) (name : List ℕ) → get_or (names ++ name ∷ []) (length names) [] ≡ name
 at_last names name = grind (arith, common_steps)
 
+-- and the names before it stay at theirs
 at_before : (names : List (List ℕ)) (name : List ℕ) (vcpu : ℕ) → vcpu < length names
     → get_or (names ++ name ∷ []) vcpu [] ≡ get_or names vcpu []
 at_before names name vcpu low = grind (arith, common_steps)
 
+-- there is one name more
 longer : (names : List (List ℕ)) (name : List ℕ) → length (names ++ name ∷ []) ≡ length names + 1
 longer names name = grind (arith, common_steps)
 
+-- what is found after an insertion has that name
 known_more : (names : List (List ℕ)) (name other : List ℕ) (vcpu : ℕ) (before : Option ℕ) (same : Bool)
     → ((v : ℕ) → before ≡ Some v → (v < length names) × (name_at names v ≡ other) × IsName other)
     → IsName name
@@ -46,6 +51,7 @@ known_more names name other vcpu before false known good is at =
     let size = longer names name in
     (omega arith, at_before names name vcpu old.0 ∙ old.1, old.2)
 
+-- and what isn't found is no name
 unknown_more : (names : List (List ℕ)) (name other : List ℕ) (before : Option ℕ) (same : Bool)
     → (before ≡ None → IsUnknown names other) → bytes_eq name other ≡ same
     → cond same (Some (length names)) before ≡ None → IsUnknown (names ++ name ∷ []) other
@@ -85,16 +91,19 @@ pub unknown_if : (names : List (List ℕ)) (numbers : BTreeMap (Bor (List ℕ)) 
 unknown_if names numbers name None has is = has.every name (sym is)
 unknown_if names numbers name (Some vcpu) has is = tt
 
+-- the list of names has each vCPU's name at its number
 name_of_one : (vcpus : List Vcpu) (i : ℕ) (d : Vcpu) → i < length vcpus
     → get_or (names_of vcpus) i [] ≡ (get_or vcpus i d).name
 name_of_one [] i d low = absurd (omega arith)
 name_of_one (vcpu ∷ vcpus) zero d low = refl
 name_of_one (vcpu ∷ vcpus) (suc i) d low = name_of_one vcpus i d (omega arith)
 
+-- there are as many names as vCPUs
 length-names_of : (vcpus : List Vcpu) → length (names_of vcpus) ≡ length vcpus
 length-names_of [] = refl
 length-names_of (vcpu ∷ vcpus) = ap suc (length-names_of vcpus)
 
+-- the loop's step: the names of one vCPU more
 pub names_more : (vcpus : List Vcpu) (i : ℕ) (vcpu : Vcpu) → i < length vcpus → vcpu ≡ get_or vcpus i vcpu
     → take (i + 1) (names_of vcpus) ≡ take i (names_of vcpus) ++ vcpu.name ∷ []
 names_more vcpus i vcpu low is =
@@ -103,11 +112,13 @@ names_more vcpus i vcpu low is =
     ∙ ap (λ (name : List ℕ). take i (names_of vcpus) ++ name ∷ [])
     (name_of_one vcpus i vcpu low ∙ ap (λ (v : Vcpu). v.name) (sym is))
 
+-- the number that the loop gives a vCPU is the next free one
 pub length_names : (vcpus : List Vcpu) (i : ℕ) → i < length vcpus → i ≡ length (take i (names_of vcpus))
 length_names vcpus i low =
     let size = length-names_of vcpus in
     grind (arith, common_steps)
 
+-- a name with a number was inserted, so it has the form of a name
 good_if : (names : List (List ℕ)) (numbers : BTreeMap (Bor (List ℕ)) ℕ) (vcpu : ℕ) (found : Option ℕ)
     → HasNumbers names numbers → vcpu < length names
     → number_at numbers (name_at names vcpu) ≡ found → IsName (name_at names vcpu)

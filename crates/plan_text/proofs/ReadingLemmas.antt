@@ -6,46 +6,53 @@ use Rattle.std.specs.Str.Parse.{AllDigits}
 use Rattle.std.proofs.lemmas.Fmt.{decimal_is_IsNumeral}
 use Rattle.tab_core.specs.declared.periodic.Periodic.{Periodic}
 use Rattle.table_form.specs.declared.segment.Segment.{Segment}
-use Rattle.plan_text.specs.FirstBad.{IsBegun, IsFirstBad}
+use Rattle.plan_text.specs.FirstBad.{IsBegun, IsFirstBadFor}
 use Rattle.plan_text.specs.Meaning.{AreFineRows, IsFineSegment, segment_words}
 use Rattle.plan_text.specs.PlanLines.{Line, core_lines, core_words, end_words}
-use Rattle.plan_text.specs.Reading.{AreRows, AreSegments, IsNoSegment, IsOtherLine}
-use Rattle.plan_text.proofs.FirstBad.{bad_behind, bad_of_both, first_is_bad}
+use Rattle.plan_text.specs.Inside.Reading.{AreFromCore, AreFromSegment, IsNoSegment, IsOtherLine}
+use Rattle.plan_text.proofs.FirstBadLemmas.{bad_behind, bad_of_both, first_is_bad}
 
 -- ---- lines that differ
 
+-- the word `core` spells no number
 core_is_no_number : (n : ℕ) → n < 2 ^ 64 → codes "core" ≡ decimal n → ⊥
 core_is_no_number n low is =
     let digits : AllDigits 10 (codes "core") =
     subst (AllDigits 10) (sym is) (decimal_is_IsNumeral n low).0.1 in
     absurd (omega (arith, digits.0))
 
+-- so a reader of segments stops at the next core
 pub core_is_no_segment : (names : List (List ℕ)) (tasks : List (Option Periodic)) (core : ℕ) (s : Segment)
     → IsFineSegment tasks s
     → core_words core ≡ segment_words names s → ⊥
 core_is_no_segment names tasks core s fine is =
     core_is_no_number s.end (let small = fine.small in omega arith) cc
 
+-- and at the end
 pub end_is_no_segment : (names : List (List ℕ)) (s : Segment) → end_words ≡ segment_words names s → ⊥
 end_is_no_segment names s is = absurd (cc)
 
+-- a core is due or the end is, never both
 pub core_is_no_end : (core : ℕ) → core_words core ≡ end_words → ⊥
 core_is_no_end core is = absurd (cc)
 
 -- ---- the cores and the end
 
+-- rows without segments are fine: a text that goes on so always exists
 empty_rows : (tasks : List (Option Periodic)) (count : ℕ) → AreFineRows tasks (replicate count [])
 empty_rows tasks zero = All-nil (λ row. All (IsFineSegment tasks) row)
 empty_rows tasks (suc count) =
     All-cons (λ row. All (IsFineSegment tasks) row) [] (replicate count []) (All-nil (IsFineSegment tasks))
     (empty_rows tasks count)
 
+-- and there are as many as are due
 many_empty : (count : ℕ) → length (replicate {A = List Segment} count []) ≡ count
 many_empty zero = refl
 many_empty (suc count) = ap suc (many_empty count)
 
+-- so with no line read some text is still possible
 pub rows_begun : (names : List (List ℕ)) (tasks : List (Option Periodic)) (core count : ℕ)
-    → IsBegun (AreRows names tasks core count) []
+    → IsBegun (AreFromCore names tasks core count) []
 rows_begun names tasks core count = record {
   rest = core_lines (segment_words names) core (replicate count []) ++ end_words ∷ [];
   text = record {
@@ -56,9 +63,10 @@ rows_begun names tasks core count = record {
   };
 }
 
+-- a core's line in front of its segments and of the cores behind it
 pub rows_back : (names : List (List ℕ)) (tasks : List (Option Periodic)) (core count : ℕ) (lines : List Line)
-    → AreSegments names tasks (core + 1) count lines
-    → AreRows names tasks core (count + 1) (core_words core ∷ lines)
+    → AreFromSegment names tasks (core + 1) count lines
+    → AreFromCore names tasks core (count + 1) (core_words core ∷ lines)
 rows_back names tasks core count lines are = record {
   rows = are.row ∷ are.rows.rows;
   many = let many = are.rows.many in omega arith;
@@ -66,7 +74,8 @@ rows_back names tasks core count lines are = record {
   written =
       ap (λ ls. core_words core ∷ ls)
       (are.written ∙ (ap (λ ls. map (segment_words names) are.row ++ ls) are.rows.written
-      ∙ sym (append_assoc (map (segment_words names) are.row) (core_lines (segment_words names) (core + 1) are.rows.rows)
+      ∙ sym (append_assoc (map (segment_words names) are.row)
+      (core_lines (segment_words names) (core + 1) are.rows.rows)
       (end_words ∷ []))));
 }
 
@@ -74,8 +83,9 @@ rows_back names tasks core count lines are = record {
 pub record RowsGo (names : List (List ℕ)) (tasks : List (Option Periodic)) (core count : ℕ) (line : Line)
     (lines : List Line) : Type 0 where
   pub is_core : line ≡ core_words core
-  pub more : AreSegments names tasks (core + 1) count lines
+  pub more : AreFromSegment names tasks (core + 1) count lines
 
+-- the lemma below, by the rows of the text
 rows_go_parts : (names : List (List ℕ)) (tasks : List (Option Periodic)) (core count : ℕ) (line : Line)
     (lines : List Line) (rows : List (List Segment))
     → length rows ≡ count + 1 → AreFineRows tasks rows
@@ -98,17 +108,20 @@ rows_go_parts names tasks core count line lines (row ∷ rows) many fine written
               All-tail (λ row. All (IsFineSegment tasks) row) row rows fine;
           written = refl;
         };
-        written = rest ∙ append_assoc (map (segment_words names) row) (core_lines (segment_words names) (core + 1) rows)
+        written = rest ∙ append_assoc (map (segment_words names) row)
+            (core_lines (segment_words names) (core + 1) rows)
             (end_words ∷ []);
       };
     }
 
+-- where a core is due, the text begins with its line
 pub rows_go : (names : List (List ℕ)) (tasks : List (Option Periodic)) (core count : ℕ) (line : Line)
     (lines : List Line)
-    → AreRows names tasks core (count + 1) (line ∷ lines) → RowsGo names tasks core count line lines
+    → AreFromCore names tasks core (count + 1) (line ∷ lines) → RowsGo names tasks core count line lines
 rows_go names tasks core count line lines are =
     rows_go_parts names tasks core count line lines are.rows are.many are.fine are.written
 
+-- the lemma below, by the rows of the text
 end_goes_parts : (names : List (List ℕ)) (core : ℕ) (lines : List Line) (rows : List (List Segment))
     → length rows ≡ 0
     → lines ≡ core_lines (segment_words names) core rows ++ end_words ∷ [] → lines ≡ end_words ∷ []
@@ -117,29 +130,33 @@ end_goes_parts names core lines (row ∷ rows) many written = absurd (omega arit
 
 -- behind the last core there is the end alone
 pub end_goes : (names : List (List ℕ)) (tasks : List (Option Periodic)) (core : ℕ) (lines : List Line)
-    → AreRows names tasks core 0 lines → lines ≡ end_words ∷ []
+    → AreFromCore names tasks core 0 lines → lines ≡ end_words ∷ []
 end_goes names tasks core lines are = end_goes_parts names core lines are.rows are.many are.written
 
+-- a text never stops before its end
 rows_some : (names : List (List ℕ)) (core : ℕ) (rows : List (List Segment))
     → core_lines (segment_words names) core rows ++ end_words ∷ [] ≡ [] → ⊥
 rows_some names core [] is = absurd (cc)
 rows_some names core (row ∷ rows) is = absurd (cc)
 
+-- so no line at all is no text
 pub no_lines_no_rows : (names : List (List ℕ)) (tasks : List (Option Periodic)) (core count : ℕ)
-    → AreRows names tasks core count [] → ⊥
+    → AreFromCore names tasks core count [] → ⊥
 no_lines_no_rows names tasks core count are = rows_some names core are.rows (sym are.written)
 
 -- no rows begin with a segment
 rows_lack : (names : List (List ℕ)) (tasks : List (Option Periodic)) (core : ℕ) (rows : List (List Segment))
     (s : Segment) (lines : List Line)
-    → IsFineSegment tasks s → segment_words names s ∷ lines ≡ core_lines (segment_words names) core rows ++ end_words ∷ [] → ⊥
+    → IsFineSegment tasks s
+    → segment_words names s ∷ lines ≡ core_lines (segment_words names) core rows ++ end_words ∷ [] → ⊥
 rows_lack names tasks core [] s lines fine is = end_is_no_segment names s cc
 rows_lack names tasks core (row ∷ rows) s lines fine is = core_is_no_segment names tasks core s fine cc
 
 -- ---- segments
 
+-- behind a core's line some text is still possible
 pub segments_begun : (names : List (List ℕ)) (tasks : List (Option Periodic)) (core count : ℕ)
-    → IsBegun (AreSegments names tasks core count) []
+    → IsBegun (AreFromSegment names tasks core count) []
 segments_begun names tasks core count =
     let begun = rows_begun names tasks core count in
     record {
@@ -155,10 +172,11 @@ segments_begun names tasks core count =
           };
     }
 
+-- a segment's line in front of further ones
 pub segment_back : (names : List (List ℕ)) (tasks : List (Option Periodic)) (core count : ℕ) (s : Segment)
     (lines : List Line) → IsFineSegment tasks s
-    → AreSegments names tasks core count lines
-    → AreSegments names tasks core count (segment_words names s ∷ lines)
+    → AreFromSegment names tasks core count lines
+    → AreFromSegment names tasks core count (segment_words names s ∷ lines)
 segment_back names tasks core count s lines fine are = record {
   row = s ∷ are.row;
   fine = All-cons (IsFineSegment tasks) s are.row fine are.fine;
@@ -167,11 +185,12 @@ segment_back names tasks core count s lines fine are = record {
   written = ap (λ ls. segment_words names s ∷ ls) are.written;
 }
 
+-- the lemma below, by the row of the text
 segment_goes_parts : (names : List (List ℕ)) (tasks : List (Option Periodic)) (core count : ℕ) (s : Segment)
     (lines : List Line) (row : List Segment) (rest : List Line)
-    → IsFineSegment tasks s → All (IsFineSegment tasks) row → AreRows names tasks core count rest
+    → IsFineSegment tasks s → All (IsFineSegment tasks) row → AreFromCore names tasks core count rest
     → segment_words names s ∷ lines ≡ map (segment_words names) row ++ rest
-    → AreSegments names tasks core count lines
+    → AreFromSegment names tasks core count lines
 segment_goes_parts names tasks core count s lines [] rest fine all rows written =
     absurd (rows_lack names tasks core rows.rows s lines fine (written ∙ rows.written))
 segment_goes_parts names tasks core count s lines (t ∷ row) rest fine all rows written = record {
@@ -182,39 +201,42 @@ segment_goes_parts names tasks core count s lines (t ∷ row) rest fine all rows
   written = cc;
 }
 
+-- behind a segment's line the same may follow as before it
 pub segment_goes : (names : List (List ℕ)) (tasks : List (Option Periodic)) (core count : ℕ) (s : Segment)
     (lines : List Line) → IsFineSegment tasks s
-    → AreSegments names tasks core count (segment_words names s ∷ lines)
-    → AreSegments names tasks core count lines
+    → AreFromSegment names tasks core count (segment_words names s ∷ lines)
+    → AreFromSegment names tasks core count lines
 segment_goes names tasks core count s lines fine are =
     segment_goes_parts names tasks core count s lines are.row are.rest fine are.fine are.rows are.written
 
+-- behind a line that is no segment's the row has ended
 no_more_segments : (names : List (List ℕ)) (tasks : List (Option Periodic)) (core count : ℕ) (line : Line)
     (lines : List Line) (row : List Segment) (rest : List Line)
     → ((s : Segment) → IsFineSegment tasks s → line ≡ segment_words names s → ⊥)
     → All (IsFineSegment tasks) row
-    → AreRows names tasks core count rest
-    → line ∷ lines ≡ map (segment_words names) row ++ rest → AreRows names tasks core count (line ∷ lines)
+    → AreFromCore names tasks core count rest
+    → line ∷ lines ≡ map (segment_words names) row ++ rest → AreFromCore names tasks core count (line ∷ lines)
 no_more_segments names tasks core count line lines [] rest none all rows written =
-    subst (AreRows names tasks core count) (sym written) rows
+    subst (AreFromCore names tasks core count) (sym written) rows
 no_more_segments names tasks core count line lines (s ∷ row) rest none all rows written =
     absurd (none s (all 0 s (omega arith)) cc)
 
+-- and where no line is left, too
 no_lines_left : (names : List (List ℕ)) (tasks : List (Option Periodic)) (core count : ℕ) (row : List Segment)
     (rest : List Line)
-    → AreRows names tasks core count rest → [] ≡ map (segment_words names) row ++ rest
-    → AreRows names tasks core count []
+    → AreFromCore names tasks core count rest → [] ≡ map (segment_words names) row ++ rest
+    → AreFromCore names tasks core count []
 no_lines_left names tasks core count [] rest rows written =
-    subst (AreRows names tasks core count) (sym written) rows
+    subst (AreFromCore names tasks core count) (sym written) rows
 no_lines_left names tasks core count (s ∷ row) rest rows written = absurd (cc)
 
 -- where the first line is no segment, there are the next cores
 pub bad_behind_row : (names : List (List ℕ)) (tasks : List (Option Periodic)) (core count first : ℕ)
     (lines : List Line) (bad : ℕ)
-    → IsNoSegment names tasks lines → IsFirstBad (AreRows names tasks core count) first lines bad
-    → IsFirstBad (AreSegments names tasks core count) first lines bad
+    → IsNoSegment names tasks lines → IsFirstBadFor (AreFromCore names tasks core count) first lines bad
+    → IsFirstBadFor (AreFromSegment names tasks core count) first lines bad
 bad_behind_row names tasks core count first lines bad none is =
-    bad_of_both (AreSegments names tasks core count) (AreRows names tasks core count) first lines bad
+    bad_of_both (AreFromSegment names tasks core count) (AreFromCore names tasks core count) first lines bad
     (λ some rows. record {
       row = [];
       fine = All-nil (IsFineSegment tasks);
@@ -231,22 +253,23 @@ bad_behind_row names tasks core count first lines bad none is =
 pub bad_behind_segments : (names : List (List ℕ)) (tasks : List (Option Periodic)) (core count first : ℕ)
     (row : List Segment) (rest : List Line) (bad : ℕ)
     → All (IsFineSegment tasks) row → IsNoSegment names tasks rest
-    → IsFirstBad (AreRows names tasks core count) (first + length row) rest bad
-    → IsFirstBad (AreSegments names tasks core count) first (map (segment_words names) row ++ rest) bad
+    → IsFirstBadFor (AreFromCore names tasks core count) (first + length row) rest bad
+    → IsFirstBadFor (AreFromSegment names tasks core count) first (map (segment_words names) row ++ rest) bad
 bad_behind_segments names tasks core count first [] rest bad all none is =
     bad_behind_row names tasks core count first rest bad none
-    (subst (λ n. IsFirstBad (AreRows names tasks core count) n rest bad) (omega arith) is)
+    (subst (λ n. IsFirstBadFor (AreFromCore names tasks core count) n rest bad) (omega arith) is)
 bad_behind_segments names tasks core count first (s ∷ row) rest bad all none is =
-    bad_behind (AreSegments names tasks core count) (AreSegments names tasks core count) first
+    bad_behind (AreFromSegment names tasks core count) (AreFromSegment names tasks core count) first
     (segment_words names s) (map (segment_words names) row ++ rest) bad
     (λ lines are. segment_back names tasks core count s lines (all 0 s (omega arith)) are)
     (λ lines are. segment_goes names tasks core count s lines (all 0 s (omega arith)) are)
     (bad_behind_segments names tasks core count (first + 1) row rest bad
     (All-tail (IsFineSegment tasks) s row all) none
-    (subst (λ n. IsFirstBad (AreRows names tasks core count) n rest bad) (omega arith) is))
+    (subst (λ n. IsFirstBadFor (AreFromCore names tasks core count) n rest bad) (omega arith) is))
 
 -- ---- cores, one after the other
 
+-- the reader appends rows: the lines of one core more
 pub core_lines-last : (names : List (List ℕ)) (core : ℕ) (rows : List (List Segment)) (row : List Segment)
     → core_lines (segment_words names) core (rows ++ row ∷ [])
     ≡ core_lines (segment_words names) core rows ++ core_words (core + length rows) ∷ map
@@ -259,10 +282,13 @@ core_lines-last names core (first ∷ rows) row =
     let more = core_lines-last names (core + 1) rows row in
     let count : core + 1 + length rows ≡ core + length (first ∷ rows) = omega arith in
     ap (λ ls. (core_words core ∷ map (segment_words names) first) ++ ls)
-    (more ∙ ap (λ n. core_lines (segment_words names) (core + 1) rows ++ core_words n ∷ map (segment_words names) row) count)
-    ∙ sym (append_assoc (core_words core ∷ map (segment_words names) first) (core_lines (segment_words names) (core + 1) rows)
+    (more ∙ ap (λ n. core_lines (segment_words names) (core + 1) rows
+    ++ core_words n ∷ map (segment_words names) row) count)
+    ∙ sym (append_assoc (core_words core ∷ map (segment_words names) first)
+    (core_lines (segment_words names) (core + 1) rows)
     (core_words (core + length (first ∷ rows)) ∷ map (segment_words names) row))
 
+-- and what holds of each row holds with the new one
 pub all_snoc : {X : Type 0} (P : X → Type 0) (xs : List X) (x : X) → All P xs → P x → All P (xs ++ x ∷ [])
 all_snoc P xs x all here = All-append P xs (x ∷ []) all (All-cons P x [] here (All-nil P))
 
@@ -274,19 +300,19 @@ pub bad_behind_core : (names : List (List ℕ)) (tasks : List (Option Periodic))
     → All (IsFineSegment tasks) row → behind ≡ map (segment_words names) row ++ rest
     → third ≡ second + length row
     → IsNoSegment names tasks rest
-    → IsFirstBad (AreRows names tasks (core + 1) (cores - (core + 1))) third rest bad
-    → IsFirstBad (AreRows names tasks core (cores - core)) first lines bad
+    → IsFirstBadFor (AreFromCore names tasks (core + 1) (cores - (core + 1))) third rest bad
+    → IsFirstBadFor (AreFromCore names tasks core (cores - core)) first lines bad
 bad_behind_core names tasks core cores first second third lines behind rest row bad low written next
     all segments
     last none is =
     let left = cores - (core + 1) in
     let count : cores - core ≡ left + 1 = omega arith in
-    let within : IsFirstBad (AreSegments names tasks (core + 1) left) (first + 1) behind bad =
+    let within : IsFirstBadFor (AreFromSegment names tasks (core + 1) left) (first + 1) behind bad =
     rw segments (bad_behind_segments names tasks (core + 1) left (first + 1) row rest bad all none
-    (subst (λ n. IsFirstBad (AreRows names tasks (core + 1) left) n rest bad)
+    (subst (λ n. IsFirstBadFor (AreFromCore names tasks (core + 1) left) n rest bad)
     (last ∙ ap (λ n. n + length row) next) is)) in
-    rw written (rw count (bad_behind (AreRows names tasks core (left + 1))
-    (AreSegments names tasks (core + 1) left) first (core_words core) behind bad
+    rw written (rw count (bad_behind (AreFromCore names tasks core (left + 1))
+    (AreFromSegment names tasks (core + 1) left) first (core_words core) behind bad
     (λ some are. rows_back names tasks core left some are)
     (λ some are. (rows_go names tasks core left (core_words core) some are).more)
     within))
@@ -296,11 +322,11 @@ pub core_is_bad : (names : List (List ℕ)) (tasks : List (Option Periodic)) (co
     (lines : List Line)
     → core < cores
     → IsOtherLine (core_words core) lines
-    → IsFirstBad (AreRows names tasks core (cores - core)) first lines first
+    → IsFirstBadFor (AreFromCore names tasks core (cores - core)) first lines first
 core_is_bad names tasks core cores first lines low other =
     let left = cores - (core + 1) in
     let count : cores - core ≡ left + 1 = omega arith in
-    rw count (first_is_bad (AreRows names tasks core (left + 1)) first lines
+    rw count (first_is_bad (AreFromCore names tasks core (left + 1)) first lines
     (rows_begun names tasks core (left + 1))
     (λ line back at rest are. other back
     (at ∙ ap (λ l. l ∷ back) (rows_go names tasks core left line rest are).is_core))
@@ -310,10 +336,11 @@ core_is_bad names tasks core cores first lines low other =
 pub end_is_bad : (names : List (List ℕ)) (tasks : List (Option Periodic)) (core cores first : ℕ)
     (lines : List Line)
     → cores ≤ core
-    → IsOtherLine end_words lines → IsFirstBad (AreRows names tasks core (cores - core)) first lines first
+    → IsOtherLine end_words lines
+    → IsFirstBadFor (AreFromCore names tasks core (cores - core)) first lines first
 end_is_bad names tasks core cores first lines past other =
     let count : cores - core ≡ 0 = omega arith in
-    rw count (first_is_bad (AreRows names tasks core 0) first lines (rows_begun names tasks core 0)
+    rw count (first_is_bad (AreFromCore names tasks core 0) first lines (rows_begun names tasks core 0)
     (λ line back at rest are. let all = end_goes names tasks core (line ∷ rest) are in
     let same : line ≡ end_words = cc in other back (at ∙ ap (λ l. l ∷ back) same))
     (λ at are. no_lines_no_rows names tasks core 0 are))
@@ -322,11 +349,11 @@ end_is_bad names tasks core cores first lines past other =
 pub line_behind_end : (names : List (List ℕ)) (tasks : List (Option Periodic)) (core cores first second : ℕ)
     (lines behind : List Line) → cores ≤ core
     → lines ≡ end_words ∷ behind → second ≡ first + 1 → behind ≢ []
-    → IsFirstBad (AreRows names tasks core (cores - core)) first lines second
+    → IsFirstBadFor (AreFromCore names tasks core (cores - core)) first lines second
 line_behind_end names tasks core cores first second lines behind past written next some =
     let count : cores - core ≡ 0 = omega arith in
     rw written
-    (rw count (bad_behind (AreRows names tasks core 0)
+    (rw count (bad_behind (AreFromCore names tasks core 0)
     (λ ls. ls ≡ []) first end_words behind second
     (λ rest none. rw none (record {
       rows = [];
@@ -338,15 +365,19 @@ line_behind_end names tasks core cores first second lines behind past written ne
     (rw next (first_is_bad (λ ls. ls ≡ []) (first + 1) behind (record { rest = []; text = refl })
     (λ line back at rest none. absurd (cc)) (λ at none. some at)))))
 
+-- the loop's step: the lines so far are those of one core more
 pub core_lines_more : (names : List (List ℕ)) (core : ℕ) (rows : List (List Segment)) (row : List Segment)
     (all left behind rest : List Line)
-    → length rows ≡ core → all ≡ core_lines (segment_words names) 0 rows ++ left → left ≡ core_words core ∷ behind
+    → length rows ≡ core → all ≡ core_lines (segment_words names) 0 rows ++ left
+    → left ≡ core_words core ∷ behind
     → behind ≡ map (segment_words names) row ++ rest
     → all ≡ core_lines (segment_words names) 0 (rows ++ row ∷ []) ++ rest
 core_lines_more names core rows row all left behind rest many before first segments =
     let place : core ≡ 0 + length rows = omega arith in
-    before ∙ (ap (λ ls. core_lines (segment_words names) 0 rows ++ ls) (first ∙ ap (λ ls. core_words core ∷ ls) segments)
-    ∙ (sym (append_assoc (core_lines (segment_words names) 0 rows) (core_words core ∷ map (segment_words names) row) rest)
+    before ∙ (ap (λ ls. core_lines (segment_words names) 0 rows ++ ls)
+    (first ∙ ap (λ ls. core_words core ∷ ls) segments)
+    ∙ (sym (append_assoc (core_lines (segment_words names) 0 rows)
+    (core_words core ∷ map (segment_words names) row) rest)
     ∙ ap (λ ls. ls ++ rest)
     (ap (λ n. core_lines (segment_words names) 0 rows ++ core_words n ∷ map (segment_words names) row) place
     ∙ sym (core_lines-last names 0 rows row))))

@@ -7,14 +7,17 @@ use Rattle.tab_io.specs.declared.sink.WriteFault.{WriteFault}
 use Rattle.tab_io.proofs.SinkLemmas.{writes_nothing, writes_more, writes_broken}
 use Rattle.tab_words.specs.Texts.{texts_below}
 
+-- a writer of numbered texts begins with none
 pub texts_below-zero : (text : ℕ → List ℕ) → texts_below text 0 ≡ []
 unfolding texts_below
 texts_below-zero text = refl
 
+-- the text behind those below a number is that of the number
 pub texts_below-suc : (text : ℕ → List ℕ) (n : ℕ) → texts_below text (suc n) ≡ texts_below text n ++ text n
 unfolding texts_below
 texts_below-suc text n = refl
 
+-- the same as loops count: by one more
 texts_below-more : (text : ℕ → List ℕ) (n : ℕ) → texts_below text (n + 1) ≡ texts_below text n ++ text n
 unfolding texts_below
 texts_below-more text n = ap (texts_below text) (add-one n)
@@ -27,6 +30,7 @@ texts_below-shift text zero = sym (append-nil (text 0))
 texts_below-shift text (suc n) = ap (λ front. front ++ text (suc n)) (texts_below-shift text n)
     ∙ append_assoc (text 0) (texts_below (λ k. text (suc k)) n) (text (suc n))
 
+-- before the first turn of the loop nothing is written
 pub none_written : (s : SinkView) (text : ℕ → List ℕ) (u : Unit {0}) → Writes s s (texts_below text 0) (Ok u)
 none_written s text u = rw (texts_below-zero text) (writes_nothing s u)
 

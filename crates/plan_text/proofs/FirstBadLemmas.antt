@@ -1,12 +1,12 @@
 -- The first bad line, line by line.
 use Rattle.std.proofs.Common.{◌≡◌, ℕ, ◌+◌, ◌≤◌, List, [], ◌∷◌, ◌++◌, length, refl, sym, ap, ◌∙◌, subst, append_assoc, append-nil, arith}
-use Rattle.plan_text.specs.FirstBad.{GoesWrong, IsBegun, IsFirstBad}
+use Rattle.plan_text.specs.FirstBad.{GoesWrong, IsBegun, IsFirstBadFor}
 use Rattle.plan_text.specs.PlanLines.{Line}
 
 -- the first line itself is bad
 pub first_is_bad : (Texts : List Line → Type 0) (first : ℕ) (lines : List Line) → IsBegun Texts []
     → ((line : Line) (back : List Line) → lines ≡ line ∷ back → (rest : List Line) → Texts (line ∷ rest) → ⊥)
-    → (lines ≡ [] → Texts [] → ⊥) → IsFirstBad Texts first lines first
+    → (lines ≡ [] → Texts [] → ⊥) → IsFirstBadFor Texts first lines first
 first_is_bad Texts first [] begun bad none = record {
   front = [];
   back = [];
@@ -24,6 +24,7 @@ first_is_bad Texts first (line ∷ back) begun bad none = record {
   number = omega arith;
 }
 
+-- a text that goes wrong behind a line goes wrong with it in front
 wrong_behind : (Texts More : List Line → Type 0) (line : Line) (front back : List Line)
     → ((rest : List Line) → Texts (line ∷ rest) → More rest) → GoesWrong More front back
     → GoesWrong Texts (line ∷ front) back
@@ -36,7 +37,7 @@ wrong_behind Texts More line front (next ∷ back) goes wrong =
 pub bad_behind : (Texts More : List Line → Type 0) (first : ℕ) (line : Line) (lines : List Line) (bad : ℕ)
     → ((rest : List Line) → More rest → Texts (line ∷ rest))
     → ((rest : List Line) → Texts (line ∷ rest) → More rest)
-    → IsFirstBad More (first + 1) lines bad → IsFirstBad Texts first (line ∷ lines) bad
+    → IsFirstBadFor More (first + 1) lines bad → IsFirstBadFor Texts first (line ∷ lines) bad
 bad_behind Texts More first line lines bad back_to goes is = record {
   front = line ∷ is.front;
   back = is.back;
@@ -64,11 +65,13 @@ wrong_of_both Texts Fewer (line ∷ front) (next ∷ back) same none wrong =
           same line (front ++ next ∷ back) ((front ++ next ∷ []) ++ b.rest) refl b.text;
     })
 
+-- where the lines are of the second sort alone, their first bad line is the same for both
 pub bad_of_both : (Texts Fewer : List Line → Type 0) (first : ℕ) (lines : List Line) (bad : ℕ)
     → ((some : List Line) → Fewer some → Texts some)
     → ((line : Line) (rest more : List Line) → lines ≡ line ∷ rest → Texts (line ∷ more)
     → Fewer (line ∷ more))
-    → (lines ≡ [] → Texts [] → Fewer []) → IsFirstBad Fewer first lines bad → IsFirstBad Texts first lines bad
+    → (lines ≡ [] → Texts [] → Fewer []) → IsFirstBadFor Fewer first lines bad
+    → IsFirstBadFor Texts first lines bad
 bad_of_both Texts Fewer first lines bad all same none is = record {
   front = is.front;
   back = is.back;
@@ -82,7 +85,7 @@ bad_of_both Texts Fewer first lines bad all same none is = record {
 
 -- lines with a bad one are no text
 pub no_text : (Texts : List Line → Type 0) (first : ℕ) (lines : List Line) (bad : ℕ)
-    → IsFirstBad Texts first lines bad → Texts lines → ⊥
+    → IsFirstBadFor Texts first lines bad → Texts lines → ⊥
 no_text Texts first lines bad is text = of_parts is.front is.back is.wrong (subst Texts is.whole text)
   where
     of_parts : (front back : List Line) → GoesWrong Texts front back → Texts (front ++ back) → ⊥
@@ -118,8 +121,8 @@ not_longer Texts before (first ∷ front) back (line ∷ longer) rest same wrong
 
 -- there is one first bad line
 pub one_bad : (Texts : List Line → Type 0) (first : ℕ) (lines : List Line) (a b : ℕ)
-    → IsFirstBad Texts first lines a
-    → IsFirstBad Texts first lines b → a ≡ b
+    → IsFirstBadFor Texts first lines a
+    → IsFirstBadFor Texts first lines b → a ≡ b
 one_bad Texts first lines a b of_a of_b =
     let low = not_longer Texts [] of_a.front of_a.back of_b.front of_b.back
     (sym of_a.whole ∙ of_b.whole) of_a.wrong of_b.begun in

@@ -21,6 +21,7 @@ pub front_value : (bytes : List ℕ) (i : ℕ) → i < length bytes
 front_value bytes i low = rw (← digits_value_more 10 bytes i low)
     (digits_value-take-le 10 bytes (i + 1) (lit≤ tt))
 
+-- std reads decimal digits as the value that the lemmas of its page speak of
 own : IsNumeralModel (λ ds. AllDigits 10 ds) (digits_value 10)
 own = numerals_by_value _ tells_digits
 
@@ -41,6 +42,7 @@ spelled_digits bytes n spelled =
     let numeral = decimal_is_IsNumeral n spelled.fits in
     rw spelled.digits (numeral.0.1, rw numeral.1 spelled.fits)
 
+-- an empty word spells no number
 pub spelled_some : (bytes : List ℕ) (n : ℕ) → Spells bytes n → 0 < length bytes
 spelled_some bytes n spelled = rw spelled.digits (decimal_nonempty n spelled.fits)
 

@@ -15,7 +15,7 @@ use Rattle.vcpu_names.specs.Names.{names_of}
 use Rattle.vcpu_names.proofs.NamesLemmas.{name_here}
 use Rattle.plan_text.specs.PlanLines.{Line, core_lines, core_words, end_words, head_words, is_admitted, vcpu_lines, vcpu_part}
 use Rattle.plan_text.specs.PlanText.{plan_text, segment_line, view_words}
-use Rattle.plan_text.proofs.VcpuLines.{first_is}
+use Rattle.plan_text.proofs.ReadingVcpuLemmas.{first_is}
 
 -- the whole is written in four parts
 pub plan_parts : (names : List (List ℕ)) (plan : PlanView)

@@ -12,26 +12,27 @@ use Rattle.tab_core.specs.declared.periodic.Periodic.{Periodic}
 use Rattle.tab_core.specs.declared.vcpu.Vcpu.{Vcpu}
 use Rattle.tab_words.specs.Lines.{lines_of}
 use Rattle.tab_words.specs.Words.{words_of}
-use Rattle.tab_words.proofs.FirstLine.{length-lines_of}
-use Rattle.tab_words.proofs.FirstWord.{words_of-last, words_of-nil, words_of-space}
+use Rattle.tab_words.proofs.LineLemmas.{length-lines_of}
+use Rattle.tab_words.proofs.WordLemmas.{words_of-last, words_of-nil, words_of-space}
 use Rattle.table_form.specs.Tables.Homes.{are_housed}
 use Rattle.table_form.specs.declared.raw_tables.RawTables.{RawTables}
 use Rattle.table_form.specs.declared.segment.Segment.{Segment}
 use Rattle.vcpu_names.specs.Names.{AreNames, name_at, names_of}
-use Rattle.plan_text.specs.FirstBad.{IsBegun, IsFirstBad}
+use Rattle.plan_text.specs.FirstBad.{IsBegun, IsFirstBadFor}
 use Rattle.plan_text.specs.Names.{AreHostNames}
 use Rattle.plan_text.specs.Meaning.{AreFineRows, AreLinesOf, IsSomePlan, segment_words, worded}
 use Rattle.plan_text.specs.PlanLines.{Line, core_lines, end_words, head_words, is_admitted, vcpu_lines}
-use Rattle.plan_text.specs.Reading.{AreVcpus}
+use Rattle.plan_text.specs.Inside.Reading.{AreFromVcpu}
 use Rattle.plan_text.specs.declared.read_fault.ReadPlan.{ReadPlan}
 use Rattle.plan_text.specs.declared.read_fault.ReadPlan.TheVariants.{BadLine, NoMemory}
-use Rattle.plan_text.proofs.FirstBad.{bad_behind, first_is_bad, no_text, one_bad}
+use Rattle.plan_text.proofs.FirstBadLemmas.{bad_behind, first_is_bad, no_text, one_bad}
 use Rattle.plan_text.proofs.OneMeaning.{one_meaning}
 use Rattle.vcpu_names.proofs.NamesLemmas.{name_here}
-use Rattle.plan_text.proofs.VcpuLines.{vcpus_begun}
+use Rattle.plan_text.proofs.ReadingVcpuLemmas.{vcpus_begun}
 
 -- ---- how many lines there are
 
+-- there are fewer lines behind the first than bytes
 first_and_rest : (bytes first : List ℕ) (rest : List (List ℕ)) → lines_of bytes ≡ first ∷ rest
     → length first + length rest ≤ length bytes
 unfolding lines_of
@@ -69,6 +70,7 @@ first_and_rest (byte ∷ bytes) first rest is =
         omega arith
     by_end all false is = onto all (lines_of bytes) refl is
 
+-- a line of one byte has one word at most
 one_byte : (byte : ℕ) (space : Bool) → (byte == 32) ≡ space → length (words_of (byte ∷ [])) ≤ 1
 one_byte byte true is =
     let blank : byte ≡ 32 = grind (arith, nat_tests) in
@@ -104,8 +106,9 @@ few_behind bytes first rest cores admitted is words =
 
 -- ---- the first line
 
+-- the first line in front of the lines of vCPUs and cores
 head_back : (names : List (List ℕ)) (tasks : List (Option Periodic)) (cores : ℕ) (lines : List Line)
-    → AreVcpus names tasks cores 0 lines
+    → AreFromVcpu names tasks cores 0 lines
     → IsSomePlan names cores tasks (head_words cores (count_by is_admitted tasks) ∷ lines)
 head_back names tasks cores lines are =
     let rows = are.rows in
@@ -125,8 +128,9 @@ head_back names tasks cores lines are =
 record HeadGoes (names : List (List ℕ)) (tasks : List (Option Periodic)) (cores : ℕ) (line : Line)
     (lines : List Line) : Type 0 where
   is_head : line ≡ head_words cores (count_by is_admitted tasks)
-  more : AreVcpus names tasks cores 0 lines
+  more : AreFromVcpu names tasks cores 0 lines
 
+-- a text begins with its first line
 head_goes : (names : List (List ℕ)) (tasks : List (Option Periodic)) (cores : ℕ) (line : Line)
     (lines : List Line)
     → IsSomePlan names cores tasks (line ∷ lines) → HeadGoes names tasks cores line lines
@@ -136,7 +140,8 @@ head_goes names tasks cores line lines plan =
     let is = plan.text.written in
     cc in
     let rest : lines ≡ vcpu_lines names tasks plan.raw.homes
-    ++ (core_lines (segment_words names) 0 plan.raw.rows ++ end_words ∷ []) = let is = plan.text.written in cc in
+    ++ (core_lines (segment_words names) 0 plan.raw.rows
+    ++ end_words ∷ []) = let is = plan.text.written in cc in
     record {
       is_head = first ∙ ap (λ n. head_words n (count_by is_admitted tasks)) fine.rows;
       more = record {
@@ -148,6 +153,7 @@ head_goes names tasks cores line lines plan =
       };
     }
 
+-- for each host some text is possible
 plan_begun : (names : List (List ℕ)) (tasks : List (Option Periodic)) (cores : ℕ) → 0 < cores
     → IsBegun (IsSomePlan names cores tasks) []
 plan_begun names tasks cores some =
@@ -158,24 +164,26 @@ plan_begun names tasks cores some =
           head_back names tasks cores begun.rest begun.text;
     }
 
+-- another first line is the first bad one
 pub head_is_bad : (names : List (List ℕ)) (tasks : List (Option Periodic)) (cores : ℕ)
     (lines : List Line) → 0 < cores
     → ((rest : List Line) → lines ≡ head_words cores (count_by is_admitted tasks) ∷ rest → ⊥)
-    → IsFirstBad (IsSomePlan names cores tasks) 1 lines 1
+    → IsFirstBadFor (IsSomePlan names cores tasks) 1 lines 1
 head_is_bad names tasks cores lines some other =
     first_is_bad (IsSomePlan names cores tasks) 1 lines (plan_begun names tasks cores some)
     (λ line back at rest plan. other back
     (at ∙ ap (λ l. l ∷ back) (head_goes names tasks cores line rest plan).is_head))
     (λ at plan. let is = plan.text.written in absurd (cc))
 
+-- behind the first line, a bad line of the rest is the text's
 pub bad_behind_head : (names : List (List ℕ)) (tasks : List (Option Periodic)) (cores : ℕ)
     (lines rest : List Line)
     (bad : ℕ)
     → lines ≡ head_words cores (count_by is_admitted tasks) ∷ rest
-    → IsFirstBad (AreVcpus names tasks cores 0) 2 rest bad
-    → IsFirstBad (IsSomePlan names cores tasks) 1 lines bad
+    → IsFirstBadFor (AreFromVcpu names tasks cores 0) 2 rest bad
+    → IsFirstBadFor (IsSomePlan names cores tasks) 1 lines bad
 bad_behind_head names tasks cores lines rest bad is in_rest =
-    rw is (bad_behind (IsSomePlan names cores tasks) (AreVcpus names tasks cores 0) 1
+    rw is (bad_behind (IsSomePlan names cores tasks) (AreFromVcpu names tasks cores 0) 1
     (head_words cores (count_by is_admitted tasks)) rest bad
     (λ some are. head_back names tasks cores some are)
     (λ some plan. (head_goes names tasks cores
@@ -184,6 +192,7 @@ bad_behind_head names tasks cores lines rest bad is in_rest =
 
 -- ---- the whole
 
+-- what the parts of the reader found is what the text stands for
 pub whole_read : (names : List (List ℕ)) (tasks : List (Option Periodic)) (cores : ℕ)
     (lines rest behind : List Line)
     (homes : List (Option ℕ)) (rows : List (List Segment))
@@ -203,7 +212,7 @@ whole_read names tasks cores lines rest behind homes rows is vcpus cores_is hous
 -- a text with a bad line is the text of no tables
 none_with_bad : (names : List (List ℕ)) (tasks : List (Option Periodic)) (cores : ℕ)
     (lines : List Line) (bad : ℕ)
-    → IsFirstBad (IsSomePlan names cores tasks) 1 lines bad
+    → IsFirstBadFor (IsSomePlan names cores tasks) 1 lines bad
     → (raw : RawTables) → AreLinesOf names cores tasks lines raw → ⊥
 none_with_bad names tasks cores lines bad is raw text =
     no_text (IsSomePlan names cores tasks) 1 lines bad is (record { raw = raw; text = text })
@@ -213,7 +222,7 @@ pub read_is_due : (names : List (List ℕ)) (tasks : List (Option Periodic)) (co
     (result : Result RawTables ReadPlan) → length names ≡ length tasks → cores ≤ MAX_CORES
     → AreHostNames names
     → IfOk result (AreLinesOf names cores tasks lines)
-    → ((bad : ℕ) → IsErrOf result (BadLine bad) → IsFirstBad (IsSomePlan names cores tasks) 1 lines bad)
+    → ((bad : ℕ) → IsErrOf result (BadLine bad) → IsFirstBadFor (IsSomePlan names cores tasks) 1 lines bad)
     → (raw : RawTables) → AreLinesOf names cores tasks lines raw → (result ≡ Ok raw) ⊎ (result ≡ Err NoMemory)
 read_is_due names tasks cores lines (Ok read) many few good ok bad raw text =
     inl (ap Ok (one_meaning names cores tasks lines read raw many few good ok text))
@@ -225,8 +234,8 @@ read_is_due names tasks cores lines (Err NoMemory) many few good ok bad raw text
 pub refusal_is_due : (names : List (List ℕ)) (tasks : List (Option Periodic)) (cores : ℕ) (lines : List Line)
     (result : Result RawTables ReadPlan)
     → IfOk result (AreLinesOf names cores tasks lines)
-    → ((bad : ℕ) → IsErrOf result (BadLine bad) → IsFirstBad (IsSomePlan names cores tasks) 1 lines bad)
-    → (line : ℕ) → IsFirstBad (IsSomePlan names cores tasks) 1 lines line
+    → ((bad : ℕ) → IsErrOf result (BadLine bad) → IsFirstBadFor (IsSomePlan names cores tasks) 1 lines bad)
+    → (line : ℕ) → IsFirstBadFor (IsSomePlan names cores tasks) 1 lines line
     → (result ≡ Err (BadLine line)) ⊎ (result ≡ Err NoMemory)
 refusal_is_due names tasks cores lines (Ok read) ok bad line is =
     absurd (none_with_bad names tasks cores lines line is read ok)
@@ -241,8 +250,8 @@ pub bad_in_text : (names own : List (List ℕ)) (tasks these those : List (Optio
     → own ≡ names → these ≡ tasks → those ≡ tasks → lines_of bytes ≡ head ∷ rest
     → words_of head ≡ head_words cores (count_by is_admitted those)
     → lines ≡ map words_of rest → number ≡ 2
-    → IsFirstBad (AreVcpus own these cores 0) number lines bad
-    → IsFirstBad (IsSomePlan names cores tasks) 1 (worded bytes) bad
+    → IsFirstBadFor (AreFromVcpu own these cores 0) number lines bad
+    → IsFirstBadFor (IsSomePlan names cores tasks) 1 (worded bytes) bad
 bad_in_text names own tasks these those cores number bytes head rest lines bad same_names same_tasks
     also at words
     left two is =
@@ -251,9 +260,9 @@ bad_in_text names own tasks these those cores number bytes head rest lines bad s
     (words ∙ ap (λ ts. head_words cores (count_by is_admitted ts)) also)
     ∙ ap (λ ls. head_words cores (count_by is_admitted tasks) ∷ ls) (sym left)) in
     bad_behind_head names tasks cores (worded bytes) lines bad whole
-    (subst (λ n. IsFirstBad (AreVcpus names tasks cores 0) n lines bad) two
-    (subst (λ ts. IsFirstBad (AreVcpus names ts cores 0) number lines bad) same_tasks
-    (subst (λ ns. IsFirstBad (AreVcpus ns these cores 0) number lines bad) same_names is)))
+    (subst (λ n. IsFirstBadFor (AreFromVcpu names tasks cores 0) n lines bad) two
+    (subst (λ ts. IsFirstBadFor (AreFromVcpu names ts cores 0) number lines bad) same_tasks
+    (subst (λ ns. IsFirstBadFor (AreFromVcpu ns these cores 0) number lines bad) same_names is)))
 
 -- the names of a host
 pub host_names : (vcpus : List Vcpu) (names : List (List ℕ)) → names ≡ names_of vcpus → AreNames names

@@ -17,13 +17,16 @@ same_count count (task ∷ tasks) (home ∷ homes) h =
     ap suc (same_count count tasks homes
     (and_parts (is_housed count task home) (are_housed count tasks homes) h).1)
 
+-- the writer walks homes and tasks side by side
 pub as_many_homes : (tasks : List (Option Periodic)) (homes : List (Option ℕ)) (rows : List Row)
     → HaveHomes tasks homes rows → length homes ≡ length tasks
 as_many_homes tasks homes rows h = same_count (length rows) tasks homes h
 
+-- the lemma below, the other way round
 no_task : (tasks : List (Option Periodic)) (v : ℕ) → length tasks ≤ v → has_task tasks v ≡ false
 no_task tasks v past = rw (slice_get_past tasks v past) refl
 
+-- an owner that has a task has a name in the list of names
 pub task_within : (tasks : List (Option Periodic)) (v : ℕ) → has_task tasks v ≡ true → v < length tasks
 task_within tasks v h = elim (cases_lt v (length tasks)) [
   | inl low ↦ low

@@ -8,13 +8,14 @@ use Rattle.table_form.specs.Tables.Serves.{has_task}
 use Rattle.vcpu_names.specs.Names.{IsUnknown, name_at, owner_word}
 use Rattle.plan_text.specs.Names.{AreHostNames}
 use Rattle.plan_text.specs.PlanLines.{Line}
-use Rattle.plan_text.specs.Reading.{IsNoSegmentLine}
-use Rattle.plan_text.proofs.Parts.{task_within}
+use Rattle.plan_text.specs.Inside.Reading.{IsNoSegmentLine}
+use Rattle.plan_text.proofs.HomeLemmas.{task_within}
 
 -- `-` is no name
 pub dash_is_no_name : IsName (codes "-") → ⊥
 dash_is_no_name good = absurd (cc)
 
+-- the lemma below, by the owner of a segment
 unknown_owner : (names : List (List ℕ)) (tasks : List (Option Periodic)) (owner : List ℕ) (o : Option ℕ)
     → length names ≡ length tasks
     → owner ≢ codes "-" → IsUnknown names owner → ForSome o (λ v. has_task tasks v ≡ true)
@@ -23,6 +24,7 @@ unknown_owner names tasks owner None same other unknown owned is = absurd (other
 unknown_owner names tasks owner (Some v) same other unknown owned is =
     unknown v (let low = task_within tasks v (owned v refl) in omega arith) (sym is)
 
+-- a line with a name that no vCPU has is no segment's
 pub owner_is_unknown : (names : List (List ℕ)) (tasks : List (Option Periodic)) (words : Line)
     (end owner : List ℕ)
     → length names ≡ length tasks
@@ -30,6 +32,7 @@ pub owner_is_unknown : (names : List (List ℕ)) (tasks : List (Option Periodic)
 owner_is_unknown names tasks words end owner same are other unknown s fine is =
     unknown_owner names tasks owner s.owner same other unknown fine.owned cc
 
+-- the lemma below, by the owner of a segment
 idle_owner : (names : List (List ℕ)) (tasks : List (Option Periodic)) (owner : List ℕ) (vcpu : ℕ)
     (o : Option ℕ)
     → length names ≡ length tasks
@@ -43,6 +46,7 @@ idle_owner names tasks owner vcpu (Some v) same good name low here none owned is
     let one : vcpu ≡ v = good.distinct vcpu v low below (here ∙ is) in
     absurd (false≢true (sym none ∙ (ap (has_task tasks) one ∙ owned v refl)))
 
+-- nor is one with the name of a vCPU without a task
 pub owner_is_idle : (names : List (List ℕ)) (tasks : List (Option Periodic)) (words : Line)
     (end owner : List ℕ)
     (vcpu : ℕ) → length names ≡ length tasks

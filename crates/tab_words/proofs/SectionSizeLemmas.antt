@@ -3,25 +3,28 @@ use Rattle.std.proofs.Common.{arith, ◌+◌, ◌≡◌, ℕ, ◌≤◌, List, [
 use Rattle.std.specs.Bool.{◌==◌}
 use Rattle.std.specs.List.{concat, onto_first, slice_split}
 use Rattle.std.specs.Prelude.{slice_index_or}
-use Rattle.tab_words.specs.Sections.{is_separator, rows_of, sections_of}
-use Rattle.tab_words.proofs.FirstSection.{extend, map_concat-onto_first}
+use Rattle.tab_words.specs.Sections.{is_separator, raw_lines_of, sections_of}
+use Rattle.tab_words.proofs.SectionLemmas.{extend, map_concat-onto_first}
 
+-- a byte that joins a line makes it longer by one
 onto_first_size : (byte : ℕ) (rows : List (List ℕ))
     → length (concat (onto_first byte rows)) ≡ 1 + length (concat rows)
 onto_first_size byte [] = refl
 onto_first_size byte (row ∷ rows) =
     omega (arith, length-append row (concat rows), length-append (byte ∷ row) (concat rows))
 
+-- the step of the lemma below
 rows_more : (byte : ℕ) (bytes : List ℕ) (feed : Bool) → (byte == 10) ≡ feed
-    → length (concat (rows_of bytes)) ≡ length bytes
-    → length (concat (rows_of (byte ∷ bytes))) ≡ length (byte ∷ bytes)
-unfolding rows_of
+    → length (concat (raw_lines_of bytes)) ≡ length bytes
+    → length (concat (raw_lines_of (byte ∷ bytes))) ≡ length (byte ∷ bytes)
+unfolding raw_lines_of
 rows_more byte bytes true is rest =
-    rw is (omega (arith, rest, length-append (byte ∷ []) (concat (rows_of bytes))))
-rows_more byte bytes false is rest = rw is (omega (arith, rest, onto_first_size byte (rows_of bytes)))
+    rw is (omega (arith, rest, length-append (byte ∷ []) (concat (raw_lines_of bytes))))
+rows_more byte bytes false is rest = rw is (omega (arith, rest, onto_first_size byte (raw_lines_of bytes)))
 
-rows_size : (bytes : List ℕ) → length (concat (rows_of bytes)) ≡ length bytes
-unfolding rows_of
+-- cutting into lines loses no byte
+rows_size : (bytes : List ℕ) → length (concat (raw_lines_of bytes)) ≡ length bytes
+unfolding raw_lines_of
 rows_size [] = refl
 rows_size (byte ∷ bytes) = rows_more byte bytes (byte == 10) refl (rows_size bytes)
 
@@ -33,6 +36,7 @@ extended row [] n (suc k) short = omega arith
 extended row (part ∷ parts) n zero short = omega (arith, length-append row part, short 0)
 extended row (part ∷ parts) n (suc k) short = omega (arith, short (suc k))
 
+-- the step of the lemma below, at one line
 pieces_more : (row : List ℕ) (rows : List (List ℕ)) (ends : Bool) → is_separator row ≡ ends
     → ((j : ℕ) → length (get_or (map concat (slice_split is_separator rows)) j [])
     ≤ length (concat rows)) → (k : ℕ)
@@ -54,6 +58,7 @@ piece_size [] zero = omega arith
 piece_size [] (suc i) = omega arith
 piece_size (row ∷ rows) i = pieces_more row rows (is_separator row) refl (piece_size rows) i
 
+-- a reader of a section of a short text has a short text
 pub section_size : (bytes : List ℕ) (i : ℕ) → length (slice_index_or (sections_of bytes) i []) ≤ length bytes
 unfolding sections_of
-section_size bytes i = omega (arith, piece_size (rows_of bytes) i, rows_size bytes)
+section_size bytes i = omega (arith, piece_size (raw_lines_of bytes) i, rows_size bytes)

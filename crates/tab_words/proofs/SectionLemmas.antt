@@ -4,53 +4,58 @@ use Rattle.std.proofs.lemmas.Bool.Decides.{nat_tests}
 use Rattle.std.proofs.lemmas.List.{append-nil, drop-drop, drop_all, drop_at, length-drop, length-take-le, take-append-drop, take_at}
 use Rattle.std.specs.Bool.{◌==◌}
 use Rattle.std.specs.List.{concat, onto_first, slice_split}
-use Rattle.tab_words.specs.Sections.{is_separator, rows_of, sections_of}
+use Rattle.tab_words.specs.Sections.{is_separator, raw_lines_of, sections_of}
 
-rows_of-nil : rows_of [] ≡ []
-unfolding rows_of
-rows_of-nil = refl
+-- the lines of no bytes: the end of the lemmas below
+raw_lines_of-nil : raw_lines_of [] ≡ []
+unfolding raw_lines_of
+raw_lines_of-nil = refl
 
-rows_of-feed : (byte : ℕ) (bytes : List ℕ) → byte ≡ 10
-    → rows_of (byte ∷ bytes) ≡ (byte ∷ []) ∷ rows_of bytes
-unfolding rows_of
-rows_of-feed byte bytes is = rw is refl
+-- a line feed ends its line: their step at one
+raw_lines_of-feed : (byte : ℕ) (bytes : List ℕ) → byte ≡ 10
+    → raw_lines_of (byte ∷ bytes) ≡ (byte ∷ []) ∷ raw_lines_of bytes
+unfolding raw_lines_of
+raw_lines_of-feed byte bytes is = rw is refl
 
-rows_of-byte : (byte : ℕ) (bytes : List ℕ) → byte ≢ 10
-    → rows_of (byte ∷ bytes) ≡ onto_first byte (rows_of bytes)
-unfolding rows_of
-rows_of-byte byte bytes other = let no : (byte == 10) ≡ false = grind (arith, nat_tests) in rw no refl
+-- another byte belongs to the line behind it: their step elsewhere
+raw_lines_of-byte : (byte : ℕ) (bytes : List ℕ) → byte ≢ 10
+    → raw_lines_of (byte ∷ bytes) ≡ onto_first byte (raw_lines_of bytes)
+unfolding raw_lines_of
+raw_lines_of-byte byte bytes other = let no : (byte == 10) ≡ false = grind (arith, nat_tests) in rw no refl
 
 -- the first line ends with the first line feed
-pub first_row : (bytes : List ℕ) (end : ℕ) → end < length bytes → get_or bytes end 0 ≡ 10
+pub first_line : (bytes : List ℕ) (end : ℕ) → end < length bytes → get_or bytes end 0 ≡ 10
     → ((k : ℕ) → k < end → get_or bytes k 0 ≢ 10)
-    → rows_of bytes ≡ take (suc end) bytes ∷ rows_of (drop (suc end) bytes)
-first_row [] end low at before = absurd (omega arith)
-first_row (byte ∷ bytes) zero low at before = rows_of-feed byte bytes at
-first_row (byte ∷ bytes) (suc end) low at before =
-    rows_of-byte byte bytes (before 0 (omega arith))
-    ∙ ap (onto_first byte) (first_row bytes end (omega arith) at (λ k small. before (suc k) (omega arith)))
+    → raw_lines_of bytes ≡ take (suc end) bytes ∷ raw_lines_of (drop (suc end) bytes)
+first_line [] end low at before = absurd (omega arith)
+first_line (byte ∷ bytes) zero low at before = raw_lines_of-feed byte bytes at
+first_line (byte ∷ bytes) (suc end) low at before =
+    raw_lines_of-byte byte bytes (before 0 (omega arith))
+    ∙ ap (onto_first byte) (first_line bytes end (omega arith) at (λ k small. before (suc k) (omega arith)))
 
 -- without a line feed all is one line
-pub one_row : (bytes : List ℕ) → 0 < length bytes → ((k : ℕ) → k < length bytes → get_or bytes k 0 ≢ 10)
-    → rows_of bytes ≡ bytes ∷ rows_of []
-one_row [] some none = absurd (omega arith)
-one_row (byte ∷ []) some none =
-    rows_of-byte byte [] (none 0 (omega arith)) ∙ ap (onto_first byte) rows_of-nil
-    ∙ ap (λ r. (byte ∷ []) ∷ r) (sym rows_of-nil)
-one_row (byte ∷ next ∷ bytes) some none =
-    rows_of-byte byte (next ∷ bytes) (none 0 (omega arith))
-    ∙ ap (onto_first byte) (one_row (next ∷ bytes) (omega arith) (λ k small. none (suc k) (omega arith)))
+pub one_line : (bytes : List ℕ) → 0 < length bytes → ((k : ℕ) → k < length bytes → get_or bytes k 0 ≢ 10)
+    → raw_lines_of bytes ≡ bytes ∷ raw_lines_of []
+one_line [] some none = absurd (omega arith)
+one_line (byte ∷ []) some none =
+    raw_lines_of-byte byte [] (none 0 (omega arith)) ∙ ap (onto_first byte) raw_lines_of-nil
+    ∙ ap (λ r. (byte ∷ []) ∷ r) (sym raw_lines_of-nil)
+one_line (byte ∷ next ∷ bytes) some none =
+    raw_lines_of-byte byte (next ∷ bytes) (none 0 (omega arith))
+    ∙ ap (onto_first byte) (one_line (next ∷ bytes) (omega arith) (λ k small. none (suc k) (omega arith)))
 
 -- bytes that come before the first of the sections, and belong to it
 abbrev pub extend : List ℕ → List (List ℕ) → List (List ℕ)
 extend front [] = front ∷ []
 extend front (section ∷ sections) = (front ++ section) ∷ sections
 
+-- two lines in a row go into the section together: the loop adds them one by one
 extend-extend : (a b : List ℕ) (sections : List (List ℕ))
     → extend a (extend b sections) ≡ extend (a ++ b) sections
 extend-extend a b [] = refl
 extend-extend a b (section ∷ sections) = ap (λ first. first ∷ sections) (sym (append_assoc a b section))
 
+-- the definition puts a line into the first part; this says so of the sections
 pub map_concat-onto_first : (row : List ℕ) (parts : List (List (List ℕ)))
     → map concat (onto_first row parts) ≡ extend row (map concat parts)
 map_concat-onto_first row [] = ap (λ first. first ∷ []) (append-nil row)
@@ -58,22 +63,23 @@ map_concat-onto_first row (part ∷ parts) = refl
 
 -- a text of no bytes is one section
 pub sections_of-nil : sections_of [] ≡ [] ∷ []
-unfolding rows_of sections_of
+unfolding raw_lines_of sections_of
 sections_of-nil = refl
 
 -- a separator ends the first section, and another line belongs to it
-pub sections_of-separator : (bytes row rest : List ℕ) → rows_of bytes ≡ row ∷ rows_of rest
+pub sections_of-separator : (bytes row rest : List ℕ) → raw_lines_of bytes ≡ row ∷ raw_lines_of rest
     → is_separator row ≡ true → sections_of bytes ≡ [] ∷ sections_of rest
 unfolding sections_of
 sections_of-separator bytes row rest rows is =
     ap (λ rs. map concat (slice_split is_separator rs)) rows ∙ rw is refl
 
-pub sections_of-row : (bytes row rest : List ℕ) → rows_of bytes ≡ row ∷ rows_of rest
+-- another line belongs to the section behind it
+pub sections_of-row : (bytes row rest : List ℕ) → raw_lines_of bytes ≡ row ∷ raw_lines_of rest
     → is_separator row ≡ false → sections_of bytes ≡ extend row (sections_of rest)
 unfolding sections_of
 sections_of-row bytes row rest rows is =
     ap (λ rs. map concat (slice_split is_separator rs)) rows
-    ∙ rw is (map_concat-onto_first row (slice_split is_separator (rows_of rest)))
+    ∙ rw is (map_concat-onto_first row (slice_split is_separator (raw_lines_of rest)))
 
 -- there is always a first section
 extend-nil : (rows : List (List ℕ))
@@ -87,10 +93,12 @@ extend-nil (row ∷ rows) =
       | false ↦ rw (map_concat-onto_first row parts) (extend-extend [] row (map concat parts))
     ]
 
+-- the loop begins with no byte in the section
 pub sections_of-extend : (bytes : List ℕ) → sections_of bytes ≡ extend [] (sections_of bytes)
 unfolding sections_of
-sections_of-extend bytes = sym (extend-nil (rows_of bytes))
+sections_of-extend bytes = sym (extend-nil (raw_lines_of bytes))
 
+-- a separator has two bytes, so each section leaves less of the text
 pub separator_long : (row : List ℕ) → is_separator row ≡ true → 2 ≤ length row
 separator_long [] is = absurd cc
 separator_long (a ∷ []) is = absurd (grind (arith, nat_tests))
@@ -99,7 +107,7 @@ separator_long (a ∷ b ∷ row) is = omega arith
 -- a separator ends the first section before it
 pub section_before : (front bytes row rest : List ℕ) (sections : List (List ℕ))
     → sections ≡ extend front (sections_of bytes)
-    → rows_of bytes ≡ row ∷ rows_of rest → is_separator row ≡ true
+    → raw_lines_of bytes ≡ row ∷ raw_lines_of rest → is_separator row ≡ true
     → sections ≡ front ∷ sections_of rest
 section_before front bytes row rest sections before rows is =
     before ∙ ap (extend front) (sections_of-separator bytes row rest rows is)
@@ -109,7 +117,7 @@ section_before front bytes row rest sections before rows is =
 pub section_more : (all bytes row rest : List ℕ) (at : ℕ)
     → sections_of all ≡ extend (take at all) (sections_of (drop at all)) → bytes ≡ drop at all
     → bytes ≡ row ++ rest
-    → rows_of bytes ≡ row ∷ rows_of rest → is_separator row ≡ false → at ≤ length all
+    → raw_lines_of bytes ≡ row ∷ raw_lines_of rest → is_separator row ≡ false → at ≤ length all
     → sections_of all ≡ extend (take (at + length row) all) (sections_of (drop (at + length row) all))
 section_more all bytes row rest at before from whole rows is within =
     let so_far = take at all ++ row in
@@ -142,5 +150,6 @@ pub rest_more : {X : Type 0} (all : List X) (k : ℕ) (x : X) (xs : List X) → 
     → xs ≡ drop (k + 1) all
 rest_more all k x xs is = sym (ap (drop 1) is) ∙ drop-drop 1 k all
 
+-- the last section has no next one
 pub none_after : {X : Type 0} (all : List X) (k : ℕ) (x : X) → drop k all ≡ x ∷ [] → length all ≤ k + 1
 none_after all k x is = omega (arith, ap length is, length-drop k all)

@@ -3,6 +3,7 @@ use Rattle.std.proofs.Common.{arith, ◌≡◌, ◌≢◌, ℕ, ◌<◌, ◌≤�
 use Rattle.std.specs.List.{All}
 use Rattle.std.proofs.lemmas.List.{take-append-drop, get_or-take, get_or_default}
 
+-- a reader cuts at the first byte of a kind: what it cut is what was there
 pub cut : (bytes : List ℕ) (at byte : ℕ) → at < length bytes → get_or bytes at 0 ≡ byte
     → bytes ≡ take at bytes ++ byte ∷ drop (suc at) bytes
 cut bytes at byte low is =
@@ -16,6 +17,7 @@ front_lacks bytes at byte within before k d low is =
     let small : k < at = omega (arith, length-take at bytes) in
     before k small (get_or_default bytes k 0 d (omega arith) ∙ sym (get_or-take at bytes k d small) ∙ is)
 
+-- the same for a text in which the byte was searched and not found
 pub lacks : (bytes : List ℕ) (byte : ℕ) → ((k : ℕ) → k < length bytes → get_or bytes k 0 ≢ byte)
     → All (λ b. b ≢ byte) bytes
 lacks bytes byte none k d low is = none k low (get_or_default bytes k 0 d low ∙ is)

@@ -5,8 +5,9 @@ use Rattle.std.proofs.lemmas.List.Splits.{slice_split_at, slice_split_none}
 use Rattle.std.specs.Bool.{◌==◌}
 use Rattle.std.specs.List.{All, filter}
 use Rattle.tab_words.specs.Words.{words_of}
-use Rattle.tab_words.proofs.Cut.{cut, front_lacks, lacks}
+use Rattle.tab_words.proofs.CutLemmas.{cut, front_lacks, lacks}
 
+-- an iterator over an empty line gives no word
 pub words_of-nil : words_of [] ≡ []
 unfolding words_of
 words_of-nil = refl
@@ -16,6 +17,7 @@ pub words_of-space : (line : List ℕ) → words_of (32 ∷ line) ≡ words_of l
 unfolding words_of
 words_of-space line = refl
 
+-- a word has no place where the definition would cut it
 none_splits : (word : List ℕ) → All (λ byte. byte ≢ 32) word → All (λ byte. (byte == 32) ≡ false) word
 none_splits word all k d low = let other = all k d low in grind (arith, nat_tests)
 
