@@ -12,16 +12,19 @@ use Rattle.tab_core.specs.declared.host.Host.{Host}
 use Rattle.tab_core.specs.declared.vcpu.Vcpu.{Vcpu}
 use Rattle.toml.specs.Data.{Data, Items, Members, as_array, as_table, get_item, item, no_items, table}
 use Rattle.host_doc.specs.Document.{IsHostText, members_fault}
+use Rattle.host_doc.specs.Array.{count_of, items_or, limited}
 use Rattle.host_doc.specs.KeyTable.{name_of, vcpus_of}
+use Rattle.host_doc.specs.Text.{text_at, well_formed}
+use Rattle.host_doc.specs.Value.{found_at}
+use Rattle.host_doc.specs.VcpuFaults.{member_names, same_name, vcpu_fault, vcpus_fault}
+use Rattle.host_doc.specs.Vcpus.{AreVcpusOf}
 use Rattle.host_doc.specs.Path.{of_document, of_vcpu}
-use Rattle.host_doc.specs.Value.{count_of, found_at, items_or, limited, text_at, well_formed}
-use Rattle.host_doc.specs.Vcpus.{AreVcpusOf, names_of, same_name, vcpu_fault, vcpus_fault}
 use Rattle.host_doc.specs.declared.fault.HostFault.{HostFault}
 use Rattle.host_doc.specs.declared.fault.HostFault.TheVariants.{OutOfRange, SameName, TooMany}
 use Rattle.host_doc.specs.declared.fault.Key.TheVariants.{Name, Vcpu as VcpuKey}
 use Rattle.host_doc.specs.declared.fault.Path.{Path}
 use Rattle.host_doc.proofs.OneHost.{all_tables, array_faultless, both_none}
-use Rattle.host_doc.proofs.Walk.{bytes_eq-same, names_named}
+use Rattle.host_doc.proofs.VcpusLemmas.{bytes_eq-same, names_named}
 
 -- a member's name is none of the names before it
 new_name : (earlier : List (List ℕ)) (number : ℕ) (name : List ℕ)
@@ -33,6 +36,7 @@ new_name earlier number name h = by_test (list_any (bytes_eq name) earlier) refl
         let e : ◌≡◌ {A = Option HostFault} (Some (SameName number)) None = rw held at h in absurd cc
     by_test false new = new
 
+-- a member without a fault has no name of those before the first
 unlike_earlier : (earlier : List (List ℕ)) (number : ℕ) (items : Items)
     → vcpus_fault earlier number items ≡ None → (k : ℕ) (keys : Members) (name : List ℕ)
     → get_item k items ≡ Some (table keys) → name_of (number + k) keys ≡ Ok name
@@ -52,11 +56,11 @@ unlike_earlier earlier number (item found items) h zero keys name at is =
 unlike_earlier earlier number (item found items) h (suc k) keys name at is =
     let first = both_none (vcpu_fault earlier number (as_table found)) _ h in
     let number_is : number + suc k ≡ number + 1 + k = omega arith in
-    let behind = unlike_earlier (earlier ++ names_of number (as_table found)) (number + 1) items first.1
+    let behind = unlike_earlier (earlier ++ member_names number (as_table found)) (number + 1) items first.1
     k keys name at (subst (λ n. name_of n keys ≡ Ok name) number_is is) in
     (or_parts (list_any (bytes_eq name) earlier)
-    (list_any (bytes_eq name) (names_of number (as_table found)))
-    (sym (list_any-append (bytes_eq name) earlier (names_of number (as_table found))) ∙ behind)).0
+    (list_any (bytes_eq name) (member_names number (as_table found)))
+    (sym (list_any-append (bytes_eq name) earlier (member_names number (as_table found))) ∙ behind)).0
 
 -- of two members the later has another name
 unlike : (earlier : List (List ℕ)) (number : ℕ) (items : Items) → vcpus_fault earlier number items ≡ None
@@ -76,11 +80,11 @@ unlike earlier number (item found items) h zero (suc k) a b name lt at_j at_k is
     let next_is : number + suc k ≡ number + 1 + k = omega arith in
     let names = names_named number (as_table found) a name (ap as_table same)
     (subst (λ n. name_of n a ≡ Ok name) first_is is_j) in
-    let behind = unlike_earlier (earlier ++ names_of number (as_table found)) (number + 1) items first.1
+    let behind = unlike_earlier (earlier ++ member_names number (as_table found)) (number + 1) items first.1
     k b name at_k (subst (λ n. name_of n b ≡ Ok name) next_is is_k) in
     let apart = (or_parts (list_any (bytes_eq name) earlier)
-    (list_any (bytes_eq name) (names_of number (as_table found)))
-    (sym (list_any-append (bytes_eq name) earlier (names_of number (as_table found))) ∙ behind)).1 in
+    (list_any (bytes_eq name) (member_names number (as_table found)))
+    (sym (list_any-append (bytes_eq name) earlier (member_names number (as_table found))) ∙ behind)).1 in
     let other = (or_parts (bytes_eq name name) false
     (subst (λ ns. list_any (bytes_eq name) ns ≡ false) names apart)).0 in
     false≢true (sym other ∙ bytes_eq-same name)
@@ -88,7 +92,7 @@ unlike earlier number (item found items) h (suc j) (suc k) a b name lt at_j at_k
     let first = both_none (vcpu_fault earlier number (as_table found)) _ h in
     let lower_is : number + suc j ≡ number + 1 + j = omega arith in
     let next_is : number + suc k ≡ number + 1 + k = omega arith in
-    unlike (earlier ++ names_of number (as_table found)) (number + 1) items first.1 j k a b name
+    unlike (earlier ++ member_names number (as_table found)) (number + 1) items first.1 j k a b name
     (omega (arith, lt)) at_j at_k (subst (λ n. name_of n a ≡ Ok name) lower_is is_j)
     (subst (λ n. name_of n b ≡ Ok name) next_is is_k)
 
@@ -110,11 +114,13 @@ pub record AreStatedNames (vcpus : List Vcpu) : Type 0 where
   pub good : (v : ℕ) (vcpu : Vcpu) → slice_get vcpus v ≡ Some vcpu → IsName vcpu.name
   pub distinct : HaveDistinctNames vcpus
 
+-- the member of a number is a table with the name of this vCPU
 pub record IsMember (items : Items) (v : ℕ) (vcpu : Vcpu) : Type 0 where
   pub keys : Members
   pub at : get_item v items ≡ Some (table keys)
   pub named : name_of (0 + v) keys ≡ Ok vcpu.name
 
+-- each stated vCPU has such a member
 member_of : (items : Items) (vcpus : List Vcpu) → vcpus_fault [] 0 items ≡ None → AreVcpusOf items vcpus
     → (v : ℕ) (vcpu : Vcpu) → slice_get vcpus v ≡ Some vcpu → IsMember items v vcpu
 member_of items vcpus faultless are v vcpu at =
@@ -127,6 +133,7 @@ member_of items vcpus faultless are v vcpu at =
       named = subst (λ n. name_of n here.0 ≡ Ok vcpu.name) number_is (are.each v here.0 vcpu here.1 at).name;
     }
 
+-- faultless members have good names of which no two are one
 names_of_items : (items : Items) (vcpus : List Vcpu) → vcpus_fault [] 0 items ≡ None
     → AreVcpusOf items vcpus → AreStatedNames vcpus
 names_of_items items vcpus faultless are = record {
@@ -147,11 +154,13 @@ names_of_items items vcpus faultless are = record {
       ];
 }
 
+-- the same of an array that is found at its key
 names_of_array : (found : Result Items HostFault) (vcpus : List Vcpu) → result_err found ≡ None
     → members_fault found ≡ None → IfOk found (λ items. AreVcpusOf items vcpus) → AreStatedNames vcpus
 names_of_array (Ok items) vcpus is_ok faultless are = names_of_items items vcpus faultless are
 names_of_array (Err fault) vcpus is_ok faultless are = absurd cc
 
+-- the vCPUs of a stated host have good names of which no two are one
 pub stated_names : (bytes : List ℕ) (host : Host) → IsHostText bytes host → AreStatedNames host.vcpus
 stated_names bytes host is =
     let faultless = array_faultless is.0 is.2.faultless in
@@ -159,6 +168,7 @@ stated_names bytes host is =
 
 -- ---- how many they are
 
+-- an array that is taken is within the limit
 few_limited : (path : Path) (found : Option Items) (items : Items) → limited path found ≡ Ok items
     → count_of items ≤ MAX_VCPUS
 few_limited path None items h = absurd cc
@@ -173,18 +183,21 @@ few_limited path (Some found) items h = by_test (leb (count_of found) MAX_VCPUS)
         let e : ◌≡◌ {A = Result Items HostFault} (Err (TooMany (count_of found))) (Ok items) =
         rw gt at h in absurd cc
 
+-- the same of an array at a key, or none
 few_items : (path : Path) (found : Option Data) (items : Items) → items_or path no_items found ≡ Ok items
     → count_of items ≤ MAX_VCPUS
 few_items path None items h =
     let same : no_items ≡ items = cc in subst (λ i. count_of i ≤ MAX_VCPUS) same (omega arith)
 few_items path (Some found) items h = few_limited path (as_array found) items h
 
+-- so its vCPUs are within the limit
 few_of_array : (found : Result Items HostFault) (vcpus : List Vcpu)
     → ((items : Items) → found ≡ Ok items → count_of items ≤ MAX_VCPUS)
     → result_err found ≡ None → IfOk found (λ items. AreVcpusOf items vcpus) → length vcpus ≤ MAX_VCPUS
 few_of_array (Ok items) vcpus few is_ok are = let le = few items refl in omega (arith, le, are.count)
 few_of_array (Err fault) vcpus few is_ok are = absurd cc
 
+-- a stated host has at most as many vCPUs as a host may have
 pub stated_few : (bytes : List ℕ) (host : Host) → IsHostText bytes host → length host.vcpus ≤ MAX_VCPUS
 stated_few bytes host is =
     let faultless = array_faultless is.0 is.2.faultless in

@@ -1,6 +1,6 @@
-pub mod Causes
+pub mod DocumentLemmas
 pub mod HostNames
-pub mod Keys
 pub mod OneHost
-pub mod Texts
-pub mod Walk
+pub mod OtherKeysLemmas
+pub mod TextSetsLemmas
+pub mod VcpusLemmas

@@ -11,10 +11,12 @@ use Rattle.tab_core.specs.declared.reservation.Reservation.{Reservation}
 use Rattle.tab_core.specs.declared.vcpu.Vcpu.{Vcpu}
 use Rattle.toml.specs.Data.{Data, Items, Members, array, as_table, boolean, datetime, float, get_item, integer, item, no_items, string, table}
 use Rattle.host_doc.specs.Document.{IsHostOf, IsHostText, first_fault, members_fault}
-use Rattle.host_doc.specs.KeyTable.{cores_of, document_keys, format_of, lag_of, quantum_of, sliver_of, unknown_key, vcpus_of}
+use Rattle.host_doc.specs.Array.{count_of}
+use Rattle.host_doc.specs.KeyTable.{cores_of, document_keys, format_of, lag_of, quantum_of, sliver_of, vcpus_of}
+use Rattle.host_doc.specs.OtherKeys.{unknown_key}
+use Rattle.host_doc.specs.VcpuFaults.{member_names, vcpu_fault, vcpus_fault}
+use Rattle.host_doc.specs.Vcpus.{AreVcpusOf, IsReservationOf, IsVcpuOf}
 use Rattle.host_doc.specs.Path.{of_document}
-use Rattle.host_doc.specs.Value.{count_of}
-use Rattle.host_doc.specs.Vcpus.{AreVcpusOf, IsReservationOf, IsVcpuOf, names_of, vcpu_fault, vcpus_fault}
 use Rattle.host_doc.specs.declared.fault.HostFault.{HostFault}
 use Rattle.host_doc.specs.declared.fault.Key.TheVariants.{Unknown}
 
@@ -35,6 +37,7 @@ is_table earlier number (datetime d) h = absurd cc
 is_table earlier number (array items) h = absurd cc
 is_table earlier number (table keys) h = (keys, refl)
 
+-- so each member below the count is a table
 pub all_tables : (earlier : List (List ℕ)) (number : ℕ) (items : Items)
     → vcpus_fault earlier number items ≡ None → (k : ℕ) → k < count_of items
     → (keys : Members) × (get_item k items ≡ Some (table keys))
@@ -46,9 +49,10 @@ all_tables earlier number (item found items) h zero lt =
     (is.0, ap Some is.1)
 all_tables earlier number (item found items) h (suc k) lt =
     let first = both_none (vcpu_fault earlier number (as_table found)) _ h in
-    all_tables (earlier ++ names_of number (as_table found)) (number + 1) items first.1 k
+    all_tables (earlier ++ member_names number (as_table found)) (number + 1) items first.1 k
     (omega (arith, lt))
 
+-- a member states one reservation at most
 one_reservation : (number : ℕ) (keys : Members) (a b : Option Reservation)
     → IsReservationOf number keys a → IsReservationOf number keys b → a ≡ b
 one_reservation number keys None None of_a of_b = refl
@@ -64,6 +68,7 @@ one_reservation number keys (Some a) (Some b) of_a of_b =
     let latency : a.latency_ns ≡ b.latency_ns = cc in
     ap Some (same_reservation a b share latency)
 
+-- a member states one vCPU at most
 one_vcpu : (number : ℕ) (keys : Members) (a b : Vcpu) → IsVcpuOf number keys a
     → IsVcpuOf number keys b → a ≡ b
 one_vcpu number keys a b of_a of_b =
@@ -76,6 +81,7 @@ one_vcpu number keys a b of_a of_b =
     (one_reservation number keys a.reservation b.reservation of_a.reservation of_b.reservation)
     runnable
 
+-- members without a fault state one list of vCPUs
 one_list : (items : Items) (us ws : List Vcpu) → vcpus_fault [] 0 items ≡ None → AreVcpusOf items us
     → AreVcpusOf items ws → us ≡ ws
 one_list items us ws faultless of_us of_ws = same_lists us ws (of_us.count ∙ sym of_ws.count) (λ k d lt.
@@ -85,6 +91,7 @@ one_list items us ws faultless of_us of_ws = same_lists us ws (of_us.count ∙ s
     (of_ws.each k here.0 (get_or ws k d) here.1
     (slice_get-get_or ws k d (omega (arith, lt, of_us.count, of_ws.count)))))
 
+-- the same of an array that is found at its key
 one_vcpus : (found : Result Items HostFault) (us ws : List Vcpu) → result_err found ≡ None
     → members_fault found ≡ None → IfOk found (λ items. AreVcpusOf items us)
     → IfOk found (λ items. AreVcpusOf items ws) → us ≡ ws
@@ -106,6 +113,7 @@ array_faultless keys h =
     let each = both_none (members_fault (vcpus_of keys)) None unknown.1 in
     (vcpus.0, each.0)
 
+-- a document states one host at most
 hosts_alike : (keys : Members) (a b : Host) → IsHostOf keys a → IsHostOf keys b → a ≡ b
 hosts_alike keys a b of_a of_b =
     let faultless = array_faultless keys of_a.faultless in
@@ -121,6 +129,7 @@ hosts_alike keys a b of_a of_b =
     same_host a b cores lag sliver quantum
     (one_vcpus (vcpus_of keys) a.vcpus b.vcpus faultless.0 faultless.1 of_a.vcpus of_b.vcpus)
 
+-- and bytes are one document at most
 pub one_host : (bytes : List ℕ) (a b : Host) → IsHostText bytes a → IsHostText bytes b → a ≡ b
 one_host bytes a b of_a of_b =
     let both : Some of_a.0 ≡ Some of_b.0 = sym of_a.1.1 ∙ of_b.1.1 in

@@ -5,9 +5,11 @@ use Rattle.std.specs.Result.{result_err}
 use Rattle.tab_core.specs.declared.host.Host.{Host}
 use Rattle.toml.specs.Data.{Items, Members}
 use Rattle.toml.specs.Parse.{parse_document}
-use Rattle.host_doc.specs.KeyTable.{format_of, cores_of, lag_of, sliver_of, quantum_of, vcpus_of, document_keys, unknown_key}
+use Rattle.host_doc.specs.KeyTable.{cores_of, document_keys, format_of, lag_of, quantum_of, sliver_of, vcpus_of}
+use Rattle.host_doc.specs.OtherKeys.{unknown_key}
+use Rattle.host_doc.specs.VcpuFaults.{first_of, vcpus_fault}
+use Rattle.host_doc.specs.Vcpus.{AreVcpusOf}
 use Rattle.host_doc.specs.Path.{of_document}
-use Rattle.host_doc.specs.Vcpus.{AreVcpusOf, first_of, vcpus_fault}
 use Rattle.host_doc.specs.declared.fault.Key.TheVariants.{Unknown}
 use Rattle.host_doc.specs.declared.fault.HostFault.{HostFault}
 

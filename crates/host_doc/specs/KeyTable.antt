@@ -1,35 +1,35 @@
 -- The table of keys of a host document: for each key its value or its fault. A whole number has its
 -- least and its greatest value and its default; a key without a default is required.
-use Rattle.std.specs.Prelude.{ℕ, Bool, true, List, [], ◌∷◌, Option, Some, None, Result, if◌then◌else◌}
+use Rattle.std.specs.Prelude.{ℕ, Bool, true, List, [], ◌∷◌, Some, None, Result}
 use Rattle.tab_core.specs.declared.TheConstants.{MAX_CORES, MAX_LATENCY_NS, MAX_SLIVER, ROUND, WHOLE_PPM}
 use Rattle.toml.specs.Data.{Items, no_items, Members}
 use Rattle.host_doc.specs.Path.{of_document, of_vcpu}
-use Rattle.host_doc.specs.Value.{has_other_key, items_at, name_at, truth_at, whole_at}
+use Rattle.host_doc.specs.Array.{items_at}
+use Rattle.host_doc.specs.Text.{name_text_at}
+use Rattle.host_doc.specs.Value.{integer_at, truth_at}
 use Rattle.host_doc.specs.declared.fault.Key.{Key}
 use Rattle.host_doc.specs.declared.fault.Key.TheVariants.{Format, Cores, Lag, Sliver, Quantum, Vcpu, Name, Admitted, Runnable, Share, Latency}
-use Rattle.host_doc.specs.declared.fault.Path.{Path}
 use Rattle.host_doc.specs.declared.fault.HostFault.{HostFault}
-use Rattle.host_doc.specs.declared.fault.HostFault.TheVariants.{BadKey}
 
 -- the format of the document, of which there is one
 abbrev pub format_of : Members → Result ℕ HostFault
-format_of = whole_at (of_document Format) 1 1 (Some 1)
+format_of = integer_at (of_document Format) 1 1 (Some 1)
 
 -- the number of cores
 abbrev pub cores_of : Members → Result ℕ HostFault
-cores_of = whole_at (of_document Cores) 1 MAX_CORES None
+cores_of = integer_at (of_document Cores) 1 MAX_CORES None
 
 -- the lag, in ticks
 abbrev pub lag_of : Members → Result ℕ HostFault
-lag_of = whole_at (of_document Lag) 1 ROUND (Some 1000)
+lag_of = integer_at (of_document Lag) 1 ROUND (Some 1000)
 
 -- the sliver, in ticks
 abbrev pub sliver_of : Members → Result ℕ HostFault
-sliver_of = whole_at (of_document Sliver) 0 MAX_SLIVER (Some 30)
+sliver_of = integer_at (of_document Sliver) 0 MAX_SLIVER (Some 30)
 
 -- the quantum, in ticks
 abbrev pub quantum_of : Members → Result ℕ HostFault
-quantum_of = whole_at (of_document Quantum) 1 ROUND (Some 1000)
+quantum_of = integer_at (of_document Quantum) 1 ROUND (Some 1000)
 
 -- the array of vCPUs, each a table
 abbrev pub vcpus_of : Members → Result Items HostFault
@@ -41,7 +41,7 @@ document_keys = Format ∷ Cores ∷ Lag ∷ Sliver ∷ Quantum ∷ Vcpu ∷ []
 
 -- the name of the vCPU of a number, which is required
 abbrev pub name_of : ℕ → Members → Result (List ℕ) HostFault
-name_of number = name_at (of_vcpu number Name)
+name_of number = name_text_at (of_vcpu number Name)
 
 -- whether it is admitted
 abbrev pub admitted_of : ℕ → Members → Result Bool HostFault
@@ -53,16 +53,12 @@ runnable_of number = truth_at (of_vcpu number Runnable) true
 
 -- its share, in parts per million
 abbrev pub share_of : ℕ → Members → Result ℕ HostFault
-share_of number = whole_at (of_vcpu number Share) 1 WHOLE_PPM None
+share_of number = integer_at (of_vcpu number Share) 1 WHOLE_PPM None
 
 -- its latency, in nanoseconds
 abbrev pub latency_of : ℕ → Members → Result ℕ HostFault
-latency_of number = whole_at (of_vcpu number Latency) 0 MAX_LATENCY_NS None
+latency_of number = integer_at (of_vcpu number Latency) 0 MAX_LATENCY_NS None
 
 -- the keys of a vCPU
 abbrev pub vcpu_keys : List Key
 vcpu_keys = Name ∷ Admitted ∷ Runnable ∷ Share ∷ Latency ∷ []
-
--- the fault of a table with a key that isn't one of these
-abbrev pub unknown_key : Path → List Key → Members → Option HostFault
-unknown_key path keys members = if has_other_key keys members then Some (BadKey path) else None

@@ -1,7 +1,11 @@
+pub mod Array
 pub mod Document
+pub mod Inside
 pub mod KeyTable
-pub mod Names
+pub mod OtherKeys
 pub mod Path
 pub mod Refusal
+pub mod Text
 pub mod Value
+pub mod VcpuFaults
 pub mod Vcpus

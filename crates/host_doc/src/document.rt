@@ -4,7 +4,7 @@ ghost use Rattle.toml.specs.View.{table_view};
 ghost use Rattle.host_doc.specs.Document.{HasFirstFault, IsDocument, IsHostOf, IsHostText, first_fault};
 
 use crate::fault::{HostFault, Key, Path};
-use crate::value::{has_other_key, values_at, whole_at};
+use crate::value::{has_other_key, integer_at, values_at};
 use crate::vcpus::vcpus_of;
 use std::alloc::Global;
 use tab_core::{Host, MAX_CORES, MAX_SLIVER, ROUND};
@@ -62,17 +62,17 @@ fn host_of(alloc: Global, table: &Table) -> Result<Host, HostFault>
     ensures fault { IfErr result (λ fault. (fault ≡ HostFault.NoMemory)
         ⊎ (first_fault (table_view table.now) ≡ Some fault)) }
 {
-    whole_at(table, Path::of_document(Key::Format), 1, 1, Some(1))?;
-    let cores = whole_at(table, Path::of_document(Key::Cores), 1, MAX_CORES, None)?;
-    let lag = whole_at(table, Path::of_document(Key::Lag), 1, ROUND, Some(1000))?;
-    let sliver = whole_at(
+    integer_at(table, Path::of_document(Key::Format), 1, 1, Some(1))?;
+    let cores = integer_at(table, Path::of_document(Key::Cores), 1, MAX_CORES, None)?;
+    let lag = integer_at(table, Path::of_document(Key::Lag), 1, ROUND, Some(1000))?;
+    let sliver = integer_at(
         table,
         Path::of_document(Key::Sliver),
         0,
         MAX_SLIVER,
         Some(30),
     )?;
-    let quantum = whole_at(table, Path::of_document(Key::Quantum), 1, ROUND, Some(1000))?;
+    let quantum = integer_at(table, Path::of_document(Key::Quantum), 1, ROUND, Some(1000))?;
     let values = values_at(table, Path::of_document(Key::Vcpu))?;
     if has_other_key(table, &DOCUMENT_KEYS) {
         return Err(HostFault::BadKey {

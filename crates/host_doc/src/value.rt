@@ -3,7 +3,10 @@ ghost use Rattle.std.specs.Option.{ForSome};
 ghost use Rattle.tab_core.specs.declared.TheConstants.{MAX_VCPUS};
 ghost use Rattle.toml.specs.Data.{as_integer, no_items};
 ghost use Rattle.toml.specs.View.{items_view, table_view, view};
-ghost use Rattle.host_doc.specs.Value.{found_at, has_other_key, in_range, is_among, items_at, text_at, truth_at, well_formed, whole_at};
+ghost use Rattle.host_doc.specs.Array.{items_at};
+ghost use Rattle.host_doc.specs.OtherKeys.{has_other_key, is_among};
+ghost use Rattle.host_doc.specs.Text.{text_at, well_formed};
+ghost use Rattle.host_doc.specs.Value.{found_at, in_range, integer_at, truth_at};
 
 use crate::fault::{HostFault, Key, Path};
 use std::alloc::Global;
@@ -18,7 +21,7 @@ pub(crate) fn value_at(table: &Table, path: Path) -> Option<&Value>
 }
 
 // A whole number from `least` to `most`.
-pub(crate) fn whole_in(value: &Value, path: Path, least: u64, most: u64) -> Result<u64, HostFault>
+pub(crate) fn integer_in(value: &Value, path: Path, least: u64, most: u64) -> Result<u64, HostFault>
     ensures same { result ≡ in_range path least most (as_integer (view value.now)) }
     ensures within { IfOk result (λ number. (least ≤ number) × (number ≤ most)) }
 {
@@ -38,7 +41,7 @@ pub(crate) fn whole_in(value: &Value, path: Path, least: u64, most: u64) -> Resu
 }
 
 // A whole number from `least` to `most` at a key, which is required where it has no default.
-pub(crate) fn whole_at(
+pub(crate) fn integer_at(
     table: &Table,
     path: Path,
     least: u32,
@@ -46,12 +49,12 @@ pub(crate) fn whole_at(
     default: Option<u32>,
 ) -> Result<u32, HostFault>
     requires { ForSome default (λ number. (least ≤ number) × (number ≤ most)) }
-    ensures same { result ≡ whole_at path least most default (table_view table.now) }
+    ensures same { result ≡ integer_at path least most default (table_view table.now) }
     ensures within { IfOk result (λ number. (least ≤ number) × (number ≤ most)) }
 {
     match value_at(table, path) {
         Some(value) => {
-            let number = whole_in(value, path, u64::from(least), u64::from(most))?;
+            let number = integer_in(value, path, u64::from(least), u64::from(most))?;
             Ok(number as u32)
         }
         None => default.ok_or(HostFault::BadKey { path }),
@@ -97,7 +100,7 @@ pub(crate) fn name_from(alloc: Global, text: &str, path: Path) -> Result<Name, H
 }
 
 // The values of an array at a key, none where it is absent.
-#[tactic(auto, using(crate::proofs::Walk::count_of_values))]
+#[tactic(auto, using(crate::proofs::VcpusLemmas::count_of_values))]
 pub(crate) fn values_at(table: &Table, path: Path) -> Result<&[Value], HostFault>
     ensures ok { IfOk result (λ values.
         items_at path no_items (table_view table.now) ≡ Ok (items_view values.now)) }

@@ -4,12 +4,13 @@ ghost use Rattle.tab_core.specs.declared.TheConstants.{MAX_LATENCY_NS, MAX_VCPUS
 ghost use Rattle.toml.specs.Data.{as_table};
 ghost use Rattle.toml.specs.View.{items_view, table_view, view};
 ghost use Rattle.host_doc.specs.KeyTable.{admitted_of, runnable_of};
-ghost use Rattle.host_doc.specs.Names.{has_text};
-ghost use Rattle.host_doc.specs.Value.{whole_at};
-ghost use Rattle.host_doc.specs.Vcpus.{AreVcpusOf, IsReservationOf, reservation_fault, settings_fault, vcpus_fault};
+ghost use Rattle.host_doc.specs.Value.{integer_at};
+ghost use Rattle.host_doc.specs.VcpuFaults.{reservation_fault, settings_fault, vcpus_fault};
+ghost use Rattle.host_doc.specs.Vcpus.{AreVcpusOf, IsReservationOf};
+ghost use Rattle.host_doc.specs.Inside.TextSets.{has_text};
 
 use crate::fault::{HostFault, Key, Path};
-use crate::value::{has_other_key, name_from, text_at, truth_at, value_at, whole_at, whole_in};
+use crate::value::{has_other_key, integer_at, integer_in, name_from, text_at, truth_at, value_at};
 use std::alloc::{AllocError, Global};
 use std::collections::BTreeSet;
 use tab_core::{MAX_LATENCY_NS, Name, Reservation, Vcpu, Vcpus, WHOLE_PPM};
@@ -98,7 +99,7 @@ fn reservation_of(
     if !admitted {
         return Ok(None);
     }
-    let share_ppm = whole_at(table, Path::of_vcpu(number, Key::Share), 1, WHOLE_PPM, None)?;
+    let share_ppm = integer_at(table, Path::of_vcpu(number, Key::Share), 1, WHOLE_PPM, None)?;
     let latency_ns = latency_of(table, Path::of_vcpu(number, Key::Latency))?;
     Ok(Some(Reservation {
         share_ppm,
@@ -108,11 +109,11 @@ fn reservation_of(
 
 // A latency in nanoseconds at a key, which is required.
 fn latency_of(table: &Table, path: Path) -> Result<u64, HostFault>
-    ensures same { result ≡ whole_at path 0 MAX_LATENCY_NS None (table_view table.now) }
+    ensures same { result ≡ integer_at path 0 MAX_LATENCY_NS None (table_view table.now) }
     ensures within { IfOk result (λ latency. latency ≤ MAX_LATENCY_NS) }
 {
     match value_at(table, path) {
-        Some(value) => whole_in(value, path, 0, MAX_LATENCY_NS),
+        Some(value) => integer_in(value, path, 0, MAX_LATENCY_NS),
         None => Err(HostFault::BadKey { path }),
     }
 }

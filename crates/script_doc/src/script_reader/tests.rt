@@ -159,3 +159,37 @@ fn refuses_the_first_event_or_change_too_many(rt: HostRuntime) -> Result<(), Fai
     }
     Ok(())
 }
+
+#[test]
+fn words_each_fault(rt: HostRuntime) -> Result<(), Fail> {
+    // a fault, and its cause as a refusal words it
+    let cases = [
+        (ScriptFault::BadLine { line: 1 }, "script line 1"),
+        (
+            ScriptFault::UnknownName { line: 2 },
+            "unknown name in script line 2",
+        ),
+        (
+            ScriptFault::OutOfOrder { line: 3 },
+            "script line 3 goes back",
+        ),
+        (
+            ScriptFault::LateEvent { line: 4 },
+            "script line 4 is past the run",
+        ),
+        (
+            ScriptFault::TooManyEvents { line: 5 },
+            "more than 65535 events at script line 5",
+        ),
+        (
+            ScriptFault::TooManyChanges { line: 6 },
+            "more than 15 changes at script line 6",
+        ),
+        (ScriptFault::NoMemory, "want of memory"),
+    ];
+    for (fault, expected) in cases {
+        let text = format!(in rt.alloc(); "{fault}")?;
+        assert_eq!(rt; text.as_str(), expected);
+    }
+    Ok(())
+}

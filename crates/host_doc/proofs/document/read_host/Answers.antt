@@ -1,5 +1,5 @@
 use Rattle.toml.specs.View.{table_view}
-use Rattle.host_doc.proofs.Causes.{no_not_toml}
+use Rattle.host_doc.proofs.DocumentLemmas.{no_not_toml}
 use Rattle.host_doc.proofs.document.read_host.Goals as goal
 
 pub returns-in-Ok-clause-not_toml : goal.returns-in-Ok-clause-not_toml

@@ -1,6 +1,6 @@
 use Rattle.std.proofs.Common.{List, String, Global, ap, ◌∙◌}
 use Rattle.std.specs.List.{list_any}
-use Rattle.host_doc.proofs.Keys.{is_other, any-is_other}
+use Rattle.host_doc.proofs.OtherKeysLemmas.{is_other, any-is_other}
 use Rattle.host_doc.proofs.value.has_other_key.Goals as goal
 
 pub loop-word-init : goal.loop-word-init

@@ -1,8 +1,8 @@
 use Rattle.std.proofs.Common.{◌≡◌}
 use Rattle.std.specs.List.{list_any}
 use Rattle.toml.specs.View.{table_view}
-use Rattle.host_doc.specs.Value.{has_other_key}
-use Rattle.host_doc.proofs.Keys.{is_other}
+use Rattle.host_doc.specs.OtherKeys.{has_other_key}
+use Rattle.host_doc.proofs.OtherKeysLemmas.{is_other}
 use Rattle.host_doc.proofs.value.has_other_key.Given as goal
 
 -- the keys that are left have another one exactly where the table has

@@ -1,4 +1,4 @@
-use Rattle.host_doc.proofs.Texts.{has_text-added}
+use Rattle.host_doc.proofs.TextSetsLemmas.{has_text-added}
 use Rattle.host_doc.proofs.vcpus.add_text.Goals as goal
 
 pub returns-clause-holds : goal.returns-clause-holds

@@ -4,10 +4,11 @@ use Rattle.std.specs.List.{list_any}
 use Rattle.toml.specs.Data.{as_table}
 use Rattle.toml.specs.View.{table_view, view}
 use Rattle.host_doc.specs.KeyTable.{name_of}
-use Rattle.host_doc.specs.Names.{has_text}
-use Rattle.host_doc.specs.Vcpus.{IsVcpuOf, settings_fault}
-use Rattle.host_doc.proofs.Texts.{absent_if_new}
-use Rattle.host_doc.proofs.Walk.{all_faultless, all_read, fault_from, fault_named, names, read_more}
+use Rattle.host_doc.specs.VcpuFaults.{settings_fault}
+use Rattle.host_doc.specs.Vcpus.{IsVcpuOf}
+use Rattle.host_doc.specs.Inside.TextSets.{has_text}
+use Rattle.host_doc.proofs.TextSetsLemmas.{absent_if_new}
+use Rattle.host_doc.proofs.VcpusLemmas.{all_faultless, all_read, fault_from, fault_named, names, read_more}
 use Rattle.host_doc.proofs.vcpus.vcpus_of.Goals as goal
 
 pub returns-in_default-clause-fault : goal.returns-in_default-clause-fault

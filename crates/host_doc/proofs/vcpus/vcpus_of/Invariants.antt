@@ -1,4 +1,4 @@
-use Rattle.host_doc.proofs.Walk.{AreRead}
+use Rattle.host_doc.proofs.VcpusLemmas.{AreRead}
 use Rattle.host_doc.proofs.vcpus.vcpus_of.Given as goal
 
 abbrev pub invariant-loop-index : goal.invariant-loop-index

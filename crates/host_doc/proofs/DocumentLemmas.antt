@@ -7,10 +7,13 @@ use Rattle.tab_core.specs.declared.host.Host.{Host}
 use Rattle.tab_core.specs.declared.TheConstants.{MAX_CORES, MAX_LATENCY_NS, MAX_SLIVER, ROUND, WHOLE_PPM}
 use Rattle.toml.specs.Data.{Data, Items, no_items, item, Members, as_integer, as_table}
 use Rattle.host_doc.specs.Document.{first_fault, members_fault}
-use Rattle.host_doc.specs.KeyTable.{admitted_of, cores_of, document_keys, format_of, lag_of, latency_of, name_of, quantum_of, runnable_of, share_of, sliver_of, unknown_key, vcpu_keys, vcpus_of}
+use Rattle.host_doc.specs.Array.{items_or}
+use Rattle.host_doc.specs.KeyTable.{admitted_of, cores_of, document_keys, format_of, lag_of, latency_of, name_of, quantum_of, runnable_of, share_of, sliver_of, vcpu_keys, vcpus_of}
+use Rattle.host_doc.specs.OtherKeys.{unknown_key}
+use Rattle.host_doc.specs.Text.{text_in, well_formed}
+use Rattle.host_doc.specs.Value.{found_at, in_range, integer_or, truth_or}
+use Rattle.host_doc.specs.VcpuFaults.{first_of, member_names, reservation_fault, same_name, settings_fault, vcpu_fault, vcpus_fault, where_admitted}
 use Rattle.host_doc.specs.Path.{of_document, of_vcpu}
-use Rattle.host_doc.specs.Value.{found_at, in_range, items_or, text_in, truth_or, well_formed, whole_or}
-use Rattle.host_doc.specs.Vcpus.{first_of, names_of, reservation_fault, same_name, settings_fault, vcpu_fault, vcpus_fault, where_admitted}
 use Rattle.host_doc.specs.declared.fault.Key.{Key}
 use Rattle.host_doc.specs.declared.fault.Key.TheVariants.{Format, Cores, Lag, Sliver, Quantum, Vcpu, Name, Admitted, Runnable, Share, Latency, Unknown}
 use Rattle.host_doc.specs.declared.fault.Path.{Path}
@@ -39,40 +42,48 @@ range path least most None = refl
 range path least most (Some (pos n)) = grind (arith, common_steps)
 range path least most (Some (negsuc n)) = refl
 
+-- a number at a key has no other fault than those of its key
 whole : (path : Path) (least most : ℕ) (default : Option ℕ) (found : Option Data)
-    → is_of_key (result_err (whole_or path least most default found)) ≡ true
+    → is_of_key (result_err (integer_or path least most default found)) ≡ true
 whole path least most None None = refl
 whole path least most (Some default) None = refl
 whole path least most default (Some found) = range path least most (as_integer found)
 
+-- the same of a truth value
 truth : (path : Path) (default : Bool) (found : Option Data)
     → is_of_key (result_err (truth_or path default found)) ≡ true
 truth path default None = refl
 truth path default (Some found) = grind (arith, common_steps)
 
+-- the same of a name
 name : (path : Path) (found : Option Data)
     → is_of_key (result_err (well_formed path (text_in path found))) ≡ true
 name path None = refl
 name path (Some found) = grind (arith, common_steps)
 
+-- the same of an array
 items : (path : Path) (found : Option Data) → is_of_key (result_err (items_or path no_items found)) ≡ true
 items path None = refl
 items path (Some found) = grind (arith, common_steps)
 
+-- the same of a name that stands twice
 same : (earlier : List (List ℕ)) (number : ℕ) (name : Result (List ℕ) HostFault)
     → is_of_key (same_name earlier number name) ≡ true
 same earlier number (Ok name) = grind (arith, common_steps)
 same earlier number (Err fault) = refl
 
+-- a fault that counts only where the vCPU is admitted
 admitted : (found : Result Bool HostFault) (fault : Option HostFault) → is_of_key fault ≡ true
     → is_of_key (where_admitted found fault) ≡ true
 admitted (Ok true) fault of = of
 admitted (Ok false) fault of = refl
 admitted (Err refused) fault of = refl
 
+-- the fault of an unknown key is that of a key
 unknown : (path : Path) (keys : List Key) (ms : Members) → is_of_key (unknown_key path keys ms) ≡ true
 unknown path keys ms = grind (arith, common_steps)
 
+-- the faults of a reservation are those of its two keys
 reservation : (number : ℕ) (ms : Members)
     → is_of_key
     (first_of (result_err (share_of number ms) ∷ result_err (latency_of number ms) ∷ [])) ≡ true
@@ -94,6 +105,7 @@ settings number ms =
     (either (unknown_key (of_vcpu number Unknown) vcpu_keys ms) None
     (unknown (of_vcpu number Unknown) vcpu_keys ms) refl)))
 
+-- the first fault of a member is that of a key
 vcpu : (earlier : List (List ℕ)) (number : ℕ) (found : Option Members)
     → is_of_key (vcpu_fault earlier number found) ≡ true
 vcpu earlier number None = refl
@@ -102,14 +114,16 @@ vcpu earlier number (Some ms) =
     (either (same_name earlier number (name_of number ms)) _ (same earlier number (name_of number ms))
     (either (settings_fault number ms) None (settings number ms) refl))
 
+-- the first fault of all members is that of a key
 vcpus : (earlier : List (List ℕ)) (number : ℕ) (found : Items)
     → is_of_key (vcpus_fault earlier number found) ≡ true
 unfolding vcpus_fault
 vcpus earlier number no_items = refl
 vcpus earlier number (item found more) =
     either _ _ (vcpu earlier number (as_table found))
-    (vcpus (earlier ++ names_of number (as_table found)) (number + 1) more)
+    (vcpus (earlier ++ member_names number (as_table found)) (number + 1) more)
 
+-- the same of the members of an array, if there is one
 inside : (found : Result Items HostFault) → is_of_key (members_fault found) ≡ true
 inside (Ok found) = vcpus [] 0 found
 inside (Err fault) = refl

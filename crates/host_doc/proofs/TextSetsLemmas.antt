@@ -4,18 +4,21 @@ use Rattle.std.proofs.lemmas.Bool.Decides.{nat_tests}
 use Rattle.std.proofs.lemmas.Map.Text.{is_eq-slice_cmp}
 use Rattle.std.specs.BTreeSet.{Updates}
 use Rattle.std.specs.Cmp.Lexicographic.{slice_cmp}
-use Rattle.host_doc.specs.Names.{has_text}
+use Rattle.host_doc.specs.Inside.TextSets.{has_text}
 
+-- the test of two names does not depend on their order
 bytes_eq-swap : (xs ys : List ℕ) → bytes_eq xs ys ≡ bytes_eq ys xs
 bytes_eq-swap [] [] = refl
 bytes_eq-swap [] (y ∷ ys) = refl
 bytes_eq-swap (x ∷ xs) [] = refl
 bytes_eq-swap (x ∷ xs) (y ∷ ys) = grind (arith, nat_tests, bytes_eq-swap xs ys)
 
+-- how a set with one more text answers, as a disjunction
 cond-true : (b c : Bool) → cond b true c ≡ (b || c)
 cond-true true c = refl
 cond-true false c = refl
 
+-- a set with one more text has that text and those that it had
 pub has_text-added : (old new : BTreeSet (Bor (List ℕ))) (text : Bor (List ℕ))
     → Updates (λ a b. slice_cmp nat_cmp a.now b.now) old new text true
     → (other : List ℕ) → has_text new other ≡ (bytes_eq other text.now || has_text old other)

@@ -1,4 +1,4 @@
--- The members of `vcpu`, one after the other.
+-- The members of `vcpu` that have been read so far, one after the other.
 use Rattle.std.proofs.Common.{◌≡◌, ◌⊎◌, inl, inr, ℕ, zero, suc, ◌+◌, ◌<◌, ◌≤◌, Bool, Bor, BTreeSet, true, false, ◌||◌, List, [], ◌∷◌, ◌++◌, length, map, get_or, drop, Option, Some, None, Ok, refl, sym, ap, ◌∙◌, bytes_eq, arith}
 use Rattle.std.proofs.lemmas.Bool.Decides.{nat_tests}
 use Rattle.std.proofs.lemmas.Grind.{common_steps}
@@ -12,20 +12,24 @@ use Rattle.toml.proofs.Views.{items_view-drop, get_item_within}
 use Rattle.toml.specs.Data.{Members, as_table, get_item, table}
 use Rattle.toml.specs.View.{items_view, view}
 use Rattle.toml.specs.declared.value.Value.{Value}
+use Rattle.host_doc.specs.Array.{count_of}
 use Rattle.host_doc.specs.KeyTable.{name_of}
-use Rattle.host_doc.specs.Names.{has_text}
-use Rattle.host_doc.specs.Value.{count_of}
-use Rattle.host_doc.specs.Vcpus.{AreVcpusOf, EachIsVcpuOf, IsVcpuOf, names_of, settings_fault, vcpu_fault, vcpus_fault}
+use Rattle.host_doc.specs.VcpuFaults.{member_names, settings_fault, vcpu_fault, vcpus_fault}
+use Rattle.host_doc.specs.Vcpus.{AreVcpusOf, EachIsVcpuOf, IsVcpuOf}
+use Rattle.host_doc.specs.Inside.TextSets.{has_text}
 use Rattle.host_doc.specs.declared.fault.HostFault.{HostFault}
 
+-- a name equals itself by the test too
 pub bytes_eq-same : (xs : List ℕ) → bytes_eq xs xs ≡ true
 bytes_eq-same [] = refl
 bytes_eq-same (x ∷ xs) = grind (arith, nat_tests, bytes_eq-same xs)
 
+-- a test that is met stays met when another one comes before it
 or-true : (b : Bool) → (b || true) ≡ true
 or-true true = refl
 or-true false = refl
 
+-- the definition's count of an array is the length that the code reads
 pub count_of_values : (values : List Value) → count_of (items_view values) ≡ length values
 count_of_values [] = refl
 count_of_values (value ∷ values) = ap suc (count_of_values values)
@@ -40,14 +44,14 @@ pub fault_from : (values : List Value) (earlier : List (List ℕ)) (number : ℕ
     → vcpus_fault [] 0 (items_view values) ≡ vcpus_fault earlier number (items_view (drop number values))
     → vcpus_fault [] 0 (items_view values)
     ≡ option_or (vcpu_fault earlier number (as_table (view value)))
-    (vcpus_fault (earlier ++ names_of number (as_table (view value))) (number + 1)
+    (vcpus_fault (earlier ++ member_names number (as_table (view value))) (number + 1)
     (items_view (drop (number + 1) values)))
 unfolding vcpus_fault
 fault_from values earlier number value within is rest =
     rest
     ∙ ap (vcpus_fault earlier number) (items_view-drop values number value within)
     ∙ ap (λ (v : Value). option_or (vcpu_fault earlier number (as_table (view v)))
-    (vcpus_fault (earlier ++ names_of number (as_table (view v))) (number + 1)
+    (vcpus_fault (earlier ++ member_names number (as_table (view v))) (number + 1)
     (items_view (drop (number + 1) values)))) (sym is)
 
 or-none : (fault : Option HostFault) → option_or fault None ≡ fault
@@ -62,10 +66,12 @@ pub fault_named : (earlier : List (List ℕ)) (number : ℕ) (found : Option Mem
 fault_named earlier number found keys name is named new =
     rw (is, named, new) (or-none (settings_fault number keys))
 
+-- the names of a member that has one are this name
 pub names_named : (number : ℕ) (found : Option Members) (keys : Members) (name : List ℕ) → found ≡ Some keys
-    → name_of number keys ≡ Ok name → names_of number found ≡ name ∷ []
+    → name_of number keys ≡ Ok name → member_names number found ≡ name ∷ []
 names_named number found keys name is named = rw (is, named)
 
+-- one more vCPU makes the list longer by one
 length-last : {A : Type 0} (xs : List A) (x : A) → length (xs ++ x ∷ []) ≡ length xs + 1
 length-last xs x = grind (arith, common_steps)
 
@@ -79,12 +85,14 @@ slice_get-last (z ∷ xs) x y (suc k) h =
     elim (slice_get-last xs x y k h)
     [ inl before ↦ inl before | inr last ↦ inr (ap suc last.0, last.1) ]
 
+-- a vCPU's name is among the names of all
 name_held : (vcpus : List Vcpu) (a : Vcpu) (j : ℕ) → slice_get vcpus j ≡ Some a
     → list_any (bytes_eq a.name) (names vcpus) ≡ true
 name_held [] a j h = absurd (cc)
 name_held (v ∷ vcpus) a zero h = let same : v ≡ a = cc in rw (same, bytes_eq-same a.name)
 name_held (v ∷ vcpus) a (suc j) h = rw (name_held vcpus a j h) (or-true (bytes_eq a.name v.name))
 
+-- a vCPU of a new name keeps the names distinct
 pub distinct_with : (vcpus : List Vcpu) (vcpu : Vcpu) → HaveDistinctNames vcpus
     → list_any (bytes_eq vcpu.name) (names vcpus) ≡ false → HaveDistinctNames (vcpus ++ vcpu ∷ [])
 distinct_with vcpus vcpu distinct new = λ j k a b at_j at_k same.
@@ -105,6 +113,7 @@ distinct_with vcpus vcpu distinct new = λ j k a b at_j at_k same.
       ]
     ]
 
+-- the vCPU of one more member is the one that the member stands for
 pub each_with : (values : List Value) (vcpus : List Vcpu) (vcpu : Vcpu) (number : ℕ) (value : Value)
     (members : Members) → length vcpus ≡ number → number < length values
     → value ≡ get_or values number value → as_table (view value) ≡ Some members → IsVcpuOf number members vcpu
@@ -132,9 +141,11 @@ pub record AreRead (values : List Value) (index : ℕ) (texts : BTreeSet (Bor (L
   pub held : (text : List ℕ) → has_text texts text ≡ list_any (bytes_eq text) (names vcpus)
   pub distinct : HaveDistinctNames vcpus
 
+-- one more vCPU adds its name to the names
 names-last : (vcpus : List Vcpu) (vcpu : Vcpu) → names (vcpus ++ vcpu ∷ []) ≡ names vcpus ++ vcpu.name ∷ []
 names-last vcpus vcpu = map-append (λ (v : Vcpu). v.name) vcpus (vcpu ∷ [])
 
+-- the order in which a set and a list test for a name makes no difference
 or-last : (a b : Bool) → (a || b) ≡ (b || (a || false))
 or-last true true = refl
 or-last true false = refl
@@ -179,6 +190,7 @@ pub all_faultless : (values : List Value) (index : ℕ) (texts : BTreeSet (Bor (
 unfolding vcpus_fault
 all_faultless values index texts vcpus read past = read.rest ∙ rw (drop_all index values past) refl
 
+-- behind the last member the vCPUs are those that the members stand for
 pub all_read : (values : List Value) (index : ℕ) (texts : BTreeSet (Bor (List ℕ)))
     (vcpus : List Vcpu) → AreRead values index texts vcpus → index ≡ length values
     → AreVcpusOf (items_view values) vcpus

@@ -1,0 +1,28 @@
+-- An array at a key of a table.
+use Rattle.std.specs.Prelude.{ℕ, zero, suc, nat_le, if◌then◌else◌, Option, Some, None, Result, Ok, Err}
+use Rattle.tab_core.specs.declared.TheConstants.{MAX_VCPUS}
+use Rattle.toml.specs.Data.{Data, as_array, Items, no_items, item, Members}
+use Rattle.host_doc.specs.Value.{found_at}
+use Rattle.host_doc.specs.declared.fault.Path.{Path}
+use Rattle.host_doc.specs.declared.fault.HostFault.{HostFault}
+use Rattle.host_doc.specs.declared.fault.HostFault.TheVariants.{BadKey, TooMany}
+
+-- how many values an array has
+abbrev pub count_of : Items → ℕ
+count_of no_items = zero
+count_of (item found items) = suc (count_of items)
+
+-- an array of at most as many values as a host may have vCPUs
+abbrev pub limited : Path → Option Items → Result Items HostFault
+limited path None = Err (BadKey path)
+limited path (Some items) = if nat_le (count_of items) MAX_VCPUS then Ok items
+    else Err (TooMany (count_of items))
+
+-- such an array, or its default
+abbrev pub items_or : Path → Items → Option Data → Result Items HostFault
+items_or path default None = Ok default
+items_or path default (Some found) = limited path (as_array found)
+
+-- such an array at a key
+abbrev pub items_at : Path → Items → Members → Result Items HostFault
+items_at path default members = items_or path default (found_at path members)
