@@ -62,13 +62,17 @@ flat_some : {X : Type 0} (o : Option (Option X)) (x : X) → flat o ≡ Some x �
 flat_some None x h = absurd cc
 flat_some (Some o) x h = ap Some h
 
+<<<<<<<< HEAD:crates/plan_book/proofs/WaitsLemmas.antt
 -- a task in an entered round is one of the plan that was decided for it
 task_found : (course : CourseView) (o : Option ℕ) (v : ℕ) (task : Periodic)
+========
+task_reply : (course : CourseView) (o : Option ℕ) (v : ℕ) (task : Periodic)
+>>>>>>>> h8:crates/tableau_sim/proofs/WaitsLemmas.antt
     → task_by course o v ≡ Some task
     → (count : ℕ) × (o ≡ Some count)
     × (slice_get (plan_after course count).tasks v ≡ Some (Some task))
-task_found course None v task h = absurd cc
-task_found course (Some count) v task h =
+task_reply course None v task h = absurd cc
+task_reply course (Some count) v task h =
     (count, refl, flat_some (slice_get (plan_after course count).tasks v) task h)
 
 -- the reservation of a vCPU that the plan of an entered round holds
@@ -84,7 +88,7 @@ in_round : (host : Host) (events : List Event) (course : CourseView) (decided : 
     → ((q d : ℕ) → slice_get decided q ≡ Some d → d ≤ length events)
     → task_in course decided r v ≡ Some task → InRound host events decided r v task
 in_round host events course decided r v task of few is =
-    let found = task_found course (slice_get decided r) v task is in
+    let found = task_reply course (slice_get decided r) v task is in
     let after = of.after found.0 (few r found.0 found.1) in
     let tasks = (known_planned host events found.0 after.known after.is).layout.is_start.tasks_are in
     let at = subst (λ (p : PlanView). slice_get p.tasks v ≡ Some (Some task)) after.shows.plan found.2 in

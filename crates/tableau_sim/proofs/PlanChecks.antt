@@ -47,10 +47,10 @@ use Rattle.tableau_sim.specs.Commands.{IsFaultless}
 use Rattle.tableau_sim.specs.Check.{Checks, HasTables, HasTasks}
 use Rattle.tableau_sim.specs.Outcomes.Outcome.{Refuses, Writes}
 use Rattle.tableau_sim.specs.Plan.{Plans}
-use Rattle.tableau_sim.proofs.Bounded.{no_vcpu_lacks}
-use Rattle.tableau_sim.proofs.Hosts.{no_host_fault}
-use Rattle.tableau_sim.proofs.OfInput.{no_refusal}
 use Rattle.table_form.proofs.SegmentLemmas.{cells_of, cells_of_segments, maximal_of_row, no_bad_place, segments_are}
+use Rattle.tableau_sim.proofs.BoundsLemmas.{no_vcpu_lacks}
+use Rattle.tableau_sim.proofs.HostsLemmas.{no_host_fault}
+use Rattle.tableau_sim.proofs.OutcomesLemmas.{no_refusal}
 
 -- ---- the rows
 
@@ -136,7 +136,8 @@ plan_written section text (Plans.Planned host plan is has) = record {
   says = refl;
 }
 
-are_names : (vcpus : List Vcpu) → AreStatedNames vcpus → AreNames (names_of vcpus)
+-- each name of a host that was read has the form of a name
+pub are_names : (vcpus : List Vcpu) → AreStatedNames vcpus → AreNames (names_of vcpus)
 are_names vcpus stated v lt = elim ((slice_get_cases vcpus v).1) [
   | inl (vcpu, within, at, same) ↦
       subst IsName (sym (name_here vcpus v vcpu within (sym same))) (stated.good v vcpu at)
@@ -190,7 +191,7 @@ good_text section text p raw is =
 -- ---- no refusal
 
 -- good tables have no fault
-no_table_fault : (tasks : List (Option Periodic)) (rows : List (List Segment)) (off : CheckFault)
+pub no_table_fault : (tasks : List (Option Periodic)) (rows : List (List Segment)) (off : CheckFault)
     → AreGood tasks rows → HasCheckFault tasks rows off → ⊥
 no_table_fault tasks rows (fault.BadShape core place) good h =
     none-some place (sym (good.shapes core) ∙ h.bad)

@@ -1,0 +1,334 @@
+-- What a status of the call tells by itself, whatever the commands are.
+use Rattle.std.proofs.Common.{◌≡◌, ◌≢◌, ◌⊎◌, ℕ, ◌+◌, List, [], Bool, true, false, length, refl, sym, ap, subst, ◌∙◌, inl, inr, arith}
+use Rattle.std.specs.Io.KnownBytes.{Consumes}
+use Rattle.tab_io.specs.Views.{SourceView, SinkView}
+use Rattle.tab_io.specs.FaultCounts.{Rose}
+use Rattle.tab_words.specs.Commands.{IsCommand, IsFaultAt}
+use Rattle.tab_words.specs.declared.command.Command.{Command}
+use Rattle.tab_words.specs.declared.command.Command.TheVariants as called
+use Rattle.tableau_sim.specs.declared.input.TheConstants.{INPUT_LIMIT}
+use Rattle.tableau_sim.specs.declared.status.Status.{Status}
+use Rattle.tableau_sim.specs.declared.status.Status.TheVariants as status
+use Rattle.tableau_sim.specs.Clauses.{FrontIsOut, HasCause, IsOut, IsToRead, IsToReadIf, LineIsOut, NoFaults, ReadTooMuch, Unread, WroteFor}
+use Rattle.tableau_sim.specs.Commands.{IsFaultless, Replies, reads}
+use Rattle.tableau_sim.specs.Frame.{Answers, Due, HasReadIf, IsDue, outcome_of}
+use Rattle.tableau_sim.specs.Frame.Due.{LacksMemory, NoCommand, Replied, SourceFailed, TooMuch}
+use Rattle.tableau_sim.specs.Lines.{line_of}
+use Rattle.tableau_sim.specs.Outcomes.{IsOfInput, Outcome, status_of, text_of}
+use Rattle.tableau_sim.specs.Outcomes.Outcome.{Refuses, Writes}
+use Rattle.tableau_sim.proofs.ReadingLemmas.{read_given, read_within}
+use Rattle.tableau_sim.proofs.OutcomesLemmas.{refuses_input}
+use Rattle.tableau_sim.proofs.Words.{no_fault, same_command, same_place}
+
+-- what is due came whole, with its status
+pub record IsTold (words : List (List ℕ)) (source source' : SourceView) (sink sink' : SinkView)
+    (told : Status) : Type 0 where
+  pub input : List ℕ
+  pub consumed : Consumes source.rest source'.rest input
+  pub due : Due
+  pub is_due : IsDue words source source' input due
+  pub told_is : status_of (outcome_of due) ≡ told
+  pub out : IsOut sink sink' (text_of (outcome_of due))
+
+told_due : (words : List (List ℕ)) (source source' : SourceView) (sink sink' : SinkView) (told : Status)
+    → Answers words source source' sink sink' told → told ≢ status.WriteFault
+    → IsTold words source source' sink sink' told
+told_due words source source' sink sink' told a works = elim a.written.whole [
+  | inl came ↦ record {
+    input = a.input;
+    consumed = a.consumed;
+    due = a.due;
+    is_due = a.is_due;
+    told_is = sym came.0;
+    out = record { written = came.1; settled = came.2 };
+  }
+  | inr failed ↦ absurd (works failed.0)
+]
+
+-- ---- a text
+
+outcome_written : (outcome : Outcome) → status_of outcome ≡ status.Ok
+    → ((refusal : Status) (names : List (List ℕ)) → outcome ≡ Refuses refusal names → IsOfInput refusal)
+    → outcome ≡ Writes (text_of outcome)
+outcome_written (Writes text) is of = refl
+outcome_written (Refuses refusal names) is of = absurd (subst IsOfInput is (of refusal names refl))
+
+of_input : (command : Command) (input : List ℕ) (outcome : Outcome) → Replies command input outcome
+    → (refusal : Status) (names : List (List ℕ)) → outcome ≡ Refuses refusal names → IsOfInput refusal
+of_input command input outcome h refusal names is =
+    refuses_input command input refusal names (subst (Replies command input) is h)
+
+wrote_of : (words : List (List ℕ)) (source source' : SourceView) (sink sink' : SinkView)
+    (command : Command) (input : List ℕ) (due : Due) → IsCommand words command
+    → Consumes source.rest source'.rest input → IsDue words source source' input due
+    → status_of (outcome_of due) ≡ status.Ok → IsOut sink sink' (text_of (outcome_of due))
+    → WroteFor command source source' sink sink'
+wrote_of words source source' sink sink' command input (NoCommand place) are consumed h is out = absurd cc
+wrote_of words source source' sink sink' command input (SourceFailed other) are consumed h is out = absurd cc
+wrote_of words source source' sink sink' command input (TooMuch other) are consumed h is out = absurd cc
+wrote_of words source source' sink sink' command input (LacksMemory other) are consumed h is out = absurd cc
+wrote_of words source source' sink sink' command input (Replied other outcome) are consumed h is out =
+    let same : other ≡ command = same_command words other command h.0 are in
+    let replies = subst (λ c. Replies c input outcome) same h.2 in
+    record {
+      input = input;
+      read = record { consumed = consumed; read = subst (λ c. HasReadIf (reads c) source' input) same h.1 };
+      text = text_of outcome;
+      replies = subst (Replies command input)
+          (outcome_written outcome is (of_input other input outcome h.2)) replies;
+      out = out;
+    }
+
+pub wrote_told : (words : List (List ℕ)) (source source' : SourceView) (sink sink' : SinkView) (told : Status)
+    → Answers words source source' sink sink' told → (command : Command) → IsCommand words command
+    → told ≡ status.Ok → WroteFor command source source' sink sink'
+wrote_told words source source' sink sink' told a command are is =
+    let t = told_due words source source' sink sink' told a (λ failed. let e = sym is ∙ failed in absurd cc) in
+    wrote_of words source source' sink sink' command t.input t.due are t.consumed t.is_due (t.told_is ∙ is)
+    t.out
+
+-- ---- a refusal of the input
+
+cause_of : (words : List (List ℕ)) (source source' : SourceView) (sink sink' : SinkView) (told : Status)
+    (input : List ℕ) (due : Due) → Consumes source.rest source'.rest input
+    → IsDue words source source' input due → status_of (outcome_of due) ≡ told
+    → IsOut sink sink' (text_of (outcome_of due)) → IsOfInput told
+    → HasCause words source source' sink sink' told
+cause_of words source source' sink sink' told input (NoCommand place) consumed h is out of =
+    absurd (subst IsOfInput (sym is) of)
+cause_of words source source' sink sink' told input (SourceFailed command) consumed h is out of =
+    absurd (subst IsOfInput (sym is) of)
+cause_of words source source' sink sink' told input (TooMuch command) consumed h is out of =
+    absurd (subst IsOfInput (sym is) of)
+cause_of words source source' sink sink' told input (LacksMemory command) consumed h is out of =
+    absurd (subst IsOfInput (sym is) of)
+cause_of words source source' sink sink' told input (Replied command (Writes text)) consumed h is out of =
+    absurd (subst IsOfInput (sym is) of)
+cause_of words source source' sink sink' told input (Replied command (Refuses refusal names)) consumed h
+    is out of = record {
+      command = command;
+      words_are = h.0;
+      input = input;
+      read = record { consumed = consumed; read = h.1 };
+      names = names;
+      replies = subst (λ r. Replies command input (Refuses r names)) is h.2;
+      out = subst (λ r. IsOut sink sink' (line_of names r)) is out;
+    }
+
+pub cause_told : (words : List (List ℕ)) (source source' : SourceView) (sink sink' : SinkView) (told : Status)
+    → Answers words source source' sink sink' told → IsOfInput told
+    → HasCause words source source' sink sink' told
+cause_told words source source' sink sink' told a of =
+    let t = told_due words source source' sink sink' told a (λ failed. subst IsOfInput failed of) in
+    cause_of words source source' sink sink' told t.input t.due t.consumed t.is_due t.told_is t.out of
+
+-- ---- a faultless input
+
+faultless : (command : Command) (input : List ℕ) (outcome : Outcome) → IsFaultless command input
+    → Replies command input outcome → status_of outcome ≡ status.Ok
+faultless command input (Writes text) fine h = refl
+faultless command input (Refuses refusal names) fine h = absurd (fine refusal names h)
+
+not_too_much : (reading : Bool) (old new : SourceView) (input given : List ℕ) → reading ≡ true
+    → IsToReadIf reading old given → Consumes old.rest new.rest input
+    → length input ≡ INPUT_LIMIT + 1 → ⊥
+not_too_much true old new input given reading_is is consumed size =
+    let low = read_within old.rest new.rest input given consumed is.0 in
+    let within = is.1 in
+    omega (arith, low, within, size)
+not_too_much false old new input given reading_is is consumed size = absurd cc
+
+complete_of : (words : List (List ℕ)) (source source' : SourceView) (command : Command)
+    (input given : List ℕ) (due : Due) → IsCommand words command → IsToRead command source given
+    → IsFaultless command given → (Rose source.faults source'.faults → ⊥)
+    → Consumes source.rest source'.rest input → IsDue words source source' input due
+    → (status_of (outcome_of due) ≡ status.Ok) ⊎ (status_of (outcome_of due) ≡ status.NoMemory)
+complete_of words source source' command input given (NoCommand place) are is fine works consumed h =
+    absurd (no_fault words command place are h.0)
+complete_of words source source' command input given (SourceFailed other) are is fine works consumed h =
+    absurd (works h.3)
+complete_of words source source' command input given (TooMuch other) are is fine works consumed h =
+    let same = same_command words other command h.0 are in
+    let reading : reads command ≡ true = subst (λ c. reads c ≡ true) same h.1 in
+    absurd (not_too_much (reads command) source source' input given reading is consumed h.2)
+complete_of words source source' command input given (LacksMemory other) are is fine works consumed h = inr refl
+complete_of words source source' command input given (Replied other outcome) are is fine works consumed h =
+    let same : other ≡ command = same_command words other command h.0 are in
+    let replies = subst (λ c. Replies c input outcome) same h.2 in
+    let read = subst (λ c. HasReadIf (reads c) source' input) same h.1 in
+    let whole : input ≡ given = read_given (reads command) source source' input given consumed read is in
+    inl (faultless command given outcome fine (subst (λ i. Replies command i outcome) whole replies))
+
+pub complete_told : (words : List (List ℕ)) (source source' : SourceView) (sink sink' : SinkView)
+    (told : Status) → Answers words source source' sink sink' told → (command : Command)
+    (given : List ℕ) → IsCommand words command → IsToRead command source given → IsFaultless command given
+    → NoFaults source source' sink sink' → (told ≡ status.Ok) ⊎ (told ≡ status.NoMemory)
+complete_told words source source' sink sink' told a command given are is fine works = elim a.written.whole [
+  | inl came ↦
+      elim (complete_of words source source' command a.input given a.due are is fine works.source_works
+      a.consumed a.is_due) [
+        | inl ok ↦ inl (came.0 ∙ ok)
+        | inr lacks ↦ inr (came.0 ∙ lacks)
+      ]
+  | inr failed ↦ absurd (works.sink_works failed.2)
+]
+
+-- ---- a command that reads nothing
+
+silent_ok : (command : Command) (input : List ℕ) (outcome : Outcome) → reads command ≡ false
+    → Replies command input outcome → status_of outcome ≡ status.Ok
+silent_ok called.Help input outcome still h = ap status_of h
+silent_ok called.Version input outcome still h = ap status_of h
+silent_ok called.Plan input outcome still h = absurd cc
+silent_ok called.Check input outcome still h = absurd cc
+silent_ok (called.Replay rounds) input outcome still h = absurd cc
+
+silent_of : (words : List (List ℕ)) (source source' : SourceView) (command : Command)
+    (input : List ℕ) (due : Due) → IsCommand words command → reads command ≡ false
+    → IsDue words source source' input due → (status_of (outcome_of due) ≡ status.Ok) × (input ≡ [])
+silent_of words source source' command input (NoCommand place) are still h =
+    absurd (no_fault words command place are h.0)
+silent_of words source source' command input (SourceFailed other) are still h =
+    let e = sym still ∙ subst (λ c. reads c ≡ true) (same_command words other command h.0 are) h.1 in absurd cc
+silent_of words source source' command input (TooMuch other) are still h =
+    let e = sym still ∙ subst (λ c. reads c ≡ true) (same_command words other command h.0 are) h.1 in absurd cc
+silent_of words source source' command input (LacksMemory other) are still h =
+    let e = sym still ∙ subst (λ c. reads c ≡ true) (same_command words other command h.0 are) h.1 in absurd cc
+silent_of words source source' command input (Replied other outcome) are still h =
+    let same : other ≡ command = same_command words other command h.0 are in
+    let replies = subst (λ c. Replies c input outcome) same h.2 in (
+      silent_ok command input outcome still replies,
+      subst (λ b. HasReadIf b source' input) (ap reads same ∙ still) h.1,
+    )
+
+pub silent_told : (words : List (List ℕ)) (source source' : SourceView) (sink sink' : SinkView)
+    (told : Status) → Answers words source source' sink sink' told → (command : Command)
+    → IsCommand words command → reads command ≡ false
+    → ((told ≡ status.Ok) ⊎ (told ≡ status.WriteFault)) × Unread source source'
+silent_told words source source' sink sink' told a command are still =
+    let s = silent_of words source source' command a.input a.due are still a.is_due in (
+      elim a.written.whole [ inl came ↦ inl (came.0 ∙ s.0) | inr failed ↦ inr failed.0 ],
+      subst (Consumes source.rest source'.rest) s.1 a.consumed,
+    )
+
+-- ---- the words
+
+usage_of : (words : List (List ℕ)) (source source' : SourceView) (input : List ℕ) (due : Due) (place : ℕ)
+    → IsDue words source source' input due → status_of (outcome_of due) ≡ status.Usage place
+    → IsFaultAt words place × (input ≡ [])
+usage_of words source source' input (NoCommand other) place h is =
+    let same : other ≡ place = cc in (subst (IsFaultAt words) same h.0, h.1)
+usage_of words source source' input (SourceFailed command) place h is = absurd cc
+usage_of words source source' input (TooMuch command) place h is = absurd cc
+usage_of words source source' input (LacksMemory command) place h is = absurd cc
+usage_of words source source' input (Replied command (Writes text)) place h is = absurd cc
+usage_of words source source' input (Replied command (Refuses refusal names)) place h is =
+    absurd (subst IsOfInput is (refuses_input command input refusal names h.2))
+
+pub usage_told : (words : List (List ℕ)) (source source' : SourceView) (sink sink' : SinkView)
+    (told : Status) → Answers words source source' sink sink' told → (place : ℕ)
+    → told ≡ status.Usage place → IsFaultAt words place × Unread source source'
+usage_told words source source' sink sink' told a place is =
+    let t = told_due words source source' sink sink' told a (λ failed. let e = sym is ∙ failed in absurd cc) in
+    let u = usage_of words source source' t.input t.due place t.is_due (t.told_is ∙ is) in
+    (u.0, subst (Consumes source.rest source'.rest) u.1 t.consumed)
+
+usage_only : (words : List (List ℕ)) (source source' : SourceView) (input : List ℕ) (due : Due) (place : ℕ)
+    → IsFaultAt words place → IsDue words source source' input due
+    → status_of (outcome_of due) ≡ status.Usage place
+usage_only words source source' input (NoCommand other) place fault h =
+    ap status.Usage (same_place words other place h.0 fault)
+usage_only words source source' input (SourceFailed command) place fault h =
+    absurd (no_fault words command place h.0 fault)
+usage_only words source source' input (TooMuch command) place fault h =
+    absurd (no_fault words command place h.0 fault)
+usage_only words source source' input (LacksMemory command) place fault h =
+    absurd (no_fault words command place h.0 fault)
+usage_only words source source' input (Replied command outcome) place fault h =
+    absurd (no_fault words command place h.0 fault)
+
+pub usage_due : (words : List (List ℕ)) (source source' : SourceView) (sink sink' : SinkView)
+    (told : Status) → Answers words source source' sink sink' told → (place : ℕ) → IsFaultAt words place
+    → (told ≡ status.Usage place) ⊎ (told ≡ status.WriteFault)
+usage_due words source source' sink sink' told a place fault = elim a.written.whole [
+  | inl came ↦ inl (came.0 ∙ usage_only words source source' a.input a.due place fault a.is_due)
+  | inr failed ↦ inr failed.0
+]
+
+-- ---- the ends
+
+read_fault_of : (words : List (List ℕ)) (source source' : SourceView) (input : List ℕ) (due : Due)
+    → IsDue words source source' input due → status_of (outcome_of due) ≡ status.ReadFault
+    → Rose source.faults source'.faults
+read_fault_of words source source' input (NoCommand place) h is = absurd cc
+read_fault_of words source source' input (SourceFailed command) h is = h.3
+read_fault_of words source source' input (TooMuch command) h is = absurd cc
+read_fault_of words source source' input (LacksMemory command) h is = absurd cc
+read_fault_of words source source' input (Replied command (Writes text)) h is = absurd cc
+read_fault_of words source source' input (Replied command (Refuses refusal names)) h is =
+    absurd (subst IsOfInput is (refuses_input command input refusal names h.2))
+
+pub read_fault_told : (words : List (List ℕ)) (source source' : SourceView) (sink sink' : SinkView)
+    (told : Status) → Answers words source source' sink sink' told → told ≡ status.ReadFault
+    → Rose source.faults source'.faults
+read_fault_told words source source' sink sink' told a is =
+    let t = told_due words source source' sink sink' told a (λ failed. let e = sym is ∙ failed in absurd cc) in
+    read_fault_of words source source' t.input t.due t.is_due (t.told_is ∙ is)
+
+too_long_of : (words : List (List ℕ)) (source source' : SourceView) (input : List ℕ) (due : Due)
+    → IsDue words source source' input due → status_of (outcome_of due) ≡ status.TooLong
+    → length input ≡ INPUT_LIMIT + 1
+too_long_of words source source' input (NoCommand place) h is = absurd cc
+too_long_of words source source' input (SourceFailed command) h is = absurd cc
+too_long_of words source source' input (TooMuch command) h is = h.2
+too_long_of words source source' input (LacksMemory command) h is = absurd cc
+too_long_of words source source' input (Replied command (Writes text)) h is = absurd cc
+too_long_of words source source' input (Replied command (Refuses refusal names)) h is =
+    absurd (subst IsOfInput is (refuses_input command input refusal names h.2))
+
+pub too_long_told : (words : List (List ℕ)) (source source' : SourceView) (sink sink' : SinkView)
+    (told : Status) → Answers words source source' sink sink' told → told ≡ status.TooLong
+    → ReadTooMuch source source'
+too_long_told words source source' sink sink' told a is =
+    let t = told_due words source source' sink sink' told a (λ failed. let e = sym is ∙ failed in absurd cc) in
+    (t.input, t.consumed, too_long_of words source source' t.input t.due t.is_due (t.told_is ∙ is))
+
+no_write_fault : (words : List (List ℕ)) (source source' : SourceView) (input : List ℕ) (due : Due)
+    → IsDue words source source' input due → status_of (outcome_of due) ≢ status.WriteFault
+no_write_fault words source source' input (NoCommand place) h is = absurd cc
+no_write_fault words source source' input (SourceFailed command) h is = absurd cc
+no_write_fault words source source' input (TooMuch command) h is = absurd cc
+no_write_fault words source source' input (LacksMemory command) h is = absurd cc
+no_write_fault words source source' input (Replied command (Writes text)) h is = absurd cc
+no_write_fault words source source' input (Replied command (Refuses refusal names)) h is =
+    absurd (subst IsOfInput is (refuses_input command input refusal names h.2))
+
+pub front_told : (words : List (List ℕ)) (source source' : SourceView) (sink sink' : SinkView)
+    (told : Status) → Answers words source source' sink sink' told → told ≡ status.WriteFault
+    → FrontIsOut words source source' sink sink'
+front_told words source source' sink sink' told a is = elim a.written.whole [
+  | inl came ↦ absurd (no_write_fault words source source' a.input a.due a.is_due (sym came.0 ∙ is))
+  | inr failed ↦ record {
+    failed = failed.2;
+    input = a.input;
+    consumed = a.consumed;
+    due = a.due;
+    is_due = a.is_due;
+    begun = failed.1;
+  }
+]
+
+-- ---- a refusal's line
+
+line_from : (outcome : Outcome) → status_of outcome ≢ status.Ok
+    → (names : List (List ℕ)) × (text_of outcome ≡ line_of names (status_of outcome))
+line_from (Writes text) not_ok = absurd (not_ok refl)
+line_from (Refuses refusal names) not_ok = (names, refl)
+
+pub line_told : (words : List (List ℕ)) (source source' : SourceView) (sink sink' : SinkView)
+    (told : Status) → Answers words source source' sink sink' told → told ≢ status.Ok
+    → told ≢ status.WriteFault → LineIsOut sink sink' told
+line_told words source source' sink sink' told a not_ok not_failed =
+    let t = told_due words source source' sink sink' told a not_failed in
+    let line = line_from (outcome_of t.due) (λ ok. not_ok (sym t.told_is ∙ ok)) in
+    (line.0, subst (IsOut sink sink') (line.1 ∙ ap (line_of line.0) t.told_is) t.out)

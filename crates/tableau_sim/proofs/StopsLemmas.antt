@@ -1,0 +1,59 @@
+-- What stops one command stops each: a section that is no host, or a host that can't be planned.
+use Rattle.std.proofs.Common.{◌≡◌, ◌⊎◌, ℕ, List, [], Err, refl, sym, subst, inl, inr}
+use Rattle.tab_core.specs.declared.host.Host.{Host}
+use Rattle.tab_core.specs.declared.over.Over.{Over}
+use Rattle.host_doc.specs.declared.fault.HostFault.{HostFault}
+use Rattle.period_choice.specs.declared.fault.TaskFault.{TaskFault}
+use Rattle.period_choice.specs.declared.fault.TaskFault.TheVariants as lacks
+use Rattle.plan_make.specs.declared.fault.PlanFault.{PlanFault}
+use Rattle.plan_make.specs.declared.fault.PlanFault.TheVariants as fault
+use Rattle.vcpu_names.specs.Names.{names_of}
+use Rattle.tableau_sim.specs.declared.reply.Stop.{Stop}
+use Rattle.tableau_sim.specs.declared.reply.Stop.TheVariants as stop
+use Rattle.tableau_sim.specs.declared.status.Status.TheVariants as status
+use Rattle.tableau_sim.specs.Inside.Reply.{Makes, names_in}
+use Rattle.table_check.specs.declared.fault.CheckFault.{CheckFault}
+use Rattle.table_check.specs.declared.fault.CheckFault.TheVariants as tables
+use Rattle.script_doc.specs.declared.script_fault.ScriptFault.{ScriptFault}
+use Rattle.script_doc.specs.declared.script_fault.ScriptFault.TheVariants as script
+use Rattle.tableau_sim.specs.Hosts.{IsHostFault}
+use Rattle.tableau_sim.specs.Outcomes.{Outcome}
+use Rattle.tableau_sim.specs.Outcomes.Outcome.{Refuses}
+use Rattle.tableau_sim.specs.Inside.Stops.{IsHostStop, check_stop, plan_stop, script_stop, tasks_stop}
+
+pub host_stopped : (P : Outcome → Type 0) (section : List ℕ) (why : Stop)
+    → ((bad : HostFault) → IsHostFault section bad → P (Refuses (status.Host bad) []))
+    → IsHostStop section why → Makes P (Err why)
+host_stopped P section stop.NoMemory faulty h = tt {0}
+host_stopped P section (stop.Refused (status.Host bad) host) faulty h =
+    subst (λ o. P (Refuses (status.Host bad) (names_in o))) (sym h.1) (faulty bad h.0)
+host_stopped P section (stop.Refused other host) faulty h = absurd h
+
+pub tasks_stopped : (P : Outcome → Type 0) (host : Host) (f : TaskFault)
+    → ((vcpu : ℕ) → f ≡ lacks.NoPeriod vcpu → P (Refuses (status.NoPeriod vcpu) (names_of host.vcpus)))
+    → Makes P (Err (tasks_stop f host))
+tasks_stopped P host (lacks.NoPeriod vcpu) no_period = no_period vcpu refl
+tasks_stopped P host lacks.NoMemory no_period = tt {0}
+
+pub plan_stopped : (P : Outcome → Type 0) (host : Host) (f : PlanFault)
+    → ((vcpu : ℕ) → f ≡ fault.NoPeriod vcpu → P (Refuses (status.NoPeriod vcpu) (names_of host.vcpus)))
+    → ((vcpu rest : ℕ) (over : List Over) → f ≡ fault.NoRoom vcpu rest over
+    → P (Refuses (status.NoRoom vcpu rest over) (names_of host.vcpus)))
+    → Makes P (Err (plan_stop f host))
+plan_stopped P host (fault.NoPeriod vcpu) no_period no_room = no_period vcpu refl
+plan_stopped P host (fault.NoRoom vcpu rest over) no_period no_room = no_room vcpu rest over refl
+plan_stopped P host fault.NoMemory no_period no_room = tt {0}
+
+pub check_stopped : (P : Outcome → Type 0) (host : Host) (f : CheckFault) (what : Type 0)
+    → (what → P (Refuses (status.CheckNo f) (names_of host.vcpus)))
+    → (f ≡ tables.NoMemory) ⊎ what → Makes P (Err (check_stop f host))
+check_stopped P host tables.NoMemory what faulty h = tt {0}
+check_stopped P host f what faulty (inl lacks) = absurd cc
+check_stopped P host f what faulty (inr h) = faulty h
+
+pub script_stopped : (P : Outcome → Type 0) (f : ScriptFault) (what : Type 0)
+    → (what → P (Refuses (status.Script f) [])) → (f ≡ script.NoMemory) ⊎ what
+    → Makes P (Err (script_stop f))
+script_stopped P script.NoMemory what faulty h = tt {0}
+script_stopped P f what faulty (inl lacks) = absurd cc
+script_stopped P f what faulty (inr h) = faulty h

@@ -1,0 +1,44 @@
+use Rattle.std.proofs.Common.{ap, Err}
+use Rattle.tableau_sim.specs.Check.{Checks, HasTables, HasTasks}
+use Rattle.tableau_sim.proofs.StopsLemmas.{check_stopped, host_stopped, tasks_stopped}
+use Rattle.tableau_sim.proofs.commands.check.check_of.Goals as goal
+
+pub returns-in-Err : goal.returns-in-Err
+returns-in-Err c = host_stopped (Checks c.args.sections.now) _ _ (λ bad is. Checks.BadHost bad is)
+    (rw c.part.ensures at c.in-Err.ensures.stop)
+
+pub returns-in-Err-tasks_of : goal.returns-in-Err-tasks_of
+returns-in-Err-tasks_of c = rw c.stop_of_tasks.ensures
+    (tasks_stopped (Checks c.args.sections.now) c.in-Ok.host c.in-Err-tasks_of.fault
+    (λ vcpu is. Checks.NoPeriod c.in-Ok.host vcpu (rw c.part.ensures at c.in-Ok.ensures.ok)
+    (c.in-Err-tasks_of.ensures.no_period vcpu (ap Err is))))
+
+pub returns-in-Err-BadLine : goal.returns-in-Err-BadLine
+returns-in-Err-BadLine c =
+    let tasked : HasTasks c.args.sections.now c.in-Ok.host c.in-Ok-tasks_of.tasks =
+    record { is_host = rw c.part.ensures at c.in-Ok.ensures.ok; are_tasks = c.in-Ok-tasks_of.ensures.ok } in
+    rw (c.stopped.ensures, c.in-Err-BadLine.field-0-is)
+    (Checks.BadLine c.in-Ok.host c.in-Ok-tasks_of.tasks c.in-Err-BadLine.line tasked
+    (rw c.part-2.ensures at (c.in-Err-BadLine.ensures.bad_line c.in-Err-BadLine.line (ap Err c.in-Err-BadLine.field-0-is))))
+
+pub returns-in-Ok-check : goal.returns-in-Ok-check
+returns-in-Ok-check c =
+    let tasked : HasTasks c.args.sections.now c.in-Ok.host c.in-Ok-tasks_of.tasks =
+    record { is_host = rw c.part.ensures at c.in-Ok.ensures.ok; are_tasks = c.in-Ok-tasks_of.ensures.ok } in (
+      Checks.Passes c.in-Ok.host c.in-Ok-tasks_of.tasks c.in-Ok-read_plan.raw
+          (record { tasked = tasked; text = rw c.part-2.ensures at c.in-Ok-read_plan.ensures.ok })
+          c.in-Ok-check.ensures.good,
+      tt {0},
+    )
+
+pub returns-in-Err-check : goal.returns-in-Err-check
+returns-in-Err-check c =
+    let tasked : HasTasks c.args.sections.now c.in-Ok.host c.in-Ok-tasks_of.tasks =
+    record { is_host = rw c.part.ensures at c.in-Ok.ensures.ok; are_tasks = c.in-Ok-tasks_of.ensures.ok } in
+    let tables : HasTables c.args.sections.now c.in-Ok.host c.in-Ok-tasks_of.tasks c.in-Ok-read_plan.raw =
+    record { tasked = tasked; text = rw c.part-2.ensures at c.in-Ok-read_plan.ensures.ok } in
+    rw c.stop_of_check.ensures
+    (check_stopped (Checks c.args.sections.now) c.in-Ok.host c.in-Err-check.fault _
+    (λ faulty. Checks.BadTables c.in-Ok.host c.in-Ok-tasks_of.tasks c.in-Ok-read_plan.raw c.in-Err-check.fault
+    tables faulty)
+    c.in-Err-check.ensures.fault)

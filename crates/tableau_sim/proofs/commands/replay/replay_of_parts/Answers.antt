@@ -1,0 +1,76 @@
+use Rattle.std.proofs.Common.{ap, length, subst, sym, ◌∙◌, Err, ◌<◌}
+use Rattle.std.proofs.lemmas.Option.{slice_get-get_or}
+use Rattle.table_form.specs.Running.Courses.{CourseView}
+use Rattle.replay_text.proofs.Within.{all_made}
+use Rattle.step_machine.proofs.Waiting.{short_gaps}
+use Rattle.step_machine.proofs.Promised.{promised}
+use Rattle.step_machine.specs.Refusals.{IsFaultOf, IsRefused}
+use Rattle.tableau_sim.specs.Replay.{Replays}
+use Rattle.plan_book.proofs.WaitsLemmas.{waits}
+use Rattle.tableau_sim.proofs.ReplayLemmas.{each_names_core, place_in, step_refused}
+use Rattle.tableau_sim.proofs.StopsLemmas.{plan_stopped}
+use Rattle.tableau_sim.proofs.commands.replay.replay_of_parts.Goals as goal
+
+pub returns-in-Err : goal.returns-in-Err
+returns-in-Err g c = λ sections read.
+    rw c.stop_of_plan.ensures
+    (plan_stopped (Replays c.args.rounds sections) c.args.host c.in-Err.fault
+    (λ vcpu e. Replays.NoPeriod _ vcpu read (c.in-Err.ensures.no_period vcpu (ap Err e)))
+    (λ vcpu rest over e. Replays.NoRoom _ vcpu rest over read
+    (c.in-Err.ensures.no_room vcpu rest over (ap Err e))))
+
+pub state_after-requires-clause-names : goal.state_after-requires-clause-names
+state_after-requires-clause-names g c = λ k taken at.
+    each_names_core c.course.result.now c.args.host.cores c.args.list.steps
+    (ap (λ (course : CourseView). course.cores) c.course.ensures ∙ c.in-Ok.ensures.ok.course.cores)
+    c.requires.names k taken (rw c.items.ensures at at)
+
+pub returns-in-Ok-state_after : goal.returns-in-Ok-state_after
+returns-in-Ok-state_after g c = λ sections read.
+    let of = c.in-Ok.ensures.ok.course in
+    let kept = rw c.course.ensures at c.in-Ok-state_after.ensures.kept in
+    let course_kept = rw c.course.ensures at c.in-Ok-state_after.ensures.course_kept in
+    let is_run = rw (c.course.ensures, c.items.ensures) at c.in-Ok-state_after.ensures.ok in (
+      Replays.Replayed _ c.in-Ok.book.course c.in-Ok-state_after.state read (record {
+        course_is = of;
+        leads = rw (c.course.ensures, c.items.ensures) at c.in-Ok-state_after.ensures.leads;
+        course_kept = course_kept;
+        promises = promised c.in-Ok.book.course c.args.rounds c.in-Ok-state_after.state course_kept kept;
+        waits = waits c.args.host c.args.script c.in-Ok.book.course c.args.rounds c.in-Ok-state_after.state of
+            kept (short_gaps c.in-Ok.book.course c.in-Ok-state_after.state course_kept);
+        made = all_made c.in-Ok.book.course c.args.list.steps c.in-Ok-state_after.state is_run;
+      }),
+      is_run,
+    )
+
+pub bounds-items-place : goal.bounds-items-place
+bounds-items-place g c =
+    let refused : IsRefused c.course.result.now c.args.rounds c.items.result.now c.in-Err-Refused.place
+    c.in-Err-Refused.answer =
+    subst (IsFaultOf c.course.result.now c.args.rounds c.items.result.now) c.in-Err-Refused.field-0-is
+    c.in-Err-Refused.ensures.refused in
+    place_in c.course.result.now c.args.rounds c.items.result.now c.items-in-Err-Refused.result.now
+    c.in-Err-Refused.place c.in-Err-Refused.answer
+    (ap length c.items-in-Err-Refused.ensures ∙ c.args.list.one_line_each ∙ ap length (sym c.items.ensures))
+    refused
+
+pub returns-in-Err-Refused : goal.returns-in-Err-Refused
+returns-in-Err-Refused g c = λ sections read.
+    let given : IsRefused c.course.result.now c.args.rounds c.items.result.now c.in-Err-Refused.place
+    c.in-Err-Refused.answer =
+    subst (IsFaultOf c.course.result.now c.args.rounds c.items.result.now) c.in-Err-Refused.field-0-is
+    c.in-Err-Refused.ensures.refused in
+    let refused : IsRefused c.in-Ok.book.course c.args.rounds c.args.list.steps c.in-Err-Refused.place
+    c.in-Err-Refused.answer = rw (c.course.ensures, c.items.ensures) at given in
+    let low : c.in-Err-Refused.place < length c.args.list.lines =
+    place_in c.in-Ok.book.course c.args.rounds c.args.list.steps c.args.list.lines c.in-Err-Refused.place
+    c.in-Err-Refused.answer c.args.list.one_line_each refused in
+    rw (c.stopped.ensures, c.items-in-Err-Refused.ensures)
+    (step_refused c.args.rounds sections (record {
+      host = c.args.host;
+      events = c.args.script;
+      steps = c.args.list.steps;
+      lines = c.args.list.lines;
+    }) c.in-Ok.book.course c.in-Err-Refused.place _ c.in-Err-Refused.answer read
+    c.in-Ok.ensures.ok.course
+    (slice_get-get_or c.args.list.lines c.in-Err-Refused.place 0 low) refused)

@@ -1,0 +1,3 @@
+-- What the code keeps between reading and writing: private to this crate.
+pub mod Reply
+pub mod Stops

@@ -1,0 +1,95 @@
+-- What stands between reading and writing: the reply to the words.
+use Rattle.std.specs.Prelude.{◌≡◌, ◌≢◌, ℕ, ◌≤◌, true, List, [], codes, length, Option, Some, None, Result, Ok, Err}
+use Rattle.std.specs.Io.KnownBytes.{Consumes, IsAtEnd}
+use Rattle.tab_core.specs.declared.host.Host.{Host}
+use Rattle.tab_io.specs.Views.{SourceView}
+use Rattle.tab_words.specs.Commands.{IsCommand}
+use Rattle.tab_words.specs.Sections.{sections_of}
+use Rattle.tab_words.specs.declared.command.Command.{Command}
+use Rattle.tab_words.specs.declared.command.Command.TheVariants as command
+use Rattle.tab_words.specs.declared.command.TheConstants.{MOST_ROUNDS}
+use Rattle.table_form.specs.Tables.Plans.{IsPlanFor}
+use Rattle.table_form.specs.Tables.Views.{plan_view}
+use Rattle.vcpu_names.specs.Names.{names_of}
+use Rattle.plan_text.specs.PlanText.{plan_text}
+use Rattle.replay_text.specs.ReplayText.{replay_text}
+use Rattle.replay_text.specs.RunsOf.{IsRunOf}
+use Rattle.tableau_sim.specs.declared.help.TheConstants.{HELP, VERSION}
+use Rattle.tableau_sim.specs.declared.reply.Stop.{Stop}
+use Rattle.tableau_sim.specs.declared.reply.Stop.TheVariants as stop
+use Rattle.tableau_sim.specs.declared.reply.Text.{Text}
+use Rattle.tableau_sim.specs.declared.reply.Text.TheVariants as written
+use Rattle.tableau_sim.specs.declared.status.Status.TheVariants as status
+use Rattle.tableau_sim.specs.declared.input.TheConstants.{INPUT_LIMIT}
+use Rattle.tableau_sim.specs.Commands.{reads}
+use Rattle.tableau_sim.specs.Frame.{Due, IsDue, outcome_of}
+use Rattle.tableau_sim.specs.Outcomes.{Outcome}
+use Rattle.tableau_sim.specs.Outcomes.Outcome.{Refuses, Writes}
+
+-- the bytes of a text
+abbrev pub bytes_of : Text → List ℕ
+bytes_of written.Help = HELP.now
+bytes_of written.Version = VERSION.now
+bytes_of (written.Plan host plan) = plan_text (names_of host.vcpus) (plan_view plan)
+bytes_of written.Checked = codes "ok\n"
+bytes_of (written.Replay host made steps state) = replay_text (names_of host.vcpus) made.course steps state
+
+-- a plan in a text is one for its host, and a state is that to which its steps lead, so that they
+-- can be written
+abbrev pub IsWritable : Text → Type 0
+IsWritable (written.Plan host plan) = IsPlanFor host (plan_view plan)
+IsWritable (written.Replay host made steps state) = IsRunOf made.course steps state
+IsWritable text = Unit {0}
+
+-- the names that a refusal may need
+abbrev pub names_in : Option Host → List (List ℕ)
+names_in None = []
+names_in (Some host) = names_of host.vcpus
+
+-- the reply is an outcome of which P holds, and can be written; or memory was wanting
+abbrev pub Makes : (Outcome → Type 0) → Result Text Stop → Type 0
+Makes P (Ok text) = P (Writes (bytes_of text)) × IsWritable text
+Makes P (Err (stop.Refused refusal host)) = P (Refuses refusal (names_in host))
+Makes P (Err stop.NoMemory) = Unit {0}
+
+-- the outcome that a reply stands for
+abbrev pub outcome_in : Result Text Stop → Outcome
+outcome_in (Ok text) = Writes (bytes_of text)
+outcome_in (Err (stop.Refused refusal host)) = Refuses refusal (names_in host)
+outcome_in (Err stop.NoMemory) = Refuses status.NoMemory []
+
+abbrev pub CanBeWritten : Result Text Stop → Type 0
+CanBeWritten (Ok text) = IsWritable text
+CanBeWritten (Err why) = Unit {0}
+
+-- what was read, and that the reply is due after it
+pub record IsReplyTo (words : List (List ℕ)) (old new : SourceView) (reply : Result Text Stop) : Type 0 where
+  pub input : List ℕ
+  pub consumed : Consumes old.rest new.rest input
+  pub later : old.faults ≤ new.faults
+  pub due : Due
+  pub is_due : IsDue words old new input due
+  pub same : outcome_of due ≡ outcome_in reply
+  pub writable : CanBeWritten reply
+
+-- this is the whole input, within the limit
+pub record HasInput (old new : SourceView) (input : List ℕ) : Type 0 where
+  pub consumed : Consumes old.rest new.rest input
+  pub later : old.faults ≤ new.faults
+  pub short : length input ≤ INPUT_LIMIT
+  pub ended : IsAtEnd new.rest
+
+-- so each command that reads must reply
+abbrev pub StopsReading : SourceView → SourceView → Stop → Type 0
+StopsReading old new why = (words : List (List ℕ)) (command : Command) → IsCommand words command
+    → reads command ≡ true → IsReplyTo words old new (Err why)
+
+-- the input has another number of sections than is wanted
+pub record IsOff (wanted : ℕ) (input : List ℕ) (why : Stop) : Type 0 where
+  pub off : length (sections_of input) ≢ wanted
+  pub why_is : why ≡ stop.Refused (status.BadSections (length (sections_of input)) wanted) None
+
+-- the rounds that a command is given are some and not too many
+abbrev pub HasGoodRounds : Command → Type 0
+HasGoodRounds (command.Replay rounds) = (1 ≤ rounds) × (rounds ≤ MOST_ROUNDS)
+HasGoodRounds other = Unit {0}

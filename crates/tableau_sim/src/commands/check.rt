@@ -1,0 +1,50 @@
+ghost use Rattle.std.specs.Prelude.{◌≡◌, ◌<◌, ◌≤◌, ◌^◌, ℕ, [], length, slice_index_or};
+ghost use Rattle.tableau_sim.specs.declared.input.TheConstants.{INPUT_LIMIT};
+ghost use Rattle.tableau_sim.specs.Check.{Checks};
+ghost use Rattle.tableau_sim.specs.Inside.Reply.{Makes};
+ghost use Rattle.tableau_sim.specs.Sections.{OfSections};
+
+use crate::input::cut;
+use crate::reply::{Reply, Stop, Text, stopped};
+use crate::status::Status;
+use crate::stops::{host_of, stop_of_check, stop_of_tasks};
+use period_choice::tasks_of;
+use plan_text::{ReadPlan, read_plan};
+use std::alloc::Global;
+use tab_words::Sections;
+use table_check::check;
+
+// The reply of `check` to its input.
+pub(crate) fn check_reply(alloc: Global, input: &[u8]) -> Reply
+    requires { length input.now ≤ INPUT_LIMIT }
+    ensures { Makes (OfSections 2 Checks input.now) result }
+{
+    match cut(input, 2) {
+        Ok(sections) => check_of(alloc, &sections),
+        Err(stop) => Err(stop),
+    }
+}
+
+fn check_of(alloc: Global, sections: &Sections) -> Reply
+    requires two { length sections.now ≡ 2 }
+    requires short { (i : ℕ) → length (slice_index_or sections.now i []) < 2 ^ 32 }
+    ensures { Makes (Checks sections.now) result }
+{
+    let host = match host_of(alloc, sections.part(0)) {
+        Ok(host) => host,
+        Err(stop) => return Err(stop),
+    };
+    let tasks = match tasks_of(alloc, &host) {
+        Ok(tasks) => tasks,
+        Err(fault) => return Err(stop_of_tasks(fault, host)),
+    };
+    let raw = match read_plan(alloc, sections.part(1), &host, &tasks) {
+        Ok(raw) => raw,
+        Err(ReadPlan::BadLine { line }) => return Err(stopped(Status::BadPlanLine { line })),
+        Err(ReadPlan::NoMemory) => return Err(Stop::NoMemory),
+    };
+    match check(alloc, &tasks, &raw) {
+        Ok(_) => Ok(Text::Checked),
+        Err(fault) => Err(stop_of_check(fault, host)),
+    }
+}

@@ -1,0 +1,136 @@
+ghost use Rattle.std.specs.Prelude.{◌≡◌, ◌<◌, ◌≤◌, ◌^◌, ℕ, [], All, IfErr, IfOk, List, Some, length, slice_get, slice_index_or};
+ghost use Rattle.table_form.specs.Running.Courses.{FitsRounds, IsCourse};
+ghost use Rattle.table_form.specs.Running.Invariant.{StateInvariant};
+ghost use Rattle.table_form.specs.Running.State.{opening};
+ghost use Rattle.script_doc.specs.Script.{AreInRun, AreWithin};
+ghost use Rattle.script_doc.specs.Steps.{IsStepWithin};
+ghost use Rattle.script_doc.specs.declared.step.Step.{Step as StepValue};
+ghost use Rattle.step_machine.specs.Answers.{NamesCore};
+ghost use Rattle.step_machine.specs.Refusals.{IsFaultOf};
+ghost use Rattle.step_machine.specs.Runs.{Leads};
+ghost use Rattle.tab_words.specs.declared.command.TheConstants.{MOST_ROUNDS};
+ghost use Rattle.replay_text.specs.RunsOf.{IsRunOf};
+ghost use Rattle.tableau_sim.specs.Inside.Reply.{Makes};
+ghost use Rattle.tableau_sim.specs.Replay.{HasParts, Replays};
+ghost use Rattle.tableau_sim.specs.Sections.{OfSections};
+ghost use Rattle.tableau_sim.specs.declared.input.TheConstants.{INPUT_LIMIT};
+
+use crate::input::cut;
+use crate::reply::{Reply, Stop, Text, stopped};
+use crate::status::Status;
+use crate::stops::{host_of, stop_of_plan, stop_of_script};
+use plan_book::make_book;
+use script_doc::{Script, Step, StepList, StepsFault, read_script, read_steps};
+use std::alloc::Global;
+use std::thread::Threads;
+use step_machine::{MachineState, ReplayFault, replay};
+use tab_core::Host;
+use tab_words::Sections;
+use table_form::Course;
+
+// The reply of `replay` to its input.
+pub(crate) fn replay_reply<R: Threads + Sync>(
+    rt: &R,
+    alloc: Global,
+    rounds: u32,
+    input: &[u8],
+) -> Reply
+    requires within { length input.now ≤ INPUT_LIMIT }
+    requires some { 1 ≤ rounds }
+    requires few { rounds ≤ MOST_ROUNDS }
+    ensures { Makes (OfSections 3 (Replays rounds) input.now) result }
+{
+    match cut(input, 3) {
+        Ok(sections) => replay_of(rt, alloc, rounds, &sections),
+        Err(stop) => Err(stop),
+    }
+}
+
+fn replay_of<R: Threads + Sync>(rt: &R, alloc: Global, rounds: u32, sections: &Sections) -> Reply
+    requires three { length sections.now ≡ 3 }
+    requires short { (i : ℕ) → length (slice_index_or sections.now i []) < 2 ^ 32 }
+    requires some { 1 ≤ rounds }
+    requires few { rounds ≤ MOST_ROUNDS }
+    ensures { Makes (Replays rounds sections.now) result }
+{
+    let host = match host_of(alloc, sections.part(0)) {
+        Ok(host) => host,
+        Err(stop) => return Err(stop),
+    };
+    let script = match read_script(alloc, sections.part(1), &host, rounds) {
+        Ok(script) => script,
+        Err(fault) => return Err(stop_of_script(fault)),
+    };
+    let list = match read_steps(alloc, sections.part(2), host.cores) {
+        Ok(list) => list,
+        Err(StepsFault::BadLine { line }) => return Err(stopped(Status::BadStep { line })),
+        Err(StepsFault::NoMemory) => return Err(Stop::NoMemory),
+    };
+    replay_of_parts(rt, alloc, rounds, host, script, list)
+}
+
+// The reply of `replay` to a host, a script and steps.
+fn replay_of_parts<R: Threads + Sync>(
+    rt: &R,
+    alloc: Global,
+    rounds: u32,
+    host: Host,
+    script: Script,
+    list: StepList,
+) -> Reply
+    requires some { 1 ≤ rounds }
+    requires few { rounds ≤ MOST_ROUNDS }
+    requires within { AreWithin (length host.vcpus) script }
+    requires in_run { AreInRun rounds script }
+    requires names { All (IsStepWithin host.cores) list.steps }
+    requires short { length list.steps < 2 ^ 32 }
+    ensures { (sections : List (List ℕ))
+        → HasParts rounds sections
+        (record { host = host; events = script; steps = list.steps; lines = list.lines })
+        → Makes (Replays rounds sections) result }
+{
+    let book = match make_book(rt, alloc, &host, &script) {
+        Ok(book) => book,
+        Err(fault) => return Err(stop_of_plan(fault, host)),
+    };
+    let StepList { steps, lines } = list;
+    match state_after(alloc, book.course(), rounds, steps.items()) {
+        Ok(state) => Ok(Text::Replay {
+            host,
+            book,
+            steps,
+            state,
+        }),
+        Err(ReplayFault::Refused { place, answer }) => {
+            let line = lines.items()[place as usize];
+            Err(stopped(Status::StepRefused { line, answer }))
+        }
+        Err(ReplayFault::NoMemory) => Err(Stop::NoMemory),
+    }
+}
+
+// The state after the steps, if each of them is done.
+fn state_after(
+    alloc: Global,
+    course: &Course,
+    rounds: u32,
+    steps: &[Step],
+) -> Result<MachineState, ReplayFault>
+    requires fits { FitsRounds course.now rounds }
+    requires short { length steps.now < 2 ^ 32 }
+    requires names { (k : ℕ) (step : StepValue) → slice_get steps.now k ≡ Some step
+        → NamesCore course.now step }
+    ensures ok { IfOk result (λ state. IsRunOf course.now steps.now state) }
+    ensures leads { IfOk result (λ state.
+        Leads course.now rounds (opening course.now.cores) steps.now state) }
+    ensures kept { IfOk result (λ state. StateInvariant course.now rounds state) }
+    ensures course_kept { IsCourse course.now }
+    ensures refused { IfErr result (λ fault. IsFaultOf course.now rounds steps.now fault) }
+{
+    // the course keeps what its type says
+    let _count = course.count();
+    match replay(alloc, course, rounds, steps) {
+        Ok(world) => Ok(world.into_state()),
+        Err(fault) => Err(fault),
+    }
+}

@@ -1,0 +1,90 @@
+ghost use Rattle.std.specs.Prelude.{◌≡◌, ◌<◌, ◌≤◌, ◌^◌, ℕ, IfErr, IfOk, List, length};
+ghost use Rattle.tab_words.specs.Commands.{IsCommand, texts};
+ghost use Rattle.tab_words.specs.Sections.{sections_of};
+ghost use Rattle.tableau_sim.specs.Inside.Reply.{HasGoodRounds, HasInput, IsOff, IsReplyTo, StopsReading};
+
+use crate::commands::check::check_reply;
+use crate::commands::plan::plan_reply;
+use crate::commands::replay::replay_reply;
+use crate::reply::{Reply, Stop, Text, stopped};
+use crate::status::Status;
+use std::alloc::Global;
+use std::thread::Threads;
+use tab_io::{ReadAll, Source, read_all};
+use tab_words::{Command, Sections, cut_sections, read_words};
+
+/// The most bytes that are read.
+pub const INPUT_LIMIT: usize = 4_194_304;
+
+// The reply to the words, and to what they ask to read.
+pub(crate) fn reply_to<R: Threads + Sync, S: Source>(
+    rt: &R,
+    alloc: Global,
+    words: &[String],
+    input: &mut S,
+) -> Reply
+    ensures { IsReplyTo (texts words.now) (S.state input.old) (S.state input.new) result }
+{
+    match read_words(words) {
+        Ok(command) => reply_of(rt, alloc, command, input),
+        Err(usage) => Err(stopped(Status::Usage { place: usage.place })),
+    }
+}
+
+// The command's reply. One row for each, which reads the input where the command does.
+fn reply_of<R: Threads + Sync, S: Source>(
+    rt: &R,
+    alloc: Global,
+    command: Command,
+    input: &mut S,
+) -> Reply
+    requires { HasGoodRounds command }
+    ensures { (words : List (List ℕ)) → IsCommand words command
+        → IsReplyTo words (S.state input.old) (S.state input.new) result }
+{
+    match command {
+        Command::Help => Ok(Text::Help),
+        Command::Version => Ok(Text::Version),
+        Command::Plan => match read_input(alloc, input) {
+            Ok(bytes) => plan_reply(rt, alloc, &bytes),
+            Err(stop) => Err(stop),
+        },
+        Command::Check => match read_input(alloc, input) {
+            Ok(bytes) => check_reply(alloc, &bytes),
+            Err(stop) => Err(stop),
+        },
+        Command::Replay { rounds } => match read_input(alloc, input) {
+            Ok(bytes) => replay_reply(rt, alloc, rounds, &bytes),
+            Err(stop) => Err(stop),
+        },
+    }
+}
+
+// The whole input, of which no more than the limit is taken.
+fn read_input<S: Source>(alloc: Global, input: &mut S) -> Result<Vec<u8>, Stop>
+    ensures ok { IfOk result (λ bytes. HasInput (S.state input.old) (S.state input.new) bytes.items) }
+    ensures stop { IfErr result (StopsReading (S.state input.old) (S.state input.new)) }
+{
+    match read_all(alloc, input, INPUT_LIMIT) {
+        Ok(bytes) => Ok(bytes),
+        Err(ReadAll::ReadFault) => Err(stopped(Status::ReadFault)),
+        Err(ReadAll::TooLong { .. }) => Err(stopped(Status::TooLong)),
+        Err(ReadAll::NoMemory) => Err(Stop::NoMemory),
+    }
+}
+
+// The sections of an input, where they are as many as wanted.
+pub(crate) fn cut(input: &[u8], wanted: u32) -> Result<Sections<'_>, Stop>
+    requires { length input.now < 2 ^ 32 }
+    ensures ok { IfOk result (λ sections. sections ≡ sections_of input.now) }
+    ensures wanted { IfOk result (λ _. length (sections_of input.now) ≡ wanted) }
+    ensures off { IfErr result (IsOff wanted input.now) }
+{
+    let sections = cut_sections(input);
+    let found = sections.count();
+    if found == wanted {
+        Ok(sections)
+    } else {
+        Err(stopped(Status::BadSections { found, wanted }))
+    }
+}

@@ -1,0 +1,79 @@
+ghost use Rattle.std.specs.Prelude.{◌≡◌};
+ghost use Rattle.tab_io.specs.Sinks.{Writes};
+ghost use Rattle.vcpu_names.specs.Names.{names_of};
+ghost use Rattle.tableau_sim.specs.Inside.Reply.{CanBeWritten, IsWritable, bytes_of, names_in, outcome_in};
+ghost use Rattle.tableau_sim.specs.Frame.{WritesReply};
+ghost use Rattle.tableau_sim.specs.Outcomes.{status_of, text_of};
+
+use crate::help::{HELP, VERSION};
+use crate::line::put_line;
+use crate::reply::{Reply, Stop, Text};
+use crate::status::Status;
+use plan_text::write_plan;
+use replay_text::write_replay;
+use tab_core::{Host, Vcpu};
+use tab_io::{Put, Sink, WriteFault, write_all};
+
+// Writes what is due and settles it.
+pub(crate) fn write_reply<K: Sink>(output: &mut K, reply: Reply) -> Status
+    requires { CanBeWritten reply }
+    ensures { WritesReply (K.state output.old) (K.state output.new) (outcome_in reply) result }
+{
+    if let Err(_fault) = put_reply(output, &reply) {
+        return Status::WriteFault;
+    }
+    match output.finish() {
+        Put::Took(_) => status_in(reply),
+        Put::Failed => Status::WriteFault,
+    }
+}
+
+fn put_reply<K: Sink>(output: &mut K, reply: &Reply) -> Result<(), WriteFault>
+    requires { CanBeWritten reply.now }
+    ensures { Writes (K.state output.old) (K.state output.new)
+        (text_of (outcome_in reply.now)) result }
+{
+    match reply {
+        Ok(text) => put_text(output, text),
+        Err(Stop::Refused { status, host }) => put_line(output, status, vcpus_in(host)),
+        Err(Stop::NoMemory) => put_line(output, &Status::NoMemory, &[]),
+    }
+}
+
+// One row for each text.
+fn put_text<K: Sink>(output: &mut K, text: &Text) -> Result<(), WriteFault>
+    requires { IsWritable text.now }
+    ensures { Writes (K.state output.old) (K.state output.new) (bytes_of text.now) result }
+{
+    match text {
+        Text::Help => write_all(output, HELP.as_bytes()),
+        Text::Version => write_all(output, VERSION.as_bytes()),
+        Text::Plan { host, plan } => write_plan(output, host, plan),
+        Text::Checked => write_all(output, b"ok\n"),
+        Text::Replay {
+            host,
+            book,
+            steps,
+            state,
+        } => write_replay(output, host, book.course(), steps.items(), state),
+    }
+}
+
+fn vcpus_in(host: &Option<Host>) -> &[Vcpu]
+    ensures { names_of result.now ≡ names_in host.now }
+{
+    match host {
+        Some(host) => host.vcpus.items(),
+        None => &[],
+    }
+}
+
+fn status_in(reply: Reply) -> Status
+    ensures { result ≡ status_of (outcome_in reply) }
+{
+    match reply {
+        Ok(_) => Status::Ok,
+        Err(Stop::Refused { status, .. }) => status,
+        Err(Stop::NoMemory) => Status::NoMemory,
+    }
+}
