@@ -1,5 +1,5 @@
 ghost use Rattle.std.specs.Prelude.{◌≡◌, ◌++◌, codes};
-ghost use Rattle.tab_io.specs.Outside.{Writes};
+ghost use Rattle.tab_io.specs.Sinks.{Writes};
 ghost use Rattle.host_doc.specs.Refusal.{host_fault_line, key_behind, path_text};
 
 use crate::fault::{HostFault, Key, Path};

@@ -5,4 +5,3 @@ pub mod Planned
 pub mod SplitInTurn
 pub mod Unsplit
 pub mod Refusal
-pub mod Steps

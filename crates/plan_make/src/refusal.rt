@@ -1,5 +1,5 @@
 ghost use Rattle.std.specs.Prelude.{◌++◌, codes, flat_map};
-ghost use Rattle.tab_io.specs.Outside.{Writes};
+ghost use Rattle.tab_io.specs.Sinks.{Writes};
 ghost use Rattle.plan_make.specs.Refusal.{no_period_line, no_room_line, no_room_text, over_text};
 
 use tab_core::Over;

@@ -1,4 +1,4 @@
-ghost use Rattle.tab_io.specs.Outside.{Writes};
+ghost use Rattle.tab_io.specs.Sinks.{Writes};
 ghost use Rattle.plan_text.specs.Refusal.{plan_fault_line};
 
 use tab_io::{Sink, WriteFault};

@@ -1,4 +1,3 @@
-pub mod Counting
 pub mod Refusal
 pub mod ReplayText
 pub mod StintLine

@@ -1,5 +1,5 @@
 ghost use Rattle.std.specs.Prelude.{◌++◌, codes, decimal};
-ghost use Rattle.tab_io.specs.Outside.{Writes};
+ghost use Rattle.tab_io.specs.Sinks.{Writes};
 ghost use Rattle.replay_text.specs.Refusal.{step_fault_line};
 
 use step_machine::Answer;

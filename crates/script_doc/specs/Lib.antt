@@ -1,9 +1,7 @@
 pub mod EventLines
 pub mod Events
 pub mod Inside
-pub mod Reading
 pub mod Refusal
-pub mod Rows
 pub mod Script
 pub mod ScriptFaults
 pub mod Statements

@@ -1,5 +1,5 @@
 ghost use Rattle.std.specs.Prelude.{◌++◌, decimal};
-ghost use Rattle.tab_io.specs.Outside.{Writes};
+ghost use Rattle.tab_io.specs.Sinks.{Writes};
 ghost use Rattle.script_doc.specs.Refusal.{script_fault_line, steps_fault_line};
 
 use crate::script_fault::ScriptFault;

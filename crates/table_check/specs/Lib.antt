@@ -1,6 +1,5 @@
 pub mod Clashes
 pub mod Faults
-pub mod Meetings
 pub mod Refusal
 pub mod Inside
 pub mod Shapes

@@ -1,9 +1,9 @@
-ghost use Rattle.tab_io.specs.Outside.{Writes};
+ghost use Rattle.tab_io.specs.Sinks.{Writes};
 ghost use Rattle.vcpu_names.specs.Names.{names_of};
 ghost use Rattle.table_check.specs.Refusal.{check_fault_line, shape_line, short_line, twice_line};
 
 use crate::fault::CheckFault;
-use plan_text::name_in;
+use vcpu_names::name_in;
 use tab_core::Vcpu;
 use tab_io::{Sink, WriteFault};
 use tab_words::{TextPiece, put_pieces};

@@ -1,4 +1,4 @@
-use Rattle.tab_io.proofs.Writing.{writes_broken, writes_then}
+use Rattle.tab_io.proofs.SinkLemmas.{writes_broken, writes_then}
 use Rattle.plan_make.proofs.refusal.put_no_room.Goals as goal
 
 pub returns-in-Err : goal.returns-in-Err

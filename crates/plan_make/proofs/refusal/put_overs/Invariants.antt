@@ -1,5 +1,5 @@
 use Rattle.std.proofs.Common.{take, flat_map, Ok}
-use Rattle.tab_io.specs.Outside.{Writes}
+use Rattle.tab_io.specs.Sinks.{Writes}
 use Rattle.plan_make.specs.Refusal.{over_text}
 use Rattle.plan_make.proofs.refusal.put_overs.Given as goal
 

@@ -1,5 +1,5 @@
 use Rattle.std.proofs.Common.{◌++◌, append-nil, codes, decimal, subst}
-use Rattle.tab_io.specs.Outside.{Writes}
+use Rattle.tab_io.specs.Sinks.{Writes}
 use Rattle.replay_text.proofs.refusal.put_end.Goals as goal
 
 pub returns : goal.returns

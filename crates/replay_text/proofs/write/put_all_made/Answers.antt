@@ -1,7 +1,7 @@
 use Rattle.std.proofs.Common.{subst, sym}
-use Rattle.tab_io.specs.Outside.{Writes}
+use Rattle.tab_io.specs.Sinks.{Writes}
 use Rattle.tab_words.proofs.Pieces.{pieces_last, pieces_broken}
-use Rattle.plan_text.specs.PlanText.{names_of}
+use Rattle.vcpu_names.specs.Names.{names_of}
 use Rattle.step_machine.specs.Traces.{IsOfCourse}
 use Rattle.step_machine.specs.declared.trace.Made.{Made}
 use Rattle.replay_text.specs.ReplayText.{made_line}

@@ -1,6 +1,6 @@
 use Rattle.std.proofs.Common.{take, flat_map, Ok}
-use Rattle.tab_io.specs.Outside.{Writes}
-use Rattle.plan_text.specs.PlanText.{names_of}
+use Rattle.tab_io.specs.Sinks.{Writes}
+use Rattle.vcpu_names.specs.Names.{names_of}
 use Rattle.replay_text.specs.ReplayText.{made_line}
 use Rattle.replay_text.proofs.write.put_all_made.Given as goal
 
