@@ -122,9 +122,9 @@ moved : (course : CourseView) (rounds : ℕ) (old new : State) (taken : Step) (c
 moved course rounds old new step.Post c after moves at = posted course old new c after moves at
 moved course rounds old new (step.See d) c after moves at = saw course rounds d old new c after moves at
 moved course rounds old new (step.Decide d) c after (inl wins) at =
-    entered d old new wins.core _ c after wins.at (ap (λ (s : State). s.cores) wins.becomes) at
+    entered d old new wins.round.core _ c after wins.round.at (ap (λ (s : State). s.cores) wins.becomes) at
 moved course rounds old new (step.Decide d) c after (inr joins) at =
-    entered d old new joins.core _ c after joins.at (ap (λ (s : State). s.cores) joins.becomes) at
+    entered d old new joins.round.core _ c after joins.round.at (ap (λ (s : State). s.cores) joins.becomes) at
 moved course rounds old new (step.Run d) c after moves at = ran course rounds d old new c after moves at
 
 pub count_first : {X : Type 0} (p : X → Bool) (x : X) (xs : List X)

@@ -40,11 +40,11 @@ named course rounds old new (step.See d) moves size = record {
   size = set_size old.cores new.cores d _ course.cores (ap (λ (s : State). s.cores) moves.becomes) size;
 }
 named course rounds old new (step.Decide d) (inl wins) size = record {
-  core = omega (arith, within old.cores d wins.core wins.at, size);
+  core = omega (arith, within old.cores d wins.round.core wins.round.at, size);
   size = set_size old.cores new.cores d _ course.cores (ap (λ (s : State). s.cores) wins.becomes) size;
 }
 named course rounds old new (step.Decide d) (inr joins) size = record {
-  core = omega (arith, within old.cores d joins.core joins.at, size);
+  core = omega (arith, within old.cores d joins.round.core joins.round.at, size);
   size = set_size old.cores new.cores d _ course.cores (ap (λ (s : State). s.cores) joins.becomes) size;
 }
 named course rounds old new (step.Run d) moves size = record {
