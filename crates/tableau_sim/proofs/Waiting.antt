@@ -1,6 +1,7 @@
 -- Each wait of a kept run is within the greater of two latencies.
 use Rattle.std.proofs.Common.{◌≡◌, ℕ, suc, ◌+◌, ◌-◌, ◌*◌, ◌/◌, ◌≤◌, max, List, Option, Some, None, length, slice_get, refl, ap, subst, ◌∙◌, arith}
 use Rattle.std.proofs.lemmas.List.{length-map}
+use Rattle.tab_core.specs.Budgets.{slack_of}
 use Rattle.tab_core.specs.declared.TheConstants.{ROUND, TICK_NS}
 use Rattle.tab_core.specs.declared.host.Host.{Host}
 use Rattle.tab_core.specs.declared.periodic.Periodic.{Periodic}
@@ -8,20 +9,23 @@ use Rattle.tab_core.specs.declared.reservation.Reservation.{Reservation}
 use Rattle.tab_core.specs.declared.vcpu.Vcpu.{Vcpu}
 use Rattle.period_choice.specs.Choice.{IsChosen}
 use Rattle.period_choice.specs.Tasks.{AreTasksOf, IsTaskOf}
-use Rattle.table_form.specs.Running.Courses.{CourseView, plan_after}
+use Rattle.table_form.specs.Running.Courses.{CourseView}
 use Rattle.table_form.specs.Running.Invariant.{StateInvariant}
-use Rattle.table_form.specs.Running.Offered.{HasShortGaps, task_by, task_in}
+use Rattle.table_form.specs.Running.Gaps.{HasShortGaps, task_at}
+use Rattle.table_form.specs.Running.Offered.{task_in}
 use Rattle.table_form.specs.Tables.Plans.{PlanView}
-use Rattle.table_form.specs.Tables.Serves.{flat}
 use Rattle.table_form.specs.Running.State.{State}
 use Rattle.script_doc.specs.declared.event.Event.{Event}
 use Rattle.plan_book.proofs.Planned.{known_planned}
-use Rattle.step_machine.proofs.Lists.{element_at, within}
+use Rattle.run_promises.proofs.GapLemmas.{some_task}
+use Rattle.run_promises.proofs.Lists.{element_at, within}
+use Rattle.run_promises.proofs.ServedLemmas.{task_found}
 use Rattle.tableau_sim.specs.Courses.{IsCourseOf}
 use Rattle.tableau_sim.specs.Waits.{IsReservedIn, WaitsWithinLatency}
 
+-- a wait within two slacks is within the greater latency
 short_wait : (r t : Reservation) (first last : Periodic) (ticks : ℕ) → IsChosen r first → IsChosen t last
-    → ticks + first.cost + last.cost ≤ first.period + last.period
+    → ticks ≤ slack_of first + slack_of last
     → TICK_NS * ticks ≤ max r.latency_ns t.latency_ns
 short_wait r t first last ticks is other most =
     let a = is.admissible.in_time in
@@ -38,11 +42,13 @@ pub record Reserved (vcpus : List Vcpu) (v : ℕ) (task : Periodic) : Type 0 whe
   pub reserved : vcpu.reservation ≡ Some reservation
   pub chosen : IsChosen reservation task
 
+-- the reservation of which a task is the chosen budget
 chosen_of : (o : Option Reservation) (task : Periodic) → IsTaskOf o (Some task)
     → (r : Reservation) × (o ≡ Some r) × IsChosen r task
 chosen_of None task is = absurd cc
 chosen_of (Some r) task is = (r, refl, is)
 
+-- so has each vCPU with a task
 reserved_of : (vcpus : List Vcpu) (tasks : List (Option Periodic)) (v : ℕ) (task : Periodic)
     → AreTasksOf vcpus tasks → slice_get tasks v ≡ Some (Some task) → Reserved vcpus v task
 reserved_of vcpus tasks v task are at =
@@ -52,18 +58,6 @@ reserved_of vcpus tasks v task are at =
     let chosen = chosen_of found.0.reservation task (are.each v found.0 (Some task) found.1 at) in
     record { vcpu = found.0; at = found.1; reservation = chosen.0; reserved = chosen.1; chosen = chosen.2 }
 
-flat_some : {X : Type 0} (o : Option (Option X)) (x : X) → flat o ≡ Some x → o ≡ Some (Some x)
-flat_some None x h = absurd cc
-flat_some (Some o) x h = ap Some h
-
-task_found : (course : CourseView) (o : Option ℕ) (v : ℕ) (task : Periodic)
-    → task_by course o v ≡ Some task
-    → (count : ℕ) × (o ≡ Some count)
-    × (slice_get (plan_after course count).tasks v ≡ Some (Some task))
-task_found course None v task h = absurd cc
-task_found course (Some count) v task h =
-    (count, refl, flat_some (slice_get (plan_after course count).tasks v) task h)
-
 -- the reservation of a vCPU that the plan of an entered round holds
 pub record InRound (host : Host) (events : List Event) (decided : List ℕ) (r v : ℕ)
     (task : Periodic) : Type 0 where
@@ -71,6 +65,7 @@ pub record InRound (host : Host) (events : List Event) (decided : List ℕ) (r v
   pub reserved : IsReservedIn host events decided r v reservation
   pub chosen : IsChosen reservation task
 
+-- it has one, since the plan's tasks are the chosen ones of its host
 in_round : (host : Host) (events : List Event) (course : CourseView) (decided : List ℕ) (r v : ℕ)
     (task : Periodic) → IsCourseOf host events course
     → ((q d : ℕ) → slice_get decided q ≡ Some d → d ≤ length events)
@@ -95,6 +90,7 @@ in_round host events course decided r v task of few is =
       chosen = reserved.chosen;
     }
 
+-- each gap is short in ticks, and so in nanoseconds
 pub waits : (host : Host) (events : List Event) (course : CourseView) (rounds : ℕ) (s : State)
     → IsCourseOf host events course → StateInvariant course rounds s → HasShortGaps course s
     → WaitsWithinLatency host events course s
@@ -104,16 +100,16 @@ waits host events course rounds s of kept gaps = λ v a l gap.
     let most = kept.posted_most in
     let count = ap length of.ticks ∙ length-map events (λ (event : Event). event.tick) in
     omega arith) in
-    let some = gap.some_ticks in
-    let at_a = gap.held a (omega arith) (omega arith) in
-    let at_l = gap.held l (omega arith) (omega arith) in
+    let order = gap.order in
+    let at_a = some_task (task_at course s.decided v a) (gap.has_task a (omega arith) order) in
+    let at_l = some_task (task_at course s.decided v l) (gap.has_task l order (omega arith)) in
     let first = in_round host events course s.decided (a / ROUND) v at_a.0 of few at_a.1 in
     let last = in_round host events course s.decided (l / ROUND) v at_l.0 of few at_l.1 in
     record {
-      first = first.reservation;
-      last = last.reservation;
-      first_is = first.reserved;
-      last_is = last.reserved;
+      before = first.reservation;
+      after = last.reservation;
+      before_is = first.reserved;
+      after_is = last.reserved;
       short = short_wait first.reservation last.reservation at_a.0 at_l.0 (suc l - a) first.chosen
           last.chosen (gaps v a l at_a.0 at_l.0 gap at_a.1 at_l.1);
     }
