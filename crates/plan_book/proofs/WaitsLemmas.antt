@@ -1,7 +1,7 @@
 -- Each wait of a kept run is within the greater of two latencies.
 use Rattle.std.proofs.Common.{◌≡◌, ℕ, suc, ◌+◌, ◌-◌, ◌*◌, ◌/◌, ◌≤◌, max, List, Option, Some, None, length, slice_get, refl, ap, subst, ◌∙◌, arith}
 use Rattle.std.proofs.lemmas.List.{length-map}
-use Rattle.std.proofs.lemmas.Option.{slice_get_within}
+use Rattle.tab_core.specs.Budgets.{slack_of}
 use Rattle.tab_core.specs.declared.TheConstants.{ROUND, TICK_NS}
 use Rattle.tab_core.specs.declared.host.Host.{Host}
 use Rattle.tab_core.specs.declared.periodic.Periodic.{Periodic}
@@ -9,22 +9,23 @@ use Rattle.tab_core.specs.declared.reservation.Reservation.{Reservation}
 use Rattle.tab_core.specs.declared.vcpu.Vcpu.{Vcpu}
 use Rattle.period_choice.specs.Choice.{IsChosen}
 use Rattle.period_choice.specs.Tasks.{AreTasksOf, IsTaskOf}
-use Rattle.table_form.specs.Running.Courses.{CourseView, plan_after}
+use Rattle.table_form.specs.Running.Courses.{CourseView}
 use Rattle.table_form.specs.Running.Invariant.{StateInvariant}
-use Rattle.table_form.specs.Running.Offered.{HasShortGaps, task_by, task_in}
+use Rattle.table_form.specs.Running.Gaps.{HasShortGaps, task_at}
+use Rattle.table_form.specs.Running.Offered.{task_in}
 use Rattle.table_form.specs.Tables.Plans.{PlanView}
-use Rattle.table_form.specs.Tables.Serves.{flat}
 use Rattle.table_form.specs.Running.State.{State}
 use Rattle.script_doc.specs.declared.event.Event.{Event}
 use Rattle.plan_book.proofs.PlannedAfter.{known_planned}
-use Rattle.plan_book.proofs.ListsByIndex.{element_at}
+use Rattle.run_promises.proofs.GapLemmas.{some_task}
+use Rattle.run_promises.proofs.Lists.{element_at, within}
+use Rattle.run_promises.proofs.ServedLemmas.{task_found}
 use Rattle.plan_book.specs.Courses.{IsCourseOf}
 use Rattle.plan_book.specs.Waits.{IsReservedIn, WaitsWithinLatency}
 
--- the slack of the two tasks in ticks is within the greater latency in nanoseconds, since each period is
--- admissible
+-- a wait within two slacks is within the greater latency
 short_wait : (r t : Reservation) (first last : Periodic) (ticks : ℕ) → IsChosen r first → IsChosen t last
-    → ticks + first.cost + last.cost ≤ first.period + last.period
+    → ticks ≤ slack_of first + slack_of last
     → TICK_NS * ticks ≤ max r.latency_ns t.latency_ns
 short_wait r t first last ticks is other most =
     let a = is.admissible.in_time in
@@ -41,39 +42,21 @@ pub record Reserved (vcpus : List Vcpu) (v : ℕ) (task : Periodic) : Type 0 whe
   pub reserved : vcpu.reservation ≡ Some reservation
   pub chosen : IsChosen reservation task
 
--- a task is the chosen one of a reservation
+-- the reservation of which a task is the chosen budget
 chosen_of : (o : Option Reservation) (task : Periodic) → IsTaskOf o (Some task)
     → (r : Reservation) × (o ≡ Some r) × IsChosen r task
 chosen_of None task is = absurd cc
 chosen_of (Some r) task is = (r, refl, is)
 
--- so a vCPU with a task has a reservation that it was chosen for
+-- so has each vCPU with a task
 reserved_of : (vcpus : List Vcpu) (tasks : List (Option Periodic)) (v : ℕ) (task : Periodic)
     → AreTasksOf vcpus tasks → slice_get tasks v ≡ Some (Some task) → Reserved vcpus v task
 reserved_of vcpus tasks v task are at =
-    let few = slice_get_within tasks v (Some task) at in
+    let few = within tasks v (Some task) at in
     let same = are.as_many in
     let found = element_at vcpus v (omega arith) in
     let chosen = chosen_of found.0.reservation task (are.each v found.0 (Some task) found.1 at) in
     record { vcpu = found.0; at = found.1; reservation = chosen.0; reserved = chosen.1; chosen = chosen.2 }
-
--- who is found through `flat` is there
-flat_some : {X : Type 0} (o : Option (Option X)) (x : X) → flat o ≡ Some x → o ≡ Some (Some x)
-flat_some None x h = absurd cc
-flat_some (Some o) x h = ap Some h
-
-<<<<<<<< HEAD:crates/plan_book/proofs/WaitsLemmas.antt
--- a task in an entered round is one of the plan that was decided for it
-task_found : (course : CourseView) (o : Option ℕ) (v : ℕ) (task : Periodic)
-========
-task_reply : (course : CourseView) (o : Option ℕ) (v : ℕ) (task : Periodic)
->>>>>>>> h8:crates/tableau_sim/proofs/WaitsLemmas.antt
-    → task_by course o v ≡ Some task
-    → (count : ℕ) × (o ≡ Some count)
-    × (slice_get (plan_after course count).tasks v ≡ Some (Some task))
-task_reply course None v task h = absurd cc
-task_reply course (Some count) v task h =
-    (count, refl, flat_some (slice_get (plan_after course count).tasks v) task h)
 
 -- the reservation of a vCPU that the plan of an entered round holds
 pub record InRound (host : Host) (events : List Event) (decided : List ℕ) (r v : ℕ)
@@ -82,15 +65,15 @@ pub record InRound (host : Host) (events : List Event) (decided : List ℕ) (r v
   pub reserved : IsReservedIn host events decided r v reservation
   pub chosen : IsChosen reservation task
 
--- so its vCPU is reserved in the host of that round
+-- it has one, since the plan's tasks are the chosen ones of its host
 in_round : (host : Host) (events : List Event) (course : CourseView) (decided : List ℕ) (r v : ℕ)
     (task : Periodic) → IsCourseOf host events course
     → ((q d : ℕ) → slice_get decided q ≡ Some d → d ≤ length events)
     → task_in course decided r v ≡ Some task → InRound host events decided r v task
 in_round host events course decided r v task of few is =
-    let found = task_reply course (slice_get decided r) v task is in
+    let found = task_found course (slice_get decided r) v task is in
     let after = of.after found.0 (few r found.0 found.1) in
-    let tasks = (known_planned host events found.0 after.known after.is).layout.is_start.tasks_are in
+    let tasks = (known_planned host events found.0 after.known after.is).is_start.tasks_are in
     let at = subst (λ (p : PlanView). slice_get p.tasks v ≡ Some (Some task)) after.shows.plan found.2 in
     let reserved = reserved_of after.known.host.vcpus after.known.plan.tasks v task tasks at in
     record {
@@ -107,7 +90,7 @@ in_round host events course decided r v task of few is =
       chosen = reserved.chosen;
     }
 
--- the law `every_wait_is_within_latency`
+-- each gap is short in ticks, and so in nanoseconds
 pub waits : (host : Host) (events : List Event) (course : CourseView) (rounds : ℕ) (s : State)
     → IsCourseOf host events course → StateInvariant course rounds s → HasShortGaps course s
     → WaitsWithinLatency host events course s
@@ -117,16 +100,16 @@ waits host events course rounds s of kept gaps = λ v a l gap.
     let most = kept.posted_most in
     let count = ap length of.ticks ∙ length-map events (λ (event : Event). event.tick) in
     omega arith) in
-    let some = gap.some_ticks in
-    let at_a = gap.held a (omega arith) (omega arith) in
-    let at_l = gap.held l (omega arith) (omega arith) in
+    let order = gap.order in
+    let at_a = some_task (task_at course s.decided v a) (gap.has_task a (omega arith) order) in
+    let at_l = some_task (task_at course s.decided v l) (gap.has_task l order (omega arith)) in
     let first = in_round host events course s.decided (a / ROUND) v at_a.0 of few at_a.1 in
     let last = in_round host events course s.decided (l / ROUND) v at_l.0 of few at_l.1 in
     record {
-      first = first.reservation;
-      last = last.reservation;
-      first_is = first.reserved;
-      last_is = last.reserved;
+      before = first.reservation;
+      after = last.reservation;
+      before_is = first.reserved;
+      after_is = last.reserved;
       short = short_wait first.reservation last.reservation at_a.0 at_l.0 (suc l - a) first.chosen
           last.chosen (gaps v a l at_a.0 at_l.0 gap at_a.1 at_l.1);
     }

@@ -7,7 +7,7 @@ use Rattle.tab_core.specs.declared.host.Host.{Host}
 use Rattle.tab_core.specs.declared.reservation.Reservation.{Reservation}
 use Rattle.tab_core.specs.declared.vcpu.Vcpu.{Vcpu}
 use Rattle.table_form.specs.Running.Courses.{CourseView}
-use Rattle.table_form.specs.Running.Offered.{IsGap}
+use Rattle.table_form.specs.Running.Gaps.{IsGap}
 use Rattle.table_form.specs.Running.State.{State}
 use Rattle.script_doc.specs.declared.event.Event.{Event}
 use Rattle.plan_book.specs.After.{IsKnownAfter}
@@ -24,16 +24,16 @@ pub record IsReservedIn (host : Host) (events : List Event) (decided : List ℕ)
   pub at : slice_get known.host.vcpus v ≡ Some vcpu
   pub reserved : vcpu.reservation ≡ Some reservation
 
--- the wait from tick a up to, and without, e is within the greater of the vCPU's latencies in the
--- hosts of its first and its last tick's rounds
-pub record IsWithinLatency (host : Host) (events : List Event) (decided : List ℕ) (v a l : ℕ) : Type 0 where
-  pub first : Reservation
-  pub last : Reservation
-  pub first_is : IsReservedIn host events decided (a / ROUND) v first
-  pub last_is : IsReservedIn host events decided (l / ROUND) v last
-  pub short : TICK_NS * (suc l - a) ≤ max first.latency_ns last.latency_ns
+-- the wait from the first to the last of these ticks is within the greater of the vCPU's latencies in
+-- the hosts of their rounds
+pub record IsWithinLatency (host : Host) (events : List Event) (decided : List ℕ) (v first last : ℕ) : Type 0 where
+  pub before : Reservation
+  pub after : Reservation
+  pub before_is : IsReservedIn host events decided (first / ROUND) v before
+  pub after_is : IsReservedIn host events decided (last / ROUND) v after
+  pub short : TICK_NS * (suc last - first) ≤ max before.latency_ns after.latency_ns
 
 -- so is each wait of the run
 abbrev pub WaitsWithinLatency : Host → List Event → CourseView → State → Type 0
-WaitsWithinLatency host events course s = (v a l : ℕ) → IsGap course s.decided v a (suc l)
-    → IsWithinLatency host events s.decided v a l
+WaitsWithinLatency host events course s = (v first last : ℕ) → IsGap course s.decided v first last
+    → IsWithinLatency host events s.decided v first last

@@ -51,11 +51,12 @@ quotient_small t m p some whole lt = elim (cases_lt (p / t) m) [
       absurd (omega arith)
 ]
 
--- the period and the cost of a task; 1 stands for those of none
+-- the period of a task; 1 stands for that of none
 period_of : Option Periodic → ℕ
 period_of None = 1
 period_of (Some task) = task.period
 
+-- likewise for its cost
 cost_of : Option Periodic → ℕ
 cost_of None = 1
 cost_of (Some task) = task.cost

@@ -63,6 +63,7 @@ runs_other owner (Some v) = not (is_vcpu v owner)
 abbrev pub is_shared : CourseView → ℕ → Stint → Bool
 is_shared course c s = runs_other (owner_at (plan_after course s.used).rows c (s.from % ROUND)) s.ran
 
+-- the last shared pick after one more stint
 abbrev pub last_after : CourseView → ℕ → Option ℕ → Stint → Option ℕ
 last_after course c last s = if is_shared course c s then s.ran else last
 

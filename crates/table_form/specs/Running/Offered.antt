@@ -14,6 +14,7 @@ use Rattle.table_form.specs.Running.State.{State}
 abbrev pub some_row_has : List Row → ℕ → ℕ → Bool
 some_row_has rows v place = list_any (λ row. is_cell_of v (flat (slice_get row place))) rows
 
+-- the plan of a count, if there is one, has the vCPU in some row at the place
 abbrev pub offers_by : CourseView → Option ℕ → ℕ → ℕ → Bool
 offers_by course None v place = false
 offers_by course (Some count) v place = some_row_has (plan_after course count).rows v place
@@ -29,6 +30,7 @@ offers course decided v from zero = 0
 offers course decided v from (suc n) =
     offers course decided v from n + (if is_offered course decided v (from + n) then 1 else 0)
 
+-- the vCPU's task in the plan of a count, if there is one
 abbrev pub task_by : CourseView → Option ℕ → ℕ → Option Periodic
 task_by course None v = None
 task_by course (Some count) v = flat (slice_get (plan_after course count).tasks v)

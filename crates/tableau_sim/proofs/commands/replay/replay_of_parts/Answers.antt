@@ -2,8 +2,7 @@ use Rattle.std.proofs.Common.{ap, length, subst, sym, ◌∙◌, Err, ◌<◌}
 use Rattle.std.proofs.lemmas.Option.{slice_get-get_or}
 use Rattle.table_form.specs.Running.Courses.{CourseView}
 use Rattle.replay_text.proofs.Within.{all_made}
-use Rattle.step_machine.proofs.Waiting.{short_gaps}
-use Rattle.step_machine.proofs.Promised.{promised}
+use Rattle.run_promises.proofs.PromiseLemmas.{promised}
 use Rattle.step_machine.specs.Refusals.{IsFaultOf, IsRefused}
 use Rattle.tableau_sim.specs.Replay.{Replays}
 use Rattle.plan_book.proofs.WaitsLemmas.{waits}
@@ -30,14 +29,15 @@ returns-in-Ok-state_after g c = λ sections read.
     let of = c.in-Ok.ensures.ok.course in
     let kept = rw c.course.ensures at c.in-Ok-state_after.ensures.kept in
     let course_kept = rw c.course.ensures at c.in-Ok-state_after.ensures.course_kept in
+    let promises = promised c.in-Ok.book.course c.args.rounds c.in-Ok-state_after.state course_kept kept in
     let is_run = rw (c.course.ensures, c.items.ensures) at c.in-Ok-state_after.ensures.ok in (
       Replays.Replayed _ c.in-Ok.book.course c.in-Ok-state_after.state read (record {
         course_is = of;
         leads = rw (c.course.ensures, c.items.ensures) at c.in-Ok-state_after.ensures.leads;
         course_kept = course_kept;
-        promises = promised c.in-Ok.book.course c.args.rounds c.in-Ok-state_after.state course_kept kept;
+        promises = promises;
         waits = waits c.args.host c.args.script c.in-Ok.book.course c.args.rounds c.in-Ok-state_after.state of
-            kept (short_gaps c.in-Ok.book.course c.in-Ok-state_after.state course_kept);
+            kept promises.short_gaps;
         made = all_made c.in-Ok.book.course c.args.list.steps c.in-Ok-state_after.state is_run;
       }),
       is_run,

@@ -4,7 +4,7 @@ use Rattle.table_form.specs.Running.State.{State}
 use Rattle.script_doc.specs.declared.step.Step.{Step}
 use Rattle.script_doc.specs.declared.step.Step.TheVariants as step
 use Rattle.step_machine.specs.Answers.{Moves, NamesCore}
-use Rattle.step_machine.proofs.Lists.{within}
+use Rattle.run_promises.proofs.Lists.{within}
 use Rattle.tableau_sim.proofs.tests.whole_runs.steps_to_the_end.Goals as goal
 
 -- a step that is allowed names a core of the course
