@@ -2,7 +2,7 @@ ghost use Rattle.std.specs.Prelude.{List, ℕ};
 ghost use Rattle.tab_core.specs.declared.host.Host.{Host};
 ghost use Rattle.table_form.specs.Running.Courses.{CourseView};
 ghost use Rattle.table_form.specs.Running.Invariant.{StateInvariant};
-ghost use Rattle.table_form.specs.Running.Offered.{HasShortGaps};
+ghost use Rattle.table_form.specs.Running.Gaps.{HasShortGaps};
 ghost use Rattle.table_form.specs.Running.State.{State};
 ghost use Rattle.script_doc.specs.declared.event.Event.{Event};
 ghost use Rattle.plan_book.specs.Courses.{IsCourseOf};

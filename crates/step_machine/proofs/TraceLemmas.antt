@@ -21,7 +21,8 @@ use Rattle.step_machine.specs.Cores.{core_at}
 use Rattle.step_machine.specs.Runs.{Leads}
 use Rattle.step_machine.specs.Traces.{AreMadeBy, AreOfCourse, EndsWith, IsOfCourse, IsTrace}
 use Rattle.step_machine.proofs.InvariantLemmas.{moves_keep}
-use Rattle.step_machine.proofs.Lists.{push_new, set_here, within}
+use Rattle.step_machine.proofs.Lists.{push_new, set_here}
+use Rattle.run_promises.proofs.Lists.{within}
 
 -- the core that a step wrote is the one that a reader of its number finds
 core_written : (old new : State) (c : ℕ) (core changed : CoreState) → slice_get old.cores c ≡ Some core
