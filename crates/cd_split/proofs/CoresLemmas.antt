@@ -37,7 +37,8 @@ keep_push (Ok value) cores piece before after kept lt is lack room ok err =
     subst (λ ps. KeepCores (set cores piece.core ps)) (sym ok)
     (keep_write cores piece.core (before ++ piece ∷ []) kept lt
     (All-append (λ (p : Piece). p.core ≡ piece.core) before (piece ∷ []) own
-    (All-cons (λ (p : Piece). p.core ≡ piece.core) piece [] refl (All-nil (λ (p : Piece). p.core ≡ piece.core))))
+    (All-cons (λ (p : Piece). p.core ≡ piece.core) piece [] refl
+    (All-nil (λ (p : Piece). p.core ≡ piece.core))))
     (record { distinct = distinct_push before piece share.distinct lack; fit = room }))
 keep_push (Err fault) cores piece before after kept lt is lack room ok err =
     let same = err ∙ is in

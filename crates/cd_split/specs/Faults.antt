@@ -8,5 +8,6 @@ use Rattle.cd_split.specs.declared.fault.SplitFault.TheVariants.{NoRoom, NoMemor
 
 -- no room is told where splitting ends without it; want of memory says nothing of the cores
 abbrev pub IsSplitFault : List (List Piece) → ℕ → Periodic → SplitFault → Type 0
-IsSplitFault cores vcpu task (NoRoom named rest over) = (named ≡ vcpu) × IsSplitRefused cores vcpu task rest over
+IsSplitFault cores vcpu task (NoRoom named rest over) =
+    (named ≡ vcpu) × IsSplitRefused cores vcpu task rest over
 IsSplitFault cores vcpu task NoMemory = Unit {0}

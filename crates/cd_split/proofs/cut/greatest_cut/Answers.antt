@@ -15,7 +15,8 @@ loop-low-init c = record {
   fits = λ enough. absurd (omega arith);
   too_much = λ more high below fits. (
       let left = c.args.left.now in
-      let light = fits_with_load (pieces_on c.args.cores.now c.args.rank.now.core) (cut_of (left_of left) more)
+      let light = fits_with_load (pieces_on c.args.cores.now c.args.rank.now.core)
+      (cut_of (left_of left) more)
       (omega arith) left.listed fits in
       let few = (c.most_by_load.ensures.most more).1 in
       omega arith);
