@@ -32,6 +32,7 @@ one_list names (statement ∷ statements) (u ∷ us) (w ∷ ws) distinct of_us o
     let rest : us ≡ ws = one_list names statements us ws distinct of_us.1 of_ws.1 in
     cc
 
+-- a text states one script at most
 pub one_script : (names : List (List ℕ)) (rounds : ℕ) (statements : List Statement)
     (events others : List Event) → AreDistinct names → IsScript names rounds statements events
     → IsScript names rounds statements others → events ≡ others
@@ -151,6 +152,7 @@ fault_or_event names rounds front statement back events others fault distinct sc
     (BreaksLimit event fault' is broken) =
     limit_or_script names rounds front statement back events others event fault' distinct script are is broken
 
+-- a text that states a script has no first fault
 pub fault_or_script : (names : List (List ℕ)) (rounds : ℕ) (statements : List Statement)
     (fault : ScriptFault) (events : List Event) → AreDistinct names
     → IsFirstFault names rounds statements fault → IsScript names rounds statements events → ⊥

@@ -62,6 +62,7 @@ one_list cores (u ∷ us) (w ∷ ws) few of_us of_ws same =
     (All-tail (IsStepWithin cores) w ws of_ws) others in
     cc
 
+-- a text states one list of steps at most, on one list of lines
 pub one_step_list : (cores : ℕ) (statements : List Statement) (steps others : List Step)
     (lines places : List ℕ) → cores ≤ MAX_CORES → AreSteps cores statements steps lines
     → AreSteps cores statements others places → (steps ≡ others) × (lines ≡ places)

@@ -35,8 +35,8 @@ broken_limit rounds before line event =
     else (if is_change event.act && nat_le MAX_CHANGES before.changes then Some (TooManyChanges line)
     else None)))
 
--- the first fault of a statement behind these events: it is no event, it names no vCPU of the host, or it
--- is an event that breaks a limit
+-- the first fault of a statement behind these events: it is no event, a name of it is no vCPU's, or it is an
+-- event that breaks a limit
 pub data HasFault (names : List (List ℕ)) (rounds : ℕ) (events : List Event) (statement : Statement)
     : ScriptFault → Type 0 where
   IsBad : IsNoLine statement.words → HasFault names rounds events statement (BadLine statement.number)
