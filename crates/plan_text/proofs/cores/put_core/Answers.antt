@@ -1,4 +1,3 @@
-use Rattle.std.proofs.Common.{ap, sym}
 use Rattle.std.proofs.lemmas.Result.{err_from_is_err_and}
 use Rattle.tab_io.proofs.SinkLemmas.{writes_broken, writes_then}
 use Rattle.vcpu_names.specs.Names.{names_of}
