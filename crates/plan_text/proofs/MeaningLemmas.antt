@@ -1,6 +1,5 @@
 -- The text of any tables that a text may stand for is read as their lines.
-use Rattle.std.proofs.Common.{◌≡◌, ◌≢◌, ℕ, ◌+◌, ◌^◌, ◌<◌, ◌≤◌, ◌&&◌, nat_le, nat_lt, not, true, List, [], ◌∷◌, ◌++◌, length, map, codes, count_by, decimal, Option, Some, None, suc, refl, sym, ap, ◌∙◌, arith}
-use Rattle.std.specs.Bool.{◌==◌}
+use Rattle.std.proofs.Common.{◌≡◌, ◌≢◌, ℕ, ◌+◌, ◌<◌, ◌≤◌, ◌&&◌, nat_le, nat_lt, not, true, List, [], ◌∷◌, ◌++◌, length, map, codes, count_by, decimal, Option, Some, None, suc, refl, sym, ap, ◌∙◌, arith}
 use Rattle.std.specs.List.{All, list_all}
 use Rattle.std.proofs.lemmas.Bool.{and_parts}
 use Rattle.std.proofs.lemmas.Bool.Decides.{nat_tests}
@@ -14,7 +13,6 @@ use Rattle.tab_core.specs.declared.periodic.Periodic.{Periodic}
 use Rattle.tab_words.specs.Texts.{text_of}
 use Rattle.tab_words.proofs.TextLemmas.{decimal_word, is_line, is_plain, is_word, text_read}
 use Rattle.table_form.specs.Tables.Homes.{are_housed, is_housed}
-use Rattle.table_form.specs.Tables.Serves.{has_task}
 use Rattle.table_form.specs.declared.raw_tables.RawTables.{RawTables}
 use Rattle.table_form.specs.declared.segment.Segment.{Segment}
 use Rattle.vcpu_names.specs.Names.{name_at, owner_word}
