@@ -73,7 +73,7 @@ planned_rounds host plan is = all_from_places (λ (row : Row). length row ≡ RO
           omega arith)
     ])
 
--- segments of the plan's segments stand for its rows
+-- segments that are a row's maximal ones stand for it, so the rows are read back
 rows_back : (raw : List (List Segment)) (rows : List Row)
     → map (λ row. map segment_view row) raw ≡ map (λ row. segments_from 0 row) rows → rows_of raw ≡ rows
 rows_back [] [] same = refl
