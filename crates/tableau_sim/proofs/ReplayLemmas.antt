@@ -25,6 +25,7 @@ use Rattle.tableau_sim.specs.declared.status.Status.TheVariants as status
 
 -- ---- how many steps there are
 
+-- one byte more makes one line more at most
 lines_more : (byte : ℕ) (bytes : List ℕ) (feed : Bool) → (byte == 10) ≡ feed
     → length (lines_of bytes) ≤ length bytes
     → length (lines_of (byte ∷ bytes)) ≤ length (byte ∷ bytes)
@@ -36,11 +37,13 @@ lines_more byte bytes false is few = rw is (omega (arith, few, one_more (lines_o
     one_more [] = omega arith
     one_more (line ∷ lines) = omega arith
 
+-- a text has no more lines than bytes
 few_lines : (bytes : List ℕ) → length (lines_of bytes) ≤ length bytes
 unfolding lines_of
 few_lines [] = omega arith
 few_lines (byte ∷ bytes) = lines_more byte bytes (byte == 10) refl (few_lines bytes)
 
+-- one line more makes one row more at most
 rows_more : (number : ℕ) (line : List ℕ) (lines : List (List ℕ)) (skipped : Bool) → is_skipped line ≡ skipped
     → length (rows_from (number + 1) lines) ≤ length lines
     → length (rows_from number (line ∷ lines)) ≤ length (line ∷ lines)
@@ -48,12 +51,14 @@ unfolding rows_from
 rows_more number line lines true is few = rw is (omega (arith, few))
 rows_more number line lines false is few = rw is (omega (arith, few))
 
+-- nor more rows than lines
 few_rows : (number : ℕ) (lines : List (List ℕ)) → length (rows_from number lines) ≤ length lines
 unfolding rows_from
 few_rows number [] = omega arith
 few_rows number (line ∷ lines) =
     rows_more number line lines (is_skipped line) refl (few_rows (number + 1) lines)
 
+-- so the steps of a section below 4 GiB can be counted in 32 bits, as `replay` wants
 pub few_steps : (cores : ℕ) (bytes : List ℕ) (taken : List Step) (lines : List ℕ)
     → AreSteps cores (rows_of bytes) taken lines → length taken ≤ length bytes
 few_steps cores bytes taken lines are =
@@ -70,6 +75,7 @@ few_steps cores bytes taken lines are =
 
 -- ---- what the machine is given
 
+-- a step within the host's cores names a core of the course
 names_core : (course : CourseView) (cores : ℕ) (taken : Step) → course.cores ≡ cores
     → IsWithin cores taken → NamesCore course taken
 names_core course cores step.Post same within = tt {0}
@@ -77,6 +83,7 @@ names_core course cores (step.See c) same within = omega (arith, same, within)
 names_core course cores (step.Decide c) same within = omega (arith, same, within)
 names_core course cores (step.Run c) same within = omega (arith, same, within)
 
+-- the same of each step of a list, as `replay` wants
 pub each_names_core : (course : CourseView) (cores : ℕ) (all : List Step) → course.cores ≡ cores
     → All (IsWithin cores) all
     → (k : ℕ) (taken : Step) → slice_get all k ≡ Some taken → NamesCore course taken
@@ -84,6 +91,7 @@ each_names_core course cores all same within k taken at =
     names_core course cores taken same (subst (IsWithin cores) (get_or_from_slice_get all k taken taken at)
     (All-get_or (IsWithin cores) all k taken (slice_get_within all k taken at) within))
 
+-- the book's course is the one that the script makes of the host
 pub course_of : (host : Host) (events : List Event) (made : BookView) → IsBookOf host events made
     → ((n : ℕ) → n ≤ length events → (known : BookState) × IsKnownAfter host events n known)
     → IsCourseOf host events made.course
@@ -98,12 +106,14 @@ course_of host events made is known = record {
 
 -- ---- a step that isn't done
 
+-- a step that isn't done has a line, so that its number can be looked up
 pub place_in : (course : CourseView) (rounds : ℕ) (taken : List Step) (lines : List ℕ) (place : ℕ)
     (answer : Answer) → length lines ≡ length taken → IsRefused course rounds taken place answer
     → place < length lines
 place_in course rounds taken lines place answer same refused =
     omega (arith, same, slice_get_within taken place refused.step refused.at)
 
+-- the refusal of a step, from what `replay` says of it
 pub step_refused : (rounds : ℕ) (sections : List (List ℕ)) (parts : Parts) (course : CourseView)
     (place line : ℕ) (answer : Answer) → HasParts rounds sections parts
     → IsCourseOf parts.host parts.events course → slice_get parts.lines place ≡ Some line

@@ -20,6 +20,7 @@ use Rattle.step_machine.proofs.Lists.{element_at, within}
 use Rattle.tableau_sim.specs.Courses.{IsCourseOf}
 use Rattle.tableau_sim.specs.Waits.{IsReservedIn, WaitsWithinLatency}
 
+-- a wait within the slack of two chosen tasks is within the greater latency of their reservations
 short_wait : (r t : Reservation) (first last : Periodic) (ticks : ℕ) → IsChosen r first → IsChosen t last
     → ticks + first.cost + last.cost ≤ first.period + last.period
     → TICK_NS * ticks ≤ max r.latency_ns t.latency_ns
@@ -38,11 +39,13 @@ pub record Reserved (vcpus : List Vcpu) (v : ℕ) (task : Periodic) : Type 0 whe
   pub reserved : vcpu.reservation ≡ Some reservation
   pub chosen : IsChosen reservation task
 
+-- a task in a list of tasks is one chosen for a reservation
 chosen_of : (o : Option Reservation) (task : Periodic) → IsTaskOf o (Some task)
     → (r : Reservation) × (o ≡ Some r) × IsChosen r task
 chosen_of None task is = absurd cc
 chosen_of (Some r) task is = (r, refl, is)
 
+-- so who has a task in a plan is reserved in its host
 reserved_of : (vcpus : List Vcpu) (tasks : List (Option Periodic)) (v : ℕ) (task : Periodic)
     → AreTasksOf vcpus tasks → slice_get tasks v ≡ Some (Some task) → Reserved vcpus v task
 reserved_of vcpus tasks v task are at =
@@ -52,16 +55,18 @@ reserved_of vcpus tasks v task are at =
     let chosen = chosen_of found.0.reservation task (are.each v found.0 (Some task) found.1 at) in
     record { vcpu = found.0; at = found.1; reservation = chosen.0; reserved = chosen.1; chosen = chosen.2 }
 
+-- a value within an option within an option
 flat_some : {X : Type 0} (o : Option (Option X)) (x : X) → flat o ≡ Some x → o ≡ Some (Some x)
 flat_some None x h = absurd cc
 flat_some (Some o) x h = ap Some h
 
-task_reply : (course : CourseView) (o : Option ℕ) (v : ℕ) (task : Periodic)
+-- the task of a vCPU in a round is one in the plan after the round's count
+task_found : (course : CourseView) (o : Option ℕ) (v : ℕ) (task : Periodic)
     → task_by course o v ≡ Some task
     → (count : ℕ) × (o ≡ Some count)
     × (slice_get (plan_after course count).tasks v ≡ Some (Some task))
-task_reply course None v task h = absurd cc
-task_reply course (Some count) v task h =
+task_found course None v task h = absurd cc
+task_found course (Some count) v task h =
     (count, refl, flat_some (slice_get (plan_after course count).tasks v) task h)
 
 -- the reservation of a vCPU that the plan of an entered round holds
@@ -71,12 +76,13 @@ pub record InRound (host : Host) (events : List Event) (decided : List ℕ) (r v
   pub reserved : IsReservedIn host events decided r v reservation
   pub chosen : IsChosen reservation task
 
+-- so it is chosen for the vCPU's reservation in the host of that round
 in_round : (host : Host) (events : List Event) (course : CourseView) (decided : List ℕ) (r v : ℕ)
     (task : Periodic) → IsCourseOf host events course
     → ((q d : ℕ) → slice_get decided q ≡ Some d → d ≤ length events)
     → task_in course decided r v ≡ Some task → InRound host events decided r v task
 in_round host events course decided r v task of few is =
-    let found = task_reply course (slice_get decided r) v task is in
+    let found = task_found course (slice_get decided r) v task is in
     let after = of.after found.0 (few r found.0 found.1) in
     let tasks = (known_planned host events found.0 after.known after.is).is_start.tasks_are in
     let at = subst (λ (p : PlanView). slice_get p.tasks v ≡ Some (Some task)) after.shows.plan found.2 in
@@ -95,6 +101,7 @@ in_round host events course decided r v task of few is =
       chosen = reserved.chosen;
     }
 
+-- no gap is longer than its tasks leave, so each wait is within a latency
 pub waits : (host : Host) (events : List Event) (course : CourseView) (rounds : ℕ) (s : State)
     → IsCourseOf host events course → StateInvariant course rounds s → HasShortGaps course s
     → WaitsWithinLatency host events course s
