@@ -30,6 +30,7 @@ pub record IsTold (words : List (List ℕ)) (source source' : SourceView) (sink 
   pub told_is : status_of (outcome_of due) ≡ told
   pub out : IsOut sink sink' (text_of (outcome_of due))
 
+-- where the status is no write fault, what was due is out whole: each clause on a status starts here
 told_due : (words : List (List ℕ)) (source source' : SourceView) (sink sink' : SinkView) (told : Status)
     → Answers words source source' sink sink' told → told ≢ status.WriteFault
     → IsTold words source source' sink sink' told
@@ -47,17 +48,20 @@ told_due words source source' sink sink' told a works = elim a.written.whole [
 
 -- ---- a text
 
+-- a command that ends with `Ok` has written a text, since its refusals are of its input
 outcome_written : (outcome : Outcome) → status_of outcome ≡ status.Ok
     → ((refusal : Status) (names : List (List ℕ)) → outcome ≡ Refuses refusal names → IsOfInput refusal)
     → outcome ≡ Writes (text_of outcome)
 outcome_written (Writes text) is of = refl
 outcome_written (Refuses refusal names) is of = absurd (subst IsOfInput is (of refusal names refl))
 
+-- the same premise for any outcome of a command, so that it needn't be a refusal by its form
 of_input : (command : Command) (input : List ℕ) (outcome : Outcome) → Replies command input outcome
     → (refusal : Status) (names : List (List ℕ)) → outcome ≡ Refuses refusal names → IsOfInput refusal
 of_input command input outcome h refusal names is =
     refuses_input command input refusal names (subst (Replies command input) is h)
 
+-- with `Ok` only a reply can have been due, and it is a text of the command
 wrote_of : (words : List (List ℕ)) (source source' : SourceView) (sink sink' : SinkView)
     (command : Command) (input : List ℕ) (due : Due) → IsCommand words command
     → Consumes source.rest source'.rest input → IsDue words source source' input due
@@ -79,6 +83,7 @@ wrote_of words source source' sink sink' command input (Replied other outcome) a
       out = out;
     }
 
+-- the clause `wrote`
 pub wrote_told : (words : List (List ℕ)) (source source' : SourceView) (sink sink' : SinkView) (told : Status)
     → Answers words source source' sink sink' told → (command : Command) → IsCommand words command
     → told ≡ status.Ok → WroteFor command source source' sink sink'
@@ -89,6 +94,7 @@ wrote_told words source source' sink sink' told a command are is =
 
 -- ---- a refusal of the input
 
+-- with a refusal of the input only a refusal of a command can have been due
 cause_of : (words : List (List ℕ)) (source source' : SourceView) (sink sink' : SinkView) (told : Status)
     (input : List ℕ) (due : Due) → Consumes source.rest source'.rest input
     → IsDue words source source' input due → status_of (outcome_of due) ≡ told
@@ -115,6 +121,7 @@ cause_of words source source' sink sink' told input (Replied command (Refuses re
       out = subst (λ r. IsOut sink sink' (line_of names r)) is out;
     }
 
+-- the clause `refused`
 pub cause_told : (words : List (List ℕ)) (source source' : SourceView) (sink sink' : SinkView) (told : Status)
     → Answers words source source' sink sink' told → IsOfInput told
     → HasCause words source source' sink sink' told
@@ -124,11 +131,13 @@ cause_told words source source' sink sink' told a of =
 
 -- ---- a faultless input
 
+-- what a command makes of a faultless input is a text
 faultless : (command : Command) (input : List ℕ) (outcome : Outcome) → IsFaultless command input
     → Replies command input outcome → status_of outcome ≡ status.Ok
 faultless command input (Writes text) fine h = refl
 faultless command input (Refuses refusal names) fine h = absurd (fine refusal names h)
 
+-- an input within the limit never ends in `TooMuch`
 not_too_much : (reading : Bool) (old new : SourceView) (input given : List ℕ) → reading ≡ true
     → IsToReadIf reading old given → Consumes old.rest new.rest input
     → length input ≡ INPUT_LIMIT + 1 → ⊥
@@ -138,6 +147,7 @@ not_too_much true old new input given reading_is is consumed size =
     omega (arith, low, within, size)
 not_too_much false old new input given reading_is is consumed size = absurd cc
 
+-- over a source that works, of a faultless input a text is due, or memory was wanting
 complete_of : (words : List (List ℕ)) (source source' : SourceView) (command : Command)
     (input given : List ℕ) (due : Due) → IsCommand words command → IsToRead command source given
     → IsFaultless command given → (Rose source.faults source'.faults → ⊥)
@@ -159,6 +169,7 @@ complete_of words source source' command input given (Replied other outcome) are
     let whole : input ≡ given = read_given (reads command) source source' input given consumed read is in
     inl (faultless command given outcome fine (subst (λ i. Replies command i outcome) whole replies))
 
+-- the clause `complete`
 pub complete_told : (words : List (List ℕ)) (source source' : SourceView) (sink sink' : SinkView)
     (told : Status) → Answers words source source' sink sink' told → (command : Command)
     (given : List ℕ) → IsCommand words command → IsToRead command source given → IsFaultless command given
@@ -175,6 +186,7 @@ complete_told words source source' sink sink' told a command given are is fine w
 
 -- ---- a command that reads nothing
 
+-- a command that reads nothing has no refusal: a row for each command
 silent_ok : (command : Command) (input : List ℕ) (outcome : Outcome) → reads command ≡ false
     → Replies command input outcome → status_of outcome ≡ status.Ok
 silent_ok called.Help input outcome still h = ap status_of h
@@ -183,6 +195,7 @@ silent_ok called.Plan input outcome still h = absurd cc
 silent_ok called.Check input outcome still h = absurd cc
 silent_ok (called.Replay rounds) input outcome still h = absurd cc
 
+-- so its text is due after nothing was read, and never want of memory
 silent_of : (words : List (List ℕ)) (source source' : SourceView) (command : Command)
     (input : List ℕ) (due : Due) → IsCommand words command → reads command ≡ false
     → IsDue words source source' input due → (status_of (outcome_of due) ≡ status.Ok) × (input ≡ [])
@@ -201,6 +214,7 @@ silent_of words source source' command input (Replied other outcome) are still h
       subst (λ b. HasReadIf b source' input) (ap reads same ∙ still) h.1,
     )
 
+-- the clause `unread`
 pub silent_told : (words : List (List ℕ)) (source source' : SourceView) (sink sink' : SinkView)
     (told : Status) → Answers words source source' sink sink' told → (command : Command)
     → IsCommand words command → reads command ≡ false
@@ -213,6 +227,7 @@ silent_told words source source' sink sink' told a command are still =
 
 -- ---- the words
 
+-- `Usage` can only have been due for words that are no command
 usage_of : (words : List (List ℕ)) (source source' : SourceView) (input : List ℕ) (due : Due) (place : ℕ)
     → IsDue words source source' input due → status_of (outcome_of due) ≡ status.Usage place
     → IsFaultAt words place × (input ≡ [])
@@ -225,6 +240,7 @@ usage_of words source source' input (Replied command (Writes text)) place h is =
 usage_of words source source' input (Replied command (Refuses refusal names)) place h is =
     absurd (subst IsOfInput is (refuses_input command input refusal names h.2))
 
+-- the clause `usage`
 pub usage_told : (words : List (List ℕ)) (source source' : SourceView) (sink sink' : SinkView)
     (told : Status) → Answers words source source' sink sink' told → (place : ℕ)
     → told ≡ status.Usage place → IsFaultAt words place × Unread source source'
@@ -233,6 +249,7 @@ usage_told words source source' sink sink' told a place is =
     let u = usage_of words source source' t.input t.due place t.is_due (t.told_is ∙ is) in
     (u.0, subst (Consumes source.rest source'.rest) u.1 t.consumed)
 
+-- for words that are no command nothing but `Usage` can be due
 usage_only : (words : List (List ℕ)) (source source' : SourceView) (input : List ℕ) (due : Due) (place : ℕ)
     → IsFaultAt words place → IsDue words source source' input due
     → status_of (outcome_of due) ≡ status.Usage place
@@ -247,6 +264,7 @@ usage_only words source source' input (LacksMemory command) place fault h =
 usage_only words source source' input (Replied command outcome) place fault h =
     absurd (no_fault words command place h.0 fault)
 
+-- the clause `usage_due`
 pub usage_due : (words : List (List ℕ)) (source source' : SourceView) (sink sink' : SinkView)
     (told : Status) → Answers words source source' sink sink' told → (place : ℕ) → IsFaultAt words place
     → (told ≡ status.Usage place) ⊎ (told ≡ status.WriteFault)
@@ -257,6 +275,7 @@ usage_due words source source' sink sink' told a place fault = elim a.written.wh
 
 -- ---- the ends
 
+-- `ReadFault` can only have been due after a fault of the source
 read_fault_of : (words : List (List ℕ)) (source source' : SourceView) (input : List ℕ) (due : Due)
     → IsDue words source source' input due → status_of (outcome_of due) ≡ status.ReadFault
     → Rose source.faults source'.faults
@@ -268,6 +287,7 @@ read_fault_of words source source' input (Replied command (Writes text)) h is = 
 read_fault_of words source source' input (Replied command (Refuses refusal names)) h is =
     absurd (subst IsOfInput is (refuses_input command input refusal names h.2))
 
+-- the clause `read_fault`
 pub read_fault_told : (words : List (List ℕ)) (source source' : SourceView) (sink sink' : SinkView)
     (told : Status) → Answers words source source' sink sink' told → told ≡ status.ReadFault
     → Rose source.faults source'.faults
@@ -275,6 +295,7 @@ read_fault_told words source source' sink sink' told a is =
     let t = told_due words source source' sink sink' told a (λ failed. let e = sym is ∙ failed in absurd cc) in
     read_fault_of words source source' t.input t.due t.is_due (t.told_is ∙ is)
 
+-- `TooLong` can only have been due after a byte too much
 too_long_of : (words : List (List ℕ)) (source source' : SourceView) (input : List ℕ) (due : Due)
     → IsDue words source source' input due → status_of (outcome_of due) ≡ status.TooLong
     → length input ≡ INPUT_LIMIT + 1
@@ -286,6 +307,7 @@ too_long_of words source source' input (Replied command (Writes text)) h is = ab
 too_long_of words source source' input (Replied command (Refuses refusal names)) h is =
     absurd (subst IsOfInput is (refuses_input command input refusal names h.2))
 
+-- the clause `too_long`
 pub too_long_told : (words : List (List ℕ)) (source source' : SourceView) (sink sink' : SinkView)
     (told : Status) → Answers words source source' sink sink' told → told ≡ status.TooLong
     → ReadTooMuch source source'
@@ -293,6 +315,7 @@ too_long_told words source source' sink sink' told a is =
     let t = told_due words source source' sink sink' told a (λ failed. let e = sym is ∙ failed in absurd cc) in
     (t.input, t.consumed, too_long_of words source source' t.input t.due t.is_due (t.told_is ∙ is))
 
+-- `WriteFault` is never due, so it tells of the sink
 no_write_fault : (words : List (List ℕ)) (source source' : SourceView) (input : List ℕ) (due : Due)
     → IsDue words source source' input due → status_of (outcome_of due) ≢ status.WriteFault
 no_write_fault words source source' input (NoCommand place) h is = absurd cc
@@ -303,6 +326,7 @@ no_write_fault words source source' input (Replied command (Writes text)) h is =
 no_write_fault words source source' input (Replied command (Refuses refusal names)) h is =
     absurd (subst IsOfInput is (refuses_input command input refusal names h.2))
 
+-- the clause `write_fault`
 pub front_told : (words : List (List ℕ)) (source source' : SourceView) (sink sink' : SinkView)
     (told : Status) → Answers words source source' sink sink' told → told ≡ status.WriteFault
     → FrontIsOut words source source' sink sink'
@@ -320,11 +344,13 @@ front_told words source source' sink sink' told a is = elim a.written.whole [
 
 -- ---- a refusal's line
 
+-- the text of an outcome that isn't `Ok` is a line
 line_from : (outcome : Outcome) → status_of outcome ≢ status.Ok
     → (names : List (List ℕ)) × (text_of outcome ≡ line_of names (status_of outcome))
 line_from (Writes text) not_ok = absurd (not_ok refl)
 line_from (Refuses refusal names) not_ok = (names, refl)
 
+-- the clause `refusal`
 pub line_told : (words : List (List ℕ)) (source source' : SourceView) (sink sink' : SinkView)
     (told : Status) → Answers words source source' sink sink' told → told ≢ status.Ok
     → told ≢ status.WriteFault → LineIsOut sink sink' told

@@ -1,45 +1,46 @@
 -- An input has one outcome, as far as a host's first vCPU without room has one rest and one list of
 -- intervals, which isn't shown.
-use Rattle.std.proofs.Common.{◌≡◌, ℕ, List, [], length, Option, Some, None, refl, sym, ap, subst, ◌∙◌}
+use Rattle.std.proofs.Common.{◌≡◌, ℕ, List, [], length, Option, refl, sym, ap, subst, ◌∙◌, inl, inr, arith}
 use Rattle.std.proofs.lemmas.List.{length-map}
+use Rattle.std.proofs.lemmas.Option.{none-some, slice_get_cases}
+use Rattle.tab_core.specs.Name.{IsName}
 use Rattle.tab_core.specs.declared.host.Host.{Host}
 use Rattle.tab_core.specs.declared.periodic.Periodic.{Periodic}
 use Rattle.tab_core.specs.declared.vcpu.Vcpu.{Vcpu}
 use Rattle.table_form.specs.declared.raw_tables.RawTables.{RawTables}
 use Rattle.tab_words.specs.Sections.{sections_of}
 use Rattle.tab_words.specs.declared.command.Command.TheVariants as called
-use Rattle.vcpu_names.specs.Names.{names_of}
-use Rattle.host_doc.specs.Document.{IsHostText, first_fault}
-use Rattle.host_doc.specs.declared.fault.HostFault.{HostFault}
-use Rattle.host_doc.specs.declared.fault.HostFault.TheVariants as host
-use Rattle.host_doc.proofs.HostNames.{stated_names}
+use Rattle.vcpu_names.specs.Names.{AreNames, names_of}
+use Rattle.host_doc.specs.Document.{IsHostText}
+use Rattle.host_doc.proofs.HostNames.{AreStatedNames, stated_names}
 use Rattle.host_doc.proofs.OneHost.{one_host}
 use Rattle.period_choice.specs.Tasks.{AreTasksOf, IsFirstWithoutPeriod}
 use Rattle.period_choice.proofs.Unique.{tasks_unique}
 use Rattle.plan_make.specs.Planned.{IsFirstWithoutRoom, IsPlanned}
 use Rattle.plan_make.proofs.Exact.{planned_or_refused, planned_unique}
+use Rattle.plan_make.proofs.Plans.{none_without_period}
 use Rattle.plan_make.proofs.Refusals.{one_without_period, planned_or_without_period}
 use Rattle.plan_text.specs.FirstBad.{IsFirstBad}
 use Rattle.plan_text.specs.PlanLines.{AreLinesOf, IsSomePlan, worded}
 use Rattle.plan_text.specs.PlanText.{plan_text}
 use Rattle.plan_text.proofs.FirstBad.{no_text, one_bad}
 use Rattle.plan_text.proofs.OneMeaning.{one_meaning}
+use Rattle.plan_text.proofs.Parts.{name_here}
 use Rattle.plan_text.proofs.WholeText.{host_names}
 use Rattle.table_check.specs.Faults.{AreGood, HasCheckFault}
 use Rattle.table_check.specs.declared.fault.CheckFault.{CheckFault}
+use Rattle.table_check.specs.declared.fault.CheckFault.TheVariants as fault
+use Rattle.table_form.specs.declared.segment.Segment.{Segment}
 use Rattle.table_check.proofs.OneFault.{one_fault}
 use Rattle.tableau_sim.specs.declared.status.Status.TheVariants as status
 use Rattle.tableau_sim.specs.Check.{Checks, HasTables, HasTasks, plan_section}
 use Rattle.tableau_sim.specs.Commands.{Replies}
-use Rattle.tableau_sim.specs.Hosts.{IsHostFault}
 use Rattle.tableau_sim.specs.Outcomes.{Outcome}
 use Rattle.tableau_sim.specs.Outcomes.Outcome.{Refuses, Writes}
 use Rattle.tableau_sim.specs.Plan.{Plans}
 use Rattle.tableau_sim.specs.Sections.{OfSections, host_section}
 use Rattle.tableau_sim.specs.Sections.OfSections.{BadSections, Sectioned}
-use Rattle.tableau_sim.proofs.BoundsLemmas.{no_vcpu_lacks}
 use Rattle.tableau_sim.proofs.HostsLemmas.{no_host_fault, one_host_fault}
-use Rattle.tableau_sim.proofs.PlanChecks.{are_names, no_table_fault}
 
 -- ---- sections
 
@@ -72,6 +73,7 @@ plan_only sections text b (Plans.Planned h p is has) (Plans.NoRoom h' vcpu rest 
     absurd (planned_or_refused h p vcpu rest over has.planned
     (subst (λ (k : Host). IsFirstWithoutRoom k vcpu rest over) (one_host _ h' h is' is) lacks))
 
+-- the law's clause on `plan`
 pub one_plan_outcome : (input text : List ℕ) (b : Outcome) → Replies called.Plan input (Writes text)
     → Replies called.Plan input b → Writes text ≡ b
 one_plan_outcome input text b =
@@ -91,7 +93,7 @@ same_tasks sections h h' t t' has has' =
 -- a host with tasks has no vCPU without a period
 tasks_or_lacks : (sections : List (List ℕ)) (h h' : Host) (t : List (Option Periodic)) (vcpu : ℕ)
     → HasTasks sections h t → IsHostText (host_section sections) h' → IsFirstWithoutPeriod h'.vcpus vcpu → ⊥
-tasks_or_lacks sections h h' t vcpu has is lacks = no_vcpu_lacks h.vcpus t vcpu has.are_tasks
+tasks_or_lacks sections h h' t vcpu has is lacks = none_without_period h.vcpus t vcpu has.are_tasks
     (subst (λ (k : Host). IsFirstWithoutPeriod k.vcpus vcpu) (one_host _ h' h is has.is_host) lacks)
 
 -- a bad line of one host and its tasks is one of the other
@@ -113,6 +115,14 @@ text_or_bad : (sections : List (List ℕ)) (h h' : Host) (t t' : List (Option Pe
 text_or_bad sections h h' t t' raw line has has' bad =
     no_text _ 1 _ line (bad_moved sections h h' t t' line has.tasked has' bad)
     (record { raw = raw; text = has.text })
+
+-- each name of a host that was read has the form of a name
+pub are_names : (vcpus : List Vcpu) → AreStatedNames vcpus → AreNames (names_of vcpus)
+are_names vcpus stated v lt = elim ((slice_get_cases vcpus v).1) [
+  | inl (vcpu, within, at, same) ↦
+      subst IsName (sym (name_here vcpus v vcpu within (sym same))) (stated.good v vcpu at)
+  | inr (past, none) ↦ absurd (let size = length-map vcpus (λ (x : Vcpu). x.name) in omega arith)
+]
 
 -- the tables of a text are one
 same_tables : (sections : List (List ℕ)) (h h' : Host) (t t' : List (Option Periodic)) (raw raw' : RawTables)
@@ -137,6 +147,25 @@ fault_moved sections h h' t t' raw raw' fault has has' faulty =
     subst (λ (r : RawTables). HasCheckFault t r.rows fault) (same_tables sections h h' t t' raw raw' has has')
     (subst (λ ts. HasCheckFault ts raw'.rows fault) same.1 faulty)
 
+-- good tables have no fault: `check` passes or refuses, never both
+no_table_fault : (tasks : List (Option Periodic)) (rows : List (List Segment)) (off : CheckFault)
+    → AreGood tasks rows → HasCheckFault tasks rows off → ⊥
+no_table_fault tasks rows (fault.BadShape core place) good h =
+    none-some place (sym (good.shapes core) ∙ h.bad)
+no_table_fault tasks rows (fault.Twice vcpu tick core other) good h =
+    let lower = h.1.among.lower in
+    let same : core ≡ other = good.apart vcpu tick core other h.1.among.here h.1.among.there in
+    absurd (omega arith)
+no_table_fault tasks rows (fault.Short vcpu period_no got cost) good h =
+    let short = h.2.short in
+    let enough = good.serves vcpu short.task short.at period_no short.in_round in
+    let got_is = short.got_is in
+    let cost_is = short.cost_is in
+    let less = short.less in
+    absurd (omega arith)
+no_table_fault tasks rows fault.NoMemory good h = h
+
+-- so a text of good tables has none
 good_or_faulty : (sections : List (List ℕ)) (h h' : Host) (t t' : List (Option Periodic))
     (raw raw' : RawTables) (fault : CheckFault) → HasTables sections h t raw → AreGood t raw.rows
     → HasTables sections h' t' raw' → HasCheckFault t' raw'.rows fault → ⊥
@@ -144,7 +173,7 @@ good_or_faulty sections h h' t t' raw raw' fault has good has' faulty =
     no_table_fault t raw.rows fault good (fault_moved sections h h' t t' raw raw' fault has has' faulty)
 
 -- of each two outcomes of `check` the causes exclude one another, or they are one
-check_only : (sections : List (List ℕ)) (a b : Outcome) → Checks sections a → Checks sections b → a ≡ b
+pub check_only : (sections : List (List ℕ)) (a b : Outcome) → Checks sections a → Checks sections b → a ≡ b
 check_only s a b (Checks.Passes h t r has good) (Checks.Passes h' t' r' has' good') = refl
 check_only s a b (Checks.Passes h t r has good) (Checks.BadHost f bad) =
     absurd (no_host_fault _ f h bad has.tasked.is_host)
@@ -201,6 +230,7 @@ check_only s a b (Checks.BadTables h t r f has faulty) (Checks.BadTables h' t' r
     ap (λ k. Refuses (status.CheckNo k) (names_of h.vcpus)) faults
     ∙ ap (λ (k : Host). Refuses (status.CheckNo g) (names_of k.vcpus)) (sym same.0)
 
+-- the law's clause on `check`
 pub one_check_outcome : (input : List ℕ) (a b : Outcome) → Replies called.Check input a
     → Replies called.Check input b → a ≡ b
 one_check_outcome input a b = one_of_sections 2 Checks input a b (check_only (sections_of input) a b)

@@ -23,6 +23,7 @@ use Rattle.tableau_sim.specs.declared.status.Status.TheVariants as status
 
 -- ---- how many steps there are
 
+-- one byte more makes one line more at most
 lines_more : (byte : ℕ) (bytes : List ℕ) (feed : Bool) → (byte == 10) ≡ feed
     → length (lines_of bytes) ≤ length bytes
     → length (lines_of (byte ∷ bytes)) ≤ length (byte ∷ bytes)
@@ -34,11 +35,13 @@ lines_more byte bytes false is few = rw is (omega (arith, few, one_more (lines_o
     one_more [] = omega arith
     one_more (line ∷ lines) = omega arith
 
+-- a text has no more lines than bytes
 few_lines : (bytes : List ℕ) → length (lines_of bytes) ≤ length bytes
 unfolding lines_of
 few_lines [] = omega arith
 few_lines (byte ∷ bytes) = lines_more byte bytes (byte == 10) refl (few_lines bytes)
 
+-- one line more makes one statement more at most
 statements_more : (number : ℕ) (line : List ℕ) (lines : List (List ℕ)) (skipped : Bool) → is_skipped line ≡ skipped
     → length (statements_from (number + 1) lines) ≤ length lines
     → length (statements_from number (line ∷ lines)) ≤ length (line ∷ lines)
@@ -46,12 +49,14 @@ unfolding statements_from
 statements_more number line lines true is few = rw is (omega (arith, few))
 statements_more number line lines false is few = rw is (omega (arith, few))
 
+-- nor more statements than lines
 few_statements : (number : ℕ) (lines : List (List ℕ)) → length (statements_from number lines) ≤ length lines
 unfolding statements_from
 few_statements number [] = omega arith
 few_statements number (line ∷ lines) =
     statements_more number line lines (is_skipped line) refl (few_statements (number + 1) lines)
 
+-- so the steps of a section below 4 GiB can be counted in 32 bits, as `replay` wants
 pub few_steps : (cores : ℕ) (bytes : List ℕ) (taken : List Step) (lines : List ℕ)
     → AreSteps cores (statements_of bytes) taken lines → length taken ≤ length bytes
 few_steps cores bytes taken lines are =
@@ -68,6 +73,7 @@ few_steps cores bytes taken lines are =
 
 -- ---- what the machine is given
 
+-- a step within the host's cores names a core of the course
 names_core : (course : CourseView) (cores : ℕ) (taken : Step) → course.cores ≡ cores
     → IsStepWithin cores taken → NamesCore course taken
 names_core course cores step.Post same within = tt {0}
@@ -75,6 +81,7 @@ names_core course cores (step.See c) same within = omega (arith, same, within)
 names_core course cores (step.Decide c) same within = omega (arith, same, within)
 names_core course cores (step.Run c) same within = omega (arith, same, within)
 
+-- the same of each step of a list, as `replay` wants
 pub each_names_core : (course : CourseView) (cores : ℕ) (all : List Step) → course.cores ≡ cores
     → All (IsStepWithin cores) all
     → (k : ℕ) (taken : Step) → slice_get all k ≡ Some taken → NamesCore course taken
@@ -84,12 +91,14 @@ each_names_core course cores all same within k taken at =
 
 -- ---- a step that isn't done
 
+-- a step that isn't done has a line, so that its number can be looked up
 pub place_in : (course : CourseView) (rounds : ℕ) (taken : List Step) (lines : List ℕ) (place : ℕ)
     (answer : Answer) → length lines ≡ length taken → IsRefused course rounds taken place answer
     → place < length lines
 place_in course rounds taken lines place answer same refused =
     omega (arith, same, slice_get_within taken place refused.step refused.at)
 
+-- the refusal of a step, from what `replay` says of it
 pub step_refused : (rounds : ℕ) (sections : List (List ℕ)) (parts : Parts) (course : CourseView)
     (place line : ℕ) (answer : Answer) → HasParts rounds sections parts
     → IsCourseOf parts.host parts.events course → slice_get parts.lines place ≡ Some line

@@ -21,6 +21,7 @@ use Rattle.tableau_sim.specs.Outcomes.{Outcome}
 use Rattle.tableau_sim.specs.Outcomes.Outcome.{Refuses}
 use Rattle.tableau_sim.specs.Inside.Stops.{IsHostStop, check_stop, plan_stop, script_stop, tasks_stop}
 
+-- where a section is no host, any command P that refuses it so makes the stop
 pub host_stopped : (P : Outcome → Type 0) (section : List ℕ) (why : Stop)
     → ((bad : HostFault) → IsHostFault section bad → P (Refuses (status.Host bad) []))
     → IsHostStop section why → Makes P (Err why)
@@ -29,12 +30,14 @@ host_stopped P section (stop.Refused (status.Host bad) host) faulty h =
     subst (λ o. P (Refuses (status.Host bad) (names_in o))) (sym h.1) (faulty bad h.0)
 host_stopped P section (stop.Refused other host) faulty h = absurd h
 
+-- the same where a host has no tasks
 pub tasks_stopped : (P : Outcome → Type 0) (host : Host) (f : TaskFault)
     → ((vcpu : ℕ) → f ≡ lacks.NoPeriod vcpu → P (Refuses (status.NoPeriod vcpu) (names_of host.vcpus)))
     → Makes P (Err (tasks_stop f host))
 tasks_stopped P host (lacks.NoPeriod vcpu) no_period = no_period vcpu refl
 tasks_stopped P host lacks.NoMemory no_period = tt {0}
 
+-- the same where a host has no plan
 pub plan_stopped : (P : Outcome → Type 0) (host : Host) (f : PlanFault)
     → ((vcpu : ℕ) → f ≡ fault.NoPeriod vcpu → P (Refuses (status.NoPeriod vcpu) (names_of host.vcpus)))
     → ((vcpu rest : ℕ) (over : List Over) → f ≡ fault.NoRoom vcpu rest over
@@ -44,6 +47,7 @@ plan_stopped P host (fault.NoPeriod vcpu) no_period no_room = no_period vcpu ref
 plan_stopped P host (fault.NoRoom vcpu rest over) no_period no_room = no_room vcpu rest over refl
 plan_stopped P host fault.NoMemory no_period no_room = tt {0}
 
+-- the same where tables are no plan
 pub check_stopped : (P : Outcome → Type 0) (host : Host) (f : CheckFault) (what : Type 0)
     → (what → P (Refuses (status.CheckNo f) (names_of host.vcpus)))
     → (f ≡ tables.NoMemory) ⊎ what → Makes P (Err (check_stop f host))
@@ -51,6 +55,7 @@ check_stopped P host tables.NoMemory what faulty h = tt {0}
 check_stopped P host f what faulty (inl lacks) = absurd cc
 check_stopped P host f what faulty (inr h) = faulty h
 
+-- the same where a section is no script
 pub script_stopped : (P : Outcome → Type 0) (f : ScriptFault) (what : Type 0)
     → (what → P (Refuses (status.Script f) [])) → (f ≡ script.NoMemory) ⊎ what
     → Makes P (Err (script_stop f))
