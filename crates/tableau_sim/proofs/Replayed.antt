@@ -23,51 +23,6 @@ use Rattle.tableau_sim.specs.Outcomes.Outcome.{Refuses}
 use Rattle.tableau_sim.specs.Replay.{HasParts, Parts, Replays}
 use Rattle.tableau_sim.specs.declared.status.Status.TheVariants as status
 
--- ---- how many steps there are
-
-lines_more : (byte : ℕ) (bytes : List ℕ) (feed : Bool) → (byte == 10) ≡ feed
-    → length (lines_of bytes) ≤ length bytes
-    → length (lines_of (byte ∷ bytes)) ≤ length (byte ∷ bytes)
-unfolding lines_of
-lines_more byte bytes true is few = rw is (omega (arith, few))
-lines_more byte bytes false is few = rw is (omega (arith, few, one_more (lines_of bytes)))
-  where
-    one_more : (lines : List (List ℕ)) → length (onto_first byte lines) ≤ length lines + 1
-    one_more [] = omega arith
-    one_more (line ∷ lines) = omega arith
-
-few_lines : (bytes : List ℕ) → length (lines_of bytes) ≤ length bytes
-unfolding lines_of
-few_lines [] = omega arith
-few_lines (byte ∷ bytes) = lines_more byte bytes (byte == 10) refl (few_lines bytes)
-
-rows_more : (number : ℕ) (line : List ℕ) (lines : List (List ℕ)) (skipped : Bool) → is_skipped line ≡ skipped
-    → length (rows_from (number + 1) lines) ≤ length lines
-    → length (rows_from number (line ∷ lines)) ≤ length (line ∷ lines)
-unfolding rows_from
-rows_more number line lines true is few = rw is (omega (arith, few))
-rows_more number line lines false is few = rw is (omega (arith, few))
-
-few_rows : (number : ℕ) (lines : List (List ℕ)) → length (rows_from number lines) ≤ length lines
-unfolding rows_from
-few_rows number [] = omega arith
-few_rows number (line ∷ lines) =
-    rows_more number line lines (is_skipped line) refl (few_rows (number + 1) lines)
-
-pub few_steps : (cores : ℕ) (bytes : List ℕ) (taken : List Step) (lines : List ℕ)
-    → AreSteps cores (rows_of bytes) taken lines → length taken ≤ length bytes
-few_steps cores bytes taken lines are =
-    let count : length (map (λ (row : Row). row.words) (rows_of bytes))
-    ≡ length (map step_words taken) = ap length are.written in
-    omega (
-      arith,
-      count,
-      length-map (rows_of bytes) (λ (row : Row). row.words),
-      length-map taken step_words,
-      few_rows 1 (lines_of bytes),
-      few_lines bytes,
-    )
-
 -- ---- what the machine is given
 
 names_core : (course : CourseView) (cores : ℕ) (taken : Step) → course.cores ≡ cores
