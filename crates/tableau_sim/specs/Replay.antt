@@ -22,7 +22,8 @@ use Rattle.step_machine.specs.Refusals.{IsRefused}
 use Rattle.step_machine.specs.Runs.{Leads}
 use Rattle.step_machine.specs.declared.answer.Answer.{Answer}
 use Rattle.replay_text.specs.ReplayText.{replay_text}
-use Rattle.replay_text.specs.RunsOf.{HasMadeAll}
+use Rattle.step_machine.specs.Traces.{IsTrace}
+use Rattle.step_machine.specs.declared.trace.Made.{Made}
 use Rattle.tableau_sim.specs.declared.status.Status.TheVariants as status
 use Rattle.plan_book.specs.Courses.{IsCourseOf}
 use Rattle.plan_book.specs.Waits.{WaitsWithinLatency}
@@ -55,15 +56,16 @@ pub record HasParts (rounds : ℕ) (sections : List (List ℕ)) (parts : Parts) 
   pub are_steps : AreSteps parts.host.cores (statements_of (steps_section sections)) parts.steps parts.lines
 
 -- all steps are allowed, one after the other, from the opening of the course that the script makes of
--- the host, and lead to this state; it keeps what every run promises, and its text has a line for each
--- decide and each run
-pub record RunsTo (rounds : ℕ) (parts : Parts) (course : CourseView) (state : State) : Type 0 where
+-- the host, and lead to this state; it keeps what every run promises, and the steps made these entries
+-- and stints, in their order
+pub record RunsTo (rounds : ℕ) (parts : Parts) (course : CourseView) (state : State)
+    (made : List Made) : Type 0 where
   pub course_is : IsCourseOf parts.host parts.events course
   pub leads : Leads course rounds (opening course.cores) parts.steps state
   pub course_kept : IsCourse course
   pub promises : KeepsPromises course rounds state
   pub waits : WaitsWithinLatency parts.host parts.events course state
-  pub made : HasMadeAll parts.steps state
+  pub trace : IsTrace course rounds (opening course.cores) parts.steps state made
 
 -- the step on this line is the first that isn't done, with this answer, in a run of the course that
 -- the script makes of the host
@@ -75,9 +77,9 @@ pub record IsStepRefused (rounds : ℕ) (parts : Parts) (line : ℕ) (answer : A
   pub refused : IsRefused course rounds parts.steps place answer
 
 pub data Replays (rounds : ℕ) (sections : List (List ℕ)) : Outcome → Type 0 where
-  Replayed : (parts : Parts) (course : CourseView) (state : State) → HasParts rounds sections parts
-      → RunsTo rounds parts course state
-      → Replays rounds sections (Writes (replay_text (names_of parts.host.vcpus) course parts.steps state))
+  Replayed : (parts : Parts) (course : CourseView) (state : State) (made : List Made)
+      → HasParts rounds sections parts → RunsTo rounds parts course state made
+      → Replays rounds sections (Writes (replay_text (names_of parts.host.vcpus) course made state.posted))
   BadHost : (fault : HostFault) → IsHostFault (host_section sections) fault
       → Replays rounds sections (Refuses (status.Host fault) [])
   BadScript : (host : Host) (fault : ScriptFault) → IsHostText (host_section sections) host

@@ -50,12 +50,7 @@ fn put_text<K: Sink>(output: &mut K, text: &Text) -> Result<(), WriteFault>
         Text::Version => write_all(output, VERSION.as_bytes()),
         Text::Plan { host, plan } => write_plan(output, host, plan),
         Text::Checked => write_all(output, b"ok\n"),
-        Text::Replay {
-            host,
-            book,
-            steps,
-            state,
-        } => write_replay(output, host, book.course(), steps.items(), state),
+        Text::Replay { host, book, trace } => write_replay(output, host, book.course(), trace),
     }
 }
 

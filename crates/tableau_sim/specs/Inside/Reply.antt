@@ -13,7 +13,7 @@ use Rattle.table_form.specs.Tables.Views.{plan_view}
 use Rattle.vcpu_names.specs.Names.{names_of}
 use Rattle.plan_text.specs.PlanText.{plan_text}
 use Rattle.replay_text.specs.ReplayText.{replay_text}
-use Rattle.replay_text.specs.RunsOf.{IsRunOf}
+use Rattle.step_machine.specs.Traces.{AreOfCourse}
 use Rattle.tableau_sim.specs.declared.help.TheConstants.{HELP, VERSION}
 use Rattle.tableau_sim.specs.declared.reply.Stop.{Stop}
 use Rattle.tableau_sim.specs.declared.reply.Stop.TheVariants as stop
@@ -32,13 +32,14 @@ bytes_of written.Help = HELP.now
 bytes_of written.Version = VERSION.now
 bytes_of (written.Plan host plan) = plan_text (names_of host.vcpus) (plan_view plan)
 bytes_of written.Checked = codes "ok\n"
-bytes_of (written.Replay host made steps state) = replay_text (names_of host.vcpus) made.course steps state
+bytes_of (written.Replay host book trace) =
+    replay_text (names_of host.vcpus) book.course trace.made.items trace.posted
 
--- a plan in a text is one for its host, and a state is that to which its steps lead, so that they
--- can be written
+-- a plan in a text is one for its host, and a trace is of the book's course, so that they can be
+-- written
 abbrev pub IsWritable : Text → Type 0
 IsWritable (written.Plan host plan) = IsPlanFor host (plan_view plan)
-IsWritable (written.Replay host made steps state) = IsRunOf made.course steps state
+IsWritable (written.Replay host book trace) = AreOfCourse book.course trace.made.items
 IsWritable text = Unit {0}
 
 -- the names that a refusal may need

@@ -1,15 +1,7 @@
-ghost use Rattle.std.specs.Prelude.{◌≡◌, ◌<◌, ◌≤◌, ◌^◌, ℕ, [], All, IfErr, IfOk, List, Some, length, slice_get, slice_index_or};
-ghost use Rattle.table_form.specs.Running.Courses.{FitsRounds, IsCourse};
-ghost use Rattle.table_form.specs.Running.Invariant.{StateInvariant};
-ghost use Rattle.table_form.specs.Running.State.{opening};
+ghost use Rattle.std.specs.Prelude.{◌≡◌, ◌<◌, ◌≤◌, ◌^◌, ℕ, [], All, List, length, slice_index_or};
 ghost use Rattle.script_doc.specs.Script.{AreInRun, AreWithin};
 ghost use Rattle.script_doc.specs.Steps.{IsStepWithin};
-ghost use Rattle.script_doc.specs.declared.step.Step.{Step as StepValue};
-ghost use Rattle.step_machine.specs.Answers.{NamesCore};
-ghost use Rattle.step_machine.specs.Refusals.{IsFaultOf};
-ghost use Rattle.step_machine.specs.Runs.{Leads};
 ghost use Rattle.tab_words.specs.declared.command.TheConstants.{MOST_ROUNDS};
-ghost use Rattle.replay_text.specs.RunsOf.{IsRunOf};
 ghost use Rattle.tableau_sim.specs.Inside.Reply.{Makes};
 ghost use Rattle.tableau_sim.specs.Replay.{HasParts, Replays};
 ghost use Rattle.tableau_sim.specs.Sections.{OfSections};
@@ -20,13 +12,12 @@ use crate::reply::{Reply, Stop, Text, stopped};
 use crate::status::Status;
 use crate::stops::{host_of, stop_of_plan, stop_of_script};
 use plan_book::make_book;
-use script_doc::{Script, Step, StepList, StepsFault, read_script, read_steps};
+use script_doc::{Script, StepList, StepsFault, read_script, read_steps};
 use std::alloc::Global;
 use std::thread::Threads;
-use step_machine::{MachineState, ReplayFault, replay};
+use step_machine::{ReplayFault, replay};
 use tab_core::Host;
 use tab_words::Sections;
-use table_form::Course;
 
 // The reply of `replay` to its input.
 pub(crate) fn replay_reply<R: Threads + Sync>(
@@ -83,7 +74,6 @@ fn replay_of_parts<R: Threads + Sync>(
     requires within { AreWithin (length host.vcpus) script }
     requires in_run { AreInRun rounds script }
     requires names { All (IsStepWithin host.cores) list.steps }
-    requires short { length list.steps < 2 ^ 32 }
     ensures { (sections : List (List ℕ))
         → HasParts rounds sections
         (record { host = host; events = script; steps = list.steps; lines = list.lines })
@@ -94,43 +84,15 @@ fn replay_of_parts<R: Threads + Sync>(
         Err(fault) => return Err(stop_of_plan(fault, host)),
     };
     let StepList { steps, lines } = list;
-    match state_after(alloc, book.course(), rounds, steps.items()) {
-        Ok(state) => Ok(Text::Replay {
-            host,
-            book,
-            steps,
-            state,
-        }),
+    match replay(alloc, book.course(), rounds, steps.items()) {
+        Ok(world) => {
+            let trace = world.into_trace();
+            Ok(Text::Replay { host, book, trace })
+        }
         Err(ReplayFault::Refused { place, answer }) => {
             let line = lines.items()[place as usize];
             Err(stopped(Status::StepRefused { line, answer }))
         }
         Err(ReplayFault::NoMemory) => Err(Stop::NoMemory),
-    }
-}
-
-// The state after the steps, if each of them is done.
-fn state_after(
-    alloc: Global,
-    course: &Course,
-    rounds: u32,
-    steps: &[Step],
-) -> Result<MachineState, ReplayFault>
-    requires fits { FitsRounds course.now rounds }
-    requires short { length steps.now < 2 ^ 32 }
-    requires names { (k : ℕ) (step : StepValue) → slice_get steps.now k ≡ Some step
-        → NamesCore course.now step }
-    ensures ok { IfOk result (λ state. IsRunOf course.now steps.now state) }
-    ensures leads { IfOk result (λ state.
-        Leads course.now rounds (opening course.now.cores) steps.now state) }
-    ensures kept { IfOk result (λ state. StateInvariant course.now rounds state) }
-    ensures course_kept { IsCourse course.now }
-    ensures refused { IfErr result (λ fault. IsFaultOf course.now rounds steps.now fault) }
-{
-    // the course keeps what its type says
-    let _count = course.count();
-    match replay(alloc, course, rounds, steps) {
-        Ok(world) => Ok(world.into_state()),
-        Err(fault) => Err(fault),
     }
 }

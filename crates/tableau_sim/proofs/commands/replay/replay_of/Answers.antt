@@ -1,6 +1,5 @@
-use Rattle.std.proofs.Common.{ap, arith, length, Err}
+use Rattle.std.proofs.Common.{ap, Err}
 use Rattle.tableau_sim.specs.Replay.{HasScript, Replays}
-use Rattle.tableau_sim.proofs.ReplayLemmas.{few_steps}
 use Rattle.tableau_sim.proofs.StopsLemmas.{host_stopped, script_stopped}
 use Rattle.tableau_sim.proofs.commands.replay.replay_of.Goals as goal
 
@@ -24,16 +23,6 @@ returns-in-Err-BadLine g c =
     rw (c.stopped.ensures, c.in-Err-BadLine.field-0-is)
     (Replays.BadStep c.in-Ok.host c.in-Ok-read_script.script c.in-Err-BadLine.line script
     (rw c.part-3.ensures at (c.in-Err-BadLine.ensures.bad_line c.in-Err-BadLine.line (ap Err c.in-Err-BadLine.field-0-is))))
-
-pub replay_of_parts-requires-clause-short : goal.replay_of_parts-requires-clause-short
-replay_of_parts-requires-clause-short g c _ _ =
-    omega (
-      arith,
-      few_steps c.in-Ok.host.cores c.part-3.result.now c.in-Ok-read_steps.list.steps
-          c.in-Ok-read_steps.list.lines c.in-Ok-read_steps.ensures.ok,
-      ap length c.part-3.ensures,
-      c.requires.short 2,
-    )
 
 pub returns : goal.returns
 returns g c = c.replay_of_parts.ensures c.args.sections.now (record {

@@ -1,7 +1,6 @@
 use Rattle.std.proofs.Common.{ap, length, subst, sym, ◌∙◌, Err, ◌<◌}
 use Rattle.std.proofs.lemmas.Option.{slice_get-get_or}
 use Rattle.table_form.specs.Running.Courses.{CourseView}
-use Rattle.replay_text.proofs.Within.{all_made}
 use Rattle.run_promises.proofs.PromiseLemmas.{promised}
 use Rattle.step_machine.specs.Refusals.{IsFaultOf, IsRefused}
 use Rattle.tableau_sim.specs.Replay.{Replays}
@@ -18,29 +17,30 @@ returns-in-Err g c = λ sections read.
     (λ vcpu rest over e. Replays.NoRoom _ vcpu rest over read
     (c.in-Err.ensures.no_room vcpu rest over (ap Err e))))
 
-pub state_after-requires-clause-names : goal.state_after-requires-clause-names
-state_after-requires-clause-names g c = λ k taken at.
+pub replay-requires-clause-names : goal.replay-requires-clause-names
+replay-requires-clause-names g c = λ k taken at.
     each_names_core c.course.result.now c.args.host.cores c.args.list.steps
     (ap (λ (course : CourseView). course.cores) c.course.ensures ∙ c.in-Ok.ensures.ok.course.cores)
     c.requires.names k taken (rw c.items.ensures at at)
 
-pub returns-in-Ok-state_after : goal.returns-in-Ok-state_after
-returns-in-Ok-state_after g c = λ sections read.
+pub returns-in-Ok-replay : goal.returns-in-Ok-replay
+returns-in-Ok-replay g c = λ sections read.
     let of = c.in-Ok.ensures.ok.course in
-    let kept = rw c.course.ensures at c.in-Ok-state_after.ensures.kept in
-    let course_kept = rw c.course.ensures at c.in-Ok-state_after.ensures.course_kept in
-    let promises = promised c.in-Ok.book.course c.args.rounds c.in-Ok-state_after.state course_kept kept in
-    let is_run = rw (c.course.ensures, c.items.ensures) at c.in-Ok-state_after.ensures.ok in (
-      Replays.Replayed _ c.in-Ok.book.course c.in-Ok-state_after.state read (record {
+    let world = c.in-Ok-replay.world in
+    let kept = rw c.course.ensures at c.in-Ok-replay.ensures.kept in
+    let course_kept = rw c.course.ensures at c.in-Ok-replay.ensures.course_kept in
+    let promises = promised c.in-Ok.book.course c.args.rounds world.state course_kept kept in
+    rw (c.into_trace-trace.ensures.made, c.into_trace-trace.ensures.posted) (
+      Replays.Replayed _ c.in-Ok.book.course world.state world.made read (record {
         course_is = of;
-        leads = rw (c.course.ensures, c.items.ensures) at c.in-Ok-state_after.ensures.leads;
+        leads = rw (c.course.ensures, c.items.ensures) at c.in-Ok-replay.ensures.ok;
         course_kept = course_kept;
         promises = promises;
-        waits = waits c.args.host c.args.script c.in-Ok.book.course c.args.rounds c.in-Ok-state_after.state of
+        waits = waits c.args.host c.args.script c.in-Ok.book.course c.args.rounds world.state of
             kept promises.short_gaps;
-        made = all_made c.in-Ok.book.course c.args.list.steps c.in-Ok-state_after.state is_run;
+        trace = rw (c.course.ensures, c.items.ensures) at c.in-Ok-replay.ensures.trace;
       }),
-      is_run,
+      rw c.course.ensures at c.in-Ok-replay.ensures.of_course,
     )
 
 pub bounds-items-place : goal.bounds-items-place
