@@ -17,16 +17,16 @@ use Rattle.host_doc.proofs.OneHost.{one_host}
 use Rattle.period_choice.specs.Tasks.{AreTasksOf, IsFirstWithoutPeriod}
 use Rattle.period_choice.proofs.Unique.{tasks_unique}
 use Rattle.plan_make.specs.Planned.{IsFirstWithoutRoom, IsPlanned}
-use Rattle.plan_make.proofs.Exact.{planned_or_refused, planned_unique}
-use Rattle.plan_make.proofs.Plans.{none_without_period}
-use Rattle.plan_make.proofs.Refusals.{one_without_period, planned_or_without_period}
-use Rattle.plan_text.specs.FirstBad.{IsFirstBad}
-use Rattle.plan_text.specs.PlanLines.{AreLinesOf, IsSomePlan, worded}
+use Rattle.plan_make.proofs.OnePlan.{planned_or_refused, planned_unique}
+use Rattle.plan_make.proofs.TasksOfPlan.{none_without_period}
+use Rattle.plan_make.proofs.OneRefusal.{one_without_period, planned_or_without_period}
+use Rattle.plan_text.specs.FirstBad.{IsFirstBadFor}
+use Rattle.plan_text.specs.Meaning.{AreLinesOf, IsSomePlan, worded}
 use Rattle.plan_text.specs.PlanText.{plan_text}
-use Rattle.plan_text.proofs.FirstBad.{no_text, one_bad}
+use Rattle.plan_text.proofs.FirstBadLemmas.{no_text, one_bad}
 use Rattle.plan_text.proofs.OneMeaning.{one_meaning}
-use Rattle.plan_text.proofs.Parts.{name_here}
-use Rattle.plan_text.proofs.WholeText.{host_names}
+use Rattle.vcpu_names.proofs.NamesLemmas.{name_here}
+use Rattle.plan_text.proofs.ReadingHeadLemmas.{host_names}
 use Rattle.table_check.specs.Faults.{AreGood, HasCheckFault}
 use Rattle.table_check.specs.declared.fault.CheckFault.{CheckFault}
 use Rattle.table_check.specs.declared.fault.CheckFault.TheVariants as fault
@@ -99,19 +99,19 @@ tasks_or_lacks sections h h' t vcpu has is lacks = none_without_period h.vcpus t
 -- a bad line of one host and its tasks is one of the other
 bad_moved : (sections : List (List ℕ)) (h h' : Host) (t t' : List (Option Periodic)) (line : ℕ)
     → HasTasks sections h t → HasTasks sections h' t'
-    → IsFirstBad (IsSomePlan (names_of h'.vcpus) h'.cores t') 1 (worded (plan_section sections)) line
-    → IsFirstBad (IsSomePlan (names_of h.vcpus) h.cores t) 1 (worded (plan_section sections)) line
+    → IsFirstBadFor (IsSomePlan (names_of h'.vcpus) h'.cores t') 1 (worded (plan_section sections)) line
+    → IsFirstBadFor (IsSomePlan (names_of h.vcpus) h.cores t) 1 (worded (plan_section sections)) line
 bad_moved sections h h' t t' line has has' bad =
     let same = same_tasks sections h h' t t' has has' in
-    subst (λ ts. IsFirstBad (IsSomePlan (names_of h.vcpus) h.cores ts) 1 (worded (plan_section sections)) line)
+    subst (λ ts. IsFirstBadFor (IsSomePlan (names_of h.vcpus) h.cores ts) 1 (worded (plan_section sections)) line)
     same.1
-    (subst (λ (k : Host). IsFirstBad (IsSomePlan (names_of k.vcpus) k.cores t') 1
+    (subst (λ (k : Host). IsFirstBadFor (IsSomePlan (names_of k.vcpus) k.cores t') 1
     (worded (plan_section sections)) line) same.0 bad)
 
 -- a text of tables has no bad line
 text_or_bad : (sections : List (List ℕ)) (h h' : Host) (t t' : List (Option Periodic)) (raw : RawTables)
     (line : ℕ) → HasTables sections h t raw → HasTasks sections h' t'
-    → IsFirstBad (IsSomePlan (names_of h'.vcpus) h'.cores t') 1 (worded (plan_section sections)) line → ⊥
+    → IsFirstBadFor (IsSomePlan (names_of h'.vcpus) h'.cores t') 1 (worded (plan_section sections)) line → ⊥
 text_or_bad sections h h' t t' raw line has has' bad =
     no_text _ 1 _ line (bad_moved sections h h' t t' line has.tasked has' bad)
     (record { raw = raw; text = has.text })

@@ -1,15 +1,11 @@
 -- What a replay's parts give its machine, and what it makes of them.
 use Rattle.std.proofs.Common.{◌≡◌, ℕ, ◌+◌, ◌<◌, ◌≤◌, All, List, [], ◌∷◌, length, map, Some, slice_get, refl, ap, subst, arith, Bool, true, false}
-use Rattle.std.proofs.lemmas.List.{length-map}
 use Rattle.std.proofs.lemmas.List.Elements.{All-get_or}
 use Rattle.std.proofs.lemmas.Option.{get_or_from_slice_get, slice_get_within}
-use Rattle.std.specs.List.{onto_first}
-use Rattle.std.specs.Bool.{◌==◌}
 use Rattle.tab_core.specs.declared.host.Host.{Host}
-use Rattle.tab_words.specs.Lines.{lines_of}
 use Rattle.table_form.specs.Running.Courses.{CourseView}
 use Rattle.script_doc.specs.Statements.{Statement, is_skipped, statements_from, statements_of}
-use Rattle.script_doc.specs.Steps.{AreSteps, IsStepWithin, step_words}
+use Rattle.script_doc.specs.Steps.{AreSteps, IsStepWithin}
 use Rattle.script_doc.specs.declared.event.Event.{Event}
 use Rattle.script_doc.specs.declared.step.Step.{Step}
 use Rattle.script_doc.specs.declared.step.Step.TheVariants as step

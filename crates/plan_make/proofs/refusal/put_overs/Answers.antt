@@ -2,7 +2,7 @@ use Rattle.std.proofs.Common.{subst}
 use Rattle.tab_core.specs.declared.over.Over.{Over}
 use Rattle.tab_io.specs.Sinks.{Writes}
 use Rattle.plan_make.specs.Refusal.{over_text}
-use Rattle.tab_words.proofs.Pieces.{pieces_last, pieces_broken}
+use Rattle.tab_words.proofs.PieceLemmas.{pieces_last, pieces_broken}
 use Rattle.plan_make.proofs.refusal.put_overs.Goals as goal
 
 pub returns-in-Err : goal.returns-in-Err

@@ -1,6 +1,6 @@
 use Rattle.std.proofs.Common.{subst, sym}
 use Rattle.tab_io.specs.Sinks.{Writes}
-use Rattle.tab_words.proofs.Pieces.{pieces_last, pieces_broken}
+use Rattle.tab_words.proofs.PieceLemmas.{pieces_last, pieces_broken}
 use Rattle.vcpu_names.specs.Names.{names_of}
 use Rattle.step_machine.specs.Traces.{IsOfCourse}
 use Rattle.step_machine.specs.declared.trace.Made.{Made}

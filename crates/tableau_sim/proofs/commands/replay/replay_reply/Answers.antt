@@ -1,5 +1,5 @@
 use Rattle.std.proofs.Common.{arith, subst}
-use Rattle.tab_words.proofs.SectionSizes.{section_size}
+use Rattle.tab_words.proofs.SectionSizeLemmas.{section_size}
 use Rattle.tableau_sim.specs.Replay.{Replays}
 use Rattle.tableau_sim.specs.Inside.Reply.{Makes}
 use Rattle.tableau_sim.proofs.ReplyLemmas.{made_of_sections, off_sections}
