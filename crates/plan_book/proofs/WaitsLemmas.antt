@@ -73,7 +73,7 @@ in_round : (host : Host) (events : List Event) (course : CourseView) (decided : 
 in_round host events course decided r v task of few is =
     let found = task_found course (slice_get decided r) v task is in
     let after = of.after found.0 (few r found.0 found.1) in
-    let tasks = (known_planned host events found.0 after.known after.is).is_start.tasks_are in
+    let tasks = (known_planned host events found.0 after.known after.is).layout.is_start.tasks_are in
     let at = subst (λ (p : PlanView). slice_get p.tasks v ≡ Some (Some task)) after.shows.plan found.2 in
     let reserved = reserved_of after.known.host.vcpus after.known.plan.tasks v task tasks at in
     record {

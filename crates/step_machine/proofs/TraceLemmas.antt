@@ -55,9 +55,9 @@ pub makes : (course : CourseView) (rounds : ℕ) (old : State) (step : Step) (ne
 makes course rounds old steps.Post new m = ([], refl)
 makes course rounds old (steps.See c) new m = ([], refl)
 makes course rounds old (steps.Decide c) new (inl m) =
-    (Entered c _ ∷ [], (_, entered old new c m.core _ _ m.at (ap (λ (s : State). s.cores) m.becomes) refl, refl))
+    (Entered c _ ∷ [], (_, entered old new c m.round.core _ _ m.round.at (ap (λ (s : State). s.cores) m.becomes) refl, refl))
 makes course rounds old (steps.Decide c) new (inr m) =
-    (Entered c _ ∷ [], (_, entered old new c m.core _ _ m.at (ap (λ (s : State). s.cores) m.becomes) refl, refl))
+    (Entered c _ ∷ [], (_, entered old new c m.round.core _ _ m.round.at (ap (λ (s : State). s.cores) m.becomes) refl, refl))
 makes course rounds old (steps.Run c) new m =
     (Ran c m.stint ∷ [], (m.stint, ran old new c m.core _ m.stint m.at (ap (λ (s : State). s.cores) m.becomes) refl, refl))
 
@@ -129,8 +129,8 @@ made_of_course course rounds s (steps.Run c) made kept by =
     let front = by.1.0 in
     let last : slice_get (core_at s c).stints (length front) ≡ Some by.0 =
     rw by.1.1 (push_new front by.0) in
-    let stint = (kept.cores c (core_at s c) there.0).stints (length front) by.0 last in
-    let posted = kept.decided_posted (by.0.from / ROUND) by.0.used stint.used in
+    let used = (kept.table.cores c (core_at s c) there.0).stints (length front) by.0 last in
+    let posted = kept.decided_posted (by.0.from / ROUND) by.0.used used in
     rw by.2 (only_one (IsOfCourse course) (Ran c by.0)
     (omega (arith, there.1, kept.size), omega (arith, posted, kept.posted_most)))
 
