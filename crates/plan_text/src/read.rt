@@ -52,7 +52,7 @@ pub fn read_plan(
         → (result ≡ Ok raw) ⊎ (result ≡ Err ReadPlan.NoMemory) }
     ensures refused { (bad : ℕ)
         → IsFirstBadFor (IsSomePlan (names_of host.now.vcpus) host.now.cores tasks.now) 1
-          (worded bytes.now) bad
+        (worded bytes.now) bad
         → (result ≡ Err (ReadPlan.BadLine bad)) ⊎ (result ≡ Err ReadPlan.NoMemory) }
 {
     let names = Names::of(alloc, host.vcpus.items())?;

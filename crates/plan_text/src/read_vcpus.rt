@@ -32,12 +32,12 @@ pub(crate) fn read_vcpus(
     ensures housed { IfOk result (λ homes. are_housed cores tasks.now homes.items ≡ true) }
     ensures behind { OnOk result ((bad : ℕ)
         → IsFirstBadFor (AreFromCore (names_of vcpus.now) tasks.now 0 cores)
-          left.new.number left.new.lines bad
+        left.new.number left.new.lines bad
         → IsFirstBadFor (AreFromVcpu (names_of vcpus.now) tasks.now cores 0)
-          left.old.number left.old.lines bad) }
+        left.old.number left.old.lines bad) }
     ensures bad_line { (bad : ℕ) → IsErrOf result (ReadPlan.BadLine bad)
         → IsFirstBadFor (AreFromVcpu (names_of vcpus.now) tasks.now cores 0)
-          left.old.number left.old.lines bad }
+        left.old.number left.old.lines bad }
 {
     let mut homes = Vec::new(alloc);
     for v in 0..tasks.len() {

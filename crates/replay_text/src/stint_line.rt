@@ -7,11 +7,11 @@ ghost use Rattle.table_form.specs.Tables.Serves.{owner_at};
 ghost use Rattle.vcpu_names.specs.Names.{names_of};
 ghost use Rattle.replay_text.specs.StintLine.{how_word, stint_line};
 
-use vcpu_names::owner_in;
 use tab_core::{CoreNo, ROUND, Stint, Vcpu, VcpuNo};
 use tab_io::{Sink, WriteFault};
 use tab_words::{TextPiece, put_pieces};
 use table_form::Course;
+use vcpu_names::owner_in;
 
 /// Writes the line of a core's stint, for the vCPUs of a host and a course.
 ///

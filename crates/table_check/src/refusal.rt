@@ -3,10 +3,10 @@ ghost use Rattle.vcpu_names.specs.Names.{names_of};
 ghost use Rattle.table_check.specs.Refusal.{check_fault_line, shape_line, short_line, twice_line};
 
 use crate::fault::CheckFault;
-use vcpu_names::name_in;
 use tab_core::Vcpu;
 use tab_io::{Sink, WriteFault};
 use tab_words::{TextPiece, put_pieces};
+use vcpu_names::name_in;
 
 /// Writes the line that says why tables are no plan: `no: `, the fault as it is displayed but with the
 /// name of its vCPU, which is one of these, and a line feed. For want of memory, which is no fault of
