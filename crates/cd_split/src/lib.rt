@@ -15,8 +15,6 @@ mod order;
 mod refusal;
 mod search;
 mod splitting;
-#[cfg(test)]
-mod tests;
 mod trial;
 
 pub use core_pieces::CorePieces;

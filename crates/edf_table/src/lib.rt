@@ -12,8 +12,6 @@ mod laws;
 mod light;
 mod overload;
 mod simulation;
-#[cfg(test)]
-mod tests;
 mod turn;
 
 pub use fault::EdfFault;

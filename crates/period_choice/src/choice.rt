@@ -51,30 +51,3 @@ fn better_of(r: &Reservation, best: Option<Periodic>, period: u32) -> Option<Per
         }
     }
 }
-
-#[cfg(test)]
-mod tests {
-    use super::choose;
-    use tab_core::Reservation;
-
-    #[test]
-    fn least_demand_and_of_those_the_largest(rt: HostRuntime) {
-        // the share in ppm, the latency in ns, and the period and cost in ticks
-        let cases = [
-            (1_000_000, 0, Some((102_600, 102_600))),
-            (100_000, 180_180, Some((100, 10))),
-            (100_000, 180_179, None),
-            (250_000, 20_000_000, Some((11_400, 2_850))),
-            (600_000, 100_000_000, Some((102_600, 61_560))),
-            (200_000, 100_000_000, Some((51_300, 10_260))),
-        ];
-        for (share_ppm, latency_ns, expected) in cases {
-            let reservation = Reservation {
-                share_ppm,
-                latency_ns,
-            };
-            let found = choose(&reservation).map(|task| (task.period, task.cost));
-            assert_eq!(rt; found, expected, "{share_ppm} ppm within {latency_ns} ns");
-        }
-    }
-}

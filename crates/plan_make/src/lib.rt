@@ -14,8 +14,6 @@ mod planner;
 mod refusal;
 mod rows;
 mod splitting;
-#[cfg(test)]
-mod tests;
 mod unsplit;
 
 pub use fault::PlanFault;

@@ -25,30 +25,3 @@ pub fn demand_of(task: &Periodic) -> u32
 {
     task.cost * (ROUND / task.period)
 }
-
-#[cfg(test)]
-mod tests {
-    use super::cost_of;
-
-    #[test]
-    fn costs_are_rounded_up_to_whole_ticks(rt: HostRuntime) {
-        // the share in ppm, the period and the cost in ticks
-        let cases = [
-            (1_000_000, 102_600, 102_600),
-            (100_000, 100, 10),
-            (250_000, 11_400, 2_850),
-            (250_000, 12_825, 3_207),
-            (600_000, 102_600, 61_560),
-            (200_000, 51_300, 10_260),
-            (1, 100, 1),
-            (0, 100, 0),
-        ];
-        for (share_ppm, period, cost) in cases {
-            assert_eq!(rt;
-                cost_of(share_ppm, period),
-                cost,
-                "{share_ppm} ppm of {period}"
-            );
-        }
-    }
-}

@@ -17,8 +17,6 @@ mod periodic;
 mod piece;
 mod reservation;
 mod stint;
-#[cfg(test)]
-mod tests;
 mod vcpu;
 mod vcpu_set;
 

@@ -13,8 +13,6 @@ mod meeting;
 mod refusal;
 mod shape;
 mod shortage;
-#[cfg(test)]
-mod tests;
 
 pub use checker::check;
 pub use fault::CheckFault;

@@ -6,8 +6,6 @@
 
 mod names;
 mod owner;
-#[cfg(test)]
-mod tests;
 
 pub use names::Names;
 pub use owner::{name_in, owner_in};

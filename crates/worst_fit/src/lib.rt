@@ -7,8 +7,6 @@
 mod by_demand;
 mod placed;
 mod placing;
-#[cfg(test)]
-mod tests;
 
 pub use placed::{LeftOver, Placed, PlacedCores};
 pub use placing::place;

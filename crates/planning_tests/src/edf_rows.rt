@@ -2,25 +2,10 @@ ghost use Rattle.std.specs.Prelude.{◌≡◌, ◌≤◌};
 ghost use Rattle.tab_core.specs.Period.{IsPeriod};
 ghost use Rattle.table_form.specs.Planning.Windows.{DistinctVcpus};
 
-use crate::{EdfFault, find_overload, fits, simulate};
+use crate::samples::begins_with;
+use edf_table::{EdfFault, find_overload, fits, simulate};
 use std::test::Fail;
 use tab_core::{CoreNo, Over, Piece, VcpuNo};
-use table_form::CoreTable;
-
-// Whether the row's first segments have these owners and ends.
-fn begins_with(row: &CoreTable, begin: &[(Option<VcpuNo>, u32)]) -> bool {
-    let segments = row.segments();
-    for i in 0..begin.len() {
-        if i >= segments.len() {
-            return false;
-        }
-        let (owner, end) = &begin[i];
-        if segments[i].owner != *owner || segments[i].end != *end {
-            return false;
-        }
-    }
-    true
-}
 
 // vCPU 0 over whole periods, and vCPU 1 inside them.
 #[tactic(auto, unfolding(tab_core::specs::Period::is_period))]
@@ -73,12 +58,7 @@ fn a_full_core(rt: HostRuntime) -> Result<(), Fail> {
     let pieces = around(70);
     assert!(rt; fits(&pieces));
     let row = simulate(rt.alloc(), &pieces)?;
-    let begin = [
-        (Some(VcpuNo(0)), 50),
-        (Some(VcpuNo(1)), 80),
-        (Some(VcpuNo(0)), 150),
-        (Some(VcpuNo(1)), 180),
-    ];
+    let begin = [(Some(0), 50), (Some(1), 80), (Some(0), 150), (Some(1), 180)];
     assert!(rt; begins_with(&row, &begin));
     Ok(())
 }
@@ -128,12 +108,12 @@ fn whole_periods(rt: HostRuntime) -> Result<(), Fail> {
     assert_eq!(rt; row.segments().len(), 36);
     let row = simulate(rt.alloc(), &three_periods())?;
     let begin = [
-        (Some(VcpuNo(0)), 2850),
-        (Some(VcpuNo(1)), 11_400),
-        (Some(VcpuNo(0)), 14_250),
-        (Some(VcpuNo(1)), 22_800),
-        (Some(VcpuNo(0)), 25_650),
-        (Some(VcpuNo(2)), 30_780),
+        (Some(0), 2850),
+        (Some(1), 11_400),
+        (Some(0), 14_250),
+        (Some(1), 22_800),
+        (Some(0), 25_650),
+        (Some(2), 30_780),
         (None, 34_200),
     ];
     assert!(rt; begins_with(&row, &begin));

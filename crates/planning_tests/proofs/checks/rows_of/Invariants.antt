@@ -1,6 +1,6 @@
 use Rattle.std.proofs.Common.{◌≡◌, length}
 use Rattle.table_check.specs.Shapes.{AreOwnedByTasks}
-use Rattle.table_check.proofs.tests.rows_of.Given as goal
+use Rattle.planning_tests.proofs.checks.rows_of.Given as goal
 
 abbrev pub invariant-loop-row : goal.invariant-loop-row
 invariant-loop-row l = record {

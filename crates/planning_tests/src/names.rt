@@ -1,18 +1,7 @@
-ghost use Rattle.std.specs.Prelude.{◌≡◌};
-
-use crate::Names;
+use crate::samples::vcpu_of;
 use std::test::Fail;
-use tab_core::{Name, Vcpu, VcpuNo};
-
-fn vcpu_of(name: Name) -> Vcpu
-    ensures { result.name ≡ name }
-{
-    Vcpu {
-        name,
-        reservation: None,
-        runnable: true,
-    }
-}
+use tab_core::{Name, VcpuNo};
+use vcpu_names::Names;
 
 #[test]
 fn finds_each_vcpu_by_its_name_alone(rt: HostRuntime) -> Result<(), Fail> {
@@ -20,7 +9,7 @@ fn finds_each_vcpu_by_its_name_alone(rt: HostRuntime) -> Result<(), Fail> {
     let b = Name::of(alloc, b"b")?;
     let longer = Name::of(alloc, b"a.1")?;
     let a = Name::of(alloc, b"a")?;
-    let vcpus = [vcpu_of(b), vcpu_of(longer), vcpu_of(a)];
+    let vcpus = [vcpu_of(b, None), vcpu_of(longer, None), vcpu_of(a, None)];
     let names = Names::of(alloc, &vcpus)?;
     let cases: [(&[u8], Option<VcpuNo>); 8] = [
         (b"b", Some(VcpuNo(0))),

@@ -5,10 +5,10 @@ ghost use Rattle.table_form.specs.Tables.Homes.{is_housed};
 ghost use Rattle.table_form.specs.Tables.Serves.{has_task};
 ghost use Rattle.table_check.specs.Shapes.{AreOfTasks, AreOwnedByTasks};
 
-use crate::check;
 use std::alloc::{AllocError, Global};
 use std::test::Fail;
 use tab_core::{CoreNo, Periodic, Tasks, VcpuNo};
+use table_check::check;
 use table_form::{Homes, RawRows, RawTables, Segment, Segments};
 
 // A segment: its end, and the number of its owner.

@@ -1,11 +1,11 @@
 ghost use Rattle.std.specs.Prelude.{◌<◌, ◌≤◌, length};
 ghost use Rattle.tab_core.specs.declared.TheConstants.{MAX_CORES, MAX_VCPUS};
 
-use crate::place;
 use std::alloc::{AllocError, Global};
 use std::process::Abort;
 use std::test::Fail;
 use tab_core::{CoreNo, Periodic, Tasks, VcpuNo};
+use worst_fit::place;
 
 #[tactic(auto, unfolding(tab_core::specs::Period::is_period))]
 fn three_fifths() -> Option<Periodic> {

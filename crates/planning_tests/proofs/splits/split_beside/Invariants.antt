@@ -1,7 +1,7 @@
 use Rattle.std.proofs.Common.{◌≡◌, ℕ, ◌<◌, ◌≤◌, [], length}
 use Rattle.std.specs.List.{All}
 use Rattle.cd_split.specs.Cores.{pieces_on}
-use Rattle.cd_split.proofs.tests.split_beside.Given as goal
+use Rattle.planning_tests.proofs.splits.split_beside.Given as goal
 
 -- the cores so far have pieces of lower vCPUs, and the others none
 abbrev pub invariant-loop-number : goal.invariant-loop-number

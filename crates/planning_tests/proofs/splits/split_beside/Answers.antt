@@ -8,7 +8,7 @@ use Rattle.table_form.specs.Planning.Jobs.{jobs_of}
 use Rattle.edf_table.specs.Load.{IsUnsplit}
 use Rattle.edf_table.proofs.LoadLemmas.{unsplit_fits}
 use Rattle.cd_split.specs.Cores.{pieces_on}
-use Rattle.cd_split.proofs.tests.split_beside.Goals as goal
+use Rattle.planning_tests.proofs.splits.split_beside.Goals as goal
 
 -- a whole vCPU has room on an empty core
 whole_alone : (p : Piece) → IsUnsplit p → Fits (jobs_of (p ∷ []))

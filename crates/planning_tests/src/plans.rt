@@ -1,22 +1,13 @@
-ghost use Rattle.std.specs.Prelude.{◌≡◌, ◌≤◌};
+ghost use Rattle.std.specs.Prelude.{◌≤◌};
 ghost use Rattle.tab_core.specs.declared.TheConstants.{MAX_CORES, MAX_SLIVER, WHOLE_PPM};
 
-use crate::{PlanFault, plan};
+use crate::samples::{begins_with, host_of, number_of, vcpu_of};
+use plan_make::{PlanFault, plan};
 use std::alloc::Global;
 use std::test::Fail;
 use std::thread::Threads;
-use tab_core::{Host, Name, Reservation, Vcpu, VcpuNo, Vcpus};
+use tab_core::{Host, Name, Reservation, Vcpus};
 use table_form::{CoreTable, Plan};
-
-fn vcpu_of(name: Name, reservation: Option<Reservation>) -> Vcpu
-    ensures { result.name ≡ name }
-{
-    Vcpu {
-        name,
-        reservation,
-        runnable: true,
-    }
-}
 
 // The vCPUs a, b and c.
 fn three_vcpus(alloc: Global, reservations: [Option<Reservation>; 3]) -> Result<Vcpus, Fail> {
@@ -31,7 +22,7 @@ fn three_vcpus(alloc: Global, reservations: [Option<Reservation>; 3]) -> Result<
     Ok(Vcpus::of(vcpus))
 }
 
-fn host_of(
+fn host_with(
     alloc: Global,
     cores: u32,
     sliver: u32,
@@ -41,13 +32,7 @@ fn host_of(
     requires few_cores { cores ≤ MAX_CORES }
     requires small_sliver { sliver ≤ MAX_SLIVER }
 {
-    Ok(Host {
-        cores,
-        lag: 1000,
-        sliver,
-        quantum: 1000,
-        vcpus: three_vcpus(alloc, reservations)?,
-    })
+    Ok(host_of(cores, sliver, three_vcpus(alloc, reservations)?))
 }
 
 // A share in ppm that may wait a tenth of a second.
@@ -59,13 +44,6 @@ fn patient(share_ppm: u32) -> Option<Reservation>
         share_ppm,
         latency_ns: 100_000_000,
     })
-}
-
-fn number_of(vcpu: Option<VcpuNo>) -> Option<u32> {
-    match vcpu {
-        None => None,
-        Some(vcpu) => Some(vcpu.0),
-    }
 }
 
 // Whether the vCPUs have these homes.
@@ -82,21 +60,6 @@ fn has_homes(plan: &Plan, expected: &[u32]) -> bool {
                     return false;
                 }
             }
-        }
-    }
-    true
-}
-
-// Whether the row begins with segments of these owners and ends.
-fn begins_with(row: &CoreTable, expected: &[(Option<u32>, u32)]) -> bool {
-    let segments = row.segments();
-    if segments.len() < expected.len() {
-        return false;
-    }
-    for i in 0..expected.len() {
-        let segment = &segments[i];
-        if (number_of(segment.owner), segment.end) != expected[i] {
-            return false;
         }
     }
     true
@@ -152,7 +115,7 @@ fn is_without_room(
 
 #[test]
 fn the_third_vcpu_is_split(rt: HostRuntime) -> Result<(), Fail> {
-    let host = host_of(rt.alloc(), 2, 30, [patient(600_000); 3])?;
+    let host = host_with(rt.alloc(), 2, 30, [patient(600_000); 3])?;
     let made = plan(&rt, rt.alloc(), &host)?;
     assert!(rt; has_homes(&made, &[0, 1, 1]));
     assert!(rt; core_has(&made, 0, &[(Some(2), 41_040), (Some(0), 102_600)]));
@@ -164,7 +127,7 @@ fn the_third_vcpu_is_split(rt: HostRuntime) -> Result<(), Fail> {
 #[test]
 fn nobody_is_split_at_the_bound(rt: HostRuntime) -> Result<(), Fail> {
     let (large, small) = (patient(600_000), patient(200_000));
-    let host = host_of(rt.alloc(), 2, 30, [large, large, small])?;
+    let host = host_with(rt.alloc(), 2, 30, [large, large, small])?;
     let made = plan(&rt, rt.alloc(), &host)?;
     assert!(rt; has_homes(&made, &[0, 1, 0]));
     let first = [
@@ -181,7 +144,7 @@ fn nobody_is_split_at_the_bound(rt: HostRuntime) -> Result<(), Fail> {
 #[test]
 fn no_room_on_one_core(rt: HostRuntime) -> Result<(), Fail> {
     let large = patient(600_000);
-    let host = host_of(rt.alloc(), 1, 30, [large, large, None])?;
+    let host = host_with(rt.alloc(), 1, 30, [large, large, None])?;
     let fault = plan(&rt, rt.alloc(), &host)
         .err()
         .ok_or("the host has no plan")?;
@@ -195,7 +158,7 @@ fn no_period_within_the_latency(rt: HostRuntime) -> Result<(), Fail> {
         share_ppm: 100_000,
         latency_ns: 180_179,
     };
-    let host = host_of(rt.alloc(), 1, 30, [patient(600_000), None, Some(impatient)])?;
+    let host = host_with(rt.alloc(), 1, 30, [patient(600_000), None, Some(impatient)])?;
     let fault = plan(&rt, rt.alloc(), &host)
         .err()
         .ok_or("the host has no plan")?;
@@ -209,10 +172,10 @@ fn a_short_idle_end_goes_to_the_vcpu_before_it(rt: HostRuntime) -> Result<(), Fa
         share_ppm: 995_000,
         latency_ns: 102_702_600,
     };
-    let host = host_of(rt.alloc(), 1, 1000, [Some(nearly_whole), None, None])?;
+    let host = host_with(rt.alloc(), 1, 1000, [Some(nearly_whole), None, None])?;
     let made = plan(&rt, rt.alloc(), &host)?;
     assert!(rt; core_has(&made, 0, &[(Some(0), 102_600)]));
-    let host = host_of(rt.alloc(), 1, 513, [Some(nearly_whole), None, None])?;
+    let host = host_with(rt.alloc(), 1, 513, [Some(nearly_whole), None, None])?;
     let made = plan(&rt, rt.alloc(), &host)?;
     assert!(rt; core_has(&made, 0, &[(Some(0), 102_087), (None, 102_600)]));
     Ok(())
@@ -230,7 +193,7 @@ fn half_and_often<R: Threads + Sync>(rt: &R, alloc: Global, sliver: u32) -> Resu
         share_ppm: 100_000,
         latency_ns: 180_180,
     };
-    let host = host_of(alloc, 1, sliver, [Some(half), Some(often), None])?;
+    let host = host_with(alloc, 1, sliver, [Some(half), Some(often), None])?;
     Ok(plan(rt, alloc, &host)?)
 }
 

@@ -1,12 +1,12 @@
 ghost use Rattle.std.specs.Prelude.{◌≡◌, IfOk, length};
 ghost use Rattle.tab_core.specs.Edits.{vcpu_of};
 
-use crate::{
+use std::alloc::Global;
+use std::test::Fail;
+use tab_core::{
     CoreNo, Edit, Host, Name, NameFault, PERIODS, Piece, Reservation, Stint, Vcpu, VcpuNo, VcpuSet,
     Vcpus,
 };
-use std::alloc::Global;
-use std::test::Fail;
 
 #[test]
 fn a_set_has_what_was_put(rt: HostRuntime) {
@@ -61,7 +61,7 @@ fn periods(rt: HostRuntime) {
     assert_eq!(rt; PERIODS[64], 102_600);
 }
 
-#[tactic(auto, unfolding(crate::specs::Period::is_period))]
+#[tactic(auto, unfolding(tab_core::specs::Period::is_period))]
 fn whole_piece(vcpu: VcpuNo, core: CoreNo) -> Piece {
     Piece {
         vcpu,

@@ -1,7 +1,7 @@
 ghost use Rattle.std.specs.Prelude.{◌≡◌, ◌<◌, ◌≤◌, length};
 ghost use Rattle.tab_core.specs.declared.TheConstants.{MAX_CORES};
 
-use crate::{CorePieces, SplitFault, split};
+use cd_split::{CorePieces, SplitFault, split};
 use std::alloc::Global;
 use std::test::Fail;
 use tab_core::{CoreNo, Periodic, Piece, Pieces, VcpuNo};

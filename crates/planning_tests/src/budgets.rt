@@ -1,0 +1,90 @@
+use crate::samples::{host_of, vcpu_of};
+use period_choice::{TaskFault, choose, tasks_of};
+use reservation::cost_of;
+use std::alloc::{AllocError, Global};
+use std::test::Fail;
+use tab_core::{Host, Name, Reservation, Tasks, VcpuNo, Vcpus};
+
+#[test]
+fn costs_are_rounded_up_to_whole_ticks(rt: HostRuntime) {
+    // the share in ppm, the period and the cost in ticks
+    let cases = [
+        (1_000_000, 102_600, 102_600),
+        (100_000, 100, 10),
+        (250_000, 11_400, 2_850),
+        (250_000, 12_825, 3_207),
+        (600_000, 102_600, 61_560),
+        (200_000, 51_300, 10_260),
+        (1, 100, 1),
+        (0, 100, 0),
+    ];
+    for (share_ppm, period, cost) in cases {
+        assert_eq!(rt;
+            cost_of(share_ppm, period),
+            cost,
+            "{share_ppm} ppm of {period}"
+        );
+    }
+}
+
+#[test]
+fn least_demand_and_of_those_the_largest(rt: HostRuntime) {
+    // the share in ppm, the latency in ns, and the period and cost in ticks
+    let cases = [
+        (1_000_000, 0, Some((102_600, 102_600))),
+        (100_000, 180_180, Some((100, 10))),
+        (100_000, 180_179, None),
+        (250_000, 20_000_000, Some((11_400, 2_850))),
+        (600_000, 100_000_000, Some((102_600, 61_560))),
+        (200_000, 100_000_000, Some((51_300, 10_260))),
+    ];
+    for (share_ppm, latency_ns, expected) in cases {
+        let reservation = Reservation {
+            share_ppm,
+            latency_ns,
+        };
+        let found = choose(&reservation).map(|task| (task.period, task.cost));
+        assert_eq!(rt; found, expected, "{share_ppm} ppm within {latency_ns} ns");
+    }
+}
+
+fn one_vcpu(
+    alloc: Global,
+    name: Name,
+    reservation: Option<Reservation>,
+) -> Result<Host, AllocError> {
+    let mut items = Vec::new(alloc);
+    items.push(vcpu_of(name, reservation))?;
+    Ok(host_of(1, 30, Vcpus::of(items)))
+}
+
+#[test]
+fn each_vcpu_has_the_chosen_task(rt: HostRuntime) -> Result<(), Fail> {
+    let within = Reservation {
+        share_ppm: 100_000,
+        latency_ns: 180_180,
+    };
+    let beyond = Reservation {
+        share_ppm: 100_000,
+        latency_ns: 180_179,
+    };
+    let cases = [
+        (None, Ok(None)),
+        (Some(within), Ok(Some((100, 10)))),
+        (Some(beyond), Err(TaskFault::NoPeriod { vcpu: VcpuNo(0) })),
+    ];
+    for (reservation, expected) in cases {
+        let name = Name::of(rt.alloc(), b"a")?;
+        let host = one_vcpu(rt.alloc(), name, reservation)?;
+        let found = tasks_of(rt.alloc(), &host).map(|tasks| numbers_of(&tasks));
+        assert_eq!(rt; found, expected);
+    }
+    Ok(())
+}
+
+fn numbers_of(tasks: &Tasks) -> Option<(u32, u32)> {
+    match tasks.items().first() {
+        Some(Some(task)) => Some((task.period, task.cost)),
+        _ => None,
+    }
+}
