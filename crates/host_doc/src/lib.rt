@@ -9,8 +9,6 @@ mod document;
 mod fault;
 mod laws;
 mod refusal;
-#[cfg(test)]
-mod tests;
 mod value;
 mod vcpus;
 

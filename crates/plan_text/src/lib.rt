@@ -15,8 +15,6 @@ mod read_cores;
 mod read_fault;
 mod read_vcpus;
 mod refusal;
-#[cfg(test)]
-mod tests;
 mod vcpus;
 mod write;
 

@@ -69,29 +69,3 @@ fn put_numbered<'a, K: Sink>(
         ],
     )
 }
-
-#[cfg(test)]
-mod tests {
-    use super::*;
-    use std::test::Fail;
-    use tab_io::MemSink;
-
-    #[test]
-    fn lines_have_the_words_of_display(rt: HostRuntime) -> Result<(), Fail> {
-        let faults = [
-            ScriptFault::BadLine { line: 1 },
-            ScriptFault::UnknownName { line: 2 },
-            ScriptFault::OutOfOrder { line: 30 },
-            ScriptFault::LateEvent { line: 4 },
-            ScriptFault::TooManyEvents { line: 65_536 },
-            ScriptFault::TooManyChanges { line: 17 },
-        ];
-        for fault in faults {
-            let mut sink = MemSink::with_room(rt.alloc(), 100)?;
-            assert_eq!(rt; put_script_fault(&mut sink, &fault), Ok(()));
-            let line = format!(in rt.alloc(); "refused: {fault}\n")?;
-            assert_eq!(rt; sink.bytes(), line.as_bytes());
-        }
-        Ok(())
-    }
-}

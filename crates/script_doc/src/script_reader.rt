@@ -7,9 +7,6 @@ ghost use Rattle.script_doc.specs.ScriptFaults.{IsFirstFault, broken_limit};
 ghost use Rattle.script_doc.specs.Statements.{statements_of};
 ghost use Rattle.script_doc.specs.declared.event.Event.{Event as EventValue};
 
-#[cfg(test)]
-mod tests;
-
 use crate::event::{Act, Event};
 use crate::event_reader::{LineFault, event_of};
 use crate::line::is_skipped;

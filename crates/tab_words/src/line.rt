@@ -59,39 +59,3 @@ fn first_line(bytes: &[u8]) -> (&[u8], &[u8])
         None => (bytes, &[]),
     }
 }
-
-#[cfg(test)]
-mod tests {
-    use super::*;
-
-    #[test]
-    fn parts_at_line_feeds_alone(rt: HostRuntime) {
-        // bytes, and the first four answers
-        let cases: [(&[u8], [Option<&[u8]>; 4]); 9] = [
-            (b"", [None, None, None, None]),
-            (b"\n", [Some(b""), None, None, None]),
-            (b"plan", [Some(b"plan"), None, None, None]),
-            (b"plan\n", [Some(b"plan"), None, None, None]),
-            (b"\n\nend", [Some(b""), Some(b""), Some(b"end"), None]),
-            (b"end\n\n", [Some(b"end"), Some(b""), None, None]),
-            (
-                b"at 1\r\nat 2\r",
-                [Some(b"at 1\r"), Some(b"at 2\r"), None, None],
-            ),
-            (
-                b"\x00\n\x0b\x0c",
-                [Some(b"\x00"), Some(b"\x0b\x0c"), None, None],
-            ),
-            (
-                b"\xff\x80\n\xc2\x85",
-                [Some(b"\xff\x80"), Some(b"\xc2\x85"), None, None],
-            ),
-        ];
-        for (bytes, expected) in cases {
-            let mut lines = Lines::over(bytes);
-            for line in expected {
-                assert_eq!(rt; lines.next(), line, "of {bytes:?}");
-            }
-        }
-    }
-}

@@ -94,34 +94,3 @@ fn put_space_and<K: Sink>(sink: &mut K, word: &TextPiece<'_>) -> Result<(), Writ
     write_all(sink, b" ")?;
     put_piece(sink, word)
 }
-
-#[cfg(test)]
-mod tests {
-    use super::*;
-    use std::test::Fail;
-    use tab_io::MemSink;
-
-    #[test]
-    fn writes_a_short_line_and_a_long_one(rt: HostRuntime) -> Result<(), Fail> {
-        let long = [b'n'; 130];
-        let words = [
-            TextPiece::Text(b"102600"),
-            TextPiece::Number(4_294_967_295),
-            TextPiece::Text(&long),
-        ];
-        // how many of the words, how many bytes there are, and the first of them
-        let cases: [(usize, usize, &[u8]); 4] = [
-            (0, 1, b"\n"),
-            (1, 7, b"102600\n"),
-            (2, 18, b"102600 4294967295\n"),
-            (3, 149, b"102600 4294967295 nnn"),
-        ];
-        for (count, size, front) in cases {
-            let mut sink = MemSink::with_room(rt.alloc(), 200)?;
-            assert_eq!(rt; put_line(&mut sink, &words[..count]), Ok(()));
-            assert_eq!(rt; sink.bytes().len(), size, "of {count} words");
-            assert!(rt; sink.bytes().starts_with(front), "of {count} words");
-        }
-        Ok(())
-    }
-}

@@ -71,35 +71,3 @@ fn first_word(line: &[u8]) -> (&[u8], &[u8])
         None => (line, &[]),
     }
 }
-
-#[cfg(test)]
-mod tests {
-    use super::*;
-
-    #[test]
-    fn parts_at_spaces_alone(rt: HostRuntime) {
-        // a line, and the first four answers
-        let cases: [(&[u8], [Option<&[u8]>; 4]); 8] = [
-            (b"", [None, None, None, None]),
-            (b"   ", [None, None, None, None]),
-            (b"end", [Some(b"end"), None, None, None]),
-            (b"102600 v1", [Some(b"102600"), Some(b"v1"), None, None]),
-            (
-                b"  at  7   plan ",
-                [Some(b"at"), Some(b"7"), Some(b"plan"), None],
-            ),
-            (b"at\t7 \t", [Some(b"at\t7"), Some(b"\t"), None, None]),
-            (b"at 7\r", [Some(b"at"), Some(b"7\r"), None, None]),
-            (
-                b"\xa0 \x00 \xff\xfe",
-                [Some(b"\xa0"), Some(b"\x00"), Some(b"\xff\xfe"), None],
-            ),
-        ];
-        for (line, expected) in cases {
-            let mut words = Words::of(line);
-            for word in expected {
-                assert_eq!(rt; words.next(), word, "of {line:?}");
-            }
-        }
-    }
-}

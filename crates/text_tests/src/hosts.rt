@@ -1,7 +1,8 @@
-use crate::read_host;
+use host_doc::{HostFault, Key, Path, put_host_fault, read_host};
 use std::alloc::{AllocError, Global};
 use std::test::Fail;
 use tab_core::{Host, Vcpu};
+use tab_io::MemSink;
 
 // What a document is read as: its fault, or its four numbers.
 fn told(alloc: Global, document: &[u8]) -> Result<String, AllocError> {
@@ -272,5 +273,44 @@ fn at_most_256_vcpus(rt: HostRuntime) -> Result<(), Fail> {
     assert_eq!(rt; full.as_str(), "1 1000 30 1000");
     let over = crowd(rt.alloc(), 257)?;
     assert_eq!(rt; over.as_str(), "257 vcpus");
+    Ok(())
+}
+
+#[test]
+fn lines_have_the_words_of_display(rt: HostRuntime) -> Result<(), Fail> {
+    let paths = [
+        Path {
+            vcpu: None,
+            key: Key::Cores,
+        },
+        Path {
+            vcpu: None,
+            key: Key::Unknown,
+        },
+        Path {
+            vcpu: Some(3),
+            key: Key::Vcpu,
+        },
+        Path {
+            vcpu: Some(255),
+            key: Key::Share,
+        },
+    ];
+    let [cores, unknown, member, share] = paths;
+    let faults = [
+        HostFault::NotToml,
+        HostFault::BadKey { path: cores },
+        HostFault::BadKey { path: unknown },
+        HostFault::OutOfRange { path: member },
+        HostFault::OutOfRange { path: share },
+        HostFault::SameName { vcpu: 7 },
+        HostFault::TooMany { count: 257 },
+    ];
+    for fault in faults {
+        let mut sink = MemSink::with_room(rt.alloc(), 100)?;
+        assert_eq!(rt; put_host_fault(&mut sink, &fault), Ok(()));
+        let line = format!(in rt.alloc(); "refused: {fault}\n")?;
+        assert_eq!(rt; sink.bytes(), line.as_bytes());
+    }
     Ok(())
 }

@@ -1,34 +1,20 @@
-ghost use Rattle.std.specs.Prelude.{◌≡◌};
-
-use crate::{Act, Event, Script, ScriptFault, read_script};
+use crate::samples::{host_of, vcpu_of};
+use script_doc::{
+    Act, Event, Script, ScriptFault, Step, StepsFault, put_script_fault, read_script, read_steps,
+};
 use std::alloc::{AllocError, Global};
 use std::test::Fail;
-use tab_core::{Edit, Host, Name, Reservation, Vcpu, VcpuNo, Vcpus};
-
-fn vcpu_of(name: Name) -> Vcpu
-    ensures { result.name ≡ name }
-{
-    Vcpu {
-        name,
-        reservation: None,
-        runnable: true,
-    }
-}
+use tab_core::{CoreNo, Edit, Host, Name, Reservation, VcpuNo, Vcpus};
+use tab_io::MemSink;
 
 // A host with the vCPUs b and a.
-fn host_of(alloc: Global) -> Result<Host, Fail> {
+fn two_vcpus(alloc: Global) -> Result<Host, Fail> {
     let b = Name::of(alloc, b"b")?;
     let a = Name::of(alloc, b"a")?;
     let mut vcpus = Vec::new(alloc);
     vcpus.push(vcpu_of(b))?;
     vcpus.push(vcpu_of(a))?;
-    Ok(Host {
-        cores: 1,
-        lag: 1000,
-        sliver: 30,
-        quantum: 1000,
-        vcpus: Vcpus::of(vcpus),
-    })
+    Ok(host_of(1, Vcpus::of(vcpus)))
 }
 
 fn edits_in(event: &Event) -> &[Edit] {
@@ -40,7 +26,7 @@ fn edits_in(event: &Event) -> &[Edit] {
 
 #[test]
 fn reads_events_of_known_vcpus(rt: HostRuntime) -> Result<(), Fail> {
-    let host = host_of(rt.alloc())?;
+    let host = two_vcpus(rt.alloc())?;
     let text =
         b"# all\n0 wake a\n\n0  block b \n  102599   change leave b set a 1 1000000000000 set b 1000000 0";
     let script = read_script(rt.alloc(), text, &host, 1)?;
@@ -74,7 +60,7 @@ fn reads_events_of_known_vcpus(rt: HostRuntime) -> Result<(), Fail> {
 
 #[test]
 fn names_the_first_fault_of_the_first_line_with_one(rt: HostRuntime) -> Result<(), Fail> {
-    let host = host_of(rt.alloc())?;
+    let host = two_vcpus(rt.alloc())?;
     let bad = |line| ScriptFault::BadLine { line };
     let unknown = |line| ScriptFault::UnknownName { line };
     let order = |line| ScriptFault::OutOfOrder { line };
@@ -135,7 +121,7 @@ fn lines_of(alloc: Global, line: &[u8], count: u32) -> Result<Vec<u8>, AllocErro
 
 #[test]
 fn refuses_the_first_event_or_change_too_many(rt: HostRuntime) -> Result<(), Fail> {
-    let host = host_of(rt.alloc())?;
+    let host = two_vcpus(rt.alloc())?;
     // a line, how many of it are taken, and the fault of one more
     let cases: [(&[u8], u32, ScriptFault); 2] = [
         (
@@ -190,6 +176,69 @@ fn words_each_fault(rt: HostRuntime) -> Result<(), Fail> {
     for (fault, expected) in cases {
         let text = format!(in rt.alloc(); "{fault}")?;
         assert_eq!(rt; text.as_str(), expected);
+    }
+    Ok(())
+}
+
+#[test]
+fn reads_steps_with_the_numbers_of_their_lines(rt: HostRuntime) -> Result<(), Fail> {
+    let text = b"see 0\n\n# see 9\ndecide   31\n   \n  run 7 \n#\npost";
+    let list = read_steps(rt.alloc(), text, 32)?;
+    let steps = [
+        Step::See(CoreNo(0)),
+        Step::Decide(CoreNo(31)),
+        Step::Run(CoreNo(7)),
+        Step::Post,
+    ];
+    assert_eq!(rt; list.steps.items(), steps.as_slice());
+    assert_eq!(rt; list.lines.items(), [1, 4, 6, 8].as_slice());
+    Ok(())
+}
+
+#[test]
+fn names_the_first_line_that_is_no_step(rt: HostRuntime) {
+    // a text for two cores, and the number of its first bad line
+    let cases: [(&[u8], u32); 18] = [
+        (b"pos\npost\npost", 1),
+        (b"post\n\n#\nposts\nx", 4),
+        (b"see 0\nrun 1\nrun", 3),
+        (b"post 0", 1),
+        (b"post post", 1),
+        (b"see 2", 1),
+        (b"see 4294967296", 1),
+        (b"see 00", 1),
+        (b"see 01", 1),
+        (b"see -1", 1),
+        (b"decide 0 1", 1),
+        (b"run 0 #", 1),
+        (b"post\r\npost", 1),
+        (b"see\t0", 1),
+        (b"\t", 1),
+        (b"post\n # x", 2),
+        (b"post\n\x00", 2),
+        (b"POST", 1),
+    ];
+    for (text, line) in cases {
+        let fault = read_steps(rt.alloc(), text, 2).err();
+        assert_eq!(rt; fault, Some(StepsFault::BadLine { line }), "of {text:?}");
+    }
+}
+
+#[test]
+fn lines_have_the_words_of_display(rt: HostRuntime) -> Result<(), Fail> {
+    let faults = [
+        ScriptFault::BadLine { line: 1 },
+        ScriptFault::UnknownName { line: 2 },
+        ScriptFault::OutOfOrder { line: 30 },
+        ScriptFault::LateEvent { line: 4 },
+        ScriptFault::TooManyEvents { line: 65_536 },
+        ScriptFault::TooManyChanges { line: 17 },
+    ];
+    for fault in faults {
+        let mut sink = MemSink::with_room(rt.alloc(), 100)?;
+        assert_eq!(rt; put_script_fault(&mut sink, &fault), Ok(()));
+        let line = format!(in rt.alloc(); "refused: {fault}\n")?;
+        assert_eq!(rt; sink.bytes(), line.as_bytes());
     }
     Ok(())
 }

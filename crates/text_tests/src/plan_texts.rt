@@ -2,37 +2,22 @@
 ghost use Rattle.std.specs.Prelude.{◌≡◌, IfOk, length};
 ghost use Rattle.tab_core.specs.declared.TheConstants.{MAX_VCPUS};
 
-use crate::{ReadPlan, read_plan};
+use crate::samples::{host_of, vcpu_of};
+use plan_text::{ReadPlan, read_plan};
 use std::alloc::{AllocError, Global};
 use std::test::Fail;
-use tab_core::{CoreNo, Host, Name, Periodic, Tasks, Vcpu, VcpuNo, Vcpus};
+use tab_core::{CoreNo, Host, Name, Periodic, Tasks, VcpuNo, Vcpus};
 use table_form::{RawTables, Segment};
 
-fn vcpu_of(name: Name) -> Vcpu
-    ensures { result.name ≡ name }
-{
-    Vcpu {
-        name,
-        reservation: None,
-        runnable: true,
-    }
-}
-
 // Two cores, and the vCPUs a, b and c.1.
-fn host_of(alloc: Global) -> Result<Host, Fail>
+fn three_vcpus(alloc: Global) -> Result<Host, Fail>
     ensures { IfOk result (λ host. length host.vcpus ≡ 3) }
 {
     let a = Name::of(alloc, b"a")?;
     let b = Name::of(alloc, b"b")?;
     let c = Name::of(alloc, b"c.1")?;
     let vcpus = Vec::from_array(alloc, [vcpu_of(a), vcpu_of(b), vcpu_of(c)])?;
-    Ok(Host {
-        cores: 2,
-        lag: 1000,
-        sliver: 30,
-        quantum: 1000,
-        vcpus: Vcpus::of(vcpus),
-    })
+    Ok(host_of(2, Vcpus::of(vcpus)))
 }
 
 // The first and the last of them have a task.
@@ -52,7 +37,7 @@ fn tasks_of(alloc: Global) -> Result<Tasks, AllocError>
 }
 
 fn read(alloc: Global, text: &[u8]) -> Result<Result<RawTables, ReadPlan>, Fail> {
-    let host = host_of(alloc)?;
+    let host = three_vcpus(alloc)?;
     let tasks = tasks_of(alloc)?;
     if text.len() > 1_000_000 {
         return Ok(Err(ReadPlan::NoMemory));

@@ -1,0 +1,29 @@
+ghost use Rattle.std.specs.Prelude.{◌≡◌, ◌≤◌};
+ghost use Rattle.tab_core.specs.declared.TheConstants.{MAX_CORES};
+
+use tab_core::{Host, Name, Vcpu, Vcpus};
+
+// A vCPU of this name, which is runnable and isn't admitted.
+pub(crate) fn vcpu_of(name: Name) -> Vcpu
+    ensures { result.name ≡ name }
+{
+    Vcpu {
+        name,
+        reservation: None,
+        runnable: true,
+    }
+}
+
+pub(crate) fn host_of(cores: u32, vcpus: Vcpus) -> Host
+    requires some_core { 1 ≤ cores }
+    requires few_cores { cores ≤ MAX_CORES }
+    ensures { result.vcpus ≡ vcpus }
+{
+    Host {
+        cores,
+        lag: 1000,
+        sliver: 30,
+        quantum: 1000,
+        vcpus,
+    }
+}
