@@ -14,8 +14,6 @@ mod fault;
 mod laws;
 mod make;
 mod outcome;
-#[cfg(test)]
-mod tests;
 
 pub use book::PlanBook;
 pub use fault::BookFault;

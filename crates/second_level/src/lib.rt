@@ -9,8 +9,6 @@
 
 mod round_robin;
 mod stints;
-#[cfg(test)]
-mod tests;
 
 pub use round_robin::pick;
 pub use stints::{Begin, Next, next_stint};

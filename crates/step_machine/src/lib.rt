@@ -20,8 +20,6 @@ mod progress;
 mod replaying;
 mod steps;
 mod stints;
-#[cfg(test)]
-mod tests;
 mod trace;
 mod world;
 

@@ -2,7 +2,7 @@ use Rattle.std.proofs.Common.{◌≡◌, ◌⊎◌, ℕ, zero, suc, List, [], �
 use Rattle.std.specs.Prelude.{slice_get}
 use Rattle.table_form.specs.Tables.Rows.{Row}
 use Rattle.table_form.specs.Tables.Serves.{owner_at, flat}
-use Rattle.step_machine.proofs.tests.idle_rows.Goals as goal
+use Rattle.running_tests.proofs.samples.idle_rows.Goals as goal
 
 flat_some : (o : Option (Option ℕ)) (v : ℕ) → flat o ≡ Some v → o ≡ Some (Some v)
 flat_some None v h = absurd cc

@@ -1,7 +1,7 @@
 ghost use Rattle.std.specs.Prelude.{◌≡◌, ◌<◌, ◌≤◌, length};
 ghost use Rattle.tab_core.specs.declared.TheConstants.{WHOLE_PPM};
 
-use crate::{BookFault, Outcome, PlanBook, make_book};
+use plan_book::{BookFault, Outcome, PlanBook, make_book};
 use script_doc::{Script, read_script};
 use std::alloc::Global;
 use std::test::Fail;

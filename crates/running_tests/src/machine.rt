@@ -1,60 +1,16 @@
-ghost use Rattle.std.specs.Prelude.{ℕ, ◌≡◌, ◌+◌, ◌*◌, ◌<◌, ◌≤◌, IfOk, IsTrue, Some, length, slice_get, slice_index};
+ghost use Rattle.std.specs.Prelude.{ℕ, ◌≡◌, ◌+◌, ◌*◌, ◌<◌, ◌≤◌, IfOk, Some, length, slice_get, slice_index};
 ghost use Rattle.tab_core.specs.declared.TheConstants.{MAX_CORES, ROUND};
 ghost use Rattle.script_doc.specs.declared.step.Step.{Step as StepValue};
 ghost use Rattle.table_form.specs.Running.Courses.{CourseView};
-ghost use Rattle.table_form.specs.Tables.Serves.{owner_at};
 ghost use Rattle.step_machine.specs.Answers.{NamesCore};
 
-use crate::answer::{Answer, Phase};
-use crate::fault::ReplayFault;
-use crate::replaying::replay;
-use crate::world::World;
+use crate::samples::idle_plan;
 use script_doc::Step;
 use std::alloc::Global;
 use std::test::Fail;
-use tab_core::{Actor, CoreNo, Entry, NoMemory, ROUND, Stint, Tasks, VcpuSet};
-use table_form::{CoreTable, Course, Homes, Plan, Rows, Segment, Tables};
-
-fn idle_row(alloc: Global) -> Result<CoreTable, NoMemory>
-    ensures { IfOk result (λ row. (x v : ℕ) → slice_get row x ≡ Some (Some v) → ⊥) }
-{
-    let mut segments = Vec::new(alloc);
-    segments.push(Segment {
-        owner: None,
-        end: ROUND,
-    })?;
-    match CoreTable::of(segments) {
-        Ok(row) => Ok(row),
-        Err(_) => unreachable!(),
-    }
-}
-
-fn idle_rows(alloc: Global, cores: u32) -> Result<Vec<CoreTable>, NoMemory>
-    ensures count { IfOk result (λ rows. length rows.items ≡ cores) }
-    ensures idle { IfOk result (λ rows. (c x v : ℕ) → owner_at rows.items c x ≡ Some v → ⊥) }
-{
-    let mut rows = Vec::new(alloc);
-    for core in 0..cores {
-        let row = idle_row(alloc)?;
-        rows.push(row)?;
-    }
-    Ok(rows)
-}
-
-// A plan of cores without slots.
-fn idle_plan(alloc: Global, cores: u32) -> Result<Plan, NoMemory>
-    requires { cores ≤ MAX_CORES }
-    ensures { IfOk result (λ plan. length plan.tables.rows ≡ cores) }
-{
-    let rows = Rows::of(idle_rows(alloc, cores)?);
-    Ok(Plan {
-        tasks: Tasks::of(Vec::new(alloc)),
-        tables: Tables {
-            homes: Homes::of(Vec::new(alloc)),
-            rows,
-        },
-    })
-}
+use step_machine::{Answer, Phase, ReplayFault, World, replay};
+use tab_core::{Actor, CoreNo, Entry, NoMemory, Stint, VcpuSet};
+use table_form::Course;
 
 // A course of two cores without slots, with an event at the tick if there is one.
 fn idle_course(alloc: Global, lag: u32, quantum: u32, tick: Option<u32>) -> Result<Course, NoMemory>

@@ -1,7 +1,7 @@
 use Rattle.std.proofs.Common.{◌≡◌, ℕ, zero, suc, List, [], ◌++◌, replicate, Option, Some, None, ap, ◌∙◌}
 use Rattle.std.specs.Prelude.{slice_get}
 use Rattle.tab_core.specs.declared.TheConstants.{ROUND}
-use Rattle.second_level.proofs.tests.idle_row.Goals as goal
+use Rattle.running_tests.proofs.samples.idle_row.Goals as goal
 
 none_in : (n x v : ℕ) → slice_get (replicate n None) x ≡ Some (Some v) → ⊥
 none_in zero x v h = absurd cc

@@ -3,7 +3,7 @@ use Rattle.std.specs.Prelude.{slice_get}
 use Rattle.script_doc.specs.declared.step.Step.{Step}
 use Rattle.table_form.specs.Running.Courses.{CourseView}
 use Rattle.step_machine.specs.Answers.{NamesCore}
-use Rattle.step_machine.proofs.tests.steps_of.Given as goal
+use Rattle.running_tests.proofs.machine.steps_of.Given as goal
 
 abbrev pub invariant-loop-kind : goal.invariant-loop-kind
 invariant-loop-kind l = record {

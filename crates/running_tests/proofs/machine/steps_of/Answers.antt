@@ -3,7 +3,7 @@ use Rattle.std.specs.Prelude.{slice_get}
 use Rattle.script_doc.specs.declared.step.Step.{Step}
 use Rattle.step_machine.specs.Answers.{NamesCore}
 use Rattle.step_machine.proofs.Lists.{push_split}
-use Rattle.step_machine.proofs.tests.steps_of.Goals as goal
+use Rattle.running_tests.proofs.machine.steps_of.Goals as goal
 
 pub loop-kind-preserved : goal.loop-kind-preserved
 loop-kind-preserved c = record {
