@@ -1,6 +1,6 @@
 use Rattle.std.proofs.Common.{◌≡◌, ◌+◌}
 use Rattle.table_form.specs.Running.Invariant.{StateInvariant}
-use Rattle.tableau_sim.proofs.tests.whole_runs.steps_to_the_end.Given as goal
+use Rattle.call_tests.proofs.calls.whole_runs.steps_to_the_end.Given as goal
 
 -- the world is of this course, and has room for the steps to come
 abbrev pub invariant-loop-turn : goal.invariant-loop-turn

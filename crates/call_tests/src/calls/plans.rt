@@ -1,6 +1,6 @@
 // `plan`, help and version: the worked examples.
 use super::call;
-use crate::{HELP, VERSION};
+use tableau_sim::{HELP, VERSION};
 use std::alloc::AllocError;
 use std::test::Fail;
 

@@ -5,7 +5,7 @@ use Rattle.script_doc.specs.declared.step.Step.{Step}
 use Rattle.script_doc.specs.declared.step.Step.TheVariants as step
 use Rattle.step_machine.specs.Answers.{Moves, NamesCore}
 use Rattle.run_promises.proofs.Lists.{within}
-use Rattle.tableau_sim.proofs.tests.whole_runs.steps_to_the_end.Goals as goal
+use Rattle.call_tests.proofs.calls.whole_runs.steps_to_the_end.Goals as goal
 
 -- a step that is allowed names a core of the course
 names : (course : CourseView) (rounds : ℕ) (old new : State) (taken : Step) → length old.cores ≡ course.cores
