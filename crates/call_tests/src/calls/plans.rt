@@ -1,8 +1,8 @@
 // `plan`, help and version: the worked examples.
 use super::call;
-use tableau_sim::{HELP, VERSION};
 use std::alloc::AllocError;
 use std::test::Fail;
+use tableau_sim::{HELP, VERSION};
 
 pub(super) const PAIR: &str = "cores = 2
 [[vcpu]]
