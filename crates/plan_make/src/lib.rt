@@ -19,6 +19,6 @@ mod tests;
 mod unsplit;
 
 pub use fault::PlanFault;
-pub use laws::a_host_has_one_plan;
+pub use laws::{a_host_has_one_plan, a_host_has_one_refusal};
 pub use planner::plan;
 pub use refusal::{put_no_period, put_no_room};
