@@ -5,6 +5,7 @@ pub mod ListsByIndex
 pub mod MakingLemmas
 pub mod NamesBelow
 pub mod NextState
+pub mod OneCourse
 pub mod OneState
 pub mod PlannedAfter
 pub mod RunnableFlags

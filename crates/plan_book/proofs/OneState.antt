@@ -52,7 +52,7 @@ outcome_unique host (NoRoom vcpu) Planned of_a of_b = absurd of_b
 outcome_unique host (NoRoom vcpu) (NoPeriod other) of_a of_b =
     absurd (room_or_without_period host other vcpu of_a.0 of_a.1 of_a.2 of_b)
 outcome_unique host (NoRoom vcpu) (NoRoom other) of_a of_b =
-    ap NoRoom (one_without_room host vcpu other of_a.0 of_b.0 of_a.1 of_b.1 of_a.2 of_b.2)
+    ap NoRoom (one_without_room host vcpu other of_a.0 of_b.0 of_a.1 of_b.1 of_a.2 of_b.2).0
 
 -- and none where it has one
 pub planned_or_unplanned : (host : Host) (plan : PlanView) (outcome : Outcome) → IsPlanned host plan

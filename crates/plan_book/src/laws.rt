@@ -1,6 +1,6 @@
-ghost use Rattle.std.specs.Prelude.{List, ℕ};
+ghost use Rattle.std.specs.Prelude.{◌≡◌, List, ℕ};
 ghost use Rattle.tab_core.specs.declared.host.Host.{Host};
-ghost use Rattle.table_form.specs.Running.Courses.{CourseView};
+ghost use Rattle.table_form.specs.Running.Courses.{CourseView, IsCourseForm};
 ghost use Rattle.table_form.specs.Running.Invariant.{StateInvariant};
 ghost use Rattle.table_form.specs.Running.Gaps.{HasShortGaps};
 ghost use Rattle.table_form.specs.Running.State.{State};
@@ -14,4 +14,11 @@ pub fn every_wait_is_within_latency()
     ensures { (host : Host) (events : List Event) (course : CourseView) (rounds : ℕ) (state : State)
         → IsCourseOf host events course → StateInvariant course rounds state → HasShortGaps course state
         → WaitsWithinLatency host events course state }
+{}
+
+/// A script makes one course of a host.
+pub fn a_script_makes_one_course()
+    ensures { (host : Host) (events : List Event) (course other : CourseView)
+        → IsCourseOf host events course → IsCourseForm course → IsCourseOf host events other
+        → IsCourseForm other → course ≡ other }
 {}

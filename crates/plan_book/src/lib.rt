@@ -17,6 +17,6 @@ mod outcome;
 
 pub use book::PlanBook;
 pub use fault::BookFault;
-pub use laws::every_wait_is_within_latency;
+pub use laws::{a_script_makes_one_course, every_wait_is_within_latency};
 pub use make::make_book;
 pub use outcome::Outcome;

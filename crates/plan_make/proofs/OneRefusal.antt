@@ -11,101 +11,118 @@ use Rattle.period_choice.specs.Choice.{HasPeriod}
 use Rattle.period_choice.specs.Tasks.{IsFirstWithoutPeriod, LacksPeriod}
 use Rattle.worst_fit.specs.declared.placed.Placed.{Placed}
 use Rattle.cd_split.specs.Splitting.{IsSplitRefused}
+use Rattle.cd_split.proofs.Unique.{one_refusal}
 use Rattle.plan_make.specs.Planned.{IsFirstWithoutRoom, IsPlanned}
 use Rattle.plan_make.specs.SplitInTurn.{SplitsEach, home_of, with_pieces}
-use Rattle.plan_make.proofs.OnePlan.{each_or_refused, one_start, split_unique, went_on}
+use Rattle.plan_make.specs.declared.fault.PlanFault.{PlanFault}
+use Rattle.plan_make.specs.declared.fault.PlanFault.TheVariants as plan
+use Rattle.plan_make.proofs.OnePlan.{each_or_refused, one_start, planned_or_refused, split_unique, went_on}
 use Rattle.plan_make.proofs.TasksOfPlan.{none_without_period}
 
--- the split of the left-over vCPUs comes to one that can't be split
+-- the split of the left-over vCPUs comes to one that can't be split, with this rest and these intervals
 record Sticks (tasks : List (Option Periodic)) (cores : List (List Piece)) (homes : List (Option ℕ))
-    (before : List ℕ) (vcpu : ℕ) : Type 0 where
+    (before : List ℕ) (vcpu rest : ℕ) (over : List Over) : Type 0 where
   pub end : List (List Piece)
   pub homes' : List (Option ℕ)
   pub split : SplitsEach tasks cores homes before end homes'
   pub task : Periodic
   pub at : slice_get tasks vcpu ≡ Some (Some task)
-  pub rest : ℕ
-  pub over : List Over
   pub refuses : IsSplitRefused end vcpu task rest over
 
 -- where one vCPU gets stuck first, none behind it can be the first
 sticks_later : (tasks : List (Option Periodic)) (cores : List (List Piece))
-    (homes : List (Option ℕ)) (vcpu : ℕ) (next : ℕ) (before : List ℕ) (other : ℕ) →
-    Sticks tasks cores homes [] vcpu → Sticks tasks cores homes (next ∷ before) other → vcpu ≡ next → ⊥
-sticks_later tasks cores homes vcpu next before other here later same =
+    (homes : List (Option ℕ)) (vcpu rest : ℕ) (over : List Over) (next : ℕ) (before : List ℕ)
+    (other more : ℕ) (others : List Over) → Sticks tasks cores homes [] vcpu rest over
+    → Sticks tasks cores homes (next ∷ before) other more others → vcpu ≡ next → ⊥
+sticks_later tasks cores homes vcpu rest over next before other more others here later same =
     let split = subst (λ v. SplitsEach tasks cores homes (v ∷ before) later.end later.homes')
     (sym same) later.split in
     each_or_refused tasks cores homes [] vcpu before later.end here.end later.homes' here.homes'
-    here.task here.rest here.over split here.split here.at here.refuses
+    here.task rest over split here.split here.at here.refuses
 
 -- where both come to the next, so do they behind it
 next_sticks : (tasks : List (Option Periodic)) (cores : List (List Piece)) (homes : List (Option ℕ))
-    (next : ℕ) (before : List ℕ) (vcpu : ℕ) (pieces : List Piece)
-    (is : Sticks tasks cores homes (next ∷ before) vcpu) →
+    (next : ℕ) (before : List ℕ) (vcpu rest : ℕ) (over : List Over) (pieces : List Piece)
+    (is : Sticks tasks cores homes (next ∷ before) vcpu rest over) →
     pieces ≡ is.split.0 → Sticks tasks (with_pieces cores pieces)
-    (set homes next (Some (home_of pieces))) before vcpu
-next_sticks tasks cores homes next before vcpu pieces is same = record {
+    (set homes next (Some (home_of pieces))) before vcpu rest over
+next_sticks tasks cores homes next before vcpu rest over pieces is same = record {
   end = is.end;
   homes' = is.homes';
   split = went_on tasks cores homes next before pieces is.split.0 is.end is.homes' same is.split.2;
   task = is.task;
   at = is.at;
-  rest = is.rest;
-  over = is.over;
   refuses = is.refuses;
 }
 
--- so two such vCPUs are one
+-- two that stick at once are one, and so are what is left of them and the intervals, by the splits' law
+same_here : (tasks : List (Option Periodic)) (cores : List (List Piece)) (homes : List (Option ℕ))
+    (vcpu rest rest' : ℕ) (over over' : List Over) → Sticks tasks cores homes [] vcpu rest over
+    → Sticks tasks cores homes [] vcpu rest' over' → (rest ≡ rest') × (over ≡ over')
+same_here tasks cores homes vcpu rest rest' over over' a b =
+    let at = a.at in
+    let at' = b.at in
+    let task : b.task ≡ a.task = cc in
+    let end : b.end ≡ a.end = b.split.0 ∙ sym a.split.0 in
+    one_refusal a.end vcpu a.task rest rest' over over' a.refuses
+    (subst (λ (t : Periodic). IsSplitRefused a.end vcpu t rest' over') task
+    (subst (λ cs. IsSplitRefused cs vcpu b.task rest' over') end b.refuses))
+
+-- so two that stick first are
 same_stuck : (tasks : List (Option Periodic)) (cores : List (List Piece)) (homes : List (Option ℕ))
-    (before before' : List ℕ) (vcpu vcpu' : ℕ) (after after' : List ℕ) →
-    before ++ vcpu ∷ after ≡ before' ++ vcpu' ∷ after' → Sticks tasks cores homes before vcpu
-    → Sticks tasks cores homes before' vcpu' → vcpu ≡ vcpu'
-same_stuck tasks cores homes [] [] vcpu vcpu' after after' same a b = cc
-same_stuck tasks cores homes [] (next ∷ before') vcpu vcpu' after after' same a b =
+    (before before' : List ℕ) (vcpu vcpu' rest rest' : ℕ) (over over' : List Over) (after after' : List ℕ) →
+    before ++ vcpu ∷ after ≡ before' ++ vcpu' ∷ after' → Sticks tasks cores homes before vcpu rest over
+    → Sticks tasks cores homes before' vcpu' rest' over'
+    → (vcpu ≡ vcpu') × (rest ≡ rest') × (over ≡ over')
+same_stuck tasks cores homes [] [] vcpu vcpu' rest rest' over over' after after' same a b =
+    let first : vcpu' ≡ vcpu = cc in
+    let one = same_here tasks cores homes vcpu rest rest' over over' a
+    (subst (λ v. Sticks tasks cores homes [] v rest' over') first b) in
+    (sym first, one.0, one.1)
+same_stuck tasks cores homes [] (next ∷ before') vcpu vcpu' rest rest' over over' after after' same a b =
     let first : vcpu ≡ next = cc in
-    absurd (sticks_later tasks cores homes vcpu next before' vcpu' a b first)
-same_stuck tasks cores homes (next ∷ before) [] vcpu vcpu' after after' same a b =
+    absurd (sticks_later tasks cores homes vcpu rest over next before' vcpu' rest' over' a b first)
+same_stuck tasks cores homes (next ∷ before) [] vcpu vcpu' rest rest' over over' after after' same a b =
     let first : vcpu' ≡ next = cc in
-    absurd (sticks_later tasks cores homes vcpu' next before vcpu b a first)
-same_stuck tasks cores homes (next ∷ before) (next' ∷ before') vcpu vcpu' after after' same a b =
+    absurd (sticks_later tasks cores homes vcpu' rest' over' next before vcpu rest over b a first)
+same_stuck tasks cores homes
+    (next ∷ before) (next' ∷ before') vcpu vcpu' rest rest' over over' after after' same a b =
     let first : next' ≡ next = cc in
-    let rest : before ++ vcpu ∷ after ≡ before' ++ vcpu' ∷ after' = cc in
-    let b' = subst (λ n. Sticks tasks cores homes (n ∷ before') vcpu') first b in
+    let behind : before ++ vcpu ∷ after ≡ before' ++ vcpu' ∷ after' = cc in
+    let b' = subst (λ n. Sticks tasks cores homes (n ∷ before') vcpu' rest' over') first b in
     let pieces = a.split.0 in
     let one = split_unique tasks cores next pieces b'.split.0 a.split.1 b'.split.1 in
     same_stuck tasks (with_pieces cores pieces)
-    (set homes next (Some (home_of pieces))) before before' vcpu vcpu' after after' rest
-    (next_sticks tasks cores homes next before vcpu pieces a refl)
-    (next_sticks tasks cores homes next before' vcpu' pieces b' one)
+    (set homes next (Some (home_of pieces))) before before' vcpu vcpu' rest rest' over over' after after' behind
+    (next_sticks tasks cores homes next before vcpu rest over pieces a refl)
+    (next_sticks tasks cores homes next before' vcpu' rest' over' pieces b' one)
 
 -- a host's first vCPU without room, as the first that gets stuck
 sticks_of : (host : Host) (vcpu rest : ℕ) (over : List Over)
     (is : IsFirstWithoutRoom host vcpu rest over)
-    → Sticks is.tasks is.start is.placed.core_of is.stuck.before vcpu
+    → Sticks is.tasks is.start is.placed.core_of is.stuck.before vcpu rest over
 sticks_of host vcpu rest over is = record {
   end = is.stuck.cores;
   homes' = is.stuck.homes;
   split = is.stuck.split;
   task = is.stuck.task;
   at = is.stuck.at;
-  rest = rest;
-  over = over;
   refuses = is.stuck.refuses;
 }
 
--- one vCPU is the first without room
+-- one vCPU is the first without room, for one number of ticks, with one list of overloaded intervals
 pub one_without_room : (host : Host) (vcpu vcpu' rest rest' : ℕ) (over over' : List Over)
     → IsFirstWithoutRoom host vcpu rest over → IsFirstWithoutRoom host vcpu' rest' over'
-    → vcpu ≡ vcpu'
+    → (vcpu ≡ vcpu') × (rest ≡ rest') × (over ≡ over')
 one_without_room host vcpu vcpu' rest rest' over over' a b =
     let same = one_start host a.tasks b.tasks a.placed b.placed a.start b.start a.is_start b.is_start in
-    let moved = subst (λ cs. Sticks b.tasks cs b.placed.core_of a.stuck.before vcpu) same.start_same
-    (subst (λ (p : Placed). Sticks b.tasks a.start p.core_of a.stuck.before vcpu) same.placed_same
-    (subst (λ ts. Sticks ts a.start a.placed.core_of a.stuck.before vcpu) same.tasks_same
+    let moved = subst (λ cs. Sticks b.tasks cs b.placed.core_of a.stuck.before vcpu rest over) same.start_same
+    (subst (λ (p : Placed). Sticks b.tasks a.start p.core_of a.stuck.before vcpu rest over) same.placed_same
+    (subst (λ ts. Sticks ts a.start a.placed.core_of a.stuck.before vcpu rest over) same.tasks_same
     (sticks_of host vcpu rest over a))) in
     let left : a.stuck.before ++ vcpu ∷ a.stuck.after ≡ b.stuck.before ++ vcpu' ∷ b.stuck.after =
     sym a.stuck.left_is ∙ ap (λ (p : Placed). p.left) same.placed_same ∙ b.stuck.left_is in
-    same_stuck b.tasks b.start b.placed.core_of a.stuck.before b.stuck.before vcpu vcpu'
+    same_stuck b.tasks b.start b.placed.core_of a.stuck.before b.stuck.before vcpu vcpu' rest rest' over over'
     a.stuck.after b.stuck.after left
     moved (sticks_of host vcpu' rest' over' b)
 
@@ -134,8 +151,41 @@ pub planned_or_without_period : (host : Host) (plan : PlanView) (vcpu : ℕ) →
 planned_or_without_period host plan vcpu planned first =
     none_without_period host.vcpus plan.tasks vcpu planned.layout.is_start.tasks_are first
 
--- nor is one without room
+-- nor is one without room; the law's clause `apart`
 pub room_or_without_period : (host : Host) (vcpu vcpu' rest : ℕ) (over : List Over)
     → IsFirstWithoutRoom host vcpu' rest over → IsFirstWithoutPeriod host.vcpus vcpu → ⊥
 room_or_without_period host vcpu vcpu' rest over room first =
     none_without_period host.vcpus room.tasks vcpu room.is_start.tasks_are first
+
+-- ---- one fault of planning
+
+-- why a host has no plan, in the form in which `plan` says it; want of memory is no cause in the host
+abbrev pub HasPlanFault : Host → PlanFault → Type 0
+HasPlanFault host (plan.NoPeriod vcpu) = IsFirstWithoutPeriod host.vcpus vcpu
+HasPlanFault host (plan.NoRoom vcpu rest over) = IsFirstWithoutRoom host vcpu rest over
+HasPlanFault host plan.NoMemory = ⊥
+
+-- a host with a plan has no fault, for the outcomes of commands that plan
+pub planned_or_fault : (host : Host) (p : PlanView) (fault : PlanFault) → IsPlanned host p
+    → HasPlanFault host fault → ⊥
+planned_or_fault host p (plan.NoPeriod vcpu) planned lacks = planned_or_without_period host p vcpu planned lacks
+planned_or_fault host p (plan.NoRoom vcpu rest over) planned lacks =
+    planned_or_refused host p vcpu rest over planned lacks
+planned_or_fault host p plan.NoMemory planned lacks = lacks
+
+-- and one without has one fault
+pub one_plan_fault : (host : Host) (f g : PlanFault) → HasPlanFault host f → HasPlanFault host g → f ≡ g
+one_plan_fault host plan.NoMemory g of_f of_g = absurd of_f
+one_plan_fault host f plan.NoMemory of_f of_g = absurd of_g
+one_plan_fault host (plan.NoPeriod vcpu) (plan.NoPeriod other) of_f of_g =
+    ap plan.NoPeriod (one_without_period host.vcpus vcpu other of_f of_g)
+one_plan_fault host (plan.NoPeriod vcpu) (plan.NoRoom other rest over) of_f of_g =
+    absurd (room_or_without_period host vcpu other rest over of_g of_f)
+one_plan_fault host (plan.NoRoom vcpu rest over) (plan.NoPeriod other) of_f of_g =
+    absurd (room_or_without_period host other vcpu rest over of_f of_g)
+one_plan_fault host (plan.NoRoom vcpu rest over) (plan.NoRoom other more others) of_f of_g =
+    let one = one_without_room host vcpu other rest more over others of_f of_g in
+    let at = one.0 in
+    let left = one.1 in
+    let intervals = one.2 in
+    cc

@@ -4,6 +4,7 @@ pub mod InvariantLemmas
 pub mod Lists
 pub mod LogLemmas
 pub mod NextLemmas
+pub mod OneRun
 pub mod PhaseLemmas
 pub mod ProgressLemmas
 pub mod RunLemmas

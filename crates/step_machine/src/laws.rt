@@ -8,7 +8,10 @@ ghost use Rattle.table_form.specs.Running.State.{State, CoreState, opening};
 ghost use Rattle.table_form.specs.Running.Stints.{IsNextStint};
 ghost use Rattle.step_machine.specs.declared.answer.Answer.{Answer};
 ghost use Rattle.step_machine.specs.Answers.{Answers, Moves};
+ghost use Rattle.step_machine.specs.Refusals.{IsRefused};
 ghost use Rattle.step_machine.specs.Runs.{Leads};
+ghost use Rattle.step_machine.specs.Traces.{IsTrace};
+ghost use Rattle.step_machine.specs.declared.trace.Made.{Made};
 
 /// Whatever steps are taken, all cores use one plan in a round, no vCPU runs on two cores at one
 /// tick, each is offered its cost in each of its periods and has no gap between offers that exceeds
@@ -41,4 +44,19 @@ pub fn a_step_has_one_answer()
     ensures { (course : CourseView) (rounds : ℕ) (s : State) (step : Step) (a b : Answer)
         (new other : State) → Answers course rounds s step a new
         → Answers course rounds s step b other → (a ≡ b) × (new ≡ other) }
+{}
+
+/// A list of steps has one run, which ends in one state and makes one list of entries and stints; or
+/// one step of it is refused, with one answer; and never both.
+pub fn a_list_of_steps_has_one_run()
+    ensures run { (course : CourseView) (rounds : ℕ) (steps : List Step) (end other : State)
+        (made others : List Made) → IsTrace course rounds (opening course.cores) steps end made
+        → IsTrace course rounds (opening course.cores) steps other others
+        → (end ≡ other) × (made ≡ others) }
+    ensures refusal { (course : CourseView) (rounds : ℕ) (steps : List Step) (place other : ℕ)
+        (a b : Answer) → IsRefused course rounds steps place a → IsRefused course rounds steps other b
+        → (place ≡ other) × (a ≡ b) }
+    ensures apart { (course : CourseView) (rounds : ℕ) (steps : List Step) (place : ℕ) (answer : Answer)
+        (end : State) → IsRefused course rounds steps place answer
+        → Leads course rounds (opening course.cores) steps end → ⊥ }
 {}

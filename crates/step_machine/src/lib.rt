@@ -26,8 +26,8 @@ mod world;
 pub use answer::{Answer, Phase};
 pub use fault::ReplayFault;
 pub use laws::{
-    a_step_has_one_answer, a_step_keeps, every_run_keeps_its_promises, next_stint_is_determined,
-    the_opening_is_kept,
+    a_list_of_steps_has_one_run, a_step_has_one_answer, a_step_keeps, every_run_keeps_its_promises,
+    next_stint_is_determined, the_opening_is_kept,
 };
 pub use replaying::replay;
 pub use trace::{Made, Trace};

@@ -1,8 +1,9 @@
-ghost use Rattle.std.specs.Prelude.{◌≡◌, ℕ, Some, IfOk, IfErr, slice_get};
+ghost use Rattle.std.specs.Prelude.{◌≡◌, ℕ, Some, IfOk, IfErr, IsErrOf, slice_get};
 ghost use Rattle.script_doc.specs.declared.step.Step.{Step};
 ghost use Rattle.table_form.specs.Running.Courses.{FitsRounds, IsCourse};
 ghost use Rattle.table_form.specs.Running.Invariant.{StateInvariant};
 ghost use Rattle.table_form.specs.Running.State.{opening};
+ghost use Rattle.step_machine.specs.declared.answer.Answer.{Answer};
 ghost use Rattle.step_machine.specs.Answers.{NamesCore};
 ghost use Rattle.step_machine.specs.Refusals.{IsFaultOf};
 ghost use Rattle.step_machine.specs.Runs.{Leads};
@@ -37,6 +38,8 @@ pub fn replay<'a>(
     ensures course_kept { IfOk result (λ _. IsCourse course.now) }
     ensures kept { IfOk result (λ w. StateInvariant course.now rounds w.state) }
     ensures refused { IfErr result (λ fault. IsFaultOf course.now rounds steps.now fault) }
+    ensures refused_course { (place : ℕ) (answer : Answer) → IsErrOf result (ReplayFault.Refused place answer)
+        → IsCourse course.now }
 {
     let Ok(turns) = u32::try_from(steps.len()) else {
         return Err(ReplayFault::NoMemory);

@@ -1,120 +1,99 @@
--- An input has one outcome, as far as a host's first vCPU without room has one rest and one list of
--- intervals, which isn't shown.
-use Rattle.std.proofs.Common.{◌≡◌, ℕ, List, [], length, Option, refl, sym, ap, subst, ◌∙◌, inl, inr, arith}
+-- An input has one outcome: at each stage of a command one cause refuses it, or one thing is read of it.
+use Rattle.std.proofs.Common.{◌≡◌, ℕ, List, [], length, codes, Option, refl, sym, ap, subst, ◌∙◌, Some, inl, inr, arith}
+use Rattle.std.specs.Prelude.{slice_get}
 use Rattle.std.proofs.lemmas.List.{length-map}
 use Rattle.std.proofs.lemmas.Option.{none-some, slice_get_cases}
 use Rattle.tab_core.specs.Name.{IsName}
 use Rattle.tab_core.specs.declared.host.Host.{Host}
 use Rattle.tab_core.specs.declared.periodic.Periodic.{Periodic}
 use Rattle.tab_core.specs.declared.vcpu.Vcpu.{Vcpu}
+use Rattle.table_form.specs.Running.Courses.{CourseView}
+use Rattle.table_form.specs.Running.State.{State, opening}
+use Rattle.table_form.specs.Tables.Plans.{PlanView}
 use Rattle.table_form.specs.declared.raw_tables.RawTables.{RawTables}
+use Rattle.table_form.specs.declared.segment.Segment.{Segment}
 use Rattle.tab_words.specs.Sections.{sections_of}
+use Rattle.tab_words.specs.declared.command.Command.{Command}
 use Rattle.tab_words.specs.declared.command.Command.TheVariants as called
 use Rattle.vcpu_names.specs.Names.{AreNames, names_of}
+use Rattle.vcpu_names.proofs.NamesLemmas.{name_here}
 use Rattle.host_doc.specs.Document.{IsHostText}
 use Rattle.host_doc.proofs.HostNames.{AreStatedNames, stated_names}
-use Rattle.host_doc.proofs.OneHost.{one_host}
 use Rattle.period_choice.specs.Tasks.{AreTasksOf, IsFirstWithoutPeriod}
 use Rattle.period_choice.proofs.Unique.{tasks_unique}
-use Rattle.plan_make.specs.Planned.{IsFirstWithoutRoom, IsPlanned}
-use Rattle.plan_make.proofs.OnePlan.{planned_or_refused, planned_unique}
+use Rattle.plan_make.specs.Planned.{IsPlanned}
+use Rattle.plan_make.specs.declared.fault.PlanFault.{PlanFault}
+use Rattle.plan_make.specs.declared.fault.PlanFault.TheVariants as planning
+use Rattle.plan_make.proofs.OnePlan.{planned_unique}
+use Rattle.plan_make.proofs.OneRefusal.{HasPlanFault, one_plan_fault, one_without_period, planned_or_fault}
 use Rattle.plan_make.proofs.TasksOfPlan.{none_without_period}
-use Rattle.plan_make.proofs.OneRefusal.{one_without_period, planned_or_without_period}
 use Rattle.plan_text.specs.FirstBad.{IsFirstBadFor}
-use Rattle.plan_text.specs.Meaning.{AreLinesOf, IsSomePlan, worded}
+use Rattle.plan_text.specs.Meaning.{IsPlanText, IsSomePlan, worded}
 use Rattle.plan_text.specs.PlanText.{plan_text}
 use Rattle.plan_text.proofs.FirstBadLemmas.{no_text, one_bad}
 use Rattle.plan_text.proofs.OneMeaning.{one_meaning}
-use Rattle.vcpu_names.proofs.NamesLemmas.{name_here}
 use Rattle.plan_text.proofs.ReadingHeadLemmas.{host_names}
 use Rattle.table_check.specs.Faults.{AreGood, HasCheckFault}
 use Rattle.table_check.specs.declared.fault.CheckFault.{CheckFault}
 use Rattle.table_check.specs.declared.fault.CheckFault.TheVariants as fault
-use Rattle.table_form.specs.declared.segment.Segment.{Segment}
-use Rattle.table_check.proofs.OneFault.{one_fault}
+use Rattle.table_check.proofs.OneFault.{one_fault as one_check_fault}
+use Rattle.script_doc.specs.Script.{IsScript}
+use Rattle.script_doc.specs.ScriptFaults.{IsFirstFault}
+use Rattle.script_doc.specs.Statements.{statements_of}
+use Rattle.script_doc.specs.Steps.{AreSteps, IsFirstBadLine}
+use Rattle.script_doc.specs.declared.event.Event.{Event}
+use Rattle.script_doc.specs.declared.step.Step.{Step}
+use Rattle.script_doc.proofs.EventsLemmas.{distinct_names}
+use Rattle.script_doc.proofs.OneScript.{fault_or_script, one_fault, one_script}
+use Rattle.script_doc.proofs.OneStepList.{bad_or_steps, one_bad_line, one_step_list}
+use Rattle.plan_book.proofs.OneCourse.{IsFormedCourseOf, one_course}
+use Rattle.replay_text.specs.ReplayText.{replay_text}
+use Rattle.step_machine.specs.Refusals.{IsRefused}
+use Rattle.step_machine.specs.Traces.{IsTrace}
+use Rattle.step_machine.specs.declared.answer.Answer.{Answer}
+use Rattle.step_machine.specs.declared.trace.Made.{Made}
+use Rattle.step_machine.proofs.OneRun.{one_refused, one_trace, refused_or_leads}
+use Rattle.step_machine.proofs.TraceLemmas.{leads_of}
 use Rattle.tableau_sim.specs.declared.status.Status.TheVariants as status
-use Rattle.tableau_sim.specs.Check.{Checks, HasTables, HasTasks, plan_section}
+use Rattle.tableau_sim.specs.Check.{Checks, plan_section}
 use Rattle.tableau_sim.specs.Commands.{Replies}
 use Rattle.tableau_sim.specs.Outcomes.{Outcome}
 use Rattle.tableau_sim.specs.Outcomes.Outcome.{Refuses, Writes}
 use Rattle.tableau_sim.specs.Plan.{Plans}
-use Rattle.tableau_sim.specs.Sections.{OfSections, host_section}
-use Rattle.tableau_sim.specs.Sections.OfSections.{BadSections, Sectioned}
-use Rattle.tableau_sim.proofs.HostsLemmas.{no_host_fault, one_host_fault}
-
--- ---- sections
-
--- one outcome of the sections is one of the input, since the number of sections is either as wanted or not
-one_of_sections : (n : ℕ) (P : List (List ℕ) → Outcome → Type 0) (input : List ℕ) (a b : Outcome)
-    → (P (sections_of input) a → P (sections_of input) b → a ≡ b)
-    → OfSections n P input a → OfSections n P input b → a ≡ b
-one_of_sections n P input a b each (Sectioned _ size p) (Sectioned _ size' q) = each p q
-one_of_sections n P input a b each (Sectioned _ size p) (BadSections found is off) = absurd (off (is ∙ size))
-one_of_sections n P input a b each (BadSections found is off) (Sectioned _ size p) = absurd (off (is ∙ size))
-one_of_sections n P input a b each (BadSections found is off) (BadSections found' is' off') =
-    ap (λ k. Refuses (status.BadSections k n) []) (is ∙ sym is')
+use Rattle.tableau_sim.specs.Replay.{HasParts, Parts, Replays, script_section, steps_section}
+use Rattle.tableau_sim.specs.Sections.{host_section}
+use Rattle.tableau_sim.proofs.Stages.{Ends, HostStage, IsOne, Staged, one_end, one_host_stage, one_of_sections, one_staged, same_pair}
 
 -- ---- plan
 
--- a host with a plan has no other, and no refusal
-plan_only : (sections : List (List ℕ)) (text : List ℕ) (b : Outcome) → Plans sections (Writes text)
-    → Plans sections b → Writes text ≡ b
-plan_only sections text b (Plans.Planned h p is has) (Plans.Planned h' p' is' has') =
-    let same = one_host _ h' h is' is in
-    let plans = planned_unique h p' p (subst (λ (k : Host). IsPlanned k p') same has'.planned) has.planned in
-    ap (λ (k : Host). Writes (plan_text (names_of k.vcpus) p)) (sym same)
-    ∙ ap (λ q. Writes (plan_text (names_of h'.vcpus) q)) (sym plans)
-plan_only sections text b (Plans.Planned h p is has) (Plans.BadHost fault bad) =
-    absurd (no_host_fault _ fault h bad is)
-plan_only sections text b (Plans.Planned h p is has) (Plans.NoPeriod h' vcpu is' lacks) =
-    absurd (planned_or_without_period h p vcpu has.planned
-    (subst (λ (k : Host). IsFirstWithoutPeriod k.vcpus vcpu) (one_host _ h' h is' is) lacks))
-plan_only sections text b (Plans.Planned h p is has) (Plans.NoRoom h' vcpu rest over is' lacks) =
-    absurd (planned_or_refused h p vcpu rest over has.planned
-    (subst (λ (k : Host). IsFirstWithoutRoom k vcpu rest over) (one_host _ h' h is' is) lacks))
+-- how a fault of planning is refused
+abbrev plan_refusal : Host → PlanFault → Outcome
+plan_refusal h (planning.NoPeriod vcpu) = Refuses (status.NoPeriod vcpu) (names_of h.vcpus)
+plan_refusal h (planning.NoRoom vcpu rest over) = Refuses (status.NoRoom vcpu rest over) (names_of h.vcpus)
+plan_refusal h planning.NoMemory = Refuses status.NoMemory []
 
--- the law's clause on `plan`
-pub one_plan_outcome : (input text : List ℕ) (b : Outcome) → Replies called.Plan input (Writes text)
-    → Replies called.Plan input b → Writes text ≡ b
-one_plan_outcome input text b =
-    one_of_sections 1 Plans input (Writes text) b (plan_only (sections_of input) text b)
+-- what `plan` makes of a host
+abbrev OfHost : Host → Outcome → Type 0
+OfHost h = Ends (HasPlanFault h) (plan_refusal h) (IsPlanned h) (λ p. Writes (plan_text (names_of h.vcpus) p))
+
+-- an outcome of `plan`, by its stages
+plan_stages : (s : List (List ℕ)) (o : Outcome) → Plans s o → HostStage s OfHost o
+plan_stages s o (Plans.Planned h p is has) = inr (h, is, inr (p, has.planned, refl))
+plan_stages s o (Plans.BadHost f bad) = inl (f, bad, refl)
+plan_stages s o (Plans.NoPeriod h vcpu is lacks) = inr (h, is, inl (planning.NoPeriod vcpu, lacks, refl))
+plan_stages s o (Plans.NoRoom h vcpu rest over is lacks) =
+    inr (h, is, inl (planning.NoRoom vcpu rest over, lacks, refl))
+
+-- `plan` makes one outcome of its sections
+plan_only : (s : List (List ℕ)) (a b : Outcome) → Plans s a → Plans s b → a ≡ b
+plan_only s a b of_a of_b = one_host_stage s OfHost a b (λ h is.
+  one_end _ (plan_refusal h) _ (λ p. Writes (plan_text (names_of h.vcpus) p)) a b (record {
+    cause = one_plan_fault h;
+    thing = planned_unique h;
+    apart = λ f p bad planned. planned_or_fault h p f planned bad;
+  })) (plan_stages s a of_a) (plan_stages s b of_b)
 
 -- ---- check
-
--- the host and its tasks are one
-same_tasks : (sections : List (List ℕ)) (h h' : Host) (t t' : List (Option Periodic)) → HasTasks sections h t
-    → HasTasks sections h' t' → (h' ≡ h) × (t' ≡ t)
-same_tasks sections h h' t t' has has' =
-    let same = one_host _ h' h has'.is_host has.is_host in (
-      same,
-      tasks_unique h.vcpus t' t (subst (λ (k : Host). AreTasksOf k.vcpus t') same has'.are_tasks) has.are_tasks,
-    )
-
--- a host with tasks has no vCPU without a period
-tasks_or_lacks : (sections : List (List ℕ)) (h h' : Host) (t : List (Option Periodic)) (vcpu : ℕ)
-    → HasTasks sections h t → IsHostText (host_section sections) h' → IsFirstWithoutPeriod h'.vcpus vcpu → ⊥
-tasks_or_lacks sections h h' t vcpu has is lacks = none_without_period h.vcpus t vcpu has.are_tasks
-    (subst (λ (k : Host). IsFirstWithoutPeriod k.vcpus vcpu) (one_host _ h' h is has.is_host) lacks)
-
--- a bad line of one host and its tasks is one of the other
-bad_moved : (sections : List (List ℕ)) (h h' : Host) (t t' : List (Option Periodic)) (line : ℕ)
-    → HasTasks sections h t → HasTasks sections h' t'
-    → IsFirstBadFor (IsSomePlan (names_of h'.vcpus) h'.cores t') 1 (worded (plan_section sections)) line
-    → IsFirstBadFor (IsSomePlan (names_of h.vcpus) h.cores t) 1 (worded (plan_section sections)) line
-bad_moved sections h h' t t' line has has' bad =
-    let same = same_tasks sections h h' t t' has has' in
-    subst (λ ts. IsFirstBadFor (IsSomePlan (names_of h.vcpus) h.cores ts) 1 (worded (plan_section sections)) line)
-    same.1
-    (subst (λ (k : Host). IsFirstBadFor (IsSomePlan (names_of k.vcpus) k.cores t') 1
-    (worded (plan_section sections)) line) same.0 bad)
-
--- a text of tables has no bad line
-text_or_bad : (sections : List (List ℕ)) (h h' : Host) (t t' : List (Option Periodic)) (raw : RawTables)
-    (line : ℕ) → HasTables sections h t raw → HasTasks sections h' t'
-    → IsFirstBadFor (IsSomePlan (names_of h'.vcpus) h'.cores t') 1 (worded (plan_section sections)) line → ⊥
-text_or_bad sections h h' t t' raw line has has' bad =
-    no_text _ 1 _ line (bad_moved sections h h' t t' line has.tasked has' bad)
-    (record { raw = raw; text = has.text })
 
 -- each name of a host that was read has the form of a name
 pub are_names : (vcpus : List Vcpu) → AreStatedNames vcpus → AreNames (names_of vcpus)
@@ -124,28 +103,50 @@ are_names vcpus stated v lt = elim ((slice_get_cases vcpus v).1) [
   | inr (past, none) ↦ absurd (let size = length-map vcpus (λ (x : Vcpu). x.name) in omega arith)
 ]
 
--- the tables of a text are one
-same_tables : (sections : List (List ℕ)) (h h' : Host) (t t' : List (Option Periodic)) (raw raw' : RawTables)
-    → HasTables sections h t raw → HasTables sections h' t' raw' → raw' ≡ raw
-same_tables sections h h' t t' raw raw' has has' =
-    let same = same_tasks sections h h' t t' has.tasked has'.tasked in
-    let stated = stated_names _ h has.tasked.is_host in
-    let many : length (names_of h.vcpus) ≡ length t =
-    length-map h.vcpus (λ (x : Vcpu). x.name) ∙ sym has.tasked.are_tasks.as_many in
-    one_meaning (names_of h.vcpus) h.cores t (worded (plan_section sections)) raw' raw many h.few_cores
-    (host_names h.vcpus (names_of h.vcpus) refl (are_names h.vcpus stated) stated.distinct)
-    (subst (λ ts. AreLinesOf (names_of h.vcpus) h.cores ts (worded (plan_section sections)) raw') same.1
-    (subst (λ (k : Host). AreLinesOf (names_of k.vcpus) k.cores t' (worded (plan_section sections)) raw') same.0
-    has'.text)) has.text
 
--- a fault of one text's tables is one of the other's
-fault_moved : (sections : List (List ℕ)) (h h' : Host) (t t' : List (Option Periodic)) (raw raw' : RawTables)
-    (fault : CheckFault) → HasTables sections h t raw → HasTables sections h' t' raw'
-    → HasCheckFault t' raw'.rows fault → HasCheckFault t raw.rows fault
-fault_moved sections h h' t t' raw raw' fault has has' faulty =
-    let same = same_tasks sections h h' t t' has.tasked has'.tasked in
-    subst (λ (r : RawTables). HasCheckFault t r.rows fault) (same_tables sections h h' t t' raw raw' has has')
-    (subst (λ ts. HasCheckFault ts raw'.rows fault) same.1 faulty)
+-- what `check` makes of tables
+abbrev OfTables : Host → List (Option Periodic) → RawTables → Outcome → Type 0
+OfTables h t raw = Ends (HasCheckFault t raw.rows) (λ f. Refuses (status.CheckNo f) (names_of h.vcpus))
+    (λ (_ : Unit {0}). AreGood t raw.rows) (λ _. Writes (codes "ok\n"))
+
+-- and of tasks
+abbrev OfTasks : List (List ℕ) → Host → List (Option Periodic) → Outcome → Type 0
+OfTasks s h t =
+    Staged (IsFirstBadFor (IsSomePlan (names_of h.vcpus) h.cores t) 1 (worded (plan_section s)))
+    (λ line. Refuses (status.BadPlanLine line) [])
+    (IsPlanText (names_of h.vcpus) h.cores t (plan_section s)) (OfTables h t)
+
+-- and of a host
+abbrev OfCheckedHost : List (List ℕ) → Host → Outcome → Type 0
+OfCheckedHost s h = Staged (IsFirstWithoutPeriod h.vcpus)
+    (λ vcpu. Refuses (status.NoPeriod vcpu) (names_of h.vcpus)) (AreTasksOf h.vcpus) (OfTasks s h)
+
+-- an outcome of `check`, by its stages
+check_stages : (s : List (List ℕ)) (o : Outcome) → Checks s o → HostStage s (OfCheckedHost s) o
+check_stages s o (Checks.Passes h t r has good) =
+    inr (h, has.tasked.is_host, inr (t, has.tasked.are_tasks, inr (r, has.text, inr (tt, good, refl))))
+check_stages s o (Checks.BadHost f bad) = inl (f, bad, refl)
+check_stages s o (Checks.NoPeriod h vcpu is lacks) = inr (h, is, inl (vcpu, lacks, refl))
+check_stages s o (Checks.BadLine h t line has bad) =
+    inr (h, has.is_host, inr (t, has.are_tasks, inl (line, bad, refl)))
+check_stages s o (Checks.BadTables h t r f has faulty) =
+    inr (h, has.tasked.is_host, inr (t, has.tasked.are_tasks, inr (r, has.text, inl (f, faulty, refl))))
+
+-- a text has one meaning for tasks, or one first bad line
+one_text : (s : List (List ℕ)) (h : Host) (t : List (Option Periodic)) → IsHostText (host_section s) h
+    → AreTasksOf h.vcpus t
+    → IsOne (IsFirstBadFor (IsSomePlan (names_of h.vcpus) h.cores t) 1 (worded (plan_section s)))
+    (IsPlanText (names_of h.vcpus) h.cores t (plan_section s))
+one_text s h t is are =
+    let stated = stated_names _ h is in
+    let many : length (names_of h.vcpus) ≡ length t =
+    length-map h.vcpus (λ (x : Vcpu). x.name) ∙ sym are.as_many in
+    record {
+      cause = one_bad _ 1 _;
+      thing = λ raw other. one_meaning (names_of h.vcpus) h.cores t (worded (plan_section s)) raw other many
+          h.few_cores (host_names h.vcpus (names_of h.vcpus) refl (are_names h.vcpus stated) stated.distinct);
+      apart = λ line raw bad text. no_text _ 1 _ line bad (record { raw = raw; text = text });
+    }
 
 -- good tables have no fault: `check` passes or refuses, never both
 no_table_fault : (tasks : List (Option Periodic)) (rows : List (List Segment)) (off : CheckFault)
@@ -165,72 +166,161 @@ no_table_fault tasks rows (fault.Short vcpu period_no got cost) good h =
     absurd (omega arith)
 no_table_fault tasks rows fault.NoMemory good h = h
 
--- so a text of good tables has none
-good_or_faulty : (sections : List (List ℕ)) (h h' : Host) (t t' : List (Option Periodic))
-    (raw raw' : RawTables) (fault : CheckFault) → HasTables sections h t raw → AreGood t raw.rows
-    → HasTables sections h' t' raw' → HasCheckFault t' raw'.rows fault → ⊥
-good_or_faulty sections h h' t t' raw raw' fault has good has' faulty =
-    no_table_fault t raw.rows fault good (fault_moved sections h h' t t' raw raw' fault has has' faulty)
 
--- of each two outcomes of `check` the causes exclude one another, or they are one
-pub check_only : (sections : List (List ℕ)) (a b : Outcome) → Checks sections a → Checks sections b → a ≡ b
-check_only s a b (Checks.Passes h t r has good) (Checks.Passes h' t' r' has' good') = refl
-check_only s a b (Checks.Passes h t r has good) (Checks.BadHost f bad) =
-    absurd (no_host_fault _ f h bad has.tasked.is_host)
-check_only s a b (Checks.Passes h t r has good) (Checks.NoPeriod h' v is lacks) =
-    absurd (tasks_or_lacks s h h' t v has.tasked is lacks)
-check_only s a b (Checks.Passes h t r has good) (Checks.BadLine h' t' l has' bad) =
-    absurd (text_or_bad s h h' t t' r l has has' bad)
-check_only s a b (Checks.Passes h t r has good) (Checks.BadTables h' t' r' f has' faulty) =
-    absurd (good_or_faulty s h h' t t' r r' f has good has' faulty)
-check_only s a b (Checks.BadHost f bad) (Checks.Passes h t r has good) =
-    absurd (no_host_fault _ f h bad has.tasked.is_host)
-check_only s a b (Checks.BadHost f bad) (Checks.BadHost g bad') =
-    ap (λ k. Refuses (status.Host k) []) (one_host_fault _ f g bad bad')
-check_only s a b (Checks.BadHost f bad) (Checks.NoPeriod h v is lacks) = absurd (no_host_fault _ f h bad is)
-check_only s a b (Checks.BadHost f bad) (Checks.BadLine h t l has bad') =
-    absurd (no_host_fault _ f h bad has.is_host)
-check_only s a b (Checks.BadHost f bad) (Checks.BadTables h t r g has faulty) =
-    absurd (no_host_fault _ f h bad has.tasked.is_host)
-check_only s a b (Checks.NoPeriod h v is lacks) (Checks.Passes h' t r has good) =
-    absurd (tasks_or_lacks s h' h t v has.tasked is lacks)
-check_only s a b (Checks.NoPeriod h v is lacks) (Checks.BadHost f bad) = absurd (no_host_fault _ f h bad is)
-check_only s a b (Checks.NoPeriod h v is lacks) (Checks.NoPeriod h' v' is' lacks') =
-    let same = one_host _ h' h is' is in
-    let vcpus = one_without_period h.vcpus v v' lacks
-    (subst (λ (k : Host). IsFirstWithoutPeriod k.vcpus v') same lacks') in
-    ap (λ k. Refuses (status.NoPeriod k) (names_of h.vcpus)) vcpus
-    ∙ ap (λ (k : Host). Refuses (status.NoPeriod v') (names_of k.vcpus)) (sym same)
-check_only s a b (Checks.NoPeriod h v is lacks) (Checks.BadLine h' t l has bad) =
-    absurd (tasks_or_lacks s h' h t v has is lacks)
-check_only s a b (Checks.NoPeriod h v is lacks) (Checks.BadTables h' t r f has faulty) =
-    absurd (tasks_or_lacks s h' h t v has.tasked is lacks)
-check_only s a b (Checks.BadLine h t l has bad) (Checks.Passes h' t' r has' good) =
-    absurd (text_or_bad s h' h t' t r l has' has bad)
-check_only s a b (Checks.BadLine h t l has bad) (Checks.BadHost f bad') =
-    absurd (no_host_fault _ f h bad' has.is_host)
-check_only s a b (Checks.BadLine h t l has bad) (Checks.NoPeriod h' v is lacks) =
-    absurd (tasks_or_lacks s h h' t v has is lacks)
-check_only s a b (Checks.BadLine h t l has bad) (Checks.BadLine h' t' l' has' bad') =
-    ap (λ k. Refuses (status.BadPlanLine k) [])
-    (one_bad _ 1 _ l l' bad (bad_moved s h h' t t' l' has has' bad'))
-check_only s a b (Checks.BadLine h t l has bad) (Checks.BadTables h' t' r f has' faulty) =
-    absurd (text_or_bad s h' h t' t r l has' has bad)
-check_only s a b (Checks.BadTables h t r f has faulty) (Checks.Passes h' t' r' has' good) =
-    absurd (good_or_faulty s h' h t' t r' r f has' good has faulty)
-check_only s a b (Checks.BadTables h t r f has faulty) (Checks.BadHost g bad) =
-    absurd (no_host_fault _ g h bad has.tasked.is_host)
-check_only s a b (Checks.BadTables h t r f has faulty) (Checks.NoPeriod h' v is lacks) =
-    absurd (tasks_or_lacks s h h' t v has.tasked is lacks)
-check_only s a b (Checks.BadTables h t r f has faulty) (Checks.BadLine h' t' l has' bad) =
-    absurd (text_or_bad s h h' t t' r l has has' bad)
-check_only s a b (Checks.BadTables h t r f has faulty) (Checks.BadTables h' t' r' g has' faulty') =
-    let same = same_tasks s h h' t t' has.tasked has'.tasked in
-    let faults = one_fault t r.rows f g faulty (fault_moved s h h' t t' r r' g has has' faulty') in
-    ap (λ k. Refuses (status.CheckNo k) (names_of h.vcpus)) faults
-    ∙ ap (λ (k : Host). Refuses (status.CheckNo g) (names_of k.vcpus)) (sym same.0)
+-- `check` makes one outcome of its sections
+pub check_only : (s : List (List ℕ)) (a b : Outcome) → Checks s a → Checks s b → a ≡ b
+check_only s a b of_a of_b = one_host_stage s (OfCheckedHost s) a b (λ h is.
+  one_staged _ _ _ (OfTasks s h) a b (record {
+    cause = one_without_period h.vcpus;
+    thing = tasks_unique h.vcpus;
+    apart = λ vcpu t lacks are. none_without_period h.vcpus t vcpu are lacks;
+  }) (λ t are.
+  one_staged _ _ _ (OfTables h t) a b (one_text s h t is are) (λ raw text.
+  one_end _ _ _ (λ (_ : Unit {0}). Writes (codes "ok\n")) a b (record {
+    cause = one_check_fault t raw.rows;
+    thing = λ x y good also. refl;
+    apart = λ f x bad good. no_table_fault t raw.rows f good bad;
+  })))) (check_stages s a of_a) (check_stages s b of_b)
 
--- the law's clause on `check`
-pub one_check_outcome : (input : List ℕ) (a b : Outcome) → Replies called.Check input a
-    → Replies called.Check input b → a ≡ b
-one_check_outcome input a b = one_of_sections 2 Checks input a b (check_only (sections_of input) a b)
+-- ---- replay
+
+-- the host, the script, and the steps with their lines, as the parts of a run
+abbrev parts_of : Host → List Event → List Step × List ℕ → Parts
+parts_of h events listed = record { host = h; events = events; steps = listed.0; lines = listed.1 }
+
+-- the step on the line is refused in a run of the course
+abbrev IsRefusedOn : ℕ → Parts → CourseView → ℕ × Answer → Type 0
+IsRefusedOn rounds parts course at = (place : ℕ) × (slice_get parts.lines place ≡ Some at.0)
+    × IsRefused course rounds parts.steps place at.1
+
+-- the steps lead to this state and make this
+abbrev IsRunOf : ℕ → Parts → CourseView → State × List Made → Type 0
+IsRunOf rounds parts course run = IsTrace course rounds (opening course.cores) parts.steps run.0 run.1
+
+-- the text of that
+abbrev run_text : Parts → CourseView → State × List Made → Outcome
+run_text parts course run = Writes (replay_text (names_of parts.host.vcpus) course run.1 run.0.posted)
+
+-- what `replay` makes of a course
+abbrev OfCourse : ℕ → Parts → CourseView → Outcome → Type 0
+OfCourse rounds parts course = Ends (IsRefusedOn rounds parts course)
+    (λ at. Refuses (status.StepRefused at.0 at.1) []) (IsRunOf rounds parts course) (run_text parts course)
+
+-- and of its parts
+abbrev OfParts : ℕ → Parts → Outcome → Type 0
+OfParts rounds parts = Staged (HasPlanFault parts.host) (plan_refusal parts.host)
+    (IsFormedCourseOf parts.host parts.events) (OfCourse rounds parts)
+
+-- and of a script
+abbrev OfScript : ℕ → List (List ℕ) → Host → List Event → Outcome → Type 0
+OfScript rounds s h events = Staged (IsFirstBadLine h.cores (statements_of (steps_section s)))
+    (λ line. Refuses (status.BadStep line) [])
+    (λ (listed : List Step × List ℕ). AreSteps h.cores (statements_of (steps_section s)) listed.0 listed.1)
+    (λ listed. OfParts rounds (parts_of h events listed))
+
+-- and of a host
+abbrev OfReplayedHost : ℕ → List (List ℕ) → Host → Outcome → Type 0
+OfReplayedHost rounds s h = Staged (IsFirstFault (names_of h.vcpus) rounds (statements_of (script_section s)))
+    (λ f. Refuses (status.Script f) [])
+    (IsScript (names_of h.vcpus) rounds (statements_of (script_section s))) (OfScript rounds s h)
+
+-- the first three stages are behind where there are parts
+behind_parts : (rounds : ℕ) (s : List (List ℕ)) (parts : Parts) (o : Outcome) → HasParts rounds s parts
+    → OfParts rounds parts o → HostStage s (OfReplayedHost rounds s) o
+behind_parts rounds s parts o has rest = inr (parts.host, has.script.is_host, inr (parts.events, has.script.is_script,
+    inr ((parts.steps, parts.lines), has.are_steps, rest)))
+
+-- an outcome of `replay`, by its stages
+replay_stages : (rounds : ℕ) (s : List (List ℕ)) (o : Outcome) → Replays rounds s o
+    → HostStage s (OfReplayedHost rounds s) o
+replay_stages rounds s o (Replays.Replayed parts course state made has run) =
+    behind_parts rounds s parts _ has (inr (course,
+    record { is = run.course_is; form = run.course_kept.form },
+    inr ((state, made), run.trace, refl)))
+replay_stages rounds s o (Replays.BadHost f bad) = inl (f, bad, refl)
+replay_stages rounds s o (Replays.BadScript h f is bad) = inr (h, is, inl (f, bad, refl))
+replay_stages rounds s o (Replays.BadStep h events line has bad) =
+    inr (h, has.is_host, inr (events, has.is_script, inl (line, bad, refl)))
+replay_stages rounds s o (Replays.NoPeriod parts vcpu has lacks) =
+    behind_parts rounds s parts _ has (inl (planning.NoPeriod vcpu, lacks, refl))
+replay_stages rounds s o (Replays.NoRoom parts vcpu rest over has lacks) =
+    behind_parts rounds s parts _ has (inl (planning.NoRoom vcpu rest over, lacks, refl))
+replay_stages rounds s o (Replays.StepRefused parts line answer has off) =
+    behind_parts rounds s parts _ has (inr (off.course,
+    record { is = off.course_is; form = off.course_kept.form },
+    inl ((line, answer), (off.place, off.on_line, off.refused), refl)))
+
+-- a script is one, or its fault
+one_script_stage : (rounds : ℕ) (s : List (List ℕ)) (h : Host) → IsHostText (host_section s) h
+    → IsOne (IsFirstFault (names_of h.vcpus) rounds (statements_of (script_section s)))
+    (IsScript (names_of h.vcpus) rounds (statements_of (script_section s)))
+one_script_stage rounds s h is =
+    let distinct = distinct_names h.vcpus (stated_names _ h is).distinct in
+    record {
+      cause = λ f g. one_fault _ rounds _ f g distinct;
+      thing = λ events others. one_script _ rounds _ events others distinct;
+      apart = λ f events. fault_or_script _ rounds _ f events distinct;
+    }
+
+-- a list of steps is one, or its bad line
+one_list : (s : List (List ℕ)) (h : Host)
+    → IsOne (IsFirstBadLine h.cores (statements_of (steps_section s)))
+    (λ (listed : List Step × List ℕ). AreSteps h.cores (statements_of (steps_section s)) listed.0 listed.1)
+one_list s h = record {
+  cause = one_bad_line h.cores _;
+  thing = λ listed other are also.
+      let same = one_step_list h.cores _ listed.0 other.0 listed.1 other.1 h.few_cores are also in
+      same_pair listed other same.0 same.1;
+  apart = λ line listed. bad_or_steps h.cores _ line listed.0 listed.1;
+}
+
+-- a plan is known before the first event, so there is a course or a fault of planning
+one_course_stage : (h : Host) (events : List Event) → IsOne (HasPlanFault h) (IsFormedCourseOf h events)
+one_course_stage h events = record {
+  cause = one_plan_fault h;
+  thing = one_course h events;
+  apart = λ f course bad of.
+      let first = of.is.after 0 (omega arith) in
+      planned_or_fault h first.known.plan f first.is.planned bad;
+}
+
+-- a run of a course is one, or its refusal
+one_run : (rounds : ℕ) (parts : Parts) (course : CourseView)
+    → IsOne (IsRefusedOn rounds parts course) (IsRunOf rounds parts course)
+one_run rounds parts course = record {
+  cause = λ at other off also.
+      let same = one_refused course rounds parts.steps off.0 also.0 at.1 other.1 off.2 also.2 in
+      let here = subst (λ k. slice_get parts.lines k ≡ Some at.0) same.0 off.1 in
+      let there = also.1 in
+      let line : at.0 ≡ other.0 = cc in
+      same_pair at other line same.1;
+  thing = λ run other trace also.
+      let same = one_trace course rounds (opening course.cores) parts.steps run.0 other.0 run.1 other.1
+      trace also in
+      same_pair run other same.0 same.1;
+  apart = λ at run off trace. refused_or_leads course rounds parts.steps off.0 at.1 run.0 off.2
+      (leads_of course rounds (opening course.cores) parts.steps run.0 run.1 trace);
+}
+
+-- `replay` makes one outcome of its sections
+replay_only : (rounds : ℕ) (s : List (List ℕ)) (a b : Outcome) → Replays rounds s a → Replays rounds s b → a ≡ b
+replay_only rounds s a b of_a of_b = one_host_stage s (OfReplayedHost rounds s) a b (λ h is.
+  one_staged _ _ _ (OfScript rounds s h) a b (one_script_stage rounds s h is) (λ events script.
+  one_staged _ _ _ (λ listed. OfParts rounds (parts_of h events listed)) a b (one_list s h) (λ listed are.
+  one_staged _ (plan_refusal h) _ (OfCourse rounds (parts_of h events listed)) a b (one_course_stage h events)
+  (λ course formed.
+  one_end _ _ _ (run_text (parts_of h events listed) course) a b
+  (one_run rounds (parts_of h events listed) course)))))
+  (replay_stages rounds s a of_a) (replay_stages rounds s b of_b)
+
+-- ---- the law
+
+-- each command has one outcome of an input
+pub one_outcome : (command : Command) (input : List ℕ) (one other : Outcome) → Replies command input one
+    → Replies command input other → one ≡ other
+one_outcome called.Help input one other = λ p q. p ∙ sym q
+one_outcome called.Version input one other = λ p q. p ∙ sym q
+one_outcome called.Plan input one other = one_of_sections 1 Plans input one other (plan_only _ one other)
+one_outcome called.Check input one other = one_of_sections 2 Checks input one other (check_only _ one other)
+one_outcome (called.Replay rounds) input one other =
+    one_of_sections 3 (Replays rounds) input one other (replay_only rounds _ one other)

@@ -3,7 +3,7 @@ use Rattle.std.proofs.Common.{◌≡◌, ℕ, ◌+◌, ◌<◌, ◌≤◌, All, 
 use Rattle.std.proofs.lemmas.List.Elements.{All-get_or}
 use Rattle.std.proofs.lemmas.Option.{get_or_from_slice_get, slice_get_within}
 use Rattle.tab_core.specs.declared.host.Host.{Host}
-use Rattle.table_form.specs.Running.Courses.{CourseView}
+use Rattle.table_form.specs.Running.Courses.{CourseView, IsCourse}
 use Rattle.script_doc.specs.Statements.{Statement, is_skipped, statements_from, statements_of}
 use Rattle.script_doc.specs.Steps.{AreSteps, IsStepWithin}
 use Rattle.script_doc.specs.declared.event.Event.{Event}
@@ -47,13 +47,14 @@ place_in course rounds taken lines place answer same refused =
 -- the refusal of a step, from what `replay` says of it
 pub step_refused : (rounds : ℕ) (sections : List (List ℕ)) (parts : Parts) (course : CourseView)
     (place line : ℕ) (answer : Answer) → HasParts rounds sections parts
-    → IsCourseOf parts.host parts.events course → slice_get parts.lines place ≡ Some line
-    → IsRefused course rounds parts.steps place answer
+    → IsCourseOf parts.host parts.events course → IsCourse course
+    → slice_get parts.lines place ≡ Some line → IsRefused course rounds parts.steps place answer
     → Replays rounds sections (Refuses (status.StepRefused line answer) [])
-step_refused rounds sections parts course place line answer read is on_line refused =
+step_refused rounds sections parts course place line answer read is kept on_line refused =
     Replays.StepRefused parts line answer read (record {
       course = course;
       course_is = is;
+      course_kept = kept;
       place = place;
       on_line = on_line;
       refused = refused;

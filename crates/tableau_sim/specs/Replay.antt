@@ -72,6 +72,7 @@ pub record RunsTo (rounds : ℕ) (parts : Parts) (course : CourseView) (state : 
 pub record IsStepRefused (rounds : ℕ) (parts : Parts) (line : ℕ) (answer : Answer) : Type 0 where
   pub course : CourseView
   pub course_is : IsCourseOf parts.host parts.events course
+  pub course_kept : IsCourse course
   pub place : ℕ
   pub on_line : slice_get parts.lines place ≡ Some line
   pub refused : IsRefused course rounds parts.steps place answer

@@ -73,4 +73,6 @@ returns-in-Err-Refused g c = λ sections read.
       lines = c.args.list.lines;
     }) c.in-Ok.book.course c.in-Err-Refused.place _ c.in-Err-Refused.answer read
     c.in-Ok.ensures.ok.course
+    (rw c.course.ensures at (c.in-Err-Refused.ensures.refused_course c.in-Err-Refused.place
+    c.in-Err-Refused.answer (ap Err c.in-Err-Refused.field-0-is)))
     (slice_get-get_or c.args.list.lines c.in-Err-Refused.place 0 low) refused)
