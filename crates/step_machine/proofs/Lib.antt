@@ -3,9 +3,9 @@ pub mod ChangedCores
 pub mod InvariantLemmas
 pub mod Lists
 pub mod LogLemmas
+pub mod MachineStateLemmas
 pub mod NextLemmas
 pub mod PhaseLemmas
-pub mod ProgressLemmas
 pub mod RunLemmas
 pub mod ShownLemmas
 pub mod StintLemmas

@@ -10,19 +10,19 @@
 #![tactic(auto)]
 
 mod answer;
+mod core_log;
 mod fault;
 mod laws;
-mod log;
-mod looks;
-mod moves;
+mod machine_state;
 mod next;
-mod progress;
+mod premises;
 mod replaying;
 mod steps;
 mod stints;
 #[cfg(test)]
 mod tests;
 mod trace;
+mod updates;
 mod world;
 
 pub use answer::{Answer, Phase};
