@@ -3,10 +3,10 @@ pub mod ChangedCores
 pub mod InvariantLemmas
 pub mod Lists
 pub mod LogLemmas
+pub mod MachineStateLemmas
 pub mod NextLemmas
 pub mod OneRun
 pub mod PhaseLemmas
-pub mod ProgressLemmas
 pub mod RunLemmas
 pub mod ShownLemmas
 pub mod StintLemmas

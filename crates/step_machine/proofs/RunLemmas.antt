@@ -11,11 +11,11 @@ use Rattle.table_form.specs.Running.Invariant.{CoreInvariant, StateInvariant}
 use Rattle.table_form.specs.Running.OneTable.{UsesCounts}
 use Rattle.table_form.specs.Running.Choice.{last_shared}
 use Rattle.step_machine.specs.declared.answer.Answer.TheVariants.{Done, Behind, NotNow}
-use Rattle.step_machine.specs.declared.log.CoreLog.{CoreLog}
-use Rattle.step_machine.specs.Logs.{cores_of, KnowLast, HaveRoom, IsNew, AreNew}
+use Rattle.step_machine.specs.declared.core_log.CoreLog.{CoreLog}
+use Rattle.step_machine.specs.Inside.Logs.{cores_of, KnowLast, HaveRoom, IsNew, AreNew}
 use Rattle.step_machine.specs.Runs.{Leads}
-use Rattle.step_machine.specs.declared.progress.Progress.{Progress}
-use Rattle.step_machine.specs.Progresses.{state_of}
+use Rattle.step_machine.specs.declared.machine_state.MachineState.{MachineState}
+use Rattle.step_machine.specs.Inside.MachineStates.{state_of}
 use Rattle.step_machine.proofs.Lists.{push_split}
 use Rattle.step_machine.proofs.InvariantLemmas.{moves_keep}
 
@@ -114,7 +114,7 @@ new_more count rounds turns logs log are is = record {
 }
 
 -- a state of new logs is the opening
-pub new_state : (count rounds turns : ℕ) (p : Progress) → p.posted ≡ 0 → p.decided.items ≡ []
+pub new_state : (count rounds turns : ℕ) (p : MachineState) → p.posted ≡ 0 → p.decided.items ≡ []
     → AreNew count rounds turns p.logs.items → state_of p ≡ opening count
 new_state count rounds turns p posted decided new =
     rw (posted, decided, cores_new count rounds turns p.logs.items new) refl

@@ -1,8 +1,7 @@
 pub mod Answers
 pub mod Cores
-pub mod Logs
+pub mod Inside
 pub mod Next
-pub mod Progresses
 pub mod Refusals
 pub mod Runs
 pub mod Traces

@@ -10,17 +10,17 @@
 #![tactic(auto)]
 
 mod answer;
+mod core_log;
 mod fault;
 mod laws;
-mod log;
-mod looks;
-mod moves;
+mod machine_state;
 mod next;
-mod progress;
+mod premises;
 mod replaying;
 mod steps;
 mod stints;
 mod trace;
+mod updates;
 mod world;
 
 pub use answer::{Answer, Phase};

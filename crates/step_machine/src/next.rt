@@ -1,41 +1,41 @@
 ghost use Rattle.std.specs.Prelude.{◌+◌, ◌<◌, ◌≤◌, IfSome, IfNone, length};
 ghost use Rattle.table_form.specs.Running.Courses.{FitsRounds};
 ghost use Rattle.table_form.specs.Running.Invariant.{StateInvariant, IsComplete};
-ghost use Rattle.step_machine.specs.Logs.{KnowLast, IsLowestOf};
+ghost use Rattle.step_machine.specs.Inside.Logs.{KnowLast, IsLowestOf};
 ghost use Rattle.step_machine.specs.Next.{IsNextStep};
-ghost use Rattle.step_machine.specs.Progresses.{state_of};
+ghost use Rattle.step_machine.specs.Inside.MachineStates.{state_of};
 
 use crate::answer::Phase;
-use crate::log::CoreLog;
-use crate::looks::{has_up_to, phase_at};
-use crate::progress::Progress;
+use crate::core_log::CoreLog;
+use crate::machine_state::MachineState;
+use crate::premises::{has_up_to, phase_at};
 use crate::stints::stint_now;
 use script_doc::Step;
 use tab_core::CoreNo;
 use table_form::Course;
 
 // A step that is allowed now, where the run isn't whole.
-pub(crate) fn next_step(course: &Course, rounds: u32, progress: &Progress) -> Option<Step>
+pub(crate) fn next_step(course: &Course, rounds: u32, machine: &MachineState) -> Option<Step>
     requires fits { FitsRounds course.now rounds }
-    requires kept { StateInvariant course.now rounds (state_of progress.now) }
-    requires known { KnowLast course.now progress.now.logs.items }
-    ensures some { IfSome result (λ step. IsNextStep course.now rounds (state_of progress.now) step) }
-    ensures none { IfNone result (IsComplete course.now rounds (state_of progress.now)) }
+    requires kept { StateInvariant course.now rounds (state_of machine.now) }
+    requires known { KnowLast course.now machine.now.logs.items }
+    ensures some { IfSome result (λ step. IsNextStep course.now rounds (state_of machine.now) step) }
+    ensures none { IfNone result (IsComplete course.now rounds (state_of machine.now)) }
 {
     // the course keeps what its type says
     let _lag = course.lag();
-    let c = lowest(&progress.logs);
-    let log = &progress.logs[c];
+    let c = lowest(&machine.logs);
+    let log = &machine.logs[c];
     match phase_at(log, rounds) {
         Phase::Finished => {
-            if progress.posted == course.count() {
+            if machine.posted == course.count() {
                 None
             } else {
                 Some(Step::Post)
             }
         }
         Phase::See => {
-            if has_up_to(course, progress.posted, log.clock) {
+            if has_up_to(course, machine.posted, log.clock) {
                 Some(Step::See(CoreNo(c as u32)))
             } else {
                 Some(Step::Post)
@@ -44,7 +44,7 @@ pub(crate) fn next_step(course: &Course, rounds: u32, progress: &Progress) -> Op
         Phase::Decide => Some(Step::Decide(CoreNo(c as u32))),
         Phase::Run => {
             // the stint that is found shows that there is one
-            let _next = stint_now(course, rounds, progress, c);
+            let _next = stint_now(course, rounds, machine, c);
             Some(Step::Run(CoreNo(c as u32)))
         }
         Phase::AllPosted => unreachable!(),

@@ -6,109 +6,109 @@ ghost use Rattle.table_form.specs.Running.State.{CoreState};
 ghost use Rattle.table_form.specs.Running.Entering.{EntersFirst, EntersAfter};
 ghost use Rattle.table_form.specs.Running.Phases.{to_decide, phase_of, round_of};
 ghost use Rattle.step_machine.specs.Answers.{Answers};
-ghost use Rattle.step_machine.specs.Logs.{cores_of, KnowLast};
-ghost use Rattle.step_machine.specs.Progresses.{state_of, HasSpare};
+ghost use Rattle.step_machine.specs.Inside.Logs.{cores_of, KnowLast};
+ghost use Rattle.step_machine.specs.Inside.MachineStates.{state_of, HasSpare};
 
 use crate::answer::{Answer, Phase};
-use crate::looks::{has_up_to, lowest_behind, phase_at};
-use crate::moves::{push_entry, push_stint, take_count};
-use crate::progress::Progress;
+use crate::machine_state::MachineState;
+use crate::premises::{has_up_to, lowest_behind, phase_at};
 use crate::stints::{seen_by, stint_now};
+use crate::updates::{push_entry, push_stint, take_count};
 use script_doc::Step;
 use tab_core::{Actor, Entry, ROUND};
 use table_form::Course;
 
 // Posts the next event, if no clock is too low.
-pub(crate) fn post(course: &Course, rounds: u32, progress: &mut Progress) -> Answer
+pub(crate) fn post(course: &Course, rounds: u32, machine: &mut MachineState) -> Answer
     requires few { rounds ≤ MAX_ROUNDS }
-    requires kept { StateInvariant course.now rounds (state_of progress.old) }
-    ensures answer { Answers course.now rounds (state_of progress.old) Step.Post result
-        (state_of progress.new) }
-    ensures spare { (n : ℕ) → HasSpare rounds (n + 1) progress.old → HasSpare rounds n progress.new }
-    ensures last { KnowLast course.now progress.old.logs.items → KnowLast course.now progress.new.logs.items }
+    requires kept { StateInvariant course.now rounds (state_of machine.old) }
+    ensures answer { Answers course.now rounds (state_of machine.old) Step.Post result
+        (state_of machine.new) }
+    ensures spare { (n : ℕ) → HasSpare rounds (n + 1) machine.old → HasSpare rounds n machine.new }
+    ensures last { KnowLast course.now machine.old.logs.items → KnowLast course.now machine.new.logs.items }
 {
-    if progress.posted == course.count() {
+    if machine.posted == course.count() {
         return Answer::NotNow {
             phase: Phase::AllPosted,
         };
     }
-    let tick = course.tick_of(progress.posted);
-    match lowest_behind(&progress.logs, course.lag(), None, tick) {
+    let tick = course.tick_of(machine.posted);
+    match lowest_behind(&machine.logs, course.lag(), None, tick) {
         Some(low) => Answer::Behind {
             who: Actor::Core(low.core),
             tick: low.clock,
         },
         None => {
-            progress.posted += 1;
+            machine.posted += 1;
             Answer::Done
         }
     }
 }
 
 // The core takes the posted count, if that has all that it must.
-pub(crate) fn see(course: &Course, rounds: u32, progress: &mut Progress, c: usize) -> Answer
+pub(crate) fn see(course: &Course, rounds: u32, machine: &mut MachineState, c: usize) -> Answer
     requires few { rounds ≤ MAX_ROUNDS }
     requires core { c < course.now.cores }
-    requires kept { StateInvariant course.now rounds (state_of progress.old) }
-    ensures answer { Answers course.now rounds (state_of progress.old) (Step.See c) result
-        (state_of progress.new) }
-    ensures spare { (n : ℕ) → HasSpare rounds (n + 1) progress.old → HasSpare rounds n progress.new }
-    ensures last { KnowLast course.now progress.old.logs.items → KnowLast course.now progress.new.logs.items }
+    requires kept { StateInvariant course.now rounds (state_of machine.old) }
+    ensures answer { Answers course.now rounds (state_of machine.old) (Step.See c) result
+        (state_of machine.new) }
+    ensures spare { (n : ℕ) → HasSpare rounds (n + 1) machine.old → HasSpare rounds n machine.new }
+    ensures last { KnowLast course.now machine.old.logs.items → KnowLast course.now machine.new.logs.items }
 {
-    let log = &progress.logs[c];
+    let log = &machine.logs[c];
     if let Phase::Finished = phase_at(log, rounds) {
         return Answer::NotNow {
             phase: Phase::Finished,
         };
     }
-    if !has_up_to(course, progress.posted, log.clock) {
+    if !has_up_to(course, machine.posted, log.clock) {
         return Answer::Behind {
             who: Actor::Controller,
-            tick: course.tick_of(progress.posted),
+            tick: course.tick_of(machine.posted),
         };
     }
-    take_count(&mut progress.logs, c, progress.posted);
+    take_count(&mut machine.logs, c, machine.posted);
     Answer::Done
 }
 
 // The core enters its clock's round, with the round's count, which is its own if it is the first.
-pub(crate) fn decide(course: &Course, rounds: u32, progress: &mut Progress, c: usize) -> Answer
+pub(crate) fn decide(course: &Course, rounds: u32, machine: &mut MachineState, c: usize) -> Answer
     requires few { rounds ≤ MAX_ROUNDS }
     requires core { c < course.now.cores }
-    requires kept { StateInvariant course.now rounds (state_of progress.old) }
-    requires spare { HasSpare rounds 1 progress.old }
-    ensures answer { Answers course.now rounds (state_of progress.old) (Step.Decide c) result
-        (state_of progress.new) }
-    ensures spare { (n : ℕ) → HasSpare rounds (n + 1) progress.old → HasSpare rounds n progress.new }
-    ensures last { KnowLast course.now progress.old.logs.items → KnowLast course.now progress.new.logs.items }
+    requires kept { StateInvariant course.now rounds (state_of machine.old) }
+    requires spare { HasSpare rounds 1 machine.old }
+    ensures answer { Answers course.now rounds (state_of machine.old) (Step.Decide c) result
+        (state_of machine.new) }
+    ensures spare { (n : ℕ) → HasSpare rounds (n + 1) machine.old → HasSpare rounds n machine.new }
+    ensures last { KnowLast course.now machine.old.logs.items → KnowLast course.now machine.new.logs.items }
 {
-    let log = &progress.logs[c];
+    let log = &machine.logs[c];
     let phase = phase_at(log, rounds);
     let Phase::Decide = phase else {
         return Answer::NotNow { phase };
     };
     let seen = seen_by(log, rounds);
     let round = log.clock / ROUND;
-    enter(course, rounds, progress, c, round, seen);
+    enter(course, rounds, machine, c, round, seen);
     Answer::Done
 }
 
-fn enter(course: &Course, rounds: u32, progress: &mut Progress, c: usize, round: u32, seen: u32)
+fn enter(course: &Course, rounds: u32, machine: &mut MachineState, c: usize, round: u32, seen: u32)
     requires few { rounds ≤ MAX_ROUNDS }
     requires core { c < course.now.cores }
-    requires kept { StateInvariant course.now rounds (state_of progress.old) }
-    requires spare { HasSpare rounds 1 progress.old }
-    requires due { (core : CoreState) → slice_get (cores_of progress.old.logs.items) c ≡ Some core
+    requires kept { StateInvariant course.now rounds (state_of machine.old) }
+    requires spare { HasSpare rounds 1 machine.old }
+    requires due { (core : CoreState) → slice_get (cores_of machine.old.logs.items) c ≡ Some core
         → (phase_of rounds core ≡ to_decide) × (core.seen ≡ Some seen) × (round ≡ round_of core) }
-    ensures answer { EntersFirst rounds c (state_of progress.old) (state_of progress.new)
-        ⊎ EntersAfter rounds c (state_of progress.old) (state_of progress.new) }
-    ensures spare { (n : ℕ) → HasSpare rounds (n + 1) progress.old → HasSpare rounds n progress.new }
-    ensures last { KnowLast course.now progress.old.logs.items → KnowLast course.now progress.new.logs.items }
+    ensures answer { EntersFirst rounds c (state_of machine.old) (state_of machine.new)
+        ⊎ EntersAfter rounds c (state_of machine.old) (state_of machine.new) }
+    ensures spare { (n : ℕ) → HasSpare rounds (n + 1) machine.old → HasSpare rounds n machine.new }
+    ensures last { KnowLast course.now machine.old.logs.items → KnowLast course.now machine.new.logs.items }
 {
-    if (round as usize) < progress.decided.len() {
-        let used = progress.decided[round as usize];
+    if (round as usize) < machine.decided.len() {
+        let used = machine.decided[round as usize];
         push_entry(
-            &mut progress.logs,
+            &mut machine.logs,
             c,
             Entry {
                 round,
@@ -118,9 +118,9 @@ fn enter(course: &Course, rounds: u32, progress: &mut Progress, c: usize, round:
             },
         );
     } else {
-        progress.decided.push_reserved(seen);
+        machine.decided.push_reserved(seen);
         push_entry(
-            &mut progress.logs,
+            &mut machine.logs,
             c,
             Entry {
                 round,
@@ -133,30 +133,30 @@ fn enter(course: &Course, rounds: u32, progress: &mut Progress, c: usize, round:
 }
 
 // The core runs its next stint, if no other clock is too low.
-pub(crate) fn run(course: &Course, rounds: u32, progress: &mut Progress, c: usize) -> Answer
+pub(crate) fn run(course: &Course, rounds: u32, machine: &mut MachineState, c: usize) -> Answer
     requires few { rounds ≤ MAX_ROUNDS }
     requires core { c < course.now.cores }
-    requires kept { StateInvariant course.now rounds (state_of progress.old) }
-    requires spare { HasSpare rounds 1 progress.old }
-    requires known { KnowLast course.now progress.old.logs.items }
-    ensures answer { Answers course.now rounds (state_of progress.old) (Step.Run c) result
-        (state_of progress.new) }
-    ensures spare { (n : ℕ) → HasSpare rounds (n + 1) progress.old → HasSpare rounds n progress.new }
-    ensures last { KnowLast course.now progress.old.logs.items → KnowLast course.now progress.new.logs.items }
+    requires kept { StateInvariant course.now rounds (state_of machine.old) }
+    requires spare { HasSpare rounds 1 machine.old }
+    requires known { KnowLast course.now machine.old.logs.items }
+    ensures answer { Answers course.now rounds (state_of machine.old) (Step.Run c) result
+        (state_of machine.new) }
+    ensures spare { (n : ℕ) → HasSpare rounds (n + 1) machine.old → HasSpare rounds n machine.new }
+    ensures last { KnowLast course.now machine.old.logs.items → KnowLast course.now machine.new.logs.items }
 {
-    let log = &progress.logs[c];
+    let log = &machine.logs[c];
     let phase = phase_at(log, rounds);
     let Phase::Run = phase else {
         return Answer::NotNow { phase };
     };
-    let next = stint_now(course, rounds, progress, c);
-    match lowest_behind(&progress.logs, course.lag(), Some(c as u32), next.stint.end) {
+    let next = stint_now(course, rounds, machine, c);
+    match lowest_behind(&machine.logs, course.lag(), Some(c as u32), next.stint.end) {
         Some(low) => Answer::Behind {
             who: Actor::Core(low.core),
             tick: low.clock,
         },
         None => {
-            push_stint(&mut progress.logs, c, next.stint, next.last);
+            push_stint(&mut machine.logs, c, next.stint, next.last);
             Answer::Done
         }
     }

@@ -6,31 +6,31 @@ ghost use Rattle.table_form.specs.Running.Invariant.{StateInvariant};
 ghost use Rattle.table_form.specs.Running.State.{CoreState};
 ghost use Rattle.table_form.specs.Running.Phases.{to_decide, to_run, phase_of};
 ghost use Rattle.table_form.specs.Running.Stints.{IsNextStint};
-ghost use Rattle.step_machine.specs.declared.log.CoreLog.{CoreLog as LogValue};
-ghost use Rattle.step_machine.specs.Logs.{core_of, cores_of, KnowLast};
-ghost use Rattle.step_machine.specs.Progresses.{state_of};
+ghost use Rattle.step_machine.specs.declared.core_log.CoreLog.{CoreLog as LogValue};
+ghost use Rattle.step_machine.specs.Inside.Logs.{core_of, cores_of, KnowLast};
+ghost use Rattle.step_machine.specs.Inside.MachineStates.{state_of};
 
-use crate::log::CoreLog;
-use crate::progress::Progress;
+use crate::core_log::CoreLog;
+use crate::machine_state::MachineState;
 use second_level::{Begin, Next};
 use tab_core::{CoreNo, ROUND};
 use table_form::Course;
 
 // The stint that the core would run now.
-pub(crate) fn stint_now(course: &Course, rounds: u32, progress: &Progress, c: usize) -> Next
+pub(crate) fn stint_now(course: &Course, rounds: u32, machine: &MachineState, c: usize) -> Next
     requires few { rounds ≤ MAX_ROUNDS }
     requires core { c < course.now.cores }
-    requires kept { StateInvariant course.now rounds (state_of progress.now) }
-    requires known { KnowLast course.now progress.now.logs.items }
-    requires due { (core : CoreState) → slice_get (cores_of progress.now.logs.items) c ≡ Some core
+    requires kept { StateInvariant course.now rounds (state_of machine.now) }
+    requires known { KnowLast course.now machine.now.logs.items }
+    requires due { (core : CoreState) → slice_get (cores_of machine.now.logs.items) c ≡ Some core
         → phase_of rounds core ≡ to_run }
-    ensures next { (core : CoreState) → slice_get (cores_of progress.now.logs.items) c ≡ Some core
+    ensures next { (core : CoreState) → slice_get (cores_of machine.now.logs.items) c ≡ Some core
         → IsNextStint course.now rounds c core result.stint }
-    ensures last { (log : LogValue) → slice_get progress.now.logs.items c ≡ Some log
+    ensures last { (log : LogValue) → slice_get machine.now.logs.items c ≡ Some log
         → result.last ≡ last_after course.now c log.last result.stint }
 {
     let outline = course.outline();
-    let log = &progress.logs[c];
+    let log = &machine.logs[c];
     let (from, seen) = (log.clock, seen_by(log, rounds));
     let used = used_in(log, from / ROUND);
     let core = CoreNo(c as u32);

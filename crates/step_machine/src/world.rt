@@ -5,17 +5,17 @@ ghost use Rattle.table_form.specs.Running.Courses.{FitsRounds, IsCourse};
 ghost use Rattle.table_form.specs.Running.Invariant.{StateInvariant, IsComplete};
 ghost use Rattle.table_form.specs.Running.State.{CoreState, opening};
 ghost use Rattle.step_machine.specs.Answers.{Answers, NamesCore};
-ghost use Rattle.step_machine.specs.Logs.{KnowLast, IsNew, AreNew};
+ghost use Rattle.step_machine.specs.Inside.Logs.{KnowLast, IsNew, AreNew};
 ghost use Rattle.step_machine.specs.Next.{IsNextStep};
-ghost use Rattle.step_machine.specs.Progresses.{state_of, HasSpare};
+ghost use Rattle.step_machine.specs.Inside.MachineStates.{state_of, HasSpare};
 ghost use Rattle.step_machine.specs.Traces.{AddsMade, AreMadeBy};
 ghost use Rattle.step_machine.specs.declared.answer.Answer.TheVariants.{Done};
 ghost use Rattle.step_machine.specs.declared.trace.Made.{Made as MadeValue};
 
 use crate::answer::Answer;
-use crate::log::CoreLog;
+use crate::core_log::CoreLog;
+use crate::machine_state::MachineState;
 use crate::next::next_step;
-use crate::progress::Progress;
 use crate::steps::{decide, post, run, see};
 use crate::trace::{Made, Trace};
 use script_doc::Step;
@@ -32,13 +32,14 @@ pub struct World<'a> {
     course: &'a Course,
     rounds: u32,
     spare: u32,
-    progress: Progress,
+    machine: MachineState,
     made: Vec<Made>,
 }
 
 impl<'a> Model for World<'a> {
-    ghost use Rattle.step_machine.specs.Worlds.{WorldView, IsWorld};
-    ghost use Rattle.step_machine.specs.Progresses.{state_of};
+    ghost use Rattle.step_machine.specs.Worlds.{WorldView};
+    ghost use Rattle.step_machine.specs.Inside.Worlds.{IsWorld};
+    ghost use Rattle.step_machine.specs.Inside.MachineStates.{state_of};
 
     ghost Value = { WorldView };
 
@@ -46,11 +47,11 @@ impl<'a> Model for World<'a> {
       course = w.course.now;
       rounds = w.rounds;
       spare = w.spare;
-      state = state_of w.progress;
+      state = state_of w.machine;
       made = w.made.items;
     } };
 
-    ghost invariant = { λ w. IsWorld w.course.now w.rounds w.spare w.progress w.made };
+    ghost invariant = { λ w. IsWorld w.course.now w.rounds w.spare w.machine w.made };
 }
 
 impl World<'_> {
@@ -78,7 +79,7 @@ impl World<'_> {
         let decided = Vec::with_capacity(alloc, lesser(turns, rounds) as usize)?;
         let logs = new_logs(alloc, course.cores(), rounds, turns)?;
         let made = Vec::with_capacity(alloc, turns as usize)?;
-        let progress = Progress {
+        let machine = MachineState {
             posted: 0,
             decided,
             logs,
@@ -87,7 +88,7 @@ impl World<'_> {
             course,
             rounds,
             spare: turns,
-            progress,
+            machine,
             made,
         })
     }
@@ -108,8 +109,8 @@ impl World<'_> {
         ensures same { (self.new.course ≡ self.old.course) × (self.new.rounds ≡ self.old.rounds) }
         ensures kept { StateInvariant self.new.course self.new.rounds self.new.state }
     {
-        let answer = take_step(self.course, self.rounds, &mut self.progress, &step);
-        note(&mut self.made, &self.progress, &step, &answer);
+        let answer = take_step(self.course, self.rounds, &mut self.machine, &step);
+        note(&mut self.made, &self.machine, &step, &answer);
         self.spare -= 1;
         answer
     }
@@ -121,7 +122,7 @@ impl World<'_> {
             (λ step. IsNextStep self.now.course self.now.rounds self.now.state step) }
         ensures none { IfNone result (IsComplete self.now.course self.now.rounds self.now.state) }
     {
-        next_step(self.course, self.rounds, &self.progress)
+        next_step(self.course, self.rounds, &self.machine)
     }
 
     /// How many events are posted.
@@ -129,7 +130,7 @@ impl World<'_> {
         ensures posted { result ≡ self.now.state.posted }
         ensures kept { StateInvariant self.now.course self.now.rounds self.now.state }
     {
-        self.progress.posted
+        self.machine.posted
     }
 
     /// The core's clock, in ticks.
@@ -138,14 +139,14 @@ impl World<'_> {
         ensures { (core : CoreState) → slice_get self.now.state.cores c ≡ Some core → result ≡ core.clock }
     {
         let at = c.index();
-        self.progress.logs[at].clock
+        self.machine.logs[at].clock
     }
 
     /// The count of events that the round's plan includes, if a core has entered the round.
     pub fn decided(&self, round: u32) -> Option<u32>
         ensures { result ≡ slice_get self.now.state.decided round }
     {
-        self.progress.decided.get(round as usize).copied()
+        self.machine.decided.get(round as usize).copied()
     }
 
     /// The core's stints, in order.
@@ -155,7 +156,7 @@ impl World<'_> {
             → result.now ≡ core.stints }
     {
         let at = c.index();
-        &self.progress.logs[at].stints
+        &self.machine.logs[at].stints
     }
 
     /// The core's entries, by round.
@@ -165,7 +166,7 @@ impl World<'_> {
             → result.now ≡ core.entries }
     {
         let at = c.index();
-        &self.progress.logs[at].entries
+        &self.machine.logs[at].entries
     }
 
     /// What the steps made, and how many events they posted.
@@ -173,37 +174,37 @@ impl World<'_> {
         ensures made { result.made.items ≡ self.entry.made }
         ensures posted { result.posted ≡ self.entry.state.posted }
     {
-        let World { progress, made, .. } = self;
+        let World { machine, made, .. } = self;
         Trace {
             made,
-            posted: progress.posted,
+            posted: machine.posted,
         }
     }
 }
 
-fn take_step(course: &Course, rounds: u32, progress: &mut Progress, step: &Step) -> Answer
+fn take_step(course: &Course, rounds: u32, machine: &mut MachineState, step: &Step) -> Answer
     requires few { rounds ≤ MAX_ROUNDS }
     requires core { NamesCore course.now step.now }
-    requires kept { StateInvariant course.now rounds (state_of progress.old) }
-    requires spare { HasSpare rounds 1 progress.old }
-    requires known { KnowLast course.now progress.old.logs.items }
-    ensures answer { Answers course.now rounds (state_of progress.old) step.now result (state_of progress.new) }
-    ensures spare { (n : ℕ) → HasSpare rounds (n + 1) progress.old → HasSpare rounds n progress.new }
-    ensures last { KnowLast course.now progress.old.logs.items → KnowLast course.now progress.new.logs.items }
+    requires kept { StateInvariant course.now rounds (state_of machine.old) }
+    requires spare { HasSpare rounds 1 machine.old }
+    requires known { KnowLast course.now machine.old.logs.items }
+    ensures answer { Answers course.now rounds (state_of machine.old) step.now result (state_of machine.new) }
+    ensures spare { (n : ℕ) → HasSpare rounds (n + 1) machine.old → HasSpare rounds n machine.new }
+    ensures last { KnowLast course.now machine.old.logs.items → KnowLast course.now machine.new.logs.items }
 {
     match *step {
-        Step::Post => post(course, rounds, progress),
-        Step::See(c) => see(course, rounds, progress, c.index()),
-        Step::Decide(c) => decide(course, rounds, progress, c.index()),
-        Step::Run(c) => run(course, rounds, progress, c.index()),
+        Step::Post => post(course, rounds, machine),
+        Step::See(c) => see(course, rounds, machine, c.index()),
+        Step::Decide(c) => decide(course, rounds, machine, c.index()),
+        Step::Run(c) => run(course, rounds, machine, c.index()),
     }
 }
 
-// Notes what the step made, where it is done. It led to this progress.
-fn note(made: &mut Vec<Made>, progress: &Progress, step: &Step, answer: &Answer)
+// Notes what the step made, where it is done. It led to this state.
+fn note(made: &mut Vec<Made>, machine: &MachineState, step: &Step, answer: &Answer)
     requires room { length made.old.items < vec_capacity made.old }
-    requires makes { answer.now ≡ Done → (more : List MadeValue) × AreMadeBy step.now (state_of progress.now) more }
-    ensures made { AddsMade step.now answer.now (state_of progress.now) made.old.items made.new.items }
+    requires makes { answer.now ≡ Done → (more : List MadeValue) × AreMadeBy step.now (state_of machine.now) more }
+    ensures made { AddsMade step.now answer.now (state_of machine.now) made.old.items made.new.items }
     ensures room { vec_capacity made.new ≡ vec_capacity made.old }
     ensures few { length made.new.items ≤ length made.old.items + 1 }
 {
@@ -213,12 +214,12 @@ fn note(made: &mut Vec<Made>, progress: &Progress, step: &Step, answer: &Answer)
     match *step {
         Step::Post | Step::See(_) => {}
         Step::Decide(core) => {
-            let entries = &progress.logs[core.index()].entries;
+            let entries = &machine.logs[core.index()].entries;
             let entry = entries[entries.len() - 1];
             made.push_reserved(Made::Entered { core, entry });
         }
         Step::Run(core) => {
-            let stints = &progress.logs[core.index()].stints;
+            let stints = &machine.logs[core.index()].stints;
             let stint = stints[stints.len() - 1];
             made.push_reserved(Made::Ran { core, stint });
         }

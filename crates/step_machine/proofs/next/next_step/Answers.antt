@@ -2,17 +2,17 @@ use Rattle.std.proofs.Common.{◌<◌, length, refl, sym, ◌∙◌, arith}
 use Rattle.std.specs.Prelude.{slice_get}
 use Rattle.std.proofs.lemmas.Option.{slice_get_read}
 use Rattle.step_machine.proofs.ShownLemmas.{is_see, is_decide, is_run, is_end}
-use Rattle.step_machine.specs.Logs.{core_of, cores_of}
-use Rattle.step_machine.specs.Progresses.{state_of}
+use Rattle.step_machine.specs.Inside.Logs.{core_of, cores_of}
+use Rattle.step_machine.specs.Inside.MachineStates.{state_of}
 use Rattle.run_promises.proofs.Lists.{same}
 use Rattle.step_machine.proofs.LogLemmas.{core_at}
-use Rattle.step_machine.proofs.ProgressLemmas.{log_kept, least_clock}
+use Rattle.step_machine.proofs.MachineStateLemmas.{log_kept, least_clock}
 use Rattle.step_machine.proofs.NextLemmas.{post_at_end, post_for_see, see_now, decide_now, run_now, whole_at_end, clock_at_end}
 use Rattle.step_machine.proofs.next.next_step.Goals as goal
 
 pub phase_at-requires-clause-numbered : goal.phase_at-requires-clause-numbered
 phase_at-requires-clause-numbered c =
-    let p = c.args.progress.now in
+    let p = c.args.machine.now in
     let log = c.index-log.result.now in
     let i = c.lowest-c.result in
     let course = c.args.course.now in
@@ -23,7 +23,7 @@ phase_at-requires-clause-numbered c =
 
 pub stint_now-next-requires-clause-due : goal.stint_now-next-requires-clause-due
 stint_now-next-requires-clause-due c =
-    let p = c.args.progress.now in
+    let p = c.args.machine.now in
     let log = c.index-log.result.now in
     let i = c.lowest-c.result in
     let course = c.args.course.now in
@@ -35,9 +35,9 @@ stint_now-next-requires-clause-due c =
     (core_at p.logs.items i log at) h in
     rw (← is) (is_run _ (sym c.phase_at.ensures ∙ c.in-Run.is))
 
-pub returns-then-progress-count-clause-none : goal.returns-then-progress-count-clause-none
-returns-then-progress-count-clause-none c =
-    let p = c.args.progress.now in
+pub returns-then-machine-count-clause-none : goal.returns-then-machine-count-clause-none
+returns-then-machine-count-clause-none c =
+    let p = c.args.machine.now in
     let log = c.index-log.result.now in
     let i = c.lowest-c.result in
     let course = c.args.course.now in
@@ -47,11 +47,11 @@ returns-then-progress-count-clause-none c =
     whole_at_end course c.args.rounds (state_of p) i (core_of log) c.requires.kept low
     (clock_at_end c.args.rounds (core_of log)
     (is_end _ (sym c.phase_at.ensures ∙ c.in-Finished.is)))
-    (c.if-progress-count.true ∙ c.count.ensures.count)
+    (c.if-machine-count.true ∙ c.count.ensures.count)
 
-pub returns-else-progress-count-clause-some : goal.returns-else-progress-count-clause-some
-returns-else-progress-count-clause-some c =
-    let p = c.args.progress.now in
+pub returns-else-machine-count-clause-some : goal.returns-else-machine-count-clause-some
+returns-else-machine-count-clause-some c =
+    let p = c.args.machine.now in
     let log = c.index-log.result.now in
     let i = c.lowest-c.result in
     let course = c.args.course.now in
@@ -65,7 +65,7 @@ returns-else-progress-count-clause-some c =
 
 pub returns-then-has_up_to-clause-some : goal.returns-then-has_up_to-clause-some
 returns-then-has_up_to-clause-some c =
-    let p = c.args.progress.now in
+    let p = c.args.machine.now in
     let log = c.index-log.result.now in
     let i = c.lowest-c.result in
     let course = c.args.course.now in
@@ -78,7 +78,7 @@ returns-then-has_up_to-clause-some c =
 
 pub returns-else-has_up_to-clause-some : goal.returns-else-has_up_to-clause-some
 returns-else-has_up_to-clause-some c =
-    let p = c.args.progress.now in
+    let p = c.args.machine.now in
     let log = c.index-log.result.now in
     let i = c.lowest-c.result in
     let course = c.args.course.now in
@@ -92,7 +92,7 @@ returns-else-has_up_to-clause-some c =
 
 pub returns-in-Decide-clause-some : goal.returns-in-Decide-clause-some
 returns-in-Decide-clause-some c =
-    let p = c.args.progress.now in
+    let p = c.args.machine.now in
     let log = c.index-log.result.now in
     let i = c.lowest-c.result in
     let course = c.args.course.now in
@@ -104,7 +104,7 @@ returns-in-Decide-clause-some c =
 
 pub returns-in-Run-clause-some : goal.returns-in-Run-clause-some
 returns-in-Run-clause-some c =
-    let p = c.args.progress.now in
+    let p = c.args.machine.now in
     let log = c.index-log.result.now in
     let i = c.lowest-c.result in
     let course = c.args.course.now in

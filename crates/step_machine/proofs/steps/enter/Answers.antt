@@ -1,14 +1,14 @@
 use Rattle.std.proofs.Common.{inl, inr, [], ◌∷◌, length, refl, ap, arith, length-append}
 use Rattle.std.proofs.lemmas.Option.{slice_get_read}
-use Rattle.step_machine.specs.Logs.{core_of}
+use Rattle.step_machine.specs.Inside.Logs.{core_of}
 use Rattle.step_machine.proofs.LogLemmas.{core_at, cores_edited, rooms_edited}
 use Rattle.run_promises.proofs.OneTableLemmas.{entered_counted}
-use Rattle.step_machine.proofs.ProgressLemmas.{log_at_core, log_kept, last_edited, starts_round, round_small, entry_room}
+use Rattle.step_machine.proofs.MachineStateLemmas.{log_at_core, log_kept, last_edited, starts_round, round_small, entry_room}
 use Rattle.step_machine.proofs.steps.enter.Goals as goal
 
 pub returns-then-round-len-clause-answer : goal.returns-then-round-len-clause-answer
 returns-then-round-len-clause-answer c =
-    let p = c.args.progress.now in
+    let p = c.args.machine.now in
     let found = log_at_core c.args.course.now c.args.rounds p c.args.c c.requires.kept c.requires.core in
     let log = found.0 in
     let due = c.requires.due (core_of log) (core_at p.logs.items c.args.c log found.1) in
@@ -35,7 +35,7 @@ returns-then-round-len-clause-answer c =
 
 pub returns-then-round-len-clause-spare : goal.returns-then-round-len-clause-spare
 returns-then-round-len-clause-spare c = λ n spare.
-    let p = c.args.progress.now in
+    let p = c.args.machine.now in
     let found = log_at_core c.args.course.now c.args.rounds p c.args.c c.requires.kept c.requires.core in
     record {
       decided = omega (arith, spare.decided);
@@ -45,14 +45,14 @@ returns-then-round-len-clause-spare c = λ n spare.
 
 pub returns-then-round-len-clause-last : goal.returns-then-round-len-clause-last
 returns-then-round-len-clause-last c = λ know.
-    let p = c.args.progress.now in
+    let p = c.args.machine.now in
     let found = log_at_core c.args.course.now c.args.rounds p c.args.c c.requires.kept c.requires.core in
     last_edited c.args.course.now p.logs.items c.push_entry.new.logs.items c.args.c found.0 _
     found.0.last (c.push_entry.ensures found.0 found.1) (know c.args.c found.0 found.1) know
 
 pub returns-else-round-len-clause-answer : goal.returns-else-round-len-clause-answer
 returns-else-round-len-clause-answer c =
-    let p = c.args.progress.now in
+    let p = c.args.machine.now in
     let found = log_at_core c.args.course.now c.args.rounds p c.args.c c.requires.kept c.requires.core in
     let log = found.0 in
     let due = c.requires.due (core_of log) (core_at p.logs.items c.args.c log found.1) in
@@ -87,7 +87,7 @@ returns-else-round-len-clause-answer c =
 
 pub returns-else-round-len-clause-spare : goal.returns-else-round-len-clause-spare
 returns-else-round-len-clause-spare c = λ n spare.
-    let p = c.args.progress.now in
+    let p = c.args.machine.now in
     let found = log_at_core c.args.course.now c.args.rounds p c.args.c c.requires.kept c.requires.core in
     record {
       decided = omega (
@@ -104,7 +104,7 @@ returns-else-round-len-clause-spare c = λ n spare.
 
 pub returns-else-round-len-clause-last : goal.returns-else-round-len-clause-last
 returns-else-round-len-clause-last c = λ know.
-    let p = c.args.progress.now in
+    let p = c.args.machine.now in
     let found = log_at_core c.args.course.now c.args.rounds p c.args.c c.requires.kept c.requires.core in
     last_edited c.args.course.now p.logs.items c.push_entry-else-round-len.new.logs.items c.args.c
     found.0 _ found.0.last (c.push_entry-else-round-len.ensures found.0 found.1)
@@ -112,19 +112,19 @@ returns-else-round-len-clause-last c = λ know.
 
 pub push_entry-requires-clause-room : goal.push_entry-requires-clause-room
 push_entry-requires-clause-room c = λ log at.
-    let p = c.args.progress.now in
+    let p = c.args.machine.now in
     entry_room c.args.course.now c.args.rounds p c.args.c log c.requires.kept c.requires.spare at
     (c.requires.due (core_of log) (core_at p.logs.items c.args.c log at)).0
 
 pub push_entry-requires-else-round-len-clause-room : goal.push_entry-requires-else-round-len-clause-room
 push_entry-requires-else-round-len-clause-room c = λ log at.
-    let p = c.args.progress.now in
+    let p = c.args.machine.now in
     entry_room c.args.course.now c.args.rounds p c.args.c log c.requires.kept c.requires.spare at
     (c.requires.due (core_of log) (core_at p.logs.items c.args.c log at)).0
 
 pub push_reserved-requires : goal.push_reserved-requires
 push_reserved-requires c =
-    let p = c.args.progress.now in
+    let p = c.args.machine.now in
     let found = log_at_core c.args.course.now c.args.rounds p c.args.c c.requires.kept c.requires.core in
     let due = c.requires.due (core_of found.0) (core_at p.logs.items c.args.c found.0 found.1) in
     let small = round_small c.args.course.now c.args.rounds p c.args.c found.0 c.requires.kept

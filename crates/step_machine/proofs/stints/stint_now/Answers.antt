@@ -6,16 +6,16 @@ use Rattle.table_form.specs.Running.Choice.{IsDispatch, last_after, last_shared}
 use Rattle.table_form.specs.Running.Courses.{CourseView}
 use Rattle.table_form.specs.Running.Outlines.{OutlineView}
 use Rattle.table_form.proofs.CourseLemmas.{in_course}
-use Rattle.step_machine.specs.Logs.{core_of, cores_of}
+use Rattle.step_machine.specs.Inside.Logs.{core_of, cores_of}
 use Rattle.run_promises.proofs.Lists.{same, element_at}
 use Rattle.step_machine.proofs.LogLemmas.{core_at}
 use Rattle.step_machine.proofs.PhaseLemmas.{entered_to_run}
-use Rattle.step_machine.proofs.ProgressLemmas.{log_found, log_kept}
+use Rattle.step_machine.proofs.MachineStateLemmas.{log_found, log_kept}
 use Rattle.step_machine.proofs.stints.stint_now.Goals as goal
 
 pub seen_by-seen-requires : goal.seen_by-seen-requires
 seen_by-seen-requires c =
-    let p = c.args.progress.now in
+    let p = c.args.machine.now in
     let log = c.index-log.result.now in
     let at = log_found c.args.course.now c.args.rounds p c.args.c log c.requires.kept
     c.requires.core c.index-log.ensures in
@@ -23,7 +23,7 @@ seen_by-seen-requires c =
 
 pub used_in-used-requires : goal.used_in-used-requires
 used_in-used-requires c =
-    let p = c.args.progress.now in
+    let p = c.args.machine.now in
     let log = c.index-log.result.now in
     let at = log_found c.args.course.now c.args.rounds p c.args.c log c.requires.kept
     c.requires.core c.index-log.ensures in
@@ -33,7 +33,7 @@ used_in-used-requires c =
 
 pub plan_after-plan-requires : goal.plan_after-plan-requires
 plan_after-plan-requires c =
-    let p = c.args.progress.now in
+    let p = c.args.machine.now in
     let log = c.index-log.result.now in
     let at = log_found c.args.course.now c.args.rounds p c.args.c log c.requires.kept
     c.requires.core c.index-log.ensures in
@@ -49,7 +49,7 @@ plan_after-plan-requires c =
 
 pub next_stint-requires-clause-seen : goal.next_stint-requires-clause-seen
 next_stint-requires-clause-seen c =
-    let p = c.args.progress.now in
+    let p = c.args.machine.now in
     let log = c.index-log.result.now in
     let at = log_found c.args.course.now c.args.rounds p c.args.c log c.requires.kept
     c.requires.core c.index-log.ensures in
@@ -60,7 +60,7 @@ next_stint-requires-clause-seen c =
 
 pub next_stint-requires-clause-from : goal.next_stint-requires-clause-from
 next_stint-requires-clause-from c =
-    let p = c.args.progress.now in
+    let p = c.args.machine.now in
     let log = c.index-log.result.now in
     let at = log_found c.args.course.now c.args.rounds p c.args.c log c.requires.kept
     c.requires.core c.index-log.ensures in
@@ -69,7 +69,7 @@ next_stint-requires-clause-from c =
 
 pub returns-clause-next : goal.returns-clause-next
 returns-clause-next c = λ core h.
-    let p = c.args.progress.now in
+    let p = c.args.machine.now in
     let log = c.index-log.result.now in
     let course = c.args.course.now in
     let at = log_found course c.args.rounds p c.args.c log c.requires.kept c.requires.core
@@ -100,7 +100,7 @@ returns-clause-next c = λ core h.
 
 pub returns-clause-last : goal.returns-clause-last
 returns-clause-last c = λ log' h.
-    let p = c.args.progress.now in
+    let p = c.args.machine.now in
     let log = c.index-log.result.now in
     let course = c.args.course.now in
     let at = log_found course c.args.rounds p c.args.c log c.requires.kept c.requires.core

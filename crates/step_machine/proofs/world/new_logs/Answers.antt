@@ -1,6 +1,6 @@
 use Rattle.std.proofs.Common.{List, length, sym, subst, arith}
-use Rattle.step_machine.specs.declared.log.CoreLog.{CoreLog}
-use Rattle.step_machine.specs.Logs.{AreNew}
+use Rattle.step_machine.specs.declared.core_log.CoreLog.{CoreLog}
+use Rattle.step_machine.specs.Inside.Logs.{AreNew}
 use Rattle.step_machine.proofs.RunLemmas.{new_more}
 use Rattle.step_machine.proofs.world.new_logs.Goals as goal
 

@@ -1,6 +1,6 @@
 use Rattle.std.proofs.Common.{◌≤◌, ◌-◌, length}
 use Rattle.std.specs.Prelude.{vec_capacity, vec_len}
-use Rattle.step_machine.specs.Logs.{AreNew}
+use Rattle.step_machine.specs.Inside.Logs.{AreNew}
 use Rattle.step_machine.proofs.world.new_logs.Given as goal
 
 abbrev pub invariant-filling : goal.invariant-filling

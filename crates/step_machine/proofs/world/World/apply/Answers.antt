@@ -1,7 +1,7 @@
 use Rattle.std.proofs.Common.{◌≡◌, ◌+◌, ◌-◌, ◌≤◌, ap, arith}
 use Rattle.step_machine.specs.Worlds.{WorldView}
-use Rattle.step_machine.specs.Progresses.{state_of}
-use Rattle.step_machine.proofs.ProgressLemmas.{spare_some}
+use Rattle.step_machine.specs.Inside.MachineStates.{state_of}
+use Rattle.step_machine.proofs.MachineStateLemmas.{spare_some}
 use Rattle.step_machine.proofs.RunLemmas.{answers_keep}
 use Rattle.step_machine.proofs.TraceLemmas.{makes_done}
 use Rattle.step_machine.proofs.world.World.apply.Goals as goal
@@ -11,7 +11,7 @@ take_step-answer-requires-clause-spare c =
     let was = c.self.inside in
     let spare = ap (λ (w : WorldView). w.spare) c.self.view_is in
     let some : 1 ≤ was.spare = (let more = c.requires.spare in omega arith) in
-    spare_some was.rounds was.spare was.progress some c.self.invariant.room
+    spare_some was.rounds was.spare was.machine some c.self.invariant.room
 
 pub invariant_of-self : goal.invariant_of-self
 invariant_of-self c =
@@ -23,8 +23,8 @@ invariant_of-self c =
       course_kept = kept.course_kept;
       fits = kept.fits;
       kept = answers_keep was.course.now was.rounds
-          (state_of was.progress) c.args.step c.take_step-answer.result
-          (state_of c.take_step-answer.new.progress) kept.course_kept
+          (state_of was.machine) c.args.step c.take_step-answer.result
+          (state_of c.take_step-answer.new.machine) kept.course_kept
           c.take_step-answer.ensures.answer kept.kept;
       room = c.take_step-answer.ensures.spare (was.spare - 1) (rw (← back) kept.room);
       made_room = omega (arith, kept.made_room, c.note.ensures.few, c.note.ensures.room);
@@ -34,14 +34,14 @@ invariant_of-self c =
 pub note-requires-clause-makes : goal.note-requires-clause-makes
 note-requires-clause-makes c = λ done.
     let was = c.self.inside in
-    makes_done was.course.now was.rounds (state_of was.progress) c.args.step c.take_step-answer.result
-    (state_of c.take_step-answer.new.progress) c.take_step-answer.ensures.answer done
+    makes_done was.course.now was.rounds (state_of was.machine) c.args.step c.take_step-answer.result
+    (state_of c.take_step-answer.new.machine) c.take_step-answer.ensures.answer done
 
 pub returns-clause-kept : goal.returns-clause-kept
 returns-clause-kept c =
     let was = c.self.inside in
     let kept = c.self.invariant in
     answers_keep was.course.now was.rounds
-    (state_of was.progress) c.args.step c.take_step-answer.result
-    (state_of c.take_step-answer.new.progress) kept.course_kept
+    (state_of was.machine) c.args.step c.take_step-answer.result
+    (state_of c.take_step-answer.new.machine) kept.course_kept
     c.take_step-answer.ensures.answer kept.kept

@@ -1,7 +1,7 @@
 use Rattle.std.proofs.Common.{length, refl, ap, sym, subst, arith}
 use Rattle.table_form.specs.Running.State.{State}
 use Rattle.table_form.specs.Running.Invariant.{StateInvariant}
-use Rattle.step_machine.specs.Logs.{AreNew}
+use Rattle.step_machine.specs.Inside.Logs.{AreNew}
 use Rattle.step_machine.proofs.RunLemmas.{new_state, new_know, new_room, opening_kept}
 use Rattle.step_machine.proofs.world.World.make.Goals as goal
 

@@ -1,7 +1,7 @@
 use Rattle.std.proofs.Common.{◌+◌, inl, inr, arith}
 use Rattle.std.proofs.lemmas.Bool.{cases_lt, lt-ltb, ltb-true}
 use Rattle.run_promises.proofs.WaitingLemmas.{has_from_next}
-use Rattle.step_machine.proofs.looks.has_up_to.Goals as goal
+use Rattle.step_machine.proofs.premises.has_up_to.Goals as goal
 
 pub returns : goal.returns
 returns c = (

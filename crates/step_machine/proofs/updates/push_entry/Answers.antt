@@ -1,8 +1,8 @@
 use Rattle.std.proofs.Common.{◌+◌, [], ◌∷◌, length, refl, ap, subst, arith, length-append}
-use Rattle.step_machine.specs.declared.log.CoreLog.{CoreLog}
-use Rattle.step_machine.specs.Logs.{HasRoom}
+use Rattle.step_machine.specs.declared.core_log.CoreLog.{CoreLog}
+use Rattle.step_machine.specs.Inside.Logs.{HasRoom}
 use Rattle.step_machine.proofs.LogLemmas.{found_at}
-use Rattle.step_machine.proofs.moves.push_entry.Goals as goal
+use Rattle.step_machine.proofs.updates.push_entry.Goals as goal
 
 pub returns : goal.returns
 returns c = λ before at.

@@ -1,10 +1,10 @@
 ghost use Rattle.std.specs.Prelude.{◌≡◌, ◌+◌, ◌<◌, ◌≤◌, ℕ, Some, length, slice_get, vec_capacity};
 ghost use Rattle.table_form.specs.Running.Entering.{enters};
 ghost use Rattle.table_form.specs.Running.Stints.{runs};
-ghost use Rattle.step_machine.specs.declared.log.CoreLog.{CoreLog as LogValue};
-ghost use Rattle.step_machine.specs.Logs.{core_of, Edits};
+ghost use Rattle.step_machine.specs.declared.core_log.CoreLog.{CoreLog as LogValue};
+ghost use Rattle.step_machine.specs.Inside.Logs.{core_of, Edits};
 
-use crate::log::CoreLog;
+use crate::core_log::CoreLog;
 use tab_core::{Entry, Stint, VcpuNo};
 
 // The core has seen a count.

@@ -3,7 +3,7 @@ use Rattle.std.specs.Prelude.{◌≡◌, ℕ, ◌+◌, ◌<◌, ◌≤◌, min, 
 use Rattle.table_form.specs.Running.Choice.{last_shared}
 use Rattle.table_form.specs.Running.Courses.{CourseView}
 use Rattle.table_form.specs.Running.State.{CoreState, opening_core}
-use Rattle.step_machine.specs.declared.log.CoreLog.{CoreLog}
+use Rattle.step_machine.specs.declared.core_log.CoreLog.{CoreLog}
 
 abbrev pub core_of : CoreLog → CoreState
 core_of log = record {

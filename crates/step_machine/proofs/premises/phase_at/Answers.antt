@@ -1,8 +1,8 @@
 use Rattle.std.proofs.Common.{true, false, sym, ap, arith, rules}
 use Rattle.step_machine.specs.Answers.{shown}
-use Rattle.step_machine.specs.Logs.{core_of}
+use Rattle.step_machine.specs.Inside.Logs.{core_of}
 use Rattle.step_machine.proofs.PhaseLemmas.{phase_seen, entered_below, not_entered_above}
-use Rattle.step_machine.proofs.looks.phase_at.Goals as goal
+use Rattle.step_machine.proofs.premises.phase_at.Goals as goal
 
 pub returns-then-log-len : goal.returns-then-log-len
 returns-then-log-len c =

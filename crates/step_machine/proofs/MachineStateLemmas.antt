@@ -1,4 +1,4 @@
--- What the code of a step knows of the log that it works on.
+-- What the code of a step knows of the state that is kept of a run, and of the log that it works on.
 use Rattle.std.proofs.Common.{◌≡◌, ℕ, ◌+◌, ◌*◌, ◌/◌, ◌^◌, ◌<◌, ◌≤◌, inl, inr, List, [], ◌∷◌, ◌++◌, length, Option, Some, None, refl, ap, sym, subst, ◌∙◌, arith}
 use Rattle.std.proofs.lemmas.List.{length-map}
 use Rattle.std.specs.Prelude.{slice_get, slice_index_or, fold, vec_capacity}
@@ -11,10 +11,10 @@ use Rattle.table_form.specs.Running.Choice.{last_shared, last_after}
 use Rattle.table_form.specs.Running.Invariant.{StateInvariant, CoreInvariant}
 use Rattle.table_form.specs.Running.Next.{IsLeastClock}
 use Rattle.table_form.specs.Running.Phases.{phase_of}
-use Rattle.step_machine.specs.declared.log.CoreLog.{CoreLog}
-use Rattle.step_machine.specs.declared.progress.Progress.{Progress}
-use Rattle.step_machine.specs.Logs.{core_of, KnowLast, Edits, IsLowestOf}
-use Rattle.step_machine.specs.Progresses.{state_of, HasSpare}
+use Rattle.step_machine.specs.declared.core_log.CoreLog.{CoreLog}
+use Rattle.step_machine.specs.declared.machine_state.MachineState.{MachineState}
+use Rattle.step_machine.specs.Inside.Logs.{core_of, KnowLast, Edits, IsLowestOf}
+use Rattle.step_machine.specs.Inside.MachineStates.{state_of, HasSpare}
 use Rattle.std.proofs.lemmas.Bool.{cases_lt}
 use Rattle.table_form.specs.Running.Phases.{to_decide}
 use Rattle.step_machine.proofs.PhaseLemmas.{deciding, entered_below}
@@ -23,12 +23,12 @@ use Rattle.step_machine.proofs.Lists.{set_split}
 use Rattle.step_machine.proofs.LogLemmas.{log_at, core_at}
 
 -- there is a log for each core of the course
-pub logs_count : (course : CourseView) (rounds : ℕ) (p : Progress) → StateInvariant course rounds (state_of p)
+pub logs_count : (course : CourseView) (rounds : ℕ) (p : MachineState) → StateInvariant course rounds (state_of p)
     → length p.logs.items ≡ course.cores
 logs_count course rounds p kept = sym (length-map p.logs.items core_of) ∙ kept.size
 
 -- the log that an index finds
-pub log_found : (course : CourseView) (rounds : ℕ) (p : Progress) (c : ℕ) (log : CoreLog)
+pub log_found : (course : CourseView) (rounds : ℕ) (p : MachineState) (c : ℕ) (log : CoreLog)
     → StateInvariant course rounds (state_of p) → c < course.cores → log ≡ slice_index_or p.logs.items c log
     → slice_get p.logs.items c ≡ Some log
 log_found course rounds p c log kept lt is =
@@ -36,13 +36,13 @@ log_found course rounds p c log kept lt is =
     (let n = logs_count course rounds p kept in omega arith) is
 
 -- a log stands for a core that keeps the invariant
-pub log_kept : (course : CourseView) (rounds : ℕ) (p : Progress) (c : ℕ) (log : CoreLog)
+pub log_kept : (course : CourseView) (rounds : ℕ) (p : MachineState) (c : ℕ) (log : CoreLog)
     → StateInvariant course rounds (state_of p) → slice_get p.logs.items c ≡ Some log
     → CoreInvariant course rounds p.posted p.decided.items c (core_of log)
 log_kept course rounds p c log kept at = kept.cores c (core_of log) (core_at p.logs.items c log at)
 
 -- a clock and a lag fit 32 bits
-pub clock_small : (course : CourseView) (rounds : ℕ) (p : Progress) (c : ℕ) (log : CoreLog)
+pub clock_small : (course : CourseView) (rounds : ℕ) (p : MachineState) (c : ℕ) (log : CoreLog)
     → StateInvariant course rounds (state_of p) → IsCourse course → rounds ≤ MAX_ROUNDS
     → slice_get p.logs.items c ≡ Some log → log.clock + course.lag < 2 ^ 32
 clock_small course rounds p c log kept ok few at =
@@ -74,14 +74,14 @@ pub last_more : (course : CourseView) (c : ℕ) (stints : List Stint) (s : Stint
 last_more course c stints s = fold_push (last_after course c) None stints s
 
 -- the log of a core
-pub log_at_core : (course : CourseView) (rounds : ℕ) (p : Progress) (c : ℕ)
+pub log_at_core : (course : CourseView) (rounds : ℕ) (p : MachineState) (c : ℕ)
     → StateInvariant course rounds (state_of p) → c < course.cores
     → (log : CoreLog) × (slice_get p.logs.items c ≡ Some log)
 log_at_core course rounds p c kept lt =
     element_at p.logs.items c (let n = logs_count course rounds p kept in omega arith)
 
 -- a core that is to enter a round has entered those before
-entries_few : (course : CourseView) (rounds : ℕ) (p : Progress) (c : ℕ) (log : CoreLog)
+entries_few : (course : CourseView) (rounds : ℕ) (p : MachineState) (c : ℕ) (log : CoreLog)
     → StateInvariant course rounds (state_of p) → slice_get p.logs.items c ≡ Some log
     → phase_of rounds (core_of log) ≡ to_decide →
     length log.entries.items ≤ log.clock / ROUND
@@ -96,7 +96,7 @@ entries_few course rounds p c log kept at due =
     ]
 
 -- and is at the round's start
-pub starts_round : (course : CourseView) (rounds : ℕ) (p : Progress) (c : ℕ) (log : CoreLog)
+pub starts_round : (course : CourseView) (rounds : ℕ) (p : MachineState) (c : ℕ) (log : CoreLog)
     → StateInvariant course rounds (state_of p) → slice_get p.logs.items c ≡ Some log
     → phase_of rounds (core_of log) ≡ to_decide →
     (log.clock ≡ log.clock / ROUND * ROUND)
@@ -106,7 +106,7 @@ starts_round course rounds p c log kept at due =
     omega (arith, k.timeline.reach)
 
 -- room for some steps is room for one
-pub spare_some : (rounds n : ℕ) (p : Progress) → 1 ≤ n → HasSpare rounds n p → HasSpare rounds 1 p
+pub spare_some : (rounds n : ℕ) (p : MachineState) → 1 ≤ n → HasSpare rounds n p → HasSpare rounds 1 p
 spare_some rounds n p some spare = record {
   decided = omega (arith, spare.decided);
   logs = λ k log h.
@@ -117,7 +117,7 @@ spare_some rounds n p some spare = record {
 }
 
 -- a core that is to enter a round enters one of the run's, and has room for the entry
-pub round_small : (course : CourseView) (rounds : ℕ) (p : Progress) (c : ℕ) (log : CoreLog)
+pub round_small : (course : CourseView) (rounds : ℕ) (p : MachineState) (c : ℕ) (log : CoreLog)
     → StateInvariant course rounds (state_of p) → slice_get p.logs.items c ≡ Some log
     → phase_of rounds (core_of log) ≡ to_decide →
     log.clock / ROUND < rounds
@@ -128,7 +128,7 @@ round_small course rounds p c log kept at due =
     omega arith
 
 -- so the room is there
-pub entry_room : (course : CourseView) (rounds : ℕ) (p : Progress) (c : ℕ) (log : CoreLog)
+pub entry_room : (course : CourseView) (rounds : ℕ) (p : MachineState) (c : ℕ) (log : CoreLog)
     → StateInvariant course rounds (state_of p) → HasSpare rounds 1 p → slice_get p.logs.items c ≡ Some log
     → phase_of rounds (core_of log) ≡ to_decide →
     length log.entries.items < vec_capacity log.entries
@@ -138,7 +138,7 @@ entry_room course rounds p c log kept spare at due =
     omega (arith, (spare.logs c log at).entries)
 
 -- a step takes at most the room of one
-pub spare_less : (rounds n : ℕ) (p : Progress) → HasSpare rounds (n + 1) p → HasSpare rounds n p
+pub spare_less : (rounds n : ℕ) (p : MachineState) → HasSpare rounds (n + 1) p → HasSpare rounds n p
 spare_less rounds n p spare = record {
   decided = omega (arith, spare.decided);
   logs = λ k log h.
@@ -149,7 +149,7 @@ spare_less rounds n p spare = record {
 }
 
 -- the lowest of the logs is that of a core of least clock
-pub least_clock : (p : Progress) (c : ℕ) (log : CoreLog) → slice_get p.logs.items c ≡ Some log
+pub least_clock : (p : MachineState) (c : ℕ) (log : CoreLog) → slice_get p.logs.items c ≡ Some log
     → IsLowestOf p.logs.items (length p.logs.items) c → IsLeastClock (state_of p) c (core_of log)
 least_clock p c log at lowest = record {
   at = core_at p.logs.items c log at;

@@ -3,12 +3,12 @@ ghost use Rattle.tab_core.specs.declared.TheConstants.{MAX_CORES, MAX_ROUNDS};
 ghost use Rattle.tab_core.specs.declared.entry.Entry.{Entry as EntryValue};
 ghost use Rattle.table_form.specs.Running.Phases.{phase_of};
 ghost use Rattle.table_form.specs.Running.Waiting.{AreWithinLag, IsFirstBehind, HasUpTo};
-ghost use Rattle.step_machine.specs.declared.log.CoreLog.{CoreLog as LogValue};
+ghost use Rattle.step_machine.specs.declared.core_log.CoreLog.{CoreLog as LogValue};
 ghost use Rattle.step_machine.specs.Answers.{shown};
-ghost use Rattle.step_machine.specs.Logs.{core_of, cores_of};
+ghost use Rattle.step_machine.specs.Inside.Logs.{core_of, cores_of};
 
 use crate::answer::Phase;
-use crate::log::CoreLog;
+use crate::core_log::CoreLog;
 use tab_core::{CoreNo, ROUND};
 use table_form::Course;
 
