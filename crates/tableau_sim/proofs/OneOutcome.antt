@@ -87,11 +87,11 @@ plan_stages s o (Plans.NoRoom h vcpu rest over is lacks) =
 -- `plan` makes one outcome of its sections
 plan_only : (s : List (List ℕ)) (a b : Outcome) → Plans s a → Plans s b → a ≡ b
 plan_only s a b of_a of_b = one_host_stage s OfHost a b (λ h is.
-  one_end _ (plan_refusal h) _ (λ p. Writes (plan_text (names_of h.vcpus) p)) a b (record {
-    cause = one_plan_fault h;
-    thing = planned_unique h;
-    apart = λ f p bad planned. planned_or_fault h p f planned bad;
-  })) (plan_stages s a of_a) (plan_stages s b of_b)
+    one_end _ (plan_refusal h) _ (λ p. Writes (plan_text (names_of h.vcpus) p)) a b (record {
+      cause = one_plan_fault h;
+      thing = planned_unique h;
+      apart = λ f p bad planned. planned_or_fault h p f planned bad;
+    })) (plan_stages s a of_a) (plan_stages s b of_b)
 
 -- ---- check
 
@@ -102,7 +102,6 @@ are_names vcpus stated v lt = elim ((slice_get_cases vcpus v).1) [
       subst IsName (sym (name_here vcpus v vcpu within (sym same))) (stated.good v vcpu at)
   | inr (past, none) ↦ absurd (let size = length-map vcpus (λ (x : Vcpu). x.name) in omega arith)
 ]
-
 
 -- what `check` makes of tables
 abbrev OfTables : Host → List (Option Periodic) → RawTables → Outcome → Type 0
@@ -166,21 +165,20 @@ no_table_fault tasks rows (fault.Short vcpu period_no got cost) good h =
     absurd (omega arith)
 no_table_fault tasks rows fault.NoMemory good h = h
 
-
 -- `check` makes one outcome of its sections
 pub check_only : (s : List (List ℕ)) (a b : Outcome) → Checks s a → Checks s b → a ≡ b
 check_only s a b of_a of_b = one_host_stage s (OfCheckedHost s) a b (λ h is.
-  one_staged _ _ _ (OfTasks s h) a b (record {
-    cause = one_without_period h.vcpus;
-    thing = tasks_unique h.vcpus;
-    apart = λ vcpu t lacks are. none_without_period h.vcpus t vcpu are lacks;
-  }) (λ t are.
-  one_staged _ _ _ (OfTables h t) a b (one_text s h t is are) (λ raw text.
-  one_end _ _ _ (λ (_ : Unit {0}). Writes (codes "ok\n")) a b (record {
-    cause = one_check_fault t raw.rows;
-    thing = λ x y good also. refl;
-    apart = λ f x bad good. no_table_fault t raw.rows f good bad;
-  })))) (check_stages s a of_a) (check_stages s b of_b)
+    one_staged _ _ _ (OfTasks s h) a b (record {
+      cause = one_without_period h.vcpus;
+      thing = tasks_unique h.vcpus;
+      apart = λ vcpu t lacks are. none_without_period h.vcpus t vcpu are lacks;
+    }) (λ t are.
+    one_staged _ _ _ (OfTables h t) a b (one_text s h t is are) (λ raw text.
+    one_end _ _ _ (λ (_ : Unit {0}). Writes (codes "ok\n")) a b (record {
+      cause = one_check_fault t raw.rows;
+      thing = λ x y good also. refl;
+      apart = λ f x bad good. no_table_fault t raw.rows f good bad;
+    })))) (check_stages s a of_a) (check_stages s b of_b)
 
 -- ---- replay
 
@@ -227,16 +225,25 @@ OfReplayedHost rounds s h = Staged (IsFirstFault (names_of h.vcpus) rounds (stat
 -- the first three stages are behind where there are parts
 behind_parts : (rounds : ℕ) (s : List (List ℕ)) (parts : Parts) (o : Outcome) → HasParts rounds s parts
     → OfParts rounds parts o → HostStage s (OfReplayedHost rounds s) o
-behind_parts rounds s parts o has rest = inr (parts.host, has.script.is_host, inr (parts.events, has.script.is_script,
-    inr ((parts.steps, parts.lines), has.are_steps, rest)))
+behind_parts rounds s parts o has rest = inr (
+  parts.host,
+  has.script.is_host,
+  inr (
+    parts.events,
+    has.script.is_script,
+    inr ((parts.steps, parts.lines), has.are_steps, rest),
+  ),
+)
 
 -- an outcome of `replay`, by its stages
 replay_stages : (rounds : ℕ) (s : List (List ℕ)) (o : Outcome) → Replays rounds s o
     → HostStage s (OfReplayedHost rounds s) o
 replay_stages rounds s o (Replays.Replayed parts course state made has run) =
-    behind_parts rounds s parts _ has (inr (course,
-    record { is = run.course_is; form = run.course_kept.form },
-    inr ((state, made), run.trace, refl)))
+    behind_parts rounds s parts _ has (inr (
+      course,
+      record { is = run.course_is; form = run.course_kept.form },
+      inr ((state, made), run.trace, refl),
+    ))
 replay_stages rounds s o (Replays.BadHost f bad) = inl (f, bad, refl)
 replay_stages rounds s o (Replays.BadScript h f is bad) = inr (h, is, inl (f, bad, refl))
 replay_stages rounds s o (Replays.BadStep h events line has bad) =
@@ -246,9 +253,11 @@ replay_stages rounds s o (Replays.NoPeriod parts vcpu has lacks) =
 replay_stages rounds s o (Replays.NoRoom parts vcpu rest over has lacks) =
     behind_parts rounds s parts _ has (inl (planning.NoRoom vcpu rest over, lacks, refl))
 replay_stages rounds s o (Replays.StepRefused parts line answer has off) =
-    behind_parts rounds s parts _ has (inr (off.course,
-    record { is = off.course_is; form = off.course_kept.form },
-    inl ((line, answer), (off.place, off.on_line, off.refused), refl)))
+    behind_parts rounds s parts _ has (inr (
+      off.course,
+      record { is = off.course_is; form = off.course_kept.form },
+      inl ((line, answer), (off.place, off.on_line, off.refused), refl),
+    ))
 
 -- a script is one, or its fault
 one_script_stage : (rounds : ℕ) (s : List (List ℕ)) (h : Host) → IsHostText (host_section s) h
@@ -305,13 +314,13 @@ one_run rounds parts course = record {
 -- `replay` makes one outcome of its sections
 replay_only : (rounds : ℕ) (s : List (List ℕ)) (a b : Outcome) → Replays rounds s a → Replays rounds s b → a ≡ b
 replay_only rounds s a b of_a of_b = one_host_stage s (OfReplayedHost rounds s) a b (λ h is.
-  one_staged _ _ _ (OfScript rounds s h) a b (one_script_stage rounds s h is) (λ events script.
-  one_staged _ _ _ (λ listed. OfParts rounds (parts_of h events listed)) a b (one_list s h) (λ listed are.
-  one_staged _ (plan_refusal h) _ (OfCourse rounds (parts_of h events listed)) a b (one_course_stage h events)
-  (λ course formed.
-  one_end _ _ _ (run_text (parts_of h events listed) course) a b
-  (one_run rounds (parts_of h events listed) course)))))
-  (replay_stages rounds s a of_a) (replay_stages rounds s b of_b)
+    one_staged _ _ _ (OfScript rounds s h) a b (one_script_stage rounds s h is) (λ events script.
+    one_staged _ _ _ (λ listed. OfParts rounds (parts_of h events listed)) a b (one_list s h) (λ listed are.
+    one_staged _ (plan_refusal h) _ (OfCourse rounds (parts_of h events listed)) a b (one_course_stage h events)
+    (λ course formed.
+    one_end _ _ _ (run_text (parts_of h events listed) course) a b
+    (one_run rounds (parts_of h events listed) course)))))
+    (replay_stages rounds s a of_a) (replay_stages rounds s b of_b)
 
 -- ---- the law
 
