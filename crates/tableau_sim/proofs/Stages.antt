@@ -1,10 +1,9 @@
 -- A command comes to its outcome in stages: at each a cause refuses the input, or something is read of which
 -- the next stage makes the outcome. So one outcome is shown stage by stage, and not for each pair of causes.
-use Rattle.std.proofs.Common.{◌≡◌, ◌⊎◌, ℕ, List, [], length, inl, inr, sym, ap, subst, ◌∙◌}
+use Rattle.std.proofs.Common.{◌≡◌, ◌⊎◌, ℕ, List, [], inl, inr, sym, ap, subst, ◌∙◌}
 use Rattle.tab_core.specs.declared.host.Host.{Host}
 use Rattle.tab_words.specs.Sections.{sections_of}
 use Rattle.host_doc.specs.Document.{IsHostText}
-use Rattle.host_doc.specs.declared.fault.HostFault.{HostFault}
 use Rattle.host_doc.proofs.OneHost.{one_host}
 use Rattle.tableau_sim.specs.declared.status.Status.TheVariants as status
 use Rattle.tableau_sim.specs.Hosts.{IsHostFault}

@@ -5,7 +5,8 @@ use Rattle.run_promises.proofs.PromiseLemmas.{promised}
 use Rattle.step_machine.specs.Refusals.{IsFaultOf, IsRefused}
 use Rattle.tableau_sim.specs.Replay.{Replays}
 use Rattle.plan_book.proofs.WaitsLemmas.{waits}
-use Rattle.tableau_sim.proofs.ReplayLemmas.{each_names_core, place_in, step_refused}
+use Rattle.step_machine.proofs.GivenSteps.{each_names_core, place_in}
+use Rattle.tableau_sim.proofs.ReplayLemmas.{step_refused}
 use Rattle.tableau_sim.proofs.StopsLemmas.{plan_stopped}
 use Rattle.tableau_sim.proofs.commands.replay.replay_of_parts.Goals as goal
 
