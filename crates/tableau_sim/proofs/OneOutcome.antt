@@ -278,7 +278,8 @@ one_run rounds parts course = record {
 }
 
 -- `replay` makes one outcome of its sections
-replay_only : (rounds : ℕ) (s : List (List ℕ)) (a b : Outcome) → Replays rounds s a → Replays rounds s b → a ≡ b
+replay_only : (rounds : ℕ) (s : List (List ℕ)) (a b : Outcome)
+    → Replays rounds s a → Replays rounds s b → a ≡ b
 replay_only rounds s a b of_a of_b = one_host_stage s (OfReplayedHost rounds s) a b (λ h is.
     one_staged _ _ _ (OfScript rounds s h) a b (one_script_stage rounds s h is) (λ events script.
     one_staged _ _ _ (λ listed. OfParts rounds (parts_of h events listed)) a b (one_list s h) (λ listed are.

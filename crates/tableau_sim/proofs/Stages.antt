@@ -38,7 +38,8 @@ one_staged Bad refusal Good Then a b one next (inr p) (inr q) =
     next q.0 q.1 (subst (λ x. Then x a) (one.thing p.0 q.0 p.1 q.1) p.2) q.2
 
 -- the last stage writes what it makes of what was read
-abbrev pub Ends : {F X : Type 0} → (F → Type 0) → (F → Outcome) → (X → Type 0) → (X → Outcome) → Outcome → Type 0
+abbrev pub Ends : {F X : Type 0} → (F → Type 0) → (F → Outcome) → (X → Type 0) → (X → Outcome)
+    → Outcome → Type 0
 Ends Bad refusal Good made = Staged Bad refusal Good (λ x outcome. outcome ≡ made x)
 
 -- so behind it nothing is left to show
