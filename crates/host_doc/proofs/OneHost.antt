@@ -10,7 +10,7 @@ use Rattle.tab_core.specs.declared.host.Host.{Host}
 use Rattle.tab_core.specs.declared.reservation.Reservation.{Reservation}
 use Rattle.tab_core.specs.declared.vcpu.Vcpu.{Vcpu}
 use Rattle.toml.specs.Data.{Data, Items, Members, array, as_table, boolean, datetime, float, get_item, integer, item, no_items, string, table}
-use Rattle.host_doc.specs.Document.{IsHostOf, IsHostText, first_fault, members_fault}
+use Rattle.host_doc.specs.Document.{HasFirstFault, IsDocument, IsHostOf, IsHostText, first_fault, members_fault}
 use Rattle.host_doc.specs.Array.{count_of}
 use Rattle.host_doc.specs.KeyTable.{cores_of, document_keys, format_of, lag_of, quantum_of, sliver_of, vcpus_of}
 use Rattle.host_doc.specs.OtherKeys.{unknown_key}
@@ -135,3 +135,22 @@ one_host bytes a b of_a of_b =
     let both : Some of_a.0 ≡ Some of_b.0 = sym of_a.1.1 ∙ of_b.1.1 in
     let same : of_a.0 ≡ of_b.0 = cc in
     hosts_alike of_a.0 a b of_a.2 (subst (λ keys. IsHostOf keys b) (sym same) of_b.2)
+
+-- ---- one fault
+
+-- a document has one list of members, so what its faults are told of is one
+same_members : (bytes : List ℕ) (a b : Members) → IsDocument bytes a → IsDocument bytes b → a ≡ b
+same_members bytes a b p q = let e = sym p.1 ∙ q.1 in cc
+
+-- a document that stands for a host has no first fault
+pub has_no_fault : (bytes : List ℕ) (fault : HostFault) (h : Host) → HasFirstFault bytes fault
+    → IsHostText bytes h → ⊥
+has_no_fault bytes fault h p q =
+    let same = same_members bytes p.0 q.0 p.1 q.1 in
+    let e : Some fault ≡ None = sym p.2 ∙ ap first_fault same ∙ q.2.faultless in cc
+
+-- a document has one first fault
+pub one_first_fault : (bytes : List ℕ) (f g : HostFault) → HasFirstFault bytes f → HasFirstFault bytes g → f ≡ g
+one_first_fault bytes f g p q =
+    let same = same_members bytes p.0 q.0 p.1 q.1 in
+    let e : Some f ≡ Some g = sym p.2 ∙ ap first_fault same ∙ q.2 in cc

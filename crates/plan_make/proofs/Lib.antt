@@ -6,6 +6,7 @@ pub mod ListMembers
 pub mod OnePlan
 pub mod OneRefusal
 pub mod PlacingUnsplit
+pub mod PlannedRounds
 pub mod RowsOfCores
 pub mod SharesLemmas
 pub mod SplitInTurnLemmas

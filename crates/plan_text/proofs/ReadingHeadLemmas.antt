@@ -1,5 +1,5 @@
 -- The first line of a plan text, and the text as a whole.
-use Rattle.std.proofs.Common.{◌≡◌, ◌≢◌, ◌⊎◌, inl, inr, ℕ, ◌+◌, ◌<◌, ◌≤◌, Bool, true, false, if◌then◌else◌, List, [], ◌∷◌, ◌++◌, length, map, get_or, count_by, Option, Result, Ok, Err, IfOk, refl, sym, ap, ◌∙◌, subst, arith}
+use Rattle.std.proofs.Common.{◌≡◌, ◌≢◌, ◌⊎◌, inl, inr, ℕ, ◌+◌, ◌<◌, ◌≤◌, Bool, true, false, if◌then◌else◌, List, [], ◌∷◌, ◌++◌, length, map, get_or, count_by, Option, Result, Ok, Err, IfOk, refl, sym, ap, ◌∙◌, subst, arith, slice_get, Some}
 use Rattle.std.proofs.lemmas.Bool.Decides.{nat_tests}
 use Rattle.std.proofs.lemmas.List.{length-map}
 use Rattle.std.proofs.lemmas.Option.{slice_get_cases}
@@ -7,6 +7,7 @@ use Rattle.std.specs.Bool.{◌==◌}
 use Rattle.std.specs.List.{onto_first}
 use Rattle.std.specs.Result.{IsErrOf}
 use Rattle.tab_core.specs.declared.TheConstants.{MAX_CORES}
+use Rattle.tab_core.specs.Name.{IsName}
 use Rattle.tab_core.specs.Vcpus.{HaveDistinctNames}
 use Rattle.tab_core.specs.declared.periodic.Periodic.{Periodic}
 use Rattle.tab_core.specs.declared.vcpu.Vcpu.{Vcpu}
@@ -282,3 +283,13 @@ host_names vcpus names is good distinct = record {
         let of_names : length names ≡ length (names_of vcpus) = ap length is in omega arith)
   ];
 }
+
+-- the same where each name is known to be one, as it is of a host that was read
+pub names_of_host : (vcpus : List Vcpu)
+    → ((v : ℕ) (vcpu : Vcpu) → slice_get vcpus v ≡ Some vcpu → IsName vcpu.name) → HaveDistinctNames vcpus
+    → AreHostNames (names_of vcpus)
+names_of_host vcpus good = host_names vcpus (names_of vcpus) refl (λ v lt.
+    elim ((slice_get_cases vcpus v).1) [
+      | inl (vcpu, within, at, same) ↦ subst IsName (sym (name_here vcpus v vcpu within (sym same))) (good v vcpu at)
+      | inr (past, none) ↦ absurd (let size = length-map vcpus (λ (x : Vcpu). x.name) in omega arith)
+    ])

@@ -1,5 +1,6 @@
 pub mod AnswerLemmas
 pub mod ChangedCores
+pub mod GivenSteps
 pub mod InvariantLemmas
 pub mod Lists
 pub mod LogLemmas

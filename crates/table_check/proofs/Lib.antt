@@ -5,6 +5,7 @@ pub mod Owned
 pub mod Pairs
 pub mod Periods
 pub mod RawShapes
+pub mod SegmentsOfRows
 pub mod Supplied
 pub mod Supplying
 pub mod Sweep

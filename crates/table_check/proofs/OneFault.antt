@@ -1,4 +1,4 @@
--- Tables have at most one first fault.
+-- Tables have at most one first fault, and good ones have none.
 use Rattle.std.proofs.Common.{◌≡◌, ℕ, ◌+◌, ◌*◌, ◌≤◌, List, Option, Some, ap, subst, sym, ◌∙◌, inl, inr, arith}
 use Rattle.std.proofs.lemmas.Bool.{cases_lt}
 use Rattle.std.proofs.lemmas.Option.{none-some, same_Some}
@@ -7,7 +7,7 @@ use Rattle.table_form.specs.declared.segment.Segment.{Segment}
 use Rattle.table_form.specs.Tables.Rows.{Row}
 use Rattle.table_form.specs.Tables.Serves.{Apart, supply}
 use Rattle.table_check.specs.Clashes.{IsClash, IsFirstClash}
-use Rattle.table_check.specs.Faults.{HasCheckFault}
+use Rattle.table_check.specs.Faults.{AreGood, HasCheckFault}
 use Rattle.table_check.specs.Shapes.{HaveGoodShapes, IsFirstBad, bad_at, rows_of}
 use Rattle.table_check.specs.Shortages.{IsFirstShort, IsShort}
 use Rattle.table_check.specs.declared.fault.CheckFault.{CheckFault}
@@ -103,3 +103,21 @@ one_fault tasks raw (Short v k g c) (Short w j g' c') a b =
     one_short tasks (rows_of raw) v k g c w j g' c' a.2 b.2
 one_fault tasks raw (Short v k g c) NoMemory a b = absurd b
 one_fault tasks raw NoMemory other a b = absurd a
+
+-- good tables have no fault: `check` passes or refuses, never both
+pub no_fault : (tasks : List (Option Periodic)) (rows : List (List Segment)) (off : CheckFault)
+    → AreGood tasks rows → HasCheckFault tasks rows off → ⊥
+no_fault tasks rows (BadShape core place) good h =
+    none-some place (sym (good.shapes core) ∙ h.bad)
+no_fault tasks rows (Twice vcpu tick core other) good h =
+    let lower = h.1.among.lower in
+    let same : core ≡ other = good.apart vcpu tick core other h.1.among.here h.1.among.there in
+    absurd (omega arith)
+no_fault tasks rows (Short vcpu period_no got cost) good h =
+    let short = h.2.short in
+    let enough = good.serves vcpu short.task short.at period_no short.in_round in
+    let got_is = short.got_is in
+    let cost_is = short.cost_is in
+    let less = short.less in
+    absurd (omega arith)
+no_fault tasks rows NoMemory good h = h

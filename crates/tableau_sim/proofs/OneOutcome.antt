@@ -1,24 +1,18 @@
 -- An input has one outcome: at each stage of a command one cause refuses it, or one thing is read of it.
-use Rattle.std.proofs.Common.{◌≡◌, ℕ, List, [], length, codes, Option, refl, sym, ap, subst, ◌∙◌, Some, inl, inr, arith}
+use Rattle.std.proofs.Common.{◌≡◌, ℕ, List, [], length, codes, Option, refl, sym, subst, ◌∙◌, Some, inl, inr, arith}
 use Rattle.std.specs.Prelude.{slice_get}
 use Rattle.std.proofs.lemmas.List.{length-map}
-use Rattle.std.proofs.lemmas.Option.{none-some, slice_get_cases}
-use Rattle.tab_core.specs.Name.{IsName}
 use Rattle.tab_core.specs.declared.host.Host.{Host}
 use Rattle.tab_core.specs.declared.periodic.Periodic.{Periodic}
 use Rattle.tab_core.specs.declared.vcpu.Vcpu.{Vcpu}
 use Rattle.table_form.specs.Running.Courses.{CourseView}
 use Rattle.table_form.specs.Running.State.{State, opening}
-use Rattle.table_form.specs.Tables.Plans.{PlanView}
 use Rattle.table_form.specs.declared.raw_tables.RawTables.{RawTables}
-use Rattle.table_form.specs.declared.segment.Segment.{Segment}
-use Rattle.tab_words.specs.Sections.{sections_of}
 use Rattle.tab_words.specs.declared.command.Command.{Command}
 use Rattle.tab_words.specs.declared.command.Command.TheVariants as called
-use Rattle.vcpu_names.specs.Names.{AreNames, names_of}
-use Rattle.vcpu_names.proofs.NamesLemmas.{name_here}
+use Rattle.vcpu_names.specs.Names.{names_of}
 use Rattle.host_doc.specs.Document.{IsHostText}
-use Rattle.host_doc.proofs.HostNames.{AreStatedNames, stated_names}
+use Rattle.host_doc.proofs.HostNames.{stated_names}
 use Rattle.period_choice.specs.Tasks.{AreTasksOf, IsFirstWithoutPeriod}
 use Rattle.period_choice.proofs.Unique.{tasks_unique}
 use Rattle.plan_make.specs.Planned.{IsPlanned}
@@ -32,11 +26,9 @@ use Rattle.plan_text.specs.Meaning.{IsPlanText, IsSomePlan, worded}
 use Rattle.plan_text.specs.PlanText.{plan_text}
 use Rattle.plan_text.proofs.FirstBadLemmas.{no_text, one_bad}
 use Rattle.plan_text.proofs.OneMeaning.{one_meaning}
-use Rattle.plan_text.proofs.ReadingHeadLemmas.{host_names}
+use Rattle.plan_text.proofs.ReadingHeadLemmas.{names_of_host}
 use Rattle.table_check.specs.Faults.{AreGood, HasCheckFault}
-use Rattle.table_check.specs.declared.fault.CheckFault.{CheckFault}
-use Rattle.table_check.specs.declared.fault.CheckFault.TheVariants as fault
-use Rattle.table_check.proofs.OneFault.{one_fault as one_check_fault}
+use Rattle.table_check.proofs.OneFault.{no_fault, one_fault as one_check_fault}
 use Rattle.script_doc.specs.Script.{IsScript}
 use Rattle.script_doc.specs.ScriptFaults.{IsFirstFault}
 use Rattle.script_doc.specs.Statements.{statements_of}
@@ -95,14 +87,6 @@ plan_only s a b of_a of_b = one_host_stage s OfHost a b (λ h is.
 
 -- ---- check
 
--- each name of a host that was read has the form of a name
-pub are_names : (vcpus : List Vcpu) → AreStatedNames vcpus → AreNames (names_of vcpus)
-are_names vcpus stated v lt = elim ((slice_get_cases vcpus v).1) [
-  | inl (vcpu, within, at, same) ↦
-      subst IsName (sym (name_here vcpus v vcpu within (sym same))) (stated.good v vcpu at)
-  | inr (past, none) ↦ absurd (let size = length-map vcpus (λ (x : Vcpu). x.name) in omega arith)
-]
-
 -- what `check` makes of tables
 abbrev OfTables : Host → List (Option Periodic) → RawTables → Outcome → Type 0
 OfTables h t raw = Ends (HasCheckFault t raw.rows) (λ f. Refuses (status.CheckNo f) (names_of h.vcpus))
@@ -143,27 +127,9 @@ one_text s h t is are =
     record {
       cause = one_bad _ 1 _;
       thing = λ raw other. one_meaning (names_of h.vcpus) h.cores t (worded (plan_section s)) raw other many
-          h.few_cores (host_names h.vcpus (names_of h.vcpus) refl (are_names h.vcpus stated) stated.distinct);
+          h.few_cores (names_of_host h.vcpus stated.good stated.distinct);
       apart = λ line raw bad text. no_text _ 1 _ line bad (record { raw = raw; text = text });
     }
-
--- good tables have no fault: `check` passes or refuses, never both
-no_table_fault : (tasks : List (Option Periodic)) (rows : List (List Segment)) (off : CheckFault)
-    → AreGood tasks rows → HasCheckFault tasks rows off → ⊥
-no_table_fault tasks rows (fault.BadShape core place) good h =
-    none-some place (sym (good.shapes core) ∙ h.bad)
-no_table_fault tasks rows (fault.Twice vcpu tick core other) good h =
-    let lower = h.1.among.lower in
-    let same : core ≡ other = good.apart vcpu tick core other h.1.among.here h.1.among.there in
-    absurd (omega arith)
-no_table_fault tasks rows (fault.Short vcpu period_no got cost) good h =
-    let short = h.2.short in
-    let enough = good.serves vcpu short.task short.at period_no short.in_round in
-    let got_is = short.got_is in
-    let cost_is = short.cost_is in
-    let less = short.less in
-    absurd (omega arith)
-no_table_fault tasks rows fault.NoMemory good h = h
 
 -- `check` makes one outcome of its sections
 pub check_only : (s : List (List ℕ)) (a b : Outcome) → Checks s a → Checks s b → a ≡ b
@@ -177,7 +143,7 @@ check_only s a b of_a of_b = one_host_stage s (OfCheckedHost s) a b (λ h is.
     one_end _ _ _ (λ (_ : Unit {0}). Writes (codes "ok\n")) a b (record {
       cause = one_check_fault t raw.rows;
       thing = λ x y good also. refl;
-      apart = λ f x bad good. no_table_fault t raw.rows f good bad;
+      apart = λ f x bad good. no_fault t raw.rows f good bad;
     })))) (check_stages s a of_a) (check_stages s b of_b)
 
 -- ---- replay
@@ -312,7 +278,8 @@ one_run rounds parts course = record {
 }
 
 -- `replay` makes one outcome of its sections
-replay_only : (rounds : ℕ) (s : List (List ℕ)) (a b : Outcome) → Replays rounds s a → Replays rounds s b → a ≡ b
+replay_only : (rounds : ℕ) (s : List (List ℕ)) (a b : Outcome)
+    → Replays rounds s a → Replays rounds s b → a ≡ b
 replay_only rounds s a b of_a of_b = one_host_stage s (OfReplayedHost rounds s) a b (λ h is.
     one_staged _ _ _ (OfScript rounds s h) a b (one_script_stage rounds s h is) (λ events script.
     one_staged _ _ _ (λ listed. OfParts rounds (parts_of h events listed)) a b (one_list s h) (λ listed are.

@@ -1,6 +1,5 @@
 -- What was read, and what is due after it: the lemmas of `specs/Inside/Reply.antt`.
-use Rattle.std.proofs.Common.{◌≡◌, ℕ, ◌≤◌, List, [], true, false, length, refl, None, Result, Ok, Err, sym, subst, arith}
-use Rattle.std.specs.Io.KnownBytes.{Consumes}
+use Rattle.std.proofs.Common.{◌≡◌, ℕ, List, [], true, false, length, refl, None, Result, Ok, Err, sym, subst, arith}
 use Rattle.std.proofs.KnownBytes.{Consumes-nil}
 use Rattle.std.specs.Prelude.{IsErrOf, Vec}
 use Rattle.std.specs.declared.alloc.Global.{Global}

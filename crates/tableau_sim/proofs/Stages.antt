@@ -1,10 +1,9 @@
 -- A command comes to its outcome in stages: at each a cause refuses the input, or something is read of which
 -- the next stage makes the outcome. So one outcome is shown stage by stage, and not for each pair of causes.
-use Rattle.std.proofs.Common.{◌≡◌, ◌⊎◌, ℕ, List, [], length, inl, inr, sym, ap, subst, ◌∙◌}
+use Rattle.std.proofs.Common.{◌≡◌, ◌⊎◌, ℕ, List, [], inl, inr, sym, ap, subst, ◌∙◌}
 use Rattle.tab_core.specs.declared.host.Host.{Host}
 use Rattle.tab_words.specs.Sections.{sections_of}
 use Rattle.host_doc.specs.Document.{IsHostText}
-use Rattle.host_doc.specs.declared.fault.HostFault.{HostFault}
 use Rattle.host_doc.proofs.OneHost.{one_host}
 use Rattle.tableau_sim.specs.declared.status.Status.TheVariants as status
 use Rattle.tableau_sim.specs.Hosts.{IsHostFault}
@@ -39,7 +38,8 @@ one_staged Bad refusal Good Then a b one next (inr p) (inr q) =
     next q.0 q.1 (subst (λ x. Then x a) (one.thing p.0 q.0 p.1 q.1) p.2) q.2
 
 -- the last stage writes what it makes of what was read
-abbrev pub Ends : {F X : Type 0} → (F → Type 0) → (F → Outcome) → (X → Type 0) → (X → Outcome) → Outcome → Type 0
+abbrev pub Ends : {F X : Type 0} → (F → Type 0) → (F → Outcome) → (X → Type 0) → (X → Outcome)
+    → Outcome → Type 0
 Ends Bad refusal Good made = Staged Bad refusal Good (λ x outcome. outcome ≡ made x)
 
 -- so behind it nothing is left to show

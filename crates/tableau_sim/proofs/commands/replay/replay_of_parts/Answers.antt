@@ -5,7 +5,7 @@ use Rattle.run_promises.proofs.PromiseLemmas.{promised}
 use Rattle.step_machine.specs.Refusals.{IsFaultOf, IsRefused}
 use Rattle.tableau_sim.specs.Replay.{Replays}
 use Rattle.plan_book.proofs.WaitsLemmas.{waits}
-use Rattle.tableau_sim.proofs.ReplayLemmas.{each_names_core, place_in, step_refused}
+use Rattle.step_machine.proofs.GivenSteps.{each_names_core, place_in}
 use Rattle.tableau_sim.proofs.StopsLemmas.{plan_stopped}
 use Rattle.tableau_sim.proofs.commands.replay.replay_of_parts.Goals as goal
 
@@ -66,13 +66,12 @@ returns-in-Err-Refused g c = λ sections read.
     place_in c.in-Ok.book.course c.args.rounds c.args.list.steps c.args.list.lines c.in-Err-Refused.place
     c.in-Err-Refused.answer c.args.list.one_line_each refused in
     rw (c.stopped.ensures, c.items-in-Err-Refused.ensures)
-    (step_refused c.args.rounds sections (record {
-      host = c.args.host;
-      events = c.args.script;
-      steps = c.args.list.steps;
-      lines = c.args.list.lines;
-    }) c.in-Ok.book.course c.in-Err-Refused.place _ c.in-Err-Refused.answer read
-    c.in-Ok.ensures.ok.course
-    (rw c.course.ensures at (c.in-Err-Refused.ensures.refused_course c.in-Err-Refused.place
-    c.in-Err-Refused.answer (ap Err c.in-Err-Refused.field-0-is)))
-    (slice_get-get_or c.args.list.lines c.in-Err-Refused.place 0 low) refused)
+    (Replays.StepRefused _ _ c.in-Err-Refused.answer read (record {
+      course = c.in-Ok.book.course;
+      course_is = c.in-Ok.ensures.ok.course;
+      course_kept = rw c.course.ensures at (c.in-Err-Refused.ensures.refused_course c.in-Err-Refused.place
+          c.in-Err-Refused.answer (ap Err c.in-Err-Refused.field-0-is));
+      place = c.in-Err-Refused.place;
+      on_line = slice_get-get_or c.args.list.lines c.in-Err-Refused.place 0 low;
+      refused = refused;
+    }))
