@@ -1,10 +1,8 @@
--- Tasks and homes by the numbers of their vCPUs.
-use Rattle.std.proofs.Common.{suc, inl, inr, sym, ap, ◌∙◌, ◌≡◌, ℕ, ◌<◌, ◌≤◌, List, [], ◌∷◌, length, Option, true, false, refl}
-use Rattle.std.proofs.lemmas.Bool.{and_parts, cases_lt, false≢true}
-use Rattle.std.proofs.lemmas.Option.{slice_get_past}
+-- A plan's homes beside its tasks.
+use Rattle.std.proofs.Common.{suc, ap, ◌≡◌, ℕ, List, [], ◌∷◌, length, Option, true, refl}
+use Rattle.std.proofs.lemmas.Bool.{and_parts}
 use Rattle.tab_core.specs.declared.periodic.Periodic.{Periodic}
 use Rattle.table_form.specs.Tables.Rows.{Row}
-use Rattle.table_form.specs.Tables.Serves.{has_task}
 use Rattle.table_form.specs.Tables.Homes.{HaveHomes, are_housed, is_housed}
 
 -- a plan has as many homes as tasks
@@ -21,14 +19,3 @@ same_count count (task ∷ tasks) (home ∷ homes) h =
 pub as_many_homes : (tasks : List (Option Periodic)) (homes : List (Option ℕ)) (rows : List Row)
     → HaveHomes tasks homes rows → length homes ≡ length tasks
 as_many_homes tasks homes rows h = same_count (length rows) tasks homes h
-
--- the lemma below, the other way round
-no_task : (tasks : List (Option Periodic)) (v : ℕ) → length tasks ≤ v → has_task tasks v ≡ false
-no_task tasks v past = rw (slice_get_past tasks v past) refl
-
--- an owner that has a task has a name in the list of names
-pub task_within : (tasks : List (Option Periodic)) (v : ℕ) → has_task tasks v ≡ true → v < length tasks
-task_within tasks v h = elim (cases_lt v (length tasks)) [
-  | inl low ↦ low
-  | inr past ↦ absurd (false≢true (sym (no_task tasks v past) ∙ h))
-]

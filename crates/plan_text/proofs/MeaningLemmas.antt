@@ -19,7 +19,7 @@ use Rattle.vcpu_names.specs.Names.{name_at, owner_word}
 use Rattle.plan_text.specs.Meaning.{AreFineRows, IsFine, IsFineSegment, segment_words, worded}
 use Rattle.plan_text.specs.Names.{AreHostNames}
 use Rattle.plan_text.specs.PlanLines.{Line, core_lines, core_words, end_words, head_words, is_admitted, plan_lines, vcpu_lines, vcpu_part, vcpu_words}
-use Rattle.plan_text.proofs.HomeLemmas.{task_within}
+use Rattle.table_form.proofs.TaskLemmas.{task_within}
 
 -- ---- words and lines
 

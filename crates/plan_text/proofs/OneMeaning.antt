@@ -19,7 +19,7 @@ use Rattle.plan_text.specs.Meaning.{AreFineRows, AreLinesOf, IsFineSegment, segm
 use Rattle.plan_text.specs.PlanLines.{Line, core_lines, end_words, vcpu_lines}
 use Rattle.vcpu_names.specs.Names.{owner_word}
 use Rattle.plan_text.proofs.ReadingLemmas.{core_is_no_end, core_is_no_segment, end_is_no_segment}
-use Rattle.plan_text.proofs.HomeLemmas.{task_within}
+use Rattle.table_form.proofs.TaskLemmas.{task_within}
 use Rattle.plan_text.proofs.ReadingSegmentLemmas.{dash_is_no_name}
 
 -- ---- segments

@@ -24,7 +24,7 @@ use Rattle.plan_text.specs.PlanLines.{core_lines, core_words, end_words, head_wo
 use Rattle.plan_text.specs.PlanText.{plan_text, view_words}
 use Rattle.plan_text.specs.Written.{IsHostWithPlan, IsReadBack}
 use Rattle.plan_text.proofs.MeaningLemmas.{text_of_tables}
-use Rattle.plan_text.proofs.HomeLemmas.{task_within}
+use Rattle.table_form.proofs.TaskLemmas.{task_within}
 
 -- ---- the tables that a plan's text stands for
 

@@ -9,7 +9,7 @@ use Rattle.vcpu_names.specs.Names.{IsUnknown, name_at, owner_word}
 use Rattle.plan_text.specs.Names.{AreHostNames}
 use Rattle.plan_text.specs.PlanLines.{Line}
 use Rattle.plan_text.specs.Inside.Reading.{IsNoSegmentLine}
-use Rattle.plan_text.proofs.HomeLemmas.{task_within}
+use Rattle.table_form.proofs.TaskLemmas.{task_within}
 
 -- `-` is no name
 pub dash_is_no_name : IsName (codes "-") → ⊥

@@ -1,12 +1,12 @@
 -- A core of least clock can go on, or an event can be posted.
-use Rattle.std.proofs.Common.{◌≡◌, ◌≢◌, ℕ, ◌+◌, ◌*◌, ◌<◌, ◌≤◌, inl, inr, Bool, true, false, List, [], ◌∷◌, ◌++◌, length, Option, Some, None, refl, ap, subst, arith, length-append}
-use Rattle.std.specs.Prelude.{slice_get, slice_set, if◌then◌else◌, ◌==◌}
+use Rattle.std.proofs.Common.{◌≡◌, ◌≢◌, ℕ, zero, suc, ◌+◌, ◌*◌, ◌%◌, ◌<◌, ◌≤◌, inl, inr, Bool, true, false, List, [], ◌∷◌, ◌++◌, length, Option, Some, None, refl, ap, sym, ◌∙◌, subst, arith, length-append}
+use Rattle.std.specs.Prelude.{slice_get, slice_index_or, slice_set, if◌then◌else◌, ◌==◌}
 use Rattle.std.proofs.lemmas.Bool.{cases_lt, eqb-true}
-use Rattle.tab_core.specs.declared.TheConstants.{ROUND}
+use Rattle.tab_core.specs.declared.TheConstants.{MAX_VCPUS, ROUND}
 use Rattle.tab_core.specs.declared.stint.Stint.{Stint}
 use Rattle.tab_core.specs.declared.entry.Entry.{Entry}
-use Rattle.table_form.specs.Running.Courses.{FitsRounds, CourseView, IsCourse, tick_at}
-use Rattle.table_form.specs.Running.State.{State, CoreState}
+use Rattle.table_form.specs.Running.Courses.{FitsRounds, CourseView, IsCourse, no_plan, plan_after, plan_number_after, tick_at}
+use Rattle.table_form.specs.Running.State.{State, CoreState, IsCore}
 use Rattle.table_form.specs.Running.Phases.{phase_of, phase_unfinished, has_entered, round_of}
 use Rattle.table_form.specs.Running.Waiting.{HasUpTo}
 use Rattle.table_form.specs.Running.Stints.{IsNextStint, runs}
@@ -15,10 +15,13 @@ use Rattle.table_form.specs.Running.Invariant.{StateInvariant, IsComplete}
 use Rattle.table_form.specs.Running.Next.{IsLeastClock}
 use Rattle.step_machine.specs.Next.{IsNextStep}
 use Rattle.script_doc.specs.declared.step.Step.TheVariants as steps
-use Rattle.table_form.specs.Running.Phases.{to_see, to_decide, at_end}
-use Rattle.run_promises.proofs.Lists.{same, element_at}
+use Rattle.table_form.specs.Running.Phases.{to_see, to_decide, to_run, at_end}
+use Rattle.table_form.specs.Tables.Serves.{owner_at}
+use Rattle.table_form.proofs.TaskLemmas.{task_within}
+use Rattle.second_level.proofs.NextStintLemmas.{some_stint}
+use Rattle.run_promises.proofs.Lists.{same, element_at, either}
 use Rattle.step_machine.proofs.Lists.{set_here}
-use Rattle.step_machine.proofs.PhaseLemmas.{deciding, entered_below, has_seen}
+use Rattle.step_machine.proofs.PhaseLemmas.{deciding, entered_below, entered_to_run, has_seen}
 use Rattle.run_promises.proofs.ChoiceLemmas.{stint_bounds}
 use Rattle.run_promises.proofs.OneTableLemmas.{entered_counted}
 use Rattle.run_promises.proofs.WaitingLemmas.{has_from_next}
@@ -190,6 +193,53 @@ stints_differ core st q =
     let n = ap (λ (x : CoreState). length x.stints) q in
     let m = length-append core.stints (st ∷ []) in
     omega arith
+
+-- for `owner_small`: what is read below the length stands there, whatever stands for the missing
+read_at : {X : Type 0} (xs : List X) (i : ℕ) (d : X) → i < length xs
+    → slice_get xs i ≡ Some (slice_index_or xs i d)
+read_at [] i d lt = absurd (omega arith)
+read_at (x ∷ xs) zero d lt = refl
+read_at (x ∷ xs) (suc i) d lt = read_at xs i d (omega arith)
+
+-- who owns a place of one of the course's plans has a small number, since those plans have few vCPUs
+owner_small : (course : CourseView) (n c place v : ℕ) → IsCourse course
+    → length (plan_after course 0).tasks ≤ MAX_VCPUS
+    → owner_at (plan_after course n).rows c place ≡ Some v → v < MAX_VCPUS
+owner_small course n c place v ok few owns =
+    let first = plan_number_after course 0 in
+    elim (either course.plans (plan_number_after course n) no_plan) [
+      | inl at ↦
+          let kept = ok.plans_kept (plan_number_after course n) (plan_after course n) at in
+          let below = task_within (plan_after course n).tasks v (kept.owned v place c owns) in
+          let there = read_at course.plans first no_plan (ok.form.planned 0 (omega arith)) in
+          let alike = ok.form.same_vcpus (plan_number_after course n) first (plan_after course n)
+          (plan_after course 0) at there in
+          omega arith
+      | inr none ↦ absurd (let owner = rw none at owns in cc)
+    ]
+
+-- a core that is to run has a next stint, where the course's plans have few vCPUs
+pub some_next : (course : CourseView) (rounds : ℕ) (s : State) (c : ℕ) (core : CoreState)
+    → IsCourse course → length (plan_after course 0).tasks ≤ MAX_VCPUS → StateInvariant course rounds s
+    → IsCore s c core → phase_of rounds core ≡ to_run → (st : Stint) × IsNextStint course rounds c core st
+some_next course rounds s c core ok few kept at due =
+    let seen = some_seen core.seen (has_seen rounds core (inr due)) in
+    let entry = element_at core.entries (round_of core)
+    (entered_to_run rounds core (kept.cores c core at).timeline.numbered due) in
+    let used = entry.0.used in
+    let next = some_stint course c core.stints core.clock seen.0 used
+    (λ v owns. owner_small course used c (core.clock % ROUND) v ok few owns) in (
+      next.0,
+      record {
+        due = due;
+        has_seen = seen.1 ∙ ap Some (sym next.2);
+        entry = entry.0;
+        entered = entry.1;
+        uses = next.3;
+        from = next.1;
+        follows = next.4;
+      },
+    )
 
 -- a core that is to run runs: no clock is below its own
 pub run_now : (course : CourseView) (rounds : ℕ) (s : State) (c : ℕ) (core : CoreState) (st : Stint)

@@ -1,7 +1,7 @@
 ghost use Rattle.std.specs.Prelude.{◌+◌, ◌<◌, ◌≤◌, IfSome, IfNone, length};
 ghost use Rattle.table_form.specs.Running.Courses.{FitsRounds};
 ghost use Rattle.table_form.specs.Running.Invariant.{StateInvariant, IsComplete};
-ghost use Rattle.step_machine.specs.Inside.Logs.{KnowLast, IsLowestOf};
+ghost use Rattle.step_machine.specs.Inside.Logs.{IsLowestOf};
 ghost use Rattle.step_machine.specs.Next.{IsNextStep};
 ghost use Rattle.step_machine.specs.Inside.MachineStates.{state_of};
 
@@ -9,7 +9,6 @@ use crate::answer::Phase;
 use crate::core_log::CoreLog;
 use crate::machine_state::MachineState;
 use crate::premises::{has_up_to, phase_at};
-use crate::stints::stint_now;
 use script_doc::Step;
 use tab_core::CoreNo;
 use table_form::Course;
@@ -18,7 +17,6 @@ use table_form::Course;
 pub(crate) fn next_step(course: &Course, rounds: u32, machine: &MachineState) -> Option<Step>
     requires fits { FitsRounds course.now rounds }
     requires kept { StateInvariant course.now rounds (state_of machine.now) }
-    requires known { KnowLast course.now machine.now.logs.items }
     ensures some { IfSome result (λ step. IsNextStep course.now rounds (state_of machine.now) step) }
     ensures none { IfNone result (IsComplete course.now rounds (state_of machine.now)) }
 {
@@ -43,8 +41,8 @@ pub(crate) fn next_step(course: &Course, rounds: u32, machine: &MachineState) ->
         }
         Phase::Decide => Some(Step::Decide(CoreNo(c as u32))),
         Phase::Run => {
-            // the stint that is found shows that there is one
-            let _next = stint_now(course, rounds, machine, c);
+            // a plan has few vCPUs, so whoever owns the slot has a number that a stint can have
+            let _tasks = course.plan_after(0).tasks.items();
             Some(Step::Run(CoreNo(c as u32)))
         }
         Phase::AllPosted => unreachable!(),

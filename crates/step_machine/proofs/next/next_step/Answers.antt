@@ -1,13 +1,11 @@
-use Rattle.std.proofs.Common.{◌<◌, length, refl, sym, ◌∙◌, arith}
-use Rattle.std.specs.Prelude.{slice_get}
+use Rattle.std.proofs.Common.{◌<◌, length, refl, ap, sym, ◌∙◌, arith}
 use Rattle.std.proofs.lemmas.Option.{slice_get_read}
 use Rattle.step_machine.proofs.ShownLemmas.{is_see, is_decide, is_run, is_end}
-use Rattle.step_machine.specs.Inside.Logs.{core_of, cores_of}
+use Rattle.table_form.specs.Tables.Plans.{PlanView}
+use Rattle.step_machine.specs.Inside.Logs.{core_of}
 use Rattle.step_machine.specs.Inside.MachineStates.{state_of}
-use Rattle.run_promises.proofs.Lists.{same}
-use Rattle.step_machine.proofs.LogLemmas.{core_at}
 use Rattle.step_machine.proofs.MachineStateLemmas.{log_kept, least_clock}
-use Rattle.step_machine.proofs.NextLemmas.{post_at_end, post_for_see, see_now, decide_now, run_now, whole_at_end, clock_at_end}
+use Rattle.step_machine.proofs.NextLemmas.{post_at_end, post_for_see, see_now, decide_now, some_next, run_now, whole_at_end, clock_at_end}
 use Rattle.step_machine.proofs.next.next_step.Goals as goal
 
 pub phase_at-requires-clause-numbered : goal.phase_at-requires-clause-numbered
@@ -20,20 +18,6 @@ phase_at-requires-clause-numbered c =
     let at = slice_get_read p.logs.items (length p.logs.items) i log refl lt c.index-log.ensures in
     let low = least_clock p i log at (rw c.deref.ensures.value at c.lowest-c.ensures.least) in
     (log_kept course c.args.rounds p i log c.requires.kept at).timeline.numbered
-
-pub stint_now-next-requires-clause-due : goal.stint_now-next-requires-clause-due
-stint_now-next-requires-clause-due c =
-    let p = c.args.machine.now in
-    let log = c.index-log.result.now in
-    let i = c.lowest-c.result in
-    let course = c.args.course.now in
-    let lt : i < length p.logs.items = rw c.deref.ensures.value at c.lowest-c.ensures.within in
-    let at = slice_get_read p.logs.items (length p.logs.items) i log refl lt c.index-log.ensures in
-    let low = least_clock p i log at (rw c.deref.ensures.value at c.lowest-c.ensures.least) in
-    λ core h.
-    let is = same (slice_get (cores_of p.logs.items) i) (core_of log) core
-    (core_at p.logs.items i log at) h in
-    rw (← is) (is_run _ (sym c.phase_at.ensures ∙ c.in-Run.is))
 
 pub returns-then-machine-count-clause-none : goal.returns-then-machine-count-clause-none
 returns-then-machine-count-clause-none c =
@@ -111,6 +95,8 @@ returns-in-Run-clause-some c =
     let lt : i < length p.logs.items = rw c.deref.ensures.value at c.lowest-c.ensures.within in
     let at = slice_get_read p.logs.items (length p.logs.items) i log refl lt c.index-log.ensures in
     let low = least_clock p i log at (rw c.deref.ensures.value at c.lowest-c.ensures.least) in
-    run_now course c.args.rounds (state_of p) i
-    (core_of log) c.stint_now-next.result.stint c.lag-lag.ensures.kept low
-    (c.stint_now-next.ensures.next (core_of log) (core_at p.logs.items i log at))
+    let few = ap (λ (plan : PlanView). length plan.tasks) c.plan_after.ensures.plan in
+    let next = some_next course c.args.rounds (state_of p) i (core_of log) c.lag-lag.ensures.kept
+    (omega (arith, c.items-tasks.ensures.few)) c.requires.kept low.at
+    (is_run _ (sym c.phase_at.ensures ∙ c.in-Run.is)) in
+    run_now course c.args.rounds (state_of p) i (core_of log) next.0 c.lag-lag.ensures.kept low next.1
