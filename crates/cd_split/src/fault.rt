@@ -9,8 +9,9 @@ use tab_core::{Overs, VcpuNo};
 /// Why a vCPU can't be split.
 #[derive(Debug, Drop)]
 pub enum SplitFault {
-    /// No unused core takes the last `rest` ticks of each period, nor a piece of them. `over` has
-    /// for each unused core, in rising number, the overloaded interval that they would make there.
+    /// No unused core takes the last `rest` ticks of each period, and none of two or more takes a
+    /// cut of 10 ticks or more. `over` has for each unused core, in rising number, the overloaded
+    /// interval that they would make there.
     NoRoom {
         vcpu: VcpuNo,
         rest: u32,

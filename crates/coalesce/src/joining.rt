@@ -57,10 +57,10 @@ fn join_rows(
 /// ticks.
 ///
 /// First, of three neighbouring segments A, B, A of two vCPUs, of which B's is such a sliver, the
-/// third comes before B's, if from B's begin to the end of the three no window of A's piece on the
-/// core begins and none of B's ends. That is done at the leftmost place until it can be done
-/// nowhere. Then each idle sliver behind a segment of a vCPU with a single piece becomes that
-/// vCPU's.
+/// third comes before B's, if strictly between B's begin and the end of the three no window of A's
+/// piece on the core begins and none of B's ends. That is done at the leftmost place until it can
+/// be done nowhere. Then each idle sliver behind a segment of a vCPU with a single piece becomes
+/// that vCPU's.
 ///
 /// So each job has at least its cost of ticks inside its window, and no row has more segments than
 /// before. Only want of memory prevents it.

@@ -16,7 +16,7 @@ pub fn every_wait_is_within_latency()
         → WaitsWithinLatency host events course state }
 {}
 
-/// A script makes one course of a host.
+/// A script makes at most one course of a host.
 pub fn a_script_makes_one_course()
     ensures { (host : Host) (events : List Event) (course other : CourseView)
         → IsCourseOf host events course → IsCourseForm course → IsCourseOf host events other

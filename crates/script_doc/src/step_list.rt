@@ -3,7 +3,7 @@ ghost use Rattle.std.specs.Prelude.{◌≡◌, length};
 use crate::step::Step;
 use std::marker::Model;
 
-/// StepSequence in the order in which they are taken. Contracts see the list.
+/// Steps in the order in which they are taken. Contracts see the list.
 #[derive(Debug, Drop)]
 pub struct StepSequence {
     items: Vec<Step>,
@@ -62,7 +62,7 @@ impl LineNumbers {
     }
 }
 
-/// StepSequence, and for each the number of the line that it stands on.
+/// Steps, and for each the number of the line that it stands on.
 #[derive(Debug, Drop)]
 pub struct StepList {
     pub steps: StepSequence,

@@ -15,7 +15,8 @@ ghost use Rattle.step_machine.specs.declared.trace.Made.{Made};
 
 /// Whatever steps are taken, all cores use one plan in a round, no vCPU runs on two cores at one
 /// tick, each is offered its cost in each of its periods and has no gap between offers that exceeds
-/// what its budgets leave out, and no core idles while somebody may run there.
+/// what its budgets leave out, and no core idles while somebody may run there whom it has seen
+/// runnable.
 pub fn every_run_keeps_its_promises()
     ensures { (course : CourseView) (rounds : ℕ) (steps : List Step) (end : State) → IsCourse course
         → Leads course rounds (opening course.cores) steps end → KeepsPromises course rounds end }
@@ -46,8 +47,8 @@ pub fn a_step_has_one_answer()
         → Answers course rounds s step b other → (a ≡ b) × (new ≡ other) }
 {}
 
-/// A list of steps has one run, which ends in one state and makes one list of entries and stints; or
-/// one step of it is refused, with one answer; and never both.
+/// A list of steps has at most one run, which ends in one state and makes one list of entries and
+/// stints; at most one step of it is refused, with one answer; and never both.
 pub fn a_list_of_steps_has_one_run()
     ensures run { (course : CourseView) (rounds : ℕ) (steps : List Step) (end other : State)
         (made others : List Made) → IsTrace course rounds (opening course.cores) steps end made
