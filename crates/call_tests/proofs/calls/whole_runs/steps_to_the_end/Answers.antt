@@ -13,10 +13,10 @@ names : (course : CourseView) (rounds : â„•) (old new : State) (taken : Step) â†
 names course rounds old new step.Post size moves = tt {0}
 names course rounds old new (step.See c) size moves =
     omega (arith, size, within old.cores c moves.core moves.at)
-names course rounds old new (step.Decide c) size (inl wins) =
-    omega (arith, size, within old.cores c wins.core wins.at)
-names course rounds old new (step.Decide c) size (inr joins) =
-    omega (arith, size, within old.cores c joins.core joins.at)
+names course rounds old new (step.Decide c) size (inl first) =
+    omega (arith, size, within old.cores c first.round.core first.round.at)
+names course rounds old new (step.Decide c) size (inr after) =
+    omega (arith, size, within old.cores c after.round.core after.round.at)
 names course rounds old new (step.Run c) size moves =
     omega (arith, size, within old.cores c moves.core moves.at)
 
