@@ -130,10 +130,10 @@ const BUSY: &str = "0 block b
 205199 wake b
 ";
 
-// Three cores that are at most 40 ticks apart, with tables of short slots.
+// Three cores that are at most 7 ticks apart, with tables of short slots.
 const CLOSE: &str = "cores = 3
-lag = 40
-quantum = 35
+lag = 7
+quantum = 5
 sliver = 0
 [[vcpu]]
 name = \"a\"
