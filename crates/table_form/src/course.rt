@@ -1,7 +1,6 @@
 ghost use Rattle.std.specs.Prelude.{◌≡◌, ◌<◌, ◌≤◌, length, slice_index_or};
 ghost use Rattle.table_form.specs.Running.CourseViews.{course_view};
-ghost use Rattle.table_form.specs.Running.Courses.{IsCourse, IsCourseForm, no_plan, plan_after, plan_number_after, runnable_after, tick_at};
-ghost use Rattle.table_form.specs.Running.Outlines.{outline_of};
+ghost use Rattle.table_form.specs.Running.Courses.{IsCourse, IsCourseForm, no_plan, outline_of, plan_after, plan_number_after, runnable_after, tick_at};
 ghost use Rattle.table_form.specs.Tables.Views.{plan_view};
 
 use crate::outline::Outline;
@@ -20,8 +19,7 @@ pub struct Course {
 
 impl Model for Course {
     ghost use Rattle.std.specs.Prelude.{map};
-    ghost use Rattle.table_form.specs.Running.Courses.{CourseView, IsCourse};
-    ghost use Rattle.table_form.specs.Running.Outlines.{with_plans};
+    ghost use Rattle.table_form.specs.Running.Courses.{CourseView, IsCourse, with_plans};
     ghost use Rattle.table_form.specs.Tables.Views.{plan_view};
 
     ghost Value = { CourseView };

@@ -1,7 +1,6 @@
 use Rattle.std.proofs.Common.{◌<◌, map, refl, ap, length, ◌∙◌, arith}
 use Rattle.std.proofs.lemmas.List.{length-map}
-use Rattle.table_form.specs.Running.Courses.{CourseView}
-use Rattle.table_form.specs.Running.Outlines.{with_plans}
+use Rattle.table_form.specs.Running.Courses.{CourseView, with_plans}
 use Rattle.table_form.specs.Tables.Views.{plan_view}
 use Rattle.table_form.proofs.CourseLemmas.{rows_of_plan}
 use Rattle.table_form.proofs.course.Course.plan.Goals as goal
