@@ -1,0 +1,43 @@
+-- What a sweep over rows knows: which rows matter to a core, how far it has come in each, and what
+-- the place shows up to the next end of a segment.
+use Rattle.std.specs.Prelude.{◌≡◌, ◌≢◌, ◌↔◌, ℕ, ◌<◌, ◌≤◌, IsTrue, List, Some, length, slice_get, slice_index}
+use Rattle.tab_core.specs.declared.TheConstants.{MAX_VCPUS, ROUND}
+use Rattle.tab_core.specs.VcpuSets.{has_vcpu}
+use Rattle.table_form.specs.Tables.Homes.{IsHome}
+use Rattle.table_form.specs.Tables.Plans.{PlanView}
+use Rattle.table_form.specs.Tables.Rows.{Row}
+use Rattle.table_form.specs.Tables.Segments.{SegmentView, segments_from}
+use Rattle.table_form.specs.Tables.Serves.{owner_at}
+use Rattle.table_form.specs.Tables.Spots.{SameSpot}
+use Rattle.slice_table.specs.declared.full_span.FullSpan.{FullSpan}
+use Rattle.slice_table.specs.declared.scope.Scope.{Scope}
+use Rattle.slice_table.specs.Slices.{IsShown}
+
+-- the row's segments before the number end at or before the place
+pub record IsPast (row : Row) (place number : ℕ) : Type 0 where
+  pub within : number ≤ length (segments_from 0 row)
+  pub passed : (j : ℕ) (s : SegmentView) → j < number → slice_get (segments_from 0 row) j ≡ Some s
+      → s.end ≤ place
+
+-- in each row the sweep stands at a number whose segments before it are past
+abbrev pub ArePast : List Row → ℕ → List ℕ → Type 0
+ArePast rows place numbers = (d : ℕ) (row : Row) → slice_get rows d ≡ Some row
+    → IsPast row place (slice_index numbers d)
+
+-- the core, the vCPUs at home on it, and the other rows, among them each that has one of these
+pub record IsScope (plan : PlanView) (scope : Scope) : Type 0 where
+  pub core : scope.core < length plan.rows
+  pub home : (v : ℕ) → v < MAX_VCPUS → (IsTrue (has_vcpu scope.home v) ↔ IsHome plan.homes scope.core v)
+  pub few : length plan.homes ≤ MAX_VCPUS
+  pub within : (k : ℕ) → k < length scope.others.items → slice_index scope.others.items k < length plan.rows
+  pub other : (k : ℕ) → k < length scope.others.items → slice_index scope.others.items k ≢ scope.core
+  pub listed : (d v x : ℕ) → d ≢ scope.core → IsHome plan.homes scope.core v → owner_at plan.rows d x ≡ Some v
+      → (k : ℕ) × (k < length scope.others.items) × (slice_index scope.others.items k ≡ d)
+
+-- the span has what the place shows, and the places up to its end are alike
+pub record IsPart (plan : PlanView) (c place : ℕ) (span : FullSpan) : Type 0 where
+  pub shown : IsShown plan c place span
+  pub size : length span.away ≡ MAX_VCPUS
+  pub after : place < span.end
+  pub within : span.end ≤ ROUND
+  pub alike : (x : ℕ) → place ≤ x → x < span.end → SameSpot plan c place x

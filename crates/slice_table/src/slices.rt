@@ -1,0 +1,41 @@
+ghost use Rattle.std.specs.Prelude.{◌<◌, IfOk};
+ghost use Rattle.slice_table.specs.Inside.Spans.{AreEnds, AreLong, IsSliced, ends_of};
+
+use crate::span_list::SpanList;
+use std::alloc::{AllocError, Global};
+use std::cmp::min;
+use tab_core::ROUND;
+
+/// The ticks of the shortest of the spans.
+pub(crate) fn shortest(spans: &SpanList) -> u32
+    requires { AreEnds 1 (ends_of spans.now) }
+    ensures some { 0 < result }
+    ensures long { AreLong result (ends_of spans.now) }
+{
+    let mut least = ROUND;
+    let mut begin = 0;
+    for number in 0..spans.len() {
+        let end = spans.end(number);
+        least = min(least, end - begin);
+        begin = end;
+    }
+    least
+}
+
+/// For each slice of `size` ticks the number of the span that holds its first tick.
+pub(crate) fn slices_of(alloc: Global, spans: &SpanList, size: u32) -> Result<Vec<u32>, AllocError>
+    requires some { 0 < size }
+    requires ends { AreEnds size (ends_of spans.now) }
+    ensures { IfOk result (λ slices. IsSliced size slices.items (ends_of spans.now)) }
+{
+    let count = (ROUND - 1) / size + 1;
+    let mut slices = Vec::with_capacity(alloc, count as usize)?;
+    let mut number: u32 = 0;
+    for slice in 0..count {
+        if spans.end(number as usize) <= slice * size {
+            number += 1;
+        }
+        slices.push(number)?;
+    }
+    Ok(slices)
+}
