@@ -4,6 +4,5 @@ pub mod Plans
 pub mod Rows
 pub mod Segments
 pub mod Serves
-pub mod Spans
 pub mod Spots
 pub mod Views

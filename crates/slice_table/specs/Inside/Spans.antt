@@ -33,6 +33,6 @@ pub record HoldsTick (ends : List ℕ) (number tick : ℕ) : Type 0 where
 -- no span is shorter than a slice, so each slice meets at most two
 pub record IsSliced (size : ℕ) (slices ends : List ℕ) : Type 0 where
   pub some : 0 < size
-  pub ends : AreEnds size ends
+  pub are_ends : AreEnds size ends
   pub whole : ROUND ≤ length slices * size
   pub first : (k : ℕ) → k < length slices → HoldsTick ends (slice_index slices k) (k * size)
