@@ -1,0 +1,5 @@
+pub mod CursorLemmas
+pub mod EndsLemmas
+pub mod SightLemmas
+pub mod SpanListLemmas
+pub mod TableLemmas

@@ -15,8 +15,11 @@ pub(crate) fn segment_from(row: &CoreTable, from: usize, place: u32) -> (usize, 
 {
     let segments = row.segments();
     let mut at = from;
-    'passing: while segments[at].end <= place {
+    'passing: loop {
+        let segment = segments[at];
+        if place < segment.end {
+            return (at, segment);
+        }
         at += 1;
     }
-    (at, segments[at])
 }

@@ -1,5 +1,6 @@
-ghost use Rattle.std.specs.Prelude.{◌<◌, IfOk};
-ghost use Rattle.slice_table.specs.Inside.Spans.{AreEnds, AreLong, IsSliced, ends_of};
+ghost use Rattle.std.specs.Prelude.{◌<◌, ◌≤◌, ◌+◌, IfOk, length, slice_index};
+ghost use Rattle.tab_core.specs.declared.TheConstants.{ROUND};
+ghost use Rattle.slice_table.specs.Inside.Spans.{AreEnds, AreLong, HoldsTick, IsSliced, begin_at, ends_of};
 
 use crate::span_list::SpanList;
 use std::alloc::{AllocError, Global};
@@ -32,10 +33,20 @@ pub(crate) fn slices_of(alloc: Global, spans: &SpanList, size: u32) -> Result<Ve
     let mut slices = Vec::with_capacity(alloc, count as usize)?;
     let mut number: u32 = 0;
     for slice in 0..count {
-        if spans.end(number as usize) <= slice * size {
-            number += 1;
-        }
+        number = holder_from(spans, number, slice * size);
         slices.push(number)?;
     }
     Ok(slices)
+}
+
+// The number of the span that holds the tick: the given one or the next.
+fn holder_from(spans: &SpanList, number: u32, tick: u32) -> u32
+    requires ends { AreEnds 1 (ends_of spans.now) }
+    requires there { number < length spans.now }
+    requires begun { begin_at (ends_of spans.now) number ≤ tick }
+    requires in_round { tick < ROUND }
+    requires next { number + 1 < length spans.now → tick < slice_index (ends_of spans.now) (number + 1) }
+    ensures { HoldsTick (ends_of spans.now) result tick }
+{
+    if tick < spans.end(number as usize) { number } else { number + 1 }
 }

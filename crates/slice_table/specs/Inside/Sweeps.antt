@@ -34,6 +34,25 @@ pub record IsScope (plan : PlanView) (scope : Scope) : Type 0 where
   pub listed : (d v x : ℕ) → d ≢ scope.core → IsHome plan.homes scope.core v → owner_at plan.rows d x ≡ Some v
       → (k : ℕ) × (k < length scope.others.items) × (slice_index scope.others.items k ≡ d)
 
+-- what the core's row and so many of the other rows show: the owner, the vCPUs away, and those at
+-- home who aren't; up to the span's end none of these rows changes its owner
+pub record IsSightOf (plan : PlanView) (scope : Scope) (place count : ℕ) (span : FullSpan) : Type 0 where
+  pub owner : span.owner ≡ owner_at plan.rows scope.core place
+  pub size : length span.away ≡ MAX_VCPUS
+  pub found : (v : ℕ) → v < MAX_VCPUS → IsTrue (has_vcpu span.away v)
+      → IsTrue (has_vcpu scope.home v) × (d : ℕ) × (d ≢ scope.core) × (owner_at plan.rows d place ≡ Some v)
+  pub all : (k v : ℕ) → k < count → v < MAX_VCPUS → IsTrue (has_vcpu scope.home v)
+      → owner_at plan.rows (slice_index scope.others.items k) place ≡ Some v → IsTrue (has_vcpu span.away v)
+  pub rest : (v : ℕ) → v < MAX_VCPUS
+      → (IsTrue (has_vcpu span.sharers v) ↔ (IsTrue (has_vcpu scope.home v) × (IsTrue (has_vcpu span.away v) → ⊥)))
+  pub after : place < span.end
+  pub within : span.end ≤ ROUND
+  pub own : (x : ℕ) → place ≤ x → x < span.end
+      → owner_at plan.rows scope.core place ≡ owner_at plan.rows scope.core x
+  pub steady : (k x : ℕ) → k < count → place ≤ x → x < span.end
+      → owner_at plan.rows (slice_index scope.others.items k) place
+      ≡ owner_at plan.rows (slice_index scope.others.items k) x
+
 -- the span has what the place shows, and the places up to its end are alike
 pub record IsPart (plan : PlanView) (c place : ℕ) (span : FullSpan) : Type 0 where
   pub shown : IsShown plan c place span
