@@ -50,10 +50,10 @@ pub some_from : (row : Row) (ss : List Segment) (place number : ℕ) → map seg
 some_from row ss place number are rises in_round past = elim (cases_lt number (length ss)) [
   | inl less ↦ less
   | inr beyond ↦ some_segment ss place number rises in_round (record {
-      at_most = (let count = count_read row ss are in omega (arith, past.within));
-      passed = ends_past row ss place number are past;
-      ahead = λ j d low lt. absurd (omega arith);
-    })
+    at_most = (let count = count_read row ss are in omega (arith, past.within));
+    passed = ends_past row ss place number are past;
+    ahead = λ j d low lt. absurd (omega arith);
+  })
 ]
 
 -- one segment more is past

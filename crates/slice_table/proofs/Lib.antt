@@ -1,5 +1,6 @@
 pub mod CursorLemmas
 pub mod EndsLemmas
+pub mod ScopeLemmas
 pub mod SightLemmas
 pub mod SpanListLemmas
 pub mod TableLemmas

@@ -10,7 +10,7 @@ use Rattle.table_form.specs.Tables.Plans.{PlanView}
 use Rattle.table_form.specs.Tables.Rows.{Row}
 use Rattle.table_form.specs.Tables.Serves.{owner_at}
 use Rattle.table_form.specs.Tables.Spots.{IsAway, SameSpot}
-use Rattle.table_form.proofs.SpotLemmas.{home_small}
+use Rattle.table_form.proofs.SpotLemmas.{owner_within}
 use Rattle.slice_table.specs.declared.full_span.FullSpan.{FullSpan}
 use Rattle.slice_table.specs.declared.scope.Scope.{Scope}
 use Rattle.slice_table.specs.Inside.Sweeps.{ArePast, IsPart, IsPast, IsScope, IsSightOf}
@@ -59,11 +59,11 @@ sight_more plan scope place count end o old new is lt was after cells end_is own
   found = λ v small has. elim ((away v small).0 has) [
     | inl before ↦ was.found v small before
     | inr now ↦ (
-        now.0,
-        slice_index scope.others.items count,
-        is.other count lt,
-        cells place (omega arith) after ∙ now.1,
-      )
+      now.0,
+      slice_index scope.others.items count,
+      is.others.other count lt,
+      cells place (omega arith) after ∙ now.1,
+    )
   ];
   all = λ k v less small home stands. elim (cases_lt k count) [
     | inl before ↦ (away v small).1 (inl (was.all k v before small home stands))
@@ -78,11 +78,13 @@ sight_more plan scope place count end o old new is lt was after cells end_is own
   rest = λ v small. (
     λ has.
         let old_has = (sharers v small).0 has in
-        let before = (was.rest v small).0 old_has.0 in
-        (before.0, λ gone. elim ((away v small).0 gone) [
-          | inl earlier ↦ before.1 earlier
-          | inr now ↦ old_has.1 now.0 now.1
-        ]),
+        let before = (was.rest v small).0 old_has.0 in (
+          before.0,
+          λ gone. elim ((away v small).0 gone) [
+            | inl earlier ↦ before.1 earlier
+            | inr now ↦ old_has.1 now.0 now.1
+          ],
+        ),
     λ stays. (sharers v small).1 (
       (was.rest v small).1 (stays.0, λ earlier. stays.1 ((away v small).1 (inl earlier))),
       λ home now. stays.1 ((away v small).1 (inr (home, now))),
@@ -107,7 +109,8 @@ away_listed : (plan : PlanView) (scope : Scope) (place x v : ℕ) (span : FullSp
     → (k : ℕ) × (k < length scope.others.items)
     × (owner_at plan.rows (slice_index scope.others.items k) x ≡ Some v)
 away_listed plan scope place x v span is sight away =
-    let at = is.listed away.other v x away.elsewhere away.home away.stands in
+    let at = is.others.listed away.other v x (owner_within plan.rows away.other x v away.stands)
+    away.elsewhere away.home away.stands in
     (at.0, at.1, ap (λ (d : ℕ). owner_at plan.rows d x) at.2 ∙ away.stands)
 
 -- so an owner there at one place of the span is owner at another
@@ -117,7 +120,7 @@ away_moves : (plan : PlanView) (scope : Scope) (place x v k : ℕ) → IsScope p
 away_moves plan scope place x v k is lt stands away = record {
   home = away.home;
   other = slice_index scope.others.items k;
-  elsewhere = is.other k lt;
+  elsewhere = is.others.other k lt;
   stands = stands;
 }
 
@@ -131,8 +134,8 @@ pub sight_whole : (plan : PlanView) (scope : Scope) (place : ℕ) (old new : Ful
 sight_whole plan scope place old new is sight end_is owner_is away_is sharers =
     let all : (v : ℕ) → v < MAX_VCPUS → IsAway plan scope.core place v → IsTrue (has_vcpu old.away v) =
     λ v small away.
-        (let at = away_listed plan scope place place v old is sight away in
-        sight.all at.0 v at.1 small ((is.home v small).1 away.home) at.2) in
+    (let at = away_listed plan scope place place v old is sight away in
+    sight.all at.0 v at.1 small ((is.home v small).1 away.home) at.2) in
     record {
       shown = record {
         owner = owner_is ∙ sight.owner;

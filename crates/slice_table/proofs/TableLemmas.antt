@@ -138,7 +138,7 @@ pub ends_of_spans : (plan : PlanView) (c : ℕ) (spans : List FullSpan) → AreS
 ends_of_spans plan c spans are = record {
   some = spans_some plan c spans are;
   few = (let few = spans_few plan c 0 ROUND spans are in
-    let count = length-map spans (λ (span : FullSpan). span.end) in omega arith);
+      let count = length-map spans (λ (span : FullSpan). span.end) in omega arith);
   long = spans_long plan c 0 ROUND spans are;
   last = spans_last plan c 0 ROUND spans are;
   within = spans_within plan c 0 ROUND spans are;

@@ -25,6 +25,7 @@ pub(crate) fn scope_of(alloc: Global, plan: &Plan, core: CoreNo) -> Result<Scope
     ensures scope { IfOk result (λ scope. IsScope (plan_view plan.now) scope) }
 {
     let home = plan.homes_of(core);
+    prove!(plan.tables.homes.items().len() <= 256);
     let rows = plan.tables.rows.items();
     let mut others = Vec::new(alloc);
     for number in 0..rows.len() {

@@ -1,4 +1,4 @@
-ghost use Rattle.std.specs.Prelude.{◌≡◌, ◌<◌, ◌≤◌, ◌↔◌, ◌⊎◌, ◌≢◌, ℕ, IsTrue, Some, false, length, min};
+ghost use Rattle.std.specs.Prelude.{◌≡◌, ◌<◌, ◌≤◌, ◌↔◌, ◌⊎◌, ◌≢◌, ℕ, IsTrue, Some, false, length, min, slice_index};
 ghost use Rattle.tab_core.specs.VcpuSets.{has_vcpu};
 ghost use Rattle.tab_core.specs.declared.TheConstants.{MAX_CORES, MAX_VCPUS, ROUND};
 ghost use Rattle.table_form.specs.Tables.Views.{plan_view};
@@ -11,10 +11,20 @@ use std::cmp::min;
 use tab_core::{ROUND, VcpuSet};
 use table_form::{Plan, Segment};
 
+/// Places for numbers of segments, one for each row.
+pub(crate) const ROWS: usize = 32;
+
+/// The numbers at which a sweep begins.
+pub(crate) fn first_numbers() -> [usize; ROWS]
+    ensures { (d : ℕ) → slice_index result d ≡ 0 }
+{
+    [0; ROWS]
+}
+
 /// What the place shows, up to the first end of a segment behind it in the rows that matter.
 ///
 /// `numbers` has for each row the number of a segment from which the one of the place is sought.
-pub(crate) fn look(plan: &Plan, scope: &Scope, numbers: &mut [usize; 32], place: u32) -> FullSpan
+pub(crate) fn look(plan: &Plan, scope: &Scope, numbers: &mut [usize; ROWS], place: u32) -> FullSpan
     requires in_round { place < ROUND }
     requires scope { IsScope (plan_view plan.now) scope.now }
     requires past { ArePast plan.now.tables.rows place numbers.old }

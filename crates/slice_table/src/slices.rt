@@ -17,10 +17,21 @@ pub(crate) fn shortest(spans: &SpanList) -> u32
     let mut begin = 0;
     for number in 0..spans.len() {
         let end = spans.end(number);
-        least = min(least, end - begin);
+        least = shorter(least, begin, end);
         begin = end;
     }
     least
+}
+
+// The ticks from the begin to the end, if they are fewer than the least so far.
+fn shorter(least: u32, begin: u32, end: u32) -> u32
+    requires some { 0 < least }
+    requires rises { begin < end }
+    ensures some { 0 < result }
+    ensures least { result ≤ least }
+    ensures span { begin + result ≤ end }
+{
+    min(least, end - begin)
 }
 
 /// For each slice of `size` ticks the number of the span that holds its first tick.
@@ -48,5 +59,9 @@ fn holder_from(spans: &SpanList, number: u32, tick: u32) -> u32
     requires next { number + 1 < length spans.now → tick < slice_index (ends_of spans.now) (number + 1) }
     ensures { HoldsTick (ends_of spans.now) result tick }
 {
-    if tick < spans.end(number as usize) { number } else { number + 1 }
+    if tick < spans.end(number as usize) {
+        number
+    } else {
+        number + 1
+    }
 }

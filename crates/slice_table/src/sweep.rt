@@ -6,7 +6,7 @@ ghost use Rattle.slice_table.specs.Slices.{AreSpansOf};
 
 use crate::full_span::FullSpan;
 use crate::scope::{Scope, scope_of};
-use crate::sight::look;
+use crate::sight::{first_numbers, look};
 use crate::span_list::SpanList;
 use std::alloc::{AllocError, Global};
 use tab_core::{CoreNo, MAX_VCPUS, ROUND, VcpuSet};
@@ -25,7 +25,7 @@ fn sweep(alloc: Global, plan: &Plan, scope: &Scope) -> Result<SpanList, AllocErr
     requires { IsScope (plan_view plan.now) scope.now }
     ensures { IfOk result (λ spans. AreSpansOf (plan_view plan.now) scope.now.core 0 spans ROUND) }
 {
-    let mut numbers = [0; 32];
+    let mut numbers = first_numbers();
     let mut pairs = [0; PAIR_PLACES];
     let mut spans = SpanList::new(alloc);
     let mut span = look(plan, scope, &mut numbers, 0);

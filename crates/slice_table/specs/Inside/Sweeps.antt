@@ -24,15 +24,19 @@ abbrev pub ArePast : List Row → ℕ → List ℕ → Type 0
 ArePast rows place numbers = (d : ℕ) (row : Row) → slice_get rows d ≡ Some row
     → IsPast row place (slice_index numbers d)
 
--- the core, the vCPUs at home on it, and the other rows, among them each that has one of these
+-- among so many rows these are not the core's, and each that has a vCPU whose home is the core is one
+pub record AreOthers (plan : PlanView) (c count : ℕ) (others : List ℕ) : Type 0 where
+  pub within : (k : ℕ) → k < length others → slice_index others k < count
+  pub other : (k : ℕ) → k < length others → slice_index others k ≢ c
+  pub listed : (d v x : ℕ) → d < count → d ≢ c → IsHome plan.homes c v → owner_at plan.rows d x ≡ Some v
+      → (k : ℕ) × (k < length others) × (slice_index others k ≡ d)
+
+-- the core, the vCPUs at home on it, and the other rows that have some of these
 pub record IsScope (plan : PlanView) (scope : Scope) : Type 0 where
   pub core : scope.core < length plan.rows
   pub home : (v : ℕ) → v < MAX_VCPUS → (IsTrue (has_vcpu scope.home v) ↔ IsHome plan.homes scope.core v)
   pub few : length plan.homes ≤ MAX_VCPUS
-  pub within : (k : ℕ) → k < length scope.others.items → slice_index scope.others.items k < length plan.rows
-  pub other : (k : ℕ) → k < length scope.others.items → slice_index scope.others.items k ≢ scope.core
-  pub listed : (d v x : ℕ) → d ≢ scope.core → IsHome plan.homes scope.core v → owner_at plan.rows d x ≡ Some v
-      → (k : ℕ) × (k < length scope.others.items) × (slice_index scope.others.items k ≡ d)
+  pub others : AreOthers plan scope.core (length plan.rows) scope.others.items
 
 -- what the core's row and so many of the other rows show: the owner, the vCPUs away, and those at
 -- home who aren't; up to the span's end none of these rows changes its owner

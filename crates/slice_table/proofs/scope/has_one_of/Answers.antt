@@ -44,7 +44,7 @@ loop-at-preserved c =
     }
 
 pub returns : goal.returns
-returns c = λ false_is x v small at. 
+returns c = λ false_is x v small at.
     let ss = c.segments-segments.result.now in
     let was = c.loop-at.invariant in
     let cell : slice_get (cells_from 0 ss) x ≡ Some (Some v) =
