@@ -4,7 +4,7 @@ use Rattle.std.specs.Prelude.{slice_index}
 use Rattle.std.proofs.lemmas.Bool.{cases_lt}
 use Rattle.std.proofs.Math.Nat.{div-lt_iff_lt-mul, div-mul-le_self, lt-div-mul-add}
 use Rattle.tab_core.specs.declared.TheConstants.{ROUND}
-use Rattle.slice_table.specs.Inside.Spans.{AreEnds, HoldsTick, IsSliced, begin_at}
+use Rattle.slice_table.specs.Inside.Spans.{AreEnds, AreLong, HoldsTick, IsSliced, begin_at}
 
 -- a span begins where the one before ends
 pub next_begin : (ends : List ℕ) (k : ℕ) → begin_at ends (k + 1) ≡ slice_index ends k
@@ -54,3 +54,14 @@ held_next size slices ends tick number sliced in_round is ended =
       from = omega arith;
       before = omega (arith, first.before);
     }
+
+-- ends of spans that are known to have more ticks
+pub ends_longer : (least longer : ℕ) (ends : List ℕ) → AreEnds least ends → AreLong longer ends
+    → AreEnds longer ends
+ends_longer least longer ends are long = record {
+  some = are.some;
+  few = are.few;
+  long = long;
+  last = are.last;
+  within = are.within;
+}

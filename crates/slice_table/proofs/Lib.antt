@@ -3,4 +3,5 @@ pub mod EndsLemmas
 pub mod ScopeLemmas
 pub mod SightLemmas
 pub mod SpanListLemmas
+pub mod SweepLemmas
 pub mod TableLemmas

@@ -1,12 +1,13 @@
 -- The other rows that matter to a core, row by row.
-use Rattle.std.proofs.Common.{◌≡◌, ◌≢◌, ℕ, ◌+◌, ◌<◌, List, [], ◌∷◌, ◌++◌, length, length-append, Some, inl, inr, ap, subst, sym, ◌∙◌, arith}
-use Rattle.std.specs.Prelude.{slice_index}
+use Rattle.std.proofs.Common.{◌≡◌, ◌≢◌, ℕ, zero, suc, Option, None, get_or, ◌+◌, ◌<◌, List, [], ◌∷◌, ◌++◌, length, length-append, Some, inl, inr, ap, subst, sym, ◌∙◌, arith}
+use Rattle.std.specs.Prelude.{slice_get, slice_index}
 use Rattle.std.proofs.Math.Seq.{get_or-append_seam}
 use Rattle.std.proofs.lemmas.Bool.{cases_lt}
 use Rattle.std.proofs.lemmas.List.{get_or_append_left}
 use Rattle.table_form.specs.Tables.Homes.{IsHome}
 use Rattle.table_form.specs.Tables.Plans.{PlanView}
-use Rattle.table_form.specs.Tables.Serves.{owner_at}
+use Rattle.table_form.specs.Tables.Rows.{Row}
+use Rattle.table_form.specs.Tables.Serves.{flat, owner_at}
 use Rattle.slice_table.specs.Inside.Sweeps.{AreOthers}
 
 -- a row that doesn't matter is left out
@@ -50,3 +51,15 @@ others_push plan c count others are ne =
         | inr past ↦ (length others, omega arith, last (length others) (omega arith) ∙ omega arith)
       ];
     }
+
+-- an owner in a row that is there is one of its cells
+pub cell_read : (rows : List Row) (d x v : ℕ) (row : Row) → d < length rows → row ≡ get_or rows d row
+    → owner_at rows d x ≡ Some v → slice_get row x ≡ Some (Some v)
+cell_read [] d x v row lt is stands = absurd (omega arith)
+cell_read (r ∷ rows) zero x v row lt is stands =
+    flat_some (slice_get row x) v (ap (λ (cells : Row). flat (slice_get cells x)) is ∙ stands)
+  where
+    flat_some : (o : Option (Option ℕ)) (v : ℕ) → flat o ≡ Some v → o ≡ Some (Some v)
+    flat_some None v e = absurd cc
+    flat_some (Some p) v e = ap Some e
+cell_read (r ∷ rows) (suc d) x v row lt is stands = cell_read rows d x v row (omega arith) is stands
