@@ -1,17 +1,17 @@
 -- What a place shows, from the segments that hold it in the core's row and in the rows that matter.
-use Rattle.std.proofs.Common.{◌≡◌, ◌≢◌, ◌↔◌, ◌⊎◌, ℕ, ◌+◌, ◌<◌, ◌≤◌, List, length, get_or, set, Some, Option, None, inl, inr, refl, ap, subst, sym, ◌∙◌, arith}
+use Rattle.std.proofs.Common.{◌≡◌, ◌↔◌, ◌⊎◌, ℕ, ◌+◌, ◌<◌, ◌≤◌, List, length, get_or, set, Some, Option, inl, inr, refl, ap, subst, sym, ◌∙◌, arith}
 use Rattle.std.specs.Prelude.{IsTrue, min, slice_get, slice_index}
 use Rattle.std.proofs.lemmas.Bool.{cases_eq, cases_lt}
 use Rattle.std.proofs.lemmas.List.{get_or-set_other, get_or-set_same}
 use Rattle.std.proofs.lemmas.Option.{same_Some, slice_get_read}
 use Rattle.tab_core.specs.VcpuSets.{has_vcpu}
-use Rattle.tab_core.specs.declared.TheConstants.{MAX_VCPUS, ROUND}
+use Rattle.tab_core.specs.declared.TheConstants.{MAX_VCPUS}
 use Rattle.table_form.specs.declared.spot.Spot.{Spot}
 use Rattle.table_form.specs.Inside.Looks.{IsPart}
 use Rattle.table_form.specs.Tables.Plans.{PlanView}
 use Rattle.table_form.specs.Tables.Rows.{Row}
 use Rattle.table_form.specs.Tables.Serves.{owner_at}
-use Rattle.table_form.specs.Tables.Spots.{IsAway, SameSpot}
+use Rattle.table_form.specs.Tables.Spots.{IsAway}
 use Rattle.table_form.proofs.SpotLemmas.{owner_within}
 use Rattle.slice_table.specs.declared.scope.Scope.{Scope}
 use Rattle.slice_table.specs.Inside.Sweeps.{ArePast, IsPast, IsScope, IsSightOf}

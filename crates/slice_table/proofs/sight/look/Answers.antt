@@ -1,12 +1,12 @@
-use Rattle.std.proofs.Common.{◌≡◌, ℕ, ◌<◌, ◌≤◌, Some, List, Option, length, get_or, ap, subst, sym, ◌∙◌, arith}
-use Rattle.std.specs.Prelude.{slice_get, slice_index}
+use Rattle.std.proofs.Common.{◌≡◌, ℕ, ◌<◌, List, length, get_or, ap, subst, sym, ◌∙◌, arith}
+use Rattle.std.specs.Prelude.{slice_index}
 use Rattle.std.proofs.lemmas.Grind.{get_or_default_zero}
 use Rattle.table_form.specs.Tables.Rows.{Row}
 use Rattle.table_form.specs.Tables.Serves.{owner_at}
 use Rattle.table_form.specs.Tables.Views.{plan_view}
 use Rattle.table_form.proofs.SpotLemmas.{owner_read}
 use Rattle.slice_table.specs.Inside.Sweeps.{IsSightOf}
-use Rattle.slice_table.proofs.SightLemmas.{past_at, past_set, sight_more, sight_whole}
+use Rattle.slice_table.proofs.SightLemmas.{past_set, sight_more, sight_whole}
 use Rattle.slice_table.proofs.sight.look.Goals as goal
 
 pub loop-at-preserved : goal.loop-at-preserved

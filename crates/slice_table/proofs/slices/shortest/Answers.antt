@@ -1,8 +1,6 @@
-use Rattle.std.proofs.Common.{◌≡◌, ℕ, ◌+◌, ◌<◌, length, inl, inr, ap, sym, ◌∙◌, arith}
+use Rattle.std.proofs.Common.{◌≡◌, inl, inr, ap, sym, ◌∙◌, arith}
 use Rattle.std.specs.Prelude.{slice_index}
 use Rattle.std.proofs.lemmas.Bool.{cases_lt}
-use Rattle.std.proofs.lemmas.List.{length-map}
-use Rattle.slice_table.specs.declared.full_span.FullSpan.{FullSpan}
 use Rattle.slice_table.specs.Inside.Spans.{begin_at, ends_of}
 use Rattle.slice_table.proofs.EndsLemmas.{next_begin}
 use Rattle.slice_table.proofs.slices.shortest.Goals as goal

@@ -1,6 +1,5 @@
 use Rattle.std.proofs.Common.{◌≡◌, ℕ, ◌+◌, ◌<◌, ◌≤◌}
 use Rattle.std.specs.Prelude.{slice_index}
-use Rattle.tab_core.specs.declared.TheConstants.{ROUND}
 use Rattle.slice_table.specs.Inside.Spans.{begin_at, ends_of}
 use Rattle.slice_table.proofs.slices.shortest.Given as goal
 
