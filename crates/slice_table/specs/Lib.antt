@@ -1,0 +1,3 @@
+pub mod CoreSlices
+pub mod Inside
+pub mod Slices
