@@ -64,7 +64,7 @@ timeline_stint p end ran s next later within t =
       ahead = omega arith;
       each = λ k x at. ⊎_elim (λ old. t.each k x old)
           (λ (new : (k ≡ length p.stints) × (s ≡ x)).
-              subst (IsStintOf p.entries) new.1 (stint_of p end ran s next later within))
+          subst (IsStintOf p.entries) new.1 (stint_of p end ran s next later within))
           (push_split p.stints k s x at);
     }
 
@@ -76,7 +76,7 @@ advanced g c end ran p s f sound core next later within =
     let n : ℕ = length g.floors in
     let k : ℕ = p.clock / ROUND in
     let used = at_get (λ (e : Entry). (e.seen ≤ n) × (e.used ≤ n)) p.entries k next.entry next.entered
-        f.floors.counts.entries in
+    f.floors.counts.entries in
     let seen : s.seen ≤ n = subst (λ (y : ℕ). y ≤ n) (sym next.seen) (last_below p.sights n f.floors.counts.sights) in record {
       clock = next.end ∙ sym (put_here g.clocks c c end refl);
       own = record {
@@ -110,7 +110,7 @@ near_put g c end sound later room core a b ha hb =
     put_all (λ i x. i < g.cores → x ≤ put g.clocks c end b + g.lag) g.clocks c end a
     (λ is _. put_all (λ j y. j < g.cores → end ≤ y + g.lag) g.clocks c end b (λ _ _. omega arith) (λ away h. room b h away) hb)
     (λ away _. put_all (λ j y. j < g.cores → g.clocks a ≤ y + g.lag) g.clocks c end b
-        (λ _ _. let n = sound.near a c ha core in omega arith) (λ _ h. sound.near a b ha h) hb)
+    (λ _ _. let n = sound.near a c ha core in omega arith) (λ _ h. sound.near a b ha h) hb)
     ha
 
 -- no clock falls
@@ -166,7 +166,7 @@ advance_keeps id c end ran v s next fit on live has core later within room words
             posted = word_else words (suc c) 0 end (λ e. omega arith) ∙ r.shows.posted;
             clocks = λ d h. put_all (λ i y. slice_index (set words (suc c) end) (suc i) ≡ y) g.clocks c end d
                 (λ is. ap (λ (i : ℕ). slice_index (set words (suc c) end) (suc i)) is
-                    ∙ word_here words (suc c) end (let cc' = f.0 in omega arith))
+                ∙ word_here words (suc c) end (let cc' = f.0 in omega arith))
                 (λ away. word_else words (suc c) (suc d) end (λ e. away (omega arith)) ∙ r.shows.clocks d h);
             rounds = λ q d e o. word_else words (suc c) (33 + q % 4) end (λ x. let y = f.0 in omega arith)
                 ∙ r.shows.rounds q d e o;

@@ -13,11 +13,14 @@ use Rattle.tab_core.proofs.Lists.{push_new, push_old, push_split}
 use Rattle.tab_core.specs.Timelines.{HasTimeline}
 use Rattle.tab_core.specs.declared.entry.Entry.{Entry}
 use Rattle.tab_core.specs.declared.stint.Stint.{Stint}
+use Rattle.round_words.specs.declared.numbers.Numbers.{Numbers}
 use Rattle.round_words.specs.declared.view.Part.{Part}
 use Rattle.round_words.specs.declared.view.View.{View}
 use Rattle.round_words.specs.Views.{controller, holds, part, with_part, last_of, enters, entry}
 use Rattle.round_words.specs.Rule.{FloorsUpTo, CoversEarlier, EntryFits, FitsFloors, HasCountsUpTo, IsCorePart, decision_word, Board, BoardInvariant, CoreFits, HeardFits, IsRunning, KeepsRule}
 use Rattle.round_words.specs.Inside.Claims.{IsExpected, EntersRound, StepKeepsRule}
+use Rattle.round_words.specs.Inside.Numbers.{KeepsUsed, NumbersAgree}
+use Rattle.round_words.specs.Shown.{HoldsCore, ViewInvariant}
 use Rattle.round_words.proofs.PlaceLemmas.{put, put_here, put_else, put_all}
 use Rattle.round_words.proofs.PlaceLemmas as places
 use Rattle.round_words.proofs.ListLemmas.{set_same, word_here, word_else, length_words, last_below, length_push, at_get, some_same}
@@ -65,7 +68,7 @@ timeline_entry k p e at long is t =
       contiguous = t.contiguous;
       numbered = λ j x get. ⊎_elim (λ old. t.numbered j x old)
           (λ (new : (j ≡ length p.entries) × (e ≡ x)).
-              ap (λ (y : Entry). y.round) (sym new.1) ∙ (is ∙ (sym long ∙ sym new.0)))
+          ap (λ (y : Entry). y.round) (sym new.1) ∙ (is ∙ (sym long ∙ sym new.0)))
           (push_split p.entries j e x get);
       reach = omega arith;
       ahead = omega arith;
@@ -186,7 +189,7 @@ won_keeps : (words : List ℕ) (views : List View) (id c k d : ℕ) (v : View) (
     → CoreFits r.board c (part v c) → (part v c).clock ≡ k * ROUND → length (part v c).entries ≡ k
     → r.board.decided k ≡ None
     → KeepsRule (set words (33 + k % 4) (decision_word k d))
-        (set views id (with_part v c (enters (part v c) (entry k d d true))))
+    (set views id (with_part v c (enters (part v c) (entry k d d true))))
 won_keeps words views id c k d v r at has core le heard floors f clock long none =
     let g = r.board in
     let p : Part = part v c in
@@ -225,18 +228,18 @@ won_keeps words views id c k d v r at has core le heard floors f clock long none
           let next : (q + 4) ≢ k = λ e. absurd (some_none d (sym (put_here g.decided k (q + 4) (Some d) e) ∙ open')) in
           let last : g.decided (q + 4) ≡ None = sym (put_else g.decided k (q + 4) (Some d) next) ∙ open' in
           let early : q < k = dite (dec_le k q)
-              (λ over. absurd (let o = closed r q k u eq over in some_none o.0 (sym o.1 ∙ none))) (λ under. omega arith) in
+          (λ over. absurd (let o = closed r q k u eq over in some_none o.0 (sym o.1 ∙ none))) (λ under. omega arith) in
           word_else words w (33 + q % 4) x (λ e. let m : q % 4 ≡ k % 4 = omega arith in
-              let gap : q + 4 ≤ k = four_apart q k early m in
-              let o = older (q + 4) (omega arith) in
-              absurd (some_none o.0 (sym o.1 ∙ last)))
+          let gap : q + 4 ≤ k = four_apart q k early m in
+          let o = older (q + 4) (omega arith) in
+          absurd (some_none o.0 (sym o.1 ∙ last)))
           ∙ r.shows.rounds q u eq last);
       none = λ m h. put_all (λ j o. o ≡ None → slice_index (set words w x) (33 + j) ≡ 0) g.decided k (Some d) m
           (λ is eq. absurd (some_none d eq))
           (λ away eq. word_else words w (33 + m) x (λ e. let same : m ≡ k % 4 = omega arith in
-              let early : m < k = below_self m k away same in
-              let o = older m (omega arith) in
-              absurd (some_none o.0 (sym o.1 ∙ eq)))
+          let early : m < k = below_self m k away same in
+          let o = older m (omega arith) in
+          absurd (some_none o.0 (sym o.1 ∙ eq)))
           ∙ r.shows.none m h eq);
     })
     (parts_put g' r.parts c (enters p e)
@@ -252,7 +255,7 @@ won_keeps words views id c k d v r at has core le heard floors f clock long none
           (record { count = put_here g.decided k k (Some d) refl; winner = λ _. (put_here g.winner k k c refl, refl) });
       won = λ q u. put_all
           (λ j o. o ≡ Some u → put g.winner k c j ≡ c
-              → (y : Entry) × (slice_get (p.entries ++ e ∷ []) j ≡ Some y) × (y.won ≡ true))
+          → (y : Entry) × (slice_get (p.entries ++ e ∷ []) j ≡ Some y) × (y.won ≡ true))
           g.decided k (Some d) q
           (λ is eq w. (e, subst (λ (j : ℕ). slice_get (p.entries ++ e ∷ []) j ≡ Some e) (long ∙ sym is) (push_new p.entries e), refl))
           (λ away eq w. let o = f.won q u eq (sym (put_else g.winner k q c away) ∙ w) in
@@ -341,7 +344,7 @@ decide_keeps id c k d old x v on live has core clock new d_is x_is exp words vie
     let in' = (m.core core).0 in
     let long = entries_own k p f.own.timeline clock new in
     let le : d ≤ length g.floors =
-        subst (λ (y : ℕ). y ≤ length g.floors) (sym d_is) (last_below p.sights (length g.floors) f.floors.counts.sights) in
+    subst (λ (y : ℕ). y ≤ length g.floors) (sym d_is) (last_below p.sights (length g.floors) f.floors.counts.sights) in
     let n : ℕ = slice_index words (33 + k % 4) in
     let s = m.settings in
     ⊎_elim
@@ -364,3 +367,55 @@ decide_keeps id c k d old x v on live has core clock new d_is x_is exp words vie
       inr (u, away, z, omega arith, refl),
     ))
     (some_or_none (g.decided k))
+
+-- what a core that may enter its clock's round shows
+pub record MayEnter (v : View) (c : ℕ) : Type 0 where
+  pub started : v.started ≡ true
+  pub core : HoldsCore v c
+  pub clock : (part v c).clock ≡ (part v c).clock / ROUND * ROUND
+  pub new : All (λ (e : Entry). e.round ≢ (part v c).clock / ROUND) (part v c).entries
+
+-- and what the seat's numbers know of it: round k is the next one, and d what the core saw last
+pub record EntersNext (v : View) (c k d : ℕ) : Type 0 where
+  pub lag : 0 < v.lag
+  pub small : c < 32
+  pub round : k ≡ (part v c).clock / ROUND
+  pub start : (part v c).clock ≡ k * ROUND
+  pub new : All (λ (e : Entry). e.round ≢ k) (part v c).entries
+  pub before : length (part v c).entries ≡ k
+  pub sight : d ≡ last_of (part v c).sights
+
+-- the numbers of a core that may enter
+pub enters_next : (n : Numbers) (v : View) (c : ℕ) → NumbersAgree n v → ViewInvariant v → MayEnter v c
+    → EntersNext v c (slice_index n.clocks c / ROUND) (slice_index n.sights c)
+enters_next n v c is shown may =
+    let p : Part = part v c in
+    let k : ℕ = slice_index n.clocks c / ROUND in
+    let limits = is.limits may.started in
+    let cores = limits.1 in
+    let core = may.core.0 in
+    let small : c < 32 = omega arith in
+    let round : k ≡ p.clock / ROUND = ap (λ (x : ℕ). x / ROUND) (is.clocks_are c small may.core.1) in
+    let start : p.clock ≡ k * ROUND = may.clock ∙ ap (λ (x : ℕ). x * ROUND) (sym round) in
+    let new : All (λ (e : Entry). e.round ≢ k) p.entries =
+    subst (λ (x : ℕ). All (λ (e : Entry). e.round ≢ x) p.entries) (sym round) may.new in record {
+      lag = limits.0;
+      small = small;
+      round = round;
+      start = start;
+      new = new;
+      before = entries_own k p (shown.cores c may.core).timeline start new;
+      sight = is.sights_are c small may.core.1;
+    }
+
+-- the word that the core expects, from the used count that the seat keeps of four rounds before
+pub expects : (useds : List ℕ) (c k old : ℕ) (p : Part) → KeepsUsed useds c p.entries → length p.entries ≡ k
+    → (k < 4 → old ≡ 0) → (4 ≤ k → old ≡ decision_word (k - 4) (slice_index useds (4 * c + k % 4)))
+    → IsExpected p k old
+expects useds c k old p keeps long first later = (
+  first,
+  (λ e late get.
+      let same : (k - 4) % 4 ≡ k % 4 = omega arith in
+      let used = keeps (k - 4) e get (omega arith) in
+      later late ∙ ap (decision_word (k - 4)) (ap (λ (r : ℕ). slice_index useds (4 * c + r)) (sym same) ∙ used)),
+)

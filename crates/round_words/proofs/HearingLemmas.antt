@@ -62,14 +62,17 @@ pub seen_to_known : (v u : View) (c lag tick n : ℕ) (known : List ℕ) → u.l
 seen_to_known v u c lag tick n known lag_is enough seen =
     let e : suc n ≡ n + 1 = omega arith in
     let well : n ≢ c → tick ≤ last_heard (part u c) n + lag = λ away.
-        subst (λ (k : ℕ). tick ≤ k + lag) (seen.knows n) (enough away) in record {
+    subst (λ (k : ℕ). tick ≤ k + lag) (seen.knows n) (enough away) in record {
       changes = seen.changes;
       knows = seen.knows;
-      heard = subst (λ (k : ℕ). HearsCores c lag tick k (part v c) (part u c)) e (part u c, seen.heard,
-          dite (ℕ_discrete n c) (λ me. itself me refl) (λ away. well_known away (well away) refl));
+      heard = subst (λ (k : ℕ). HearsCores c lag tick k (part v c) (part u c)) e (
+        part u c,
+        seen.heard,
+        dite (ℕ_discrete n c) (λ me. itself me refl) (λ away. well_known away (well away) refl),
+      );
       near = λ d lt away. dite (ℕ_discrete d n)
           (λ is. subst (λ (k : ℕ). tick ≤ last_heard (part u c) k + u.lag) (sym is)
-              (subst (λ (k : ℕ). tick ≤ last_heard (part u c) n + k) (sym lag_is) (well (λ me. away (is ∙ me)))))
+          (subst (λ (k : ℕ). tick ≤ last_heard (part u c) n + k) (sym lag_is) (well (λ me. away (is ∙ me)))))
           (λ apart. seen.near d (omega arith) away);
     }
 
@@ -78,9 +81,9 @@ pub knows_heard : (known : List ℕ) (p : Part) (d clock : ℕ) → d < length k
     → last_heard (hears p d clock) d ≡ clock → KnowsClocks (set known d clock) (hears p d clock)
 knows_heard known p d clock lt knows keeps k = dite (ℕ_discrete k d)
     (λ is. ap (slice_index (set known d clock)) is
-        ∙ (word_here known d clock lt ∙ (sym keeps ∙ ap (last_heard (hears p d clock)) (sym is))))
+    ∙ (word_here known d clock lt ∙ (sym keeps ∙ ap (last_heard (hears p d clock)) (sym is))))
     (λ away. word_else known d k clock away
-        ∙ (knows k ∙ sym (ap last_of (row_else p.heard d k (heard_of p d ++ clock ∷ []) [] away))))
+    ∙ (knows k ∙ sym (ap last_of (row_else p.heard d k (heard_of p d ++ clock ∷ []) [] away))))
 
 -- what the actor heard of other cores stays
 heard_else : (p : Part) (d k clock : ℕ) → k ≢ d → last_heard (hears p d clock) k ≡ last_heard p k
@@ -104,11 +107,11 @@ seen_to_asked v u w c lag tick n clock known lag_is has away lt low enough is ke
           (p, seen.heard, asked away unknown clock enough now);
       near = λ d few apart. subst (λ (r : Part). tick ≤ last_heard r d + w.lag) (sym now)
           (subst (λ (k : ℕ). tick ≤ last_heard q d + k) (sym more.lag) (dite (ℕ_discrete d n)
-              (λ here. subst (λ (k : ℕ). tick ≤ last_heard q k + u.lag) (sym here)
-                  (subst (λ (k : ℕ). tick ≤ k + u.lag) (sym keeps)
-                      (subst (λ (k : ℕ). tick ≤ clock + k) (sym lag_is) enough)))
-              (λ there. subst (λ (k : ℕ). tick ≤ k + u.lag) (sym (heard_else p n d clock there))
-                  (seen.near d (omega arith) apart))));
+          (λ here. subst (λ (k : ℕ). tick ≤ last_heard q k + u.lag) (sym here)
+          (subst (λ (k : ℕ). tick ≤ k + u.lag) (sym keeps)
+          (subst (λ (k : ℕ). tick ≤ clock + k) (sym lag_is) enough)))
+          (λ there. subst (λ (k : ℕ). tick ≤ k + u.lag) (sym (heard_else p n d clock there))
+          (seen.near d (omega arith) apart))));
     }
 
 -- the next core is asked, and its clock is too low

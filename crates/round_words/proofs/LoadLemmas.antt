@@ -163,7 +163,7 @@ hear_keeps id a c v on live has core words views ruled at small =
     let within : c < g.cores = subst (λ (k : ℕ). c < k) m.settings.1 core in
     let is : n ≡ g.clocks c = r.shows.clocks c within in
     let old : All (λ h. h ≤ n) (heard_of p c) =
-        subst (λ (k : ℕ). All (λ h. h ≤ k) (heard_of p c)) (sym is) (m.heard.low c within) in (
+    subst (λ (k : ℕ). All (λ h. h ≤ k) (heard_of p c)) (sym is) (m.heard.low c within) in (
       with_part v a (hears p c n),
       loads words views id a (suc c) v (hears p c n) r at has
           (λ h. hearing g a c n p (m.core (subst (λ (k : ℕ). a < k) (sym m.settings.1) h)).1)
@@ -175,7 +175,7 @@ hear_keeps id a c v on live has core words views ruled at small =
             low = λ d h. each_set (All (λ y. y ≤ g.clocks d)) p.heard c d (heard_of p c ++ n ∷ []) []
                 (λ e. let near : n ≤ g.clocks d = subst (λ (k : ℕ). n ≤ g.clocks k) (sym e) (omega arith) in
                 All-push (λ y. y ≤ g.clocks d) (heard_of p c) n
-                    (subst (λ (k : ℕ). All (λ y. y ≤ g.clocks k) (heard_of p c)) (sym e) (m.heard.low c within)) near)
+                (subst (λ (k : ℕ). All (λ y. y ≤ g.clocks k) (heard_of p c)) (sym e) (m.heard.low c within)) near)
                 (m.heard.low d h);
           })
           m.floors,
@@ -237,7 +237,7 @@ shown words views id v live r at =
       one_winner = λ all c k e hc ec.
           let x = (own c hc.1).core hc.0 in
           let is : g.decided k ≡ Some e.used = ap g.decided (sym ec.1)
-              ∙ (at_get (EntryFits g c) (part v c).entries k e ec.0 x.1.entries).count in
+          ∙ (at_get (EntryFits g c) (part v c).entries k e ec.0 x.1.entries).count in
           let w = r.sound.made k e.used is in
           let d : ℕ = g.winner k in
           let s = (own c hc.1).settings in

@@ -86,7 +86,7 @@ post_keeps id floor n v on live has next few low words views ruled at small =
     let is : p.floors ≡ g.floors = m.floors refl in
     let long : length (g.floors ++ floor ∷ []) ≡ suc (length g.floors) = length_push g.floors floor in
     let n_is : n ≡ length (g.floors ++ floor ∷ []) =
-        next ∙ (ap (λ (l : List ℕ). suc (length l)) is ∙ sym long) in
+    next ∙ (ap (λ (l : List ℕ). suc (length l)) is ∙ sym long) in
     let s = m.settings in
     let cnt = r.shows.count in (
       with_part v controller (posts p floor),

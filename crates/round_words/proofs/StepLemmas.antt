@@ -30,11 +30,15 @@ rule_shown words views id w lag (inr r) at = shown words views id w (lag (r.know
 pub allows : (slots id : ℕ) (me : Me (Unit {0}) View) (i : ℕ) (f : ℕ → ℕ) (claim : ℕ → View → Type 0)
     → StepKeepsRule id me.0 i f claim → ((n : ℕ) (w : View) → claim n w → HasLag w)
     → Allows (λ (s : State (Unit {0}) View). KeepsRule s.words s.views) slots id me i f
-        (λ n u. (u.1 ≡ me.1) × claim n u.0 × ViewInvariant u.0)
+    (λ n u. (u.1 ≡ me.1) × claim n u.0 × ViewInvariant u.0)
 allows slots id me i f claim keeps_rule lag s ruled long at small =
     let n : ℕ = slice_index s.words i in
     let r = keeps_rule s.words s.views ruled at small in
     let w : View = r.0 in
-    let at' : get_elem? (set s.views id w) id ≡ some w = set_here s.views id w (below_length s.views id me.0 at) in
-    (w, keeps, tt, r.1,
-        (refl, r.2, rule_shown (set s.words i (f n)) (set s.views id w) id w (lag n w r.2) r.1 at'))
+    let at' : get_elem? (set s.views id w) id ≡ some w = set_here s.views id w (below_length s.views id me.0 at) in (
+      w,
+      keeps,
+      tt,
+      r.1,
+      (refl, r.2, rule_shown (set s.words i (f n)) (set s.views id w) id w (lag n w r.2) r.1 at'),
+    )

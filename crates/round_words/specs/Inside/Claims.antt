@@ -42,9 +42,9 @@ IsExpected p k old = (k < 4 → old ≡ 0)
 abbrev pub EntersRound : ℕ × ℕ × ℕ × ℕ → View → ℕ → View → Type 0
 EntersRound x v n w =
     ((n ≡ x.3) × (x.2 ≤ v.events)
-        × (w ≡ with_part v x.0 (enters (part v x.0) (entry x.1 x.2 x.2 true))))
+    × (w ≡ with_part v x.0 (enters (part v x.0) (entry x.1 x.2 x.2 true))))
     ⊎ ((u : ℕ) × (n ≢ x.3) × (n ≡ decision_word x.1 u) × (u ≤ v.events)
-        × (w ≡ with_part v x.0 (enters (part v x.0) (entry x.1 u x.2 false))))
+    × (w ≡ with_part v x.0 (enters (part v x.0) (entry x.1 u x.2 false))))
 
 -- `advance`, of the core, the end and who ran
 abbrev pub AppendsStint : ℕ × ℕ × Option ℕ → View → ℕ → View → Type 0
@@ -61,4 +61,4 @@ abbrev pub StepKeepsRule : ℕ → View → ℕ → (ℕ → ℕ) → (ℕ → V
 StepKeepsRule id v i f claim = (words : List ℕ) (views : List View) → KeepsRule words views
     → get_elem? views id ≡ some v → slice_index words i < 2 ^ 64
     → (w : View) × KeepsRule (slice_set words i (f (slice_index words i))) (slice_set views id w)
-        × claim (slice_index words i) w
+    × claim (slice_index words i) w
