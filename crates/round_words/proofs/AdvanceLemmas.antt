@@ -18,7 +18,8 @@ use Rattle.round_words.specs.Rule.{FloorsUpTo, Board, BoardInvariant, CoversEarl
 use Rattle.round_words.specs.Inside.Claims.{AppendsStint, StepKeepsRule}
 use Rattle.round_words.proofs.PlaceLemmas.{put, put_here, put_else, put_all}
 use Rattle.round_words.proofs.PlaceLemmas as places
-use Rattle.round_words.proofs.ListLemmas.{word_here, word_else, length_words, last_below, at_get}
+use Rattle.std.proofs.lemmas.List.{length-set}
+use Rattle.round_words.proofs.ListLemmas.{word_here, word_else, last_below, at_get}
 use Rattle.round_words.proofs.LoadLemmas.{parts_put, mine}
 use Rattle.round_words.proofs.PostLemmas.{writes}
 
@@ -27,7 +28,8 @@ abbrev with_clock : Board → ℕ → ℕ → Board
 with_clock g c end = record g { clocks = put g.clocks c end }
 
 -- another core's part
-advanced_else : (g : Board) (c end b : ℕ) (p : Part) → b ≢ c → CoreFits g b p → CoreFits (with_clock g c end) b p
+advanced_else : (g : Board) (c end b : ℕ) (p : Part) → b ≢ c → CoreFits g b p
+    → CoreFits (with_clock g c end) b p
 advanced_else g c end b p away f = record {
   clock = f.clock ∙ sym (put_else g.clocks c b end away);
   own = f.own;
@@ -55,7 +57,8 @@ timeline_stint : (p : Part) (end : ℕ) (ran : Option ℕ) (s : Stint) → IsSti
     → end ≤ p.clock / ROUND * ROUND + ROUND → HasTimeline p.clock p.entries p.stints
     → HasTimeline s.end p.entries (p.stints ++ s ∷ [])
 timeline_stint p end ran s next later within t =
-    let lt : p.clock / ROUND < length p.entries = slice_get_within p.entries (p.clock / ROUND) next.entry next.entered in
+    let lt : p.clock / ROUND < length p.entries =
+    slice_get_within p.entries (p.clock / ROUND) next.entry next.entered in
     let e = next.end in
     let ahead = t.ahead in record {
       contiguous = contiguous_push 0 p.clock p.stints s t.contiguous next.from;
@@ -77,7 +80,8 @@ advanced g c end ran p s f sound core next later within =
     let k : ℕ = p.clock / ROUND in
     let used = at_get (λ (e : Entry). (e.seen ≤ n) × (e.used ≤ n)) p.entries k next.entry next.entered
     f.floors.counts.entries in
-    let seen : s.seen ≤ n = subst (λ (y : ℕ). y ≤ n) (sym next.seen) (last_below p.sights n f.floors.counts.sights) in record {
+    let seen : s.seen ≤ n =
+    subst (λ (y : ℕ). y ≤ n) (sym next.seen) (last_below p.sights n f.floors.counts.sights) in record {
       clock = next.end ∙ sym (put_here g.clocks c c end refl);
       own = record {
         timeline = timeline_stint p end ran s next later within f.own.timeline;
@@ -108,7 +112,8 @@ near_put : (g : Board) (c end : ℕ) → BoardInvariant g → g.clocks c ≤ end
     → (a b : ℕ) → a < g.cores → b < g.cores → put g.clocks c end a ≤ put g.clocks c end b + g.lag
 near_put g c end sound later room core a b ha hb =
     put_all (λ i x. i < g.cores → x ≤ put g.clocks c end b + g.lag) g.clocks c end a
-    (λ is _. put_all (λ j y. j < g.cores → end ≤ y + g.lag) g.clocks c end b (λ _ _. omega arith) (λ away h. room b h away) hb)
+    (λ is _. put_all (λ j y. j < g.cores → end ≤ y + g.lag) g.clocks c end b (λ _ _. omega arith)
+    (λ away h. room b h away) hb)
     (λ away _. put_all (λ j y. j < g.cores → g.clocks a ≤ y + g.lag) g.clocks c end b
     (λ _ _. let n = sound.near a c ha core in omega arith) (λ _ h. sound.near a b ha h) hb)
     ha
@@ -119,7 +124,8 @@ rises g c end d later = put_all (λ i x. g.clocks i ≤ x) g.clocks c end d
     (λ is. subst (λ (i : ℕ). g.clocks i ≤ end) (sym is) later) (λ _. le_refl (g.clocks d))
 
 -- so what was heard isn't above it
-heard_rises : (g : Board) (c end : ℕ) (p : Part) → g.clocks c ≤ end → HeardFits g p → HeardFits (with_clock g c end) p
+heard_rises : (g : Board) (c end : ℕ) (p : Part) → g.clocks c ≤ end → HeardFits g p
+    → HeardFits (with_clock g c end) p
 heard_rises g c end p later heard = record {
   lists = heard.lists;
   rises = heard.rises;
@@ -162,7 +168,7 @@ advance_keeps id c end ran v s next fit on live has core later within room words
             made = r.sound.made;
           })
           (record {
-            count = length_words words (suc c) end ∙ cnt;
+            count = length-set words (suc c) end ∙ cnt;
             posted = word_else words (suc c) 0 end (λ e. omega arith) ∙ r.shows.posted;
             clocks = λ d h. put_all (λ i y. slice_index (set words (suc c) end) (suc i) ≡ y) g.clocks c end d
                 (λ is. ap (λ (i : ℕ). slice_index (set words (suc c) end) (suc i)) is
@@ -170,14 +176,16 @@ advance_keeps id c end ran v s next fit on live has core later within room words
                 (λ away. word_else words (suc c) (suc d) end (λ e. away (omega arith)) ∙ r.shows.clocks d h);
             rounds = λ q d e o. word_else words (suc c) (33 + q % 4) end (λ x. let y = f.0 in omega arith)
                 ∙ r.shows.rounds q d e o;
-            none = λ k h e. word_else words (suc c) (33 + k) end (λ x. let y = f.0 in omega arith) ∙ r.shows.none k h e;
+            none = λ k h e. word_else words (suc c) (33 + k) end (λ x. let y = f.0 in omega arith)
+                ∙ r.shows.none k h e;
           })
           (parts_put g' r.parts c q
           (λ d h away. advanced_else g c end d (r.parts d) away (r.fits.cores d h))
           (λ b. heard_rises g c end (r.parts b) up (r.fits.heard b))
           (λ away. r.fits.floors)
           (λ h. advanced g c end ran p s f.1 r.sound f.0 next later within)
-          (let h = heard_rises g c end p up m.heard in record { lists = h.lists; rises = h.rises; low = h.low })
+          (let h = heard_rises g c end p up m.heard in
+          record { lists = h.lists; rises = h.rises; low = h.low })
           m.floors),
       (s, next, refl),
     )

@@ -13,11 +13,13 @@ use Rattle.round_words.specs.Views.{controller, holds, part, with_part, heard_of
 use Rattle.round_words.specs.Rule.{FloorsUpTo, Board, BoardInvariant, AreWordsOf, HasCountsUpTo, FitsFloors, EntryFits, CoreFits, HeardFits, PartsFit, IsRunning, KeepsRule}
 use Rattle.round_words.specs.Inside.Claims.{PostsFloor, StepKeepsRule}
 use Rattle.round_words.proofs.PlaceLemmas.{runs, put, moves, placed_with}
-use Rattle.round_words.proofs.ListLemmas.{word_here, word_else, length_words, last_below, index_append, length_push}
+use Rattle.std.proofs.lemmas.List.{length-set}
+use Rattle.round_words.proofs.ListLemmas.{word_here, word_else, last_below, index_append, length_push}
 use Rattle.round_words.proofs.LoadLemmas.{parts_put, mine}
 
 -- a write of the word i, after which the board is g' and the part of an actor p
-pub writes : (words : List ℕ) (views : List View) (id a i n : ℕ) (v : View) (p : Part) (r : IsRunning words views)
+pub writes : (words : List ℕ) (views : List View) (id a i n : ℕ) (v : View) (p : Part)
+    (r : IsRunning words views)
     (g' : Board) → (g'.lag ≡ r.board.lag) × (g'.cores ≡ r.board.cores) × (g'.events ≡ r.board.events)
     → get_elem? views id ≡ some v → holds v a ≡ true → BoardInvariant g' → AreWordsOf g' (set words i n)
     → PartsFit g' (put r.parts a p) → KeepsRule (set words i n) (set views id (with_part v a p))
@@ -55,13 +57,17 @@ up_to_push floors floor count tick le before i lt =
 -- a core's part, where the controller posts
 floored : (g : Board) (floor c : ℕ) (p : Part) → CoreFits g c p → CoreFits (with_floor g floor) c p
 floored g floor c p f =
-    let long : length (g.floors ++ floor ∷ []) ≡ suc (length g.floors) = length_push g.floors floor in record {
+    let long : length (g.floors ++ floor ∷ []) ≡ suc (length g.floors) = length_push g.floors floor in
+    record {
       clock = f.clock;
       own = f.own;
       floors = record {
-        counts = counts_more (length g.floors) (length (g.floors ++ floor ∷ [])) p (omega arith) f.floors.counts;
-        entered = λ k d h. up_to_push g.floors floor _ _ (f.floors.counts.entries k d h).0 (f.floors.entered k d h);
-        began = λ k d h. up_to_push g.floors floor _ _ (f.floors.counts.stints k d h).0 (f.floors.began k d h);
+        counts = counts_more (length g.floors) (length (g.floors ++ floor ∷ [])) p
+            (omega arith) f.floors.counts;
+        entered = λ k d h. up_to_push g.floors floor _ _ (f.floors.counts.entries k d h).0
+            (f.floors.entered k d h);
+        began = λ k d h. up_to_push g.floors floor _ _ (f.floors.counts.stints k d h).0
+            (f.floors.began k d h);
       };
       entries = All-weaker (EntryFits g c) (EntryFits (with_floor g floor) c)
           (λ e h. record { count = h.count; winner = h.winner }) p.entries f.entries;
@@ -103,7 +109,7 @@ post_keeps id floor n v on live has next few low words views ruled at small =
             made = λ q d e. let o = r.sound.made q d e in (o.0, omega arith);
           })
           (record {
-            count = length_words words 0 n ∙ cnt;
+            count = length-set words 0 n ∙ cnt;
             posted = word_here words 0 n (omega arith) ∙ n_is;
             clocks = λ c h. word_else words 0 (suc c) n (λ e. omega arith) ∙ r.shows.clocks c h;
             rounds = λ q d e o. word_else words 0 (33 + q % 4) n (λ f. omega arith) ∙ r.shows.rounds q d e o;
