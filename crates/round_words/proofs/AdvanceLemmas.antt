@@ -1,11 +1,9 @@
 -- `advance`: a core's next stint.
-use Rattle.std.proofs.Common.{◌≡◌, ◌≢◌, ℕ, suc, ◌+◌, ◌*◌, ◌/◌, ◌%◌, ◌^◌, ◌<◌, ◌≤◌, true, List, [], ◌∷◌, ◌++◌, length, set, Option, Some, refl, sym, ap, ◌∙◌, subst, ⊎_elim, arith, le_trans, le_refl}
+use Rattle.std.proofs.Common.{◌≡◌, ◌≢◌, ℕ, suc, ◌+◌, ◌*◌, ◌/◌, ◌%◌, ◌^◌, ◌<◌, ◌≤◌, true, [], ◌∷◌, ◌++◌, length, set, Option, Some, refl, sym, ap, ◌∙◌, subst, ⊎_elim, arith, le_trans, le_refl}
 use Rattle.tab_core.specs.declared.TheConstants.{ROUND}
-use Rattle.std.specs.Prelude.{All, slice_index, slice_get}
+use Rattle.std.specs.Prelude.{slice_index, slice_get}
 use Rattle.std.proofs.lemmas.List.Elements.{All-nil, All-push, All-weaker}
 use Rattle.std.proofs.lemmas.Option.{slice_get_within}
-use mathlib.Core.Option.{some}
-use lib.ListN.{get_elem?}
 use Rattle.tab_core.proofs.Lists.{push_split}
 use Rattle.tab_core.proofs.TimelineLemmas.{contiguous_push}
 use Rattle.tab_core.specs.Timelines.{HasTimeline, IsStintOf}
@@ -13,9 +11,9 @@ use Rattle.tab_core.specs.declared.entry.Entry.{Entry}
 use Rattle.tab_core.specs.declared.stint.Stint.{Stint}
 use Rattle.round_words.specs.declared.view.Part.{Part}
 use Rattle.round_words.specs.declared.view.View.{View}
-use Rattle.round_words.specs.Views.{holds, part, with_part, heard_of, last_of, last_heard, runs, IsStintAfter}
+use Rattle.round_words.specs.Views.{holds, part, with_part, heard_of, last_heard, runs, IsStintAfter}
 use Rattle.round_words.specs.Rule.{FloorsUpTo, Board, BoardInvariant, CoversEarlier, EntryFits, CoreFits, HeardFits}
-use Rattle.round_words.specs.Inside.Claims.{AppendsStint, StepKeepsRule}
+use Rattle.round_words.specs.Inside.Claims.{AdvanceClaim, StepKeepsRule}
 use Rattle.round_words.proofs.PlaceLemmas.{put, put_here, put_else, put_all}
 use Rattle.round_words.proofs.PlaceLemmas as places
 use Rattle.std.proofs.lemmas.List.{length-set}
@@ -138,7 +136,7 @@ pub advance_keeps : (id c end : ℕ) (ran : Option ℕ) (v : View) (s : Stint) �
     → end < 2 ^ 32 → v.started ≡ true → 0 < v.lag → holds v c ≡ true → c < v.cores → (part v c).clock < end
     → end ≤ (part v c).clock / ROUND * ROUND + ROUND
     → ((d : ℕ) → d < v.cores → d ≢ c → end ≤ last_heard (part v c) d + v.lag)
-    → StepKeepsRule id v (suc c) (λ _. end) (λ n w. AppendsStint (c, end, ran) v n w)
+    → StepKeepsRule id v (suc c) (λ _. end) (λ n w. AdvanceClaim (c, end, ran) v n w)
 advance_keeps id c end ran v s next fit on live has core later within room words views ruled at small =
     let r = places.runs words views id v on ruled at in
     let g = r.board in

@@ -1,5 +1,5 @@
 -- What a change of one part leaves, step after step.
-use Rattle.std.proofs.Common.{◌≡◌, ◌≢◌, ℕ, true, ◌<◌, sym, ap, ◌∙◌, subst, refl}
+use Rattle.std.proofs.Common.{◌≡◌, ℕ, true, ◌<◌, sym, ap, ◌∙◌, subst, refl}
 use mathlib.Core.Logic.{dite}
 use native.Mathlib.Decide.{ℕ_discrete}
 use Rattle.round_words.specs.declared.view.Part.{Part}

@@ -12,13 +12,12 @@ use lib.ListN.{get_elem?}
 use Rattle.tab_core.proofs.Lists.{push_new, push_old, push_split}
 use Rattle.tab_core.specs.Timelines.{HasTimeline}
 use Rattle.tab_core.specs.declared.entry.Entry.{Entry}
-use Rattle.tab_core.specs.declared.stint.Stint.{Stint}
 use Rattle.round_words.specs.declared.numbers.Numbers.{Numbers}
 use Rattle.round_words.specs.declared.view.Part.{Part}
 use Rattle.round_words.specs.declared.view.View.{View}
 use Rattle.round_words.specs.Views.{controller, holds, part, with_part, last_of, enters, entry}
-use Rattle.round_words.specs.Rule.{FloorsUpTo, CoversEarlier, EntryFits, FitsFloors, HasCountsUpTo, IsCorePart, decision_word, Board, BoardInvariant, CoreFits, HeardFits, IsRunning, KeepsRule}
-use Rattle.round_words.specs.Inside.Claims.{IsExpected, EntersRound, StepKeepsRule}
+use Rattle.round_words.specs.Rule.{FloorsUpTo, CoversEarlier, EntryFits, FitsFloors, IsCorePart, decision_word, Board, BoardInvariant, CoreFits, HeardFits, IsRunning, KeepsRule}
+use Rattle.round_words.specs.Inside.Claims.{IsExpected, DecideClaim, StepKeepsRule}
 use Rattle.round_words.specs.Inside.Numbers.{KeepsUsed, NumbersAgree}
 use Rattle.round_words.specs.Shown.{HoldsCore, ViewInvariant}
 use Rattle.round_words.proofs.PlaceLemmas.{put, put_here, put_else, put_all}
@@ -362,7 +361,7 @@ pub decide_keeps : (id c k d old x : ℕ) (v : View) → v.started ≡ true → 
     → c < v.cores
     → (part v c).clock ≡ k * ROUND → All (λ (e : Entry). e.round ≢ k) (part v c).entries
     → d ≡ last_of (part v c).sights → x ≡ decision_word k d → IsExpected (part v c) k old
-    → StepKeepsRule id v (33 + k % 4) (λ n. either (eqb n old) x n) (EntersRound (c, k, d, old) v)
+    → StepKeepsRule id v (33 + k % 4) (λ n. either (eqb n old) x n) (DecideClaim (c, k, d, old) v)
 decide_keeps id c k d old x v on live has core clock new d_is x_is exp words views ruled at small =
     let r = places.runs words views id v on ruled at in
     let g = r.board in

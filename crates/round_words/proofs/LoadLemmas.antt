@@ -11,8 +11,8 @@ use Rattle.round_words.specs.declared.view.Part.{Part}
 use Rattle.round_words.specs.declared.view.View.{View}
 use Rattle.round_words.specs.Views.{controller, holds, part, with_part, heard_of, last_of, sees, hears}
 use Rattle.round_words.specs.Rule.{Board, AreWordsOf, HasCountsUpTo, CoversEarlier, EntryFits, CoreFits, NeverFalls, HeardFits, PartsFit, IsRunning, KeepsRule}
-use Rattle.round_words.specs.Inside.Claims.{SeesCount, HearsClock, ChangesNothing, StepKeepsRule}
-use Rattle.round_words.specs.Shown.{IsSight, IsHeardClock, HasOneCount, KeepsFloors, ViewInvariant}
+use Rattle.round_words.specs.Inside.Claims.{SeeClaim, HearClaim, MeetClaim, StepKeepsRule}
+use Rattle.round_words.specs.Shown.{HasOneCount, KeepsFloors, ViewInvariant}
 use Rattle.atomic_table.proofs.Lists.{set_again}
 use Rattle.round_words.proofs.PlaceLemmas.{runs, put, put_all, moves, placed_with}
 use Rattle.std.proofs.lemmas.List.{get_or-set_same, length-set, set-get_or}
@@ -112,7 +112,7 @@ saw g c n p is f =
 
 -- `see` keeps the rule
 pub see_keeps : (id c : ℕ) (v : View) → v.started ≡ true → 0 < v.lag → holds v c ≡ true → c < v.cores
-    → StepKeepsRule id v 0 (λ n. n) (SeesCount c v)
+    → StepKeepsRule id v 0 (λ n. n) (SeeClaim c v)
 see_keeps id c v on live has core words views ruled at small =
     let r = runs words views id v on ruled at in
     let g = r.board in
@@ -157,7 +157,7 @@ hearing g a c n p f = record {
 
 -- `clock_of` keeps the rule
 pub hear_keeps : (id a c : ℕ) (v : View) → v.started ≡ true → 0 < v.lag → holds v a ≡ true → c < v.cores
-    → StepKeepsRule id v (suc c) (λ n. n) (HearsClock (a, c) v)
+    → StepKeepsRule id v (suc c) (λ n. n) (HearClaim (a, c) v)
 hear_keeps id a c v on live has core words views ruled at small =
     let r = runs words views id v on ruled at in
     let g = r.board in
@@ -268,7 +268,7 @@ shown words views id v live r at =
     }
 
 -- the load of `meet` keeps the rule
-pub load_keeps : (id : ℕ) (v : View) → StepKeepsRule id v 0 (λ n. n) (ChangesNothing v)
+pub load_keeps : (id : ℕ) (v : View) → StepKeepsRule id v 0 (λ n. n) (MeetClaim v)
 load_keeps id v words views ruled at small = (
   v,
   subst (λ (ws : List ℕ). KeepsRule ws (set views id v)) (sym (set-get_or words 0 0))

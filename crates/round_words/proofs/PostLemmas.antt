@@ -1,7 +1,5 @@
 -- The steps that write a word, and `post`.
-use Rattle.std.proofs.Common.{◌≡◌, ◌≢◌, ℕ, suc, ◌+◌, ◌*◌, ◌%◌, ◌<◌, ◌≤◌, true, List, [], ◌∷◌, ◌++◌, length, set, refl, sym, ap, ◌∙◌, subst, inr, arith}
-use Rattle.tab_core.specs.declared.TheConstants.{ROUND}
-use Rattle.std.specs.Prelude.{All, slice_index}
+use Rattle.std.proofs.Common.{◌≡◌, ℕ, suc, ◌+◌, ◌%◌, ◌<◌, ◌≤◌, true, List, [], ◌∷◌, ◌++◌, length, set, refl, sym, ap, ◌∙◌, subst, inr, arith}
 use Rattle.std.proofs.lemmas.List.Elements.{All-push, All-weaker}
 use mathlib.Core.Option.{some}
 use lib.ListN.{get_elem?}
@@ -10,8 +8,8 @@ use Rattle.tab_core.specs.declared.stint.Stint.{Stint}
 use Rattle.round_words.specs.declared.view.Part.{Part}
 use Rattle.round_words.specs.declared.view.View.{View}
 use Rattle.round_words.specs.Views.{controller, holds, part, with_part, heard_of, last_heard, posts}
-use Rattle.round_words.specs.Rule.{FloorsUpTo, Board, BoardInvariant, AreWordsOf, HasCountsUpTo, FitsFloors, EntryFits, CoreFits, HeardFits, PartsFit, IsRunning, KeepsRule}
-use Rattle.round_words.specs.Inside.Claims.{PostsFloor, StepKeepsRule}
+use Rattle.round_words.specs.Rule.{FloorsUpTo, Board, BoardInvariant, AreWordsOf, HasCountsUpTo, EntryFits, CoreFits, HeardFits, PartsFit, IsRunning, KeepsRule}
+use Rattle.round_words.specs.Inside.Claims.{PostClaim, StepKeepsRule}
 use Rattle.round_words.proofs.PlaceLemmas.{runs, put, moves, placed_with}
 use Rattle.std.proofs.lemmas.List.{length-set}
 use Rattle.round_words.proofs.ListLemmas.{word_here, word_else, last_below, index_append, length_push}
@@ -82,7 +80,7 @@ heard_floored g floor p h = record { lists = h.lists; rises = h.rises; low = h.l
 pub post_keeps : (id floor n : ℕ) (v : View) → v.started ≡ true → 0 < v.lag → holds v controller ≡ true
     → n ≡ suc (length (part v controller).floors) → n ≤ v.events
     → ((c : ℕ) → c < v.cores → floor ≤ last_heard (part v controller) c)
-    → StepKeepsRule id v 0 (λ _. n) (λ m w. PostsFloor floor v n w)
+    → StepKeepsRule id v 0 (λ _. n) (λ m w. PostClaim floor v n w)
 post_keeps id floor n v on live has next few low words views ruled at small =
     let r = runs words views id v on ruled at in
     let g = r.board in
