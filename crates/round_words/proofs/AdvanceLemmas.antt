@@ -13,6 +13,8 @@ use Rattle.round_words.specs.declared.view.Part.{Part}
 use Rattle.round_words.specs.declared.view.View.{View}
 use Rattle.round_words.specs.Views.{holds, part, with_part, heard_of, last_heard, runs, IsStintAfter}
 use Rattle.round_words.specs.Rule.{FloorsUpTo, Board, BoardInvariant, CoversEarlier, EntryFits, CoreFits, HeardFits}
+use Rattle.round_words.specs.Hearing.{HasHeardTo}
+use Rattle.round_words.specs.Shown.{HoldsCore}
 use Rattle.round_words.specs.Inside.Claims.{AdvanceClaim, StepKeepsRule}
 use Rattle.round_words.proofs.PlaceLemmas.{put, put_here, put_else, put_all}
 use Rattle.round_words.proofs.PlaceLemmas as places
@@ -131,19 +133,30 @@ heard_rises g c end p later heard = record {
       (λ y le. le_trans le (rises g c end d later)) (heard_of p d) (heard.low d h);
 }
 
+-- what a core that may run up to a tick shows
+pub record MayAdvance (v : View) (c end : ℕ) : Type 0 where
+  pub started : v.started ≡ true
+  pub core : HoldsCore v c
+  pub entry : Entry
+  pub entered : slice_get (part v c).entries ((part v c).clock / ROUND) ≡ Some entry
+  pub later : (part v c).clock < end
+  pub within : end ≤ (part v c).clock / ROUND * ROUND + ROUND
+  pub heard : HasHeardTo v c v.cores end
+
 -- `advance` keeps the rule
-pub advance_keeps : (id c end : ℕ) (ran : Option ℕ) (v : View) (s : Stint) → IsStintAfter (part v c) end ran s
-    → end < 2 ^ 32 → v.started ≡ true → 0 < v.lag → holds v c ≡ true → c < v.cores → (part v c).clock < end
-    → end ≤ (part v c).clock / ROUND * ROUND + ROUND
-    → ((d : ℕ) → d < v.cores → d ≢ c → end ≤ last_heard (part v c) d + v.lag)
+pub advance_keeps : (id c end : ℕ) (ran : Option ℕ) (v : View) (s : Stint) → MayAdvance v c end
+    → IsStintAfter (part v c) end ran s → end < 2 ^ 32 → 0 < v.lag
     → StepKeepsRule id v (suc c) (λ _. end) (λ n w. AdvanceClaim (c, end, ran) v n w)
-advance_keeps id c end ran v s next fit on live has core later within room words views ruled at small =
-    let r = places.runs words views id v on ruled at in
+advance_keeps id c end ran v s may next fit live words views ruled at small =
+    let has = may.core.1 in
+    let later = may.later in
+    let within = may.within in
+    let r = places.runs words views id v may.started ruled at in
     let g = r.board in
     let m = mine words views id c v live r at has in
     let p : Part = part v c in
     let q : Part = runs p s in
-    let f = m.core core in
+    let f = m.core may.core.0 in
     let cl : p.clock ≡ g.clocks c = f.1.clock in
     let up : g.clocks c ≤ end = omega arith in
     let g' : Board = with_clock g c end in
@@ -158,7 +171,7 @@ advance_keeps id c end ran v s next fit on live has core later within room words
             small = λ d h. put_all (λ i y. i < g.cores → y < 2 ^ 32) g.clocks c end d (λ _ _. fit)
                 (λ _ h'. r.sound.small d h') h;
             near = near_put g c end r.sound up
-                (λ d h away. let a = room d (subst (λ (y : ℕ). d < y) (sym set'.1) h) away in
+                (λ d h away. let a = may.heard d (subst (λ (y : ℕ). d < y) (sym set'.1) h) away in
                 let b = last_below (heard_of p d) (g.clocks d) (m.heard.low d h) in
                 omega arith) f.0;
             low = λ d h. All-weaker (λ y. y ≤ g.clocks d) (λ y. y ≤ put g.clocks c end d)

@@ -76,13 +76,20 @@ floored g floor c p f =
 heard_floored : (g : Board) (floor : ℕ) (p : Part) → HeardFits g p → HeardFits (with_floor g floor) p
 heard_floored g floor p h = record { lists = h.lists; rises = h.rises; low = h.low }
 
+-- what a controller that may post with a floor shows
+pub record MayPost (v : View) (floor : ℕ) : Type 0 where
+  pub started : v.started ≡ true
+  pub held : holds v controller ≡ true
+  pub events : length (part v controller).floors < v.events
+  pub heard : (c : ℕ) → c < v.cores → floor ≤ last_heard (part v controller) c
+
 -- `post` keeps the rule
-pub post_keeps : (id floor n : ℕ) (v : View) → v.started ≡ true → 0 < v.lag → holds v controller ≡ true
-    → n ≡ suc (length (part v controller).floors) → n ≤ v.events
-    → ((c : ℕ) → c < v.cores → floor ≤ last_heard (part v controller) c)
-    → StepKeepsRule id v 0 (λ _. n) (λ m w. PostClaim floor v n w)
-post_keeps id floor n v on live has next few low words views ruled at small =
-    let r = runs words views id v on ruled at in
+pub post_keeps : (id floor n : ℕ) (v : View) → MayPost v floor → 0 < v.lag
+    → n ≡ suc (length (part v controller).floors) → StepKeepsRule id v 0 (λ _. n) (λ m w. PostClaim floor v n w)
+post_keeps id floor n v may live next words views ruled at small =
+    let has = may.held in
+    let few = may.events in
+    let r = runs words views id v may.started ruled at in
     let g = r.board in
     let m = mine words views id controller v live r at has in
     let p : Part = part v controller in
@@ -101,7 +108,7 @@ post_keeps id floor n v on live has next few low words views ruled at small =
             small = r.sound.small;
             near = r.sound.near;
             low = λ c h. All-push (λ f. f ≤ g.clocks c) g.floors floor (r.sound.low c h)
-                (let a = low c (subst (λ (k : ℕ). c < k) (sym s.1) h) in
+                (let a = may.heard c (subst (λ (k : ℕ). c < k) (sym s.1) h) in
                 let b = last_below (heard_of p c) (g.clocks c) (m.heard.low c h) in
                 omega arith);
             made = λ q d e. let o = r.sound.made q d e in (o.0, omega arith);
