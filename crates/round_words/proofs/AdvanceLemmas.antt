@@ -11,7 +11,7 @@ use Rattle.tab_core.specs.declared.entry.Entry.{Entry}
 use Rattle.tab_core.specs.declared.stint.Stint.{Stint}
 use Rattle.round_words.specs.declared.view.Part.{Part}
 use Rattle.round_words.specs.declared.view.View.{View}
-use Rattle.round_words.specs.Views.{holds, part, with_part, heard_of, last_heard, runs, IsStintAfter}
+use Rattle.round_words.specs.Views.{part, with_part, heard_of, runs, IsStintAfter}
 use Rattle.round_words.specs.Rule.{FloorsUpTo, Board, BoardInvariant, CoversEarlier, EntryFits, CoreFits, HeardFits}
 use Rattle.round_words.specs.Hearing.{HasHeardTo}
 use Rattle.round_words.specs.Shown.{HoldsCore}

@@ -1,8 +1,8 @@
 use Rattle.std.proofs.Common.{◌≡◌, ◌<◌, true, refl, sym, subst, ◌∙◌}
 use Rattle.round_words.specs.declared.view.View.{View}
-use Rattle.round_words.specs.Seats.{view_of, IsSeatOf}
+use Rattle.round_words.specs.Seats.{view_of}
 use Rattle.round_words.specs.Shown.{HoldsCore}
-use Rattle.round_words.specs.Views.{controller, holds, new_part, only, part, without}
+use Rattle.round_words.specs.Views.{controller, holds, new_part, part}
 use Rattle.round_words.proofs.ViewsLemmas.{only_named, without_others}
 use Rattle.threads_tests.proofs.board.enter_both.Goals as goal
 
@@ -30,7 +30,7 @@ join-seat-requires-after_bounds g c κs within =
       r.controller.2,
     ) in
     let follows : Follows (view_of c.part-other.result) = subst Follows (sym c.part-other.ensures.given)
-        (r.started, (r.second.0.0, b.0 ∙ r.second.0.1), b.1 ∙ r.second.1) in (
+    (r.started, (r.second.0.0, b.0 ∙ r.second.0.1), b.1 ∙ r.second.1) in (
       (c.part-other.ensures.board.0, leads.0, leads.1, leads.2, leads.3, leads.4, leads.5),
       (c.part-other.ensures.board.1, follows.0, follows.1, follows.2),
     )
