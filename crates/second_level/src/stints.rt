@@ -2,7 +2,7 @@ ghost use Rattle.std.specs.Prelude.{◌≡◌, ℕ, ◌+◌, ◌-◌, ◌*◌, �
 ghost use Rattle.tab_core.specs.declared.TheConstants.{ROUND};
 ghost use Rattle.tab_core.specs.declared.stint.Stint.{Stint as StintValue};
 ghost use Rattle.table_form.specs.Running.Choice.{IsDispatch, is_shared, last_after, last_shared, owner_runs, runs_other};
-ghost use Rattle.table_form.specs.Running.Outlines.{InEachCourse};
+ghost use Rattle.table_form.specs.Running.Courses.{InEachCourse};
 ghost use Rattle.table_form.specs.Tables.Views.{plan_view};
 ghost use Rattle.table_form.specs.Tables.Spots.{IsSpot};
 ghost use Rattle.second_level.specs.Inside.Picks.{PicksFrom};

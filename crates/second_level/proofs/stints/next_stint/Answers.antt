@@ -1,8 +1,7 @@
 use Rattle.std.proofs.Common.{◌≡◌, ℕ, ◌+◌, ◌*◌, ◌/◌, ◌%◌, ◌<◌, ◌≤◌, Bool, Option, cond, refl, sym, ap, ◌∙◌, arith}
 use Rattle.tab_core.specs.declared.TheConstants.{ROUND}
 use Rattle.table_form.specs.Running.Choice.{IsChoice, runs_other}
-use Rattle.table_form.specs.Running.Courses.{CourseView, runnable_after}
-use Rattle.table_form.specs.Running.Outlines.{with_plans}
+use Rattle.table_form.specs.Running.Courses.{CourseView, runnable_after, with_plans}
 use Rattle.table_form.specs.Tables.Plans.{PlanView}
 use Rattle.table_form.specs.Tables.Views.{plan_view}
 use Rattle.second_level.proofs.DispatchLemmas.{end_in_round, follows_by, is_other_by, shared_by}
