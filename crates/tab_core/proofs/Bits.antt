@@ -1,5 +1,5 @@
 -- Sets of vCPUs by their words: one bit for each truth value.
-use Rattle.std.proofs.Common.{◌≡◌, ◌≢◌, ◌∙◌, ℕ, zero, suc, ◌+◌, ◌-◌, ◌*◌, ◌/◌, ◌%◌, ◌<◌, ◌≤◌, ◌^◌, ◌↔◌, Bool, false, true, eqb, List, [], ◌∷◌, length, get_or, set, replicate, refl, sym, ap, arith, inl, inr, w64, bit_and, bit_or, get_or-set_other, length-append}
+use Rattle.std.proofs.Common.{◌≡◌, ◌≢◌, ◌∙◌, ℕ, zero, suc, ◌+◌, ◌-◌, ◌*◌, ◌/◌, ◌%◌, ◌<◌, ◌≤◌, ◌^◌, ◌↔◌, Bool, false, true, eqb, not, ◌&&◌, List, [], ◌∷◌, length, get_or, set, replicate, refl, sym, ap, arith, inl, inr, w64, bit_and, bit_or, get_or-set_other, length-append}
 use Rattle.std.proofs.lemmas.List.{same_lists, get_or_past, get_or-replicate, length-replicate}
 use Rattle.std.proofs.lemmas.Bool.{cases_eq, cases_lt}
 use Rattle.std.proofs.lemmas.Nat.{shr-shr}
@@ -7,7 +7,7 @@ use Rattle.std.specs.Prelude.{IsTrue, min}
 use Rattle.std.proofs.Math.ListN.{length-set}
 use Rattle.std.proofs.lemmas.Bool.Decides.{nat_tests}
 use Rattle.std.proofs.lemmas.Grind.{common_steps, get_or-set_at, same_number_lists}
-use Rattle.std.proofs.lemmas.Nat.Bits.{bit_at-zero, bit_at-lt, same_from_bits_below, bit_at_above, bit_at_and, bit_at-trailing_zeros, bit_at_set_same, bit_at_set_other, bit_at_clear_same, bit_at_clear_other}
+use Rattle.std.proofs.lemmas.Nat.Bits.{bit_at-zero, bit_at-lt, same_from_bits_below, bit_at_above, bit_at_and, bit_at_not, bit_at-trailing_zeros, bit_at_set_same, bit_at_set_other, bit_at_clear_same, bit_at_clear_other}
 use Rattle.std.specs.Int.{bit_at, bit_not, trailing_zeros}
 use Rattle.tab_core.specs.Least.{IsLeast}
 use Rattle.tab_core.specs.VcpuSets.{IsInBoth, has_bit, has_vcpu, bits_below, members_of}
@@ -238,4 +238,46 @@ none_common a b from at both v nothing are below q low lt = elim (cases_lt v at)
       let one = (are i.0 (omega (arith, i.2))).1 (i.2, rw i.1 q) in
       let zero_bit : bit_at both i.0 ≡ 0 = ap (λ n. bit_at n i.0) nothing ∙ bit_at-zero i.0 in
       omega (arith, one, zero_bit)
+]
+
+-- the words of one set less the bits of another
+abbrev pub less : List ℕ → List ℕ → List ℕ
+less a b = bit_and (get_or a 0 0) (bit_not w64 (get_or b 0 0))
+    ∷ bit_and (get_or a 1 0) (bit_not w64 (get_or b 1 0))
+    ∷ bit_and (get_or a 2 0) (bit_not w64 (get_or b 2 0))
+    ∷ bit_and (get_or a 3 0) (bit_not w64 (get_or b 3 0)) ∷ []
+
+-- each of the four words
+less_word : (a b : List ℕ) (k : ℕ) → k < 4
+    → get_or (less a b) k 0 ≡ bit_and (get_or a k 0) (bit_not w64 (get_or b k 0))
+less_word a b zero lt = refl
+less_word a b (suc zero) lt = refl
+less_word a b (suc (suc zero)) lt = refl
+less_word a b (suc (suc (suc zero))) lt = refl
+less_word a b (suc (suc (suc (suc k)))) lt = absurd (omega arith)
+
+-- has the bits of the one that the other hasn't
+less_bit : (x y i : ℕ) → y < 2 ^ 64 → i < 64
+    → eqb (bit_at (bit_and x (bit_not w64 y)) i) 1 ≡ (eqb (bit_at x i) 1 && not (eqb (bit_at y i) 1))
+less_bit x y i fits low =
+    let both = bit_at_and x (bit_not w64 y) i in
+    let turned = bit_at_not w64 y i fits low in
+    let lt = bit_at-lt x i in
+    let lt' = bit_at-lt y i in
+    grind (arith, nat_tests)
+
+-- so they are the set of the one's members that aren't the other's
+pub members_less : (a b : List ℕ) (v : ℕ) → ((i : ℕ) → get_or b i 0 < 2 ^ 64)
+    → has_vcpu (members_of (less a b)) v ≡ (has_vcpu (members_of a) v && not (has_vcpu (members_of b) v))
+members_less a b v fits = elim (cases_lt v 256) [
+  | inl lt ↦
+      let one = bits_below-at a 256 v false lt in
+      let other = bits_below-at b 256 v false lt in
+      let here = bits_below-at (less a b) 256 v false lt in
+      let word = less_word a b (v / 64) (omega (arith, lt)) in
+      let bit = less_bit (get_or a (v / 64) 0) (get_or b (v / 64) 0) (v % 64) (fits (v / 64)) (omega arith) in
+      here ∙ (ap (λ w. eqb (bit_at w (v % 64)) 1) word ∙ (bit ∙ sym (rw (one, other) refl)))
+  | inr le ↦
+      let past = λ (words : List ℕ). get_or_past (members_of words) v false (omega (arith, le, length-bits_below words 256)) in
+      past (less a b) ∙ sym (rw (past a) refl)
 ]

@@ -1,4 +1,4 @@
-ghost use Rattle.std.specs.Prelude.{◌≡◌, ◌↔◌, ◌<◌, ◌≤◌, ◌+◌, ◌%◌, ℕ, IfNone, IfSome, IsTrue, length, replicate, slice_set, false, true};
+ghost use Rattle.std.specs.Prelude.{◌≡◌, ◌↔◌, ◌<◌, ◌≤◌, ◌+◌, ◌%◌, ◌&&◌, not, ℕ, IfNone, IfSome, IsTrue, length, replicate, slice_set, false, true};
 ghost use Rattle.std.specs.Int.{bit_at};
 ghost use Rattle.tab_core.specs.Least.{IsLeast};
 ghost use Rattle.tab_core.specs.VcpuSets.{IsInBoth, has_vcpu, has_bit, members_of};
@@ -66,6 +66,16 @@ impl VcpuSet {
         same_words(&self.words, &other.words)
     }
 
+    /// The members of this set that aren't in the other.
+    pub fn without(&self, other: &VcpuSet) -> VcpuSet
+        ensures { (vcpu : ℕ) → has_vcpu result vcpu
+            ≡ (has_vcpu self.now vcpu && not (has_vcpu other.now vcpu)) }
+    {
+        VcpuSet {
+            words: bits_without(&self.words, &other.words),
+        }
+    }
+
     /// The least member of both sets that is `from` or more, if there is one.
     pub fn first_common(&self, other: &VcpuSet, from: u32) -> Option<VcpuNo>
         requires { from ≤ MAX_VCPUS }
@@ -101,6 +111,13 @@ fn same_words(a: &[u64; 4], b: &[u64; 4]) -> bool
     ensures { IsTrue result ↔ (members_of a.now ≡ members_of b.now) }
 {
     *a == *b
+}
+
+fn bits_without(a: &[u64; 4], b: &[u64; 4]) -> [u64; 4]
+    ensures { (vcpu : ℕ) → has_vcpu (members_of result) vcpu
+        ≡ (has_vcpu (members_of a.now) vcpu && not (has_vcpu (members_of b.now) vcpu)) }
+{
+    [a[0] & !b[0], a[1] & !b[1], a[2] & !b[2], a[3] & !b[3]]
 }
 
 // The least bit of both from one on, by words: the bits below it are shifted out of the first.
