@@ -72,12 +72,6 @@ plans_new course log p new stints = record {
       (record { slots = new.slots; shared = new.shared; idle = new.idle });
 }
 
--- an array of zeros
-pub zero_at : (n v : ℕ) → slice_index (replicate n 0) v ≡ 0
-zero_at zero v = refl
-zero_at (suc n) zero = refl
-zero_at (suc n) (suc v) = zero_at n v
-
 -- other parts and sights don't matter, and what was heard only to the known clocks
 pub stands_same : (o : OutlineView) (s : StateView) (v w : View) (known : List ℕ) → Stands o s v → ChangesOnly v w s.core
     → SameRun (part v s.core) (part w s.core) → KnowsClocks known (part w s.core) → Stands o (record s { known = known }) w
