@@ -1,5 +1,5 @@
 -- What each part of a step keeps.
-use Rattle.std.proofs.Common.{◌≡◌, ℕ, zero, suc, ◌+◌, ◌*◌, ◌/◌, ◌<◌, ◌≤◌, Bool, true, false, List, [], ◌∷◌, ◌++◌, length, take, inl, inr, Some, refl, sym, ap, ◌∙◌, subst, arith}
+use Rattle.std.proofs.Common.{◌≡◌, ℕ, zero, suc, ◌+◌, ◌*◌, ◌/◌, ◌<◌, ◌≤◌, Bool, true, false, List, [], ◌∷◌, ◌++◌, length, length-append, take, inl, inr, Some, refl, sym, ap, ◌∙◌, subst, arith}
 use Rattle.std.specs.Prelude.{All, nat_lt, slice_get, if◌then◌else◌}
 use Rattle.std.proofs.lemmas.Bool.{cases_lt, le-ltb, lt-ltb}
 use Rattle.tab_core.specs.declared.TheConstants.{ROUND}
@@ -36,6 +36,7 @@ of_course_still course v w a o of = started_still course.lag course.cores (lengt
 pub kept_same : (course : CourseView) (rounds c : ℕ) (p q : Part) → SameRun p q → IsPartOf course rounds c p → IsPartOf course rounds c q
 kept_same course rounds c p q same kept = record {
   in_run = omega (arith, same.clock, kept.in_run);
+  in_rounds = (let e : length q.entries ≡ length p.entries = ap length same.entries in omega (arith, e, kept.in_rounds));
   rising = rw same.entries kept.rising;
   entered = rw same.entries kept.entered;
   began = rw same.stints kept.began;
@@ -60,13 +61,14 @@ agrees_same a v w agrees others same = record {
   knows = knows_same a (part v a.core) (part w a.core) same agrees.knows;
 }
 
-decided_kept : (course : CourseView) (rounds c count : ℕ) (p q : Part) → IsPartOf course rounds c p → HasSeen course count p → Decides p q → IsPartOf course rounds c q
-decided_kept course rounds c count p q kept seen d =
+decided_kept : (course : CourseView) (rounds c count : ℕ) (p q : Part) → IsPartOf course rounds c p → p.clock < rounds * ROUND → HasSeen course count p → Decides p q → IsPartOf course rounds c q
+decided_kept course rounds c count p q kept less seen d =
     let e : Entry = d.entry in
     let saw : e.seen ≡ count = d.is_entry.seen ∙ seen.last in
     let at : e.round * ROUND ≡ p.clock = ap (λ (r : ℕ). r * ROUND) d.is_entry.round ∙ sym d.start in
     subst (IsPartOf course rounds c) (sym d.becomes) (record {
       in_run = kept.in_run;
+      in_rounds = (let more = length-append p.entries (e ∷ []) in omega (arith, more, d.due, less));
       rising = λ j k x y lt at' at''. elim (push_split p.entries k e y at'') [
         | inl old ↦ elim (push_split p.entries j e x at') [
           | inl before ↦ kept.rising j k x y lt before old
@@ -87,10 +89,10 @@ decided_kept course rounds c count p q kept seen d =
       chosen = kept.chosen;
     })
 
-pub entered_kept : (course : CourseView) (rounds c count : ℕ) (p q : Part) → IsPartOf course rounds c p → HasSeen course count p → EntersRound p q → IsPartOf course rounds c q
-entered_kept course rounds c count p q kept seen enters = elim enters [
+pub entered_kept : (course : CourseView) (rounds c count : ℕ) (p q : Part) → IsPartOf course rounds c p → p.clock < rounds * ROUND → HasSeen course count p → EntersRound p q → IsPartOf course rounds c q
+entered_kept course rounds c count p q kept less seen enters = elim enters [
   | inl had ↦ subst (IsPartOf course rounds c) (sym had.1) kept
-  | inr d ↦ decided_kept course rounds c count p q kept seen d
+  | inr d ↦ decided_kept course rounds c count p q kept less seen d
 ]
 
 -- entering leaves all but the entries
@@ -112,6 +114,7 @@ pub ran_kept : (course : CourseView) (rounds c count : ℕ) (p : Part) (s : Stin
 ran_kept course rounds c count p s kept last has stints less next within' =
     let saw : s.seen ≡ count = next.begins.seen ∙ last in record {
       in_run = omega (arith, next.begins.from, within', less);
+      in_rounds = kept.in_rounds;
       rising = kept.rising;
       entered = kept.entered;
       began = λ k x h. elim (push_split p.stints k s x h) [

@@ -1,5 +1,5 @@
 -- An actor that has done nothing yet.
-use Rattle.std.proofs.Common.{◌≡◌, ℕ, zero, suc, ◌*◌, ◌<◌, ◌≤◌, List, [], ◌∷◌, None, take, replicate, refl, sym, ap, ◌∙◌, subst, arith}
+use Rattle.std.proofs.Common.{length, ◌≡◌, ℕ, zero, suc, ◌*◌, ◌<◌, ◌≤◌, List, [], ◌∷◌, None, take, replicate, refl, sym, ap, ◌∙◌, subst, arith}
 use Rattle.std.specs.Prelude.{slice_get, slice_index}
 use Rattle.tab_core.specs.declared.entry.Entry.{Entry}
 use Rattle.tab_core.specs.declared.stint.Stint.{Stint}
@@ -19,6 +19,7 @@ use Rattle.dispatch_core.specs.Parts.{IsOfCourse, IsPartOf}
 part_new : (course : CourseView) (rounds c : ℕ) (p : Part) → p.clock ≡ 0 → p.entries ≡ [] → p.stints ≡ [] → IsPartOf course rounds c p
 part_new course rounds c p clock entries stints = record {
   in_run = omega (arith, clock);
+  in_rounds = (let none : length p.entries ≡ 0 = ap length entries in omega (arith, none));
   rising = λ j k e f lt at at'. absurd (let h = ap (λ (es : List Entry). slice_get es j) entries in cc);
   entered = λ k e at. absurd (let h = ap (λ (es : List Entry). slice_get es k) entries in cc);
   began = λ k s at. absurd (let h = ap (λ (ss : List Stint). slice_get ss k) stints in cc);

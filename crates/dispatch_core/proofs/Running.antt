@@ -32,16 +32,16 @@ pub run_of_same : (p q : Part) → SamePart p q → SameRun p q
 run_of_same p q same = record { clock = same.clock; entries = same.entries; stints = same.stints }
 
 -- a core that entered its clock's round
-pub agrees_entered : (a : ActorView) (v u : View) (used : List ℕ) (count : ℕ) → AgreesWith a v → Others v u a.core → HasSeen a.course count (part v a.core)
+pub agrees_entered : (a : ActorView) (v u : View) (used : List ℕ) (count : ℕ) → AgreesWith a v → a.clock < a.rounds * ROUND → Others v u a.core → HasSeen a.course count (part v a.core)
     → EntersRound (part v a.core) (part u a.core) → used ≡ used_counts (part u a.core).entries → AgreesWith (record a { used = used }) u
-agrees_entered a v u used count agrees others seen enters is =
+agrees_entered a v u used count agrees less others seen enters is =
     let p : Part = part v a.core in
     let q : Part = part u a.core in
     let same = entered_same p q enters in
     let k = agrees.knows in record {
       of_course = of_course_still a.course v u a.core others agrees.of_course;
       core = core_still v u a.core a.core others agrees.core;
-      kept = entered_kept a.course a.rounds a.core count p q agrees.kept seen enters;
+      kept = entered_kept a.course a.rounds a.core count p q agrees.kept (let at = agrees.knows.clock in omega (arith, at, less)) seen enters;
       knows = record {
         clock = k.clock ∙ sym same.clock;
         last = k.last ∙ ap (last_shared a.course a.core) (sym same.stints);

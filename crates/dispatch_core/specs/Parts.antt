@@ -21,6 +21,8 @@ IsOfCourse course v = IsStarted course.lag course.cores (length course.ticks) v
 -- shows of each part (`Own` of round_words).
 pub record IsPartOf (course : CourseView) (rounds c : ℕ) (p : Part) : Type 0 where
   pub in_run : p.clock ≤ rounds * ROUND
+  -- it enters no round beyond the run
+  pub in_rounds : length p.entries ≤ rounds
   -- what was seen at an entry is at least what was used before
   pub rising : (j k : ℕ) (e f : Entry) → j < k → slice_get p.entries j ≡ Some e
       → slice_get p.entries k ≡ Some f → e.used ≤ f.seen

@@ -58,7 +58,7 @@ returns-in-Some-clause-agrees c =
     let u : View = view_of c.enter-used.new.seat in
     let e = c.enter-used.ensures in
     let low = c.in-Some.ensures.low in
-    let at = agrees_entered (actor_view duty c.args.log.now) v u c.enter-used.new.used.items c.args.count c.requires.agrees e.others c.requires.seen e.enters e.used in
+    let at = agrees_entered (actor_view duty c.args.log.now) v u c.enter-used.new.used.items c.args.count c.requires.agrees c.requires.unfinished e.others c.requires.seen e.enters e.used in
     let same : SameRun (part u duty.core) low.heard = run_of_same _ low.heard (heard_same duty.core _ _ _ (part u duty.core) low.heard low.near) in
     agrees_same _ u _ at c.in-Some.ensures.others
     (subst (SameRun (part u duty.core)) (sym low.becomes) (record { clock = same.clock; entries = same.entries; stints = same.stints }))
@@ -131,7 +131,7 @@ returns-in-None-clause-agrees c =
     let hs = heard_same core _ _ _ q r c.in-None.ensures.heard in
     let is_next = next_same course core q r next.stint hs (next_after duty log v u c.args.count c.enter-used.result c.enter-used.new.used.items next.stint c.requires.agrees seen e.enters
     e.used e.count n.from n.seen n.used (follows_of duty.course.now c.outline-outline.result.now (plan_view c.plan_after-plan.result.now) duty.core c.enter-used.result c.args.log.now.last c.next_stint-next.result.stint c.outline-outline.ensures.outline c.plan_after-plan.ensures.plan n.follows)) in
-    let at = agrees_entered (actor_view duty log) v u c.enter-used.new.used.items c.args.count c.requires.agrees e.others seen e.enters e.used in
+    let at = agrees_entered (actor_view duty log) v u c.enter-used.new.used.items c.args.count c.requires.agrees c.requires.unfinished e.others seen e.enters e.used in
     let heard : AgreesWith (actor_view duty mid) x = agrees_same (actor_view duty mid) u x at c.in-None.ensures.others (run_of_same q r hs) in
     let clock : r.clock ≡ p.clock = hs.clock ∙ es.clock in
     let bounds = stint_bounds course core r.stints next.stint c.requires.actor.course_kept is_next.follows in
