@@ -1,7 +1,7 @@
 -- A view of a whole board, read as a state of a run.
 -- Source: the rules of this project.
-use Rattle.std.specs.Prelude.{ℕ, ◌+◌, Bool, not, nat_le, if◌then◌else◌, List, [], ◌∷◌, Option, Some, None, map, drop, length}
-use Rattle.std.specs.List.{list_any, range_with_len}
+use Rattle.std.specs.Prelude.{ℕ, ◌+◌, Bool, nat_lt, if◌then◌else◌, List, [], ◌∷◌, Option, Some, None, map, drop, length}
+use Rattle.std.specs.List.{list_all, range_with_len}
 use Rattle.table_form.specs.Running.Courses.{CourseView}
 use Rattle.table_form.specs.Running.State.{State, CoreState}
 use Rattle.round_words.specs.declared.view.Part.{Part}
@@ -9,9 +9,9 @@ use Rattle.round_words.specs.declared.view.View.{View}
 use Rattle.round_words.specs.Views.{controller, part, last_of}
 use Rattle.dispatch_core.specs.Actors.{used_counts}
 
--- the count has each event of tick at most x less the lag: none that is left out is so early
+-- the count has each event of tick at most x less the lag: all events after the first `count` come later
 abbrev pub has_up_to : CourseView → ℕ → ℕ → Bool
-has_up_to course count x = not (list_any (λ tick. nat_le (tick + course.lag) x) (drop count course.ticks))
+has_up_to course count x = list_all (λ tick. nat_lt x (tick + course.lag)) (drop count course.ticks)
 
 -- what a core has seen since its last stint: its last sight, if that has each event due at its clock
 abbrev pub seen_by : CourseView → ℕ → List ℕ → Option ℕ

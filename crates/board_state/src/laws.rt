@@ -32,8 +32,8 @@ pub fn every_core_used_the_decided_counts()
     ensures counts { (course : CourseView) (rounds c : ℕ) (v : View) → IsRunView course rounds v
         → IsFinished rounds v → c < v.cores
         → used_counts (part v c).entries ≡ (state_of course v).decided }
-    ensures each_round { (course : CourseView) (rounds : ℕ) (v : View) → IsCourse course
-        → IsRunView course rounds v → IsFinished rounds v → length (state_of course v).decided ≡ rounds }
+    ensures each_round { (course : CourseView) (rounds c : ℕ) (v : View) → IsRunView course rounds v
+        → IsFinished rounds v → c < v.cores → length (state_of course v).decided ≡ rounds }
 {}
 
 /// A core is read as having seen a count where that is its last sight since its last stint, and has each
