@@ -22,7 +22,7 @@ pub stint_bounds : (course : CourseView) (c : ℕ) (earlier : List Stint) (s : S
     → (s.from < s.end) × (s.end ≤ (s.from / ROUND + 1) * ROUND) × (s.end ≤ s.from + course.lag)
 stint_bounds course c earlier s ok f =
     end_bounds (is_shared course c s) s.from s.end f.span_end course.lag course.quantum f.end
-    f.span.after f.span.within ok.form.some_lag ok.form.some_quantum
+    f.span.after f.span.within ok.form.outline.some_lag ok.form.outline.some_quantum
 
 -- whoever is picked is eligible
 pub picked : (eligible : ℕ → Type 0) (last : Option ℕ) (v : ℕ) → IsPick eligible last (Some v) → eligible v
