@@ -4,7 +4,7 @@ use Rattle.std.specs.Prelude.{slice_get}
 use Rattle.std.proofs.lemmas.Option.{slice_get_within}
 use Rattle.tab_core.specs.declared.entry.Entry.{Entry}
 use Rattle.round_words.specs.declared.view.Part.{Part}
-use Rattle.dispatch_core.specs.Actors.{used_counts}
+use Rattle.dispatch_core.specs.Parts.{used_counts}
 use Rattle.run_promises.proofs.Lists.{element_at}
 use Rattle.board_state.specs.Readings.{decided_by, extended_by}
 use Rattle.board_state.proofs.Lists.{in_map, of_map}
@@ -52,4 +52,5 @@ has_decided (q ∷ ps) zero r p e at h =
     (inl (used_within q.entries r e (subst (λ (x : Part). slice_get x.entries r ≡ Some e) (sym is) h)))
 has_decided (q ∷ ps) (suc c) r p e at h =
     let rest = has_decided ps c r p e at h in
-    has_extended (used_counts q.entries) (decided_by ps) r (inr (slice_get_within (decided_by ps) r rest.0 rest.1))
+    let lt = slice_get_within (decided_by ps) r rest.0 rest.1 in
+    has_extended (used_counts q.entries) (decided_by ps) r (inr lt)

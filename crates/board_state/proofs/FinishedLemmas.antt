@@ -8,7 +8,7 @@ use Rattle.table_form.specs.Running.Invariant.{IsComplete}
 use Rattle.table_form.specs.Running.State.{CoreState}
 use Rattle.round_words.specs.declared.view.View.{View}
 use Rattle.round_words.specs.Views.{part}
-use Rattle.dispatch_core.specs.Actors.{used_counts}
+use Rattle.dispatch_core.specs.Parts.{used_counts}
 use Rattle.run_promises.proofs.Lists.{element_at}
 use Rattle.board_state.specs.Readings.{state_of}
 use Rattle.board_state.specs.RunViews.{IsFinished, IsRunView}
@@ -31,16 +31,17 @@ module _ (course : CourseView) (rounds : ℕ) (v : View) (run : IsRunView course
   all_entered : (c : ℕ) → c < v.cores → length (part v c).entries ≡ rounds
   all_entered c lt =
       let mine = of_core course rounds v c run lt in
-      omega (arith, mine.own.covered, end.clocks c lt, mine.agrees.in_rounds)
+      omega (arith, mine.own.timeline.reach, end.clocks c lt, mine.agrees.timely.in_rounds)
 
   -- so no round beyond the run has a count
   none_beyond : (n : ℕ) → n ≡ length (counts_of v) → length (counts_of v) ≤ rounds
   none_beyond zero is = omega arith
   none_beyond (suc n) is =
       let d = element_at (counts_of v) n (omega (arith, is)) in
-      let w = winner_of course rounds v run n d.0 d.1 in
-      let within = slice_get_within (part v w.c).entries n w.entry w.at in
-      omega (arith, all_entered w.c w.within, is, within)
+      let found = winner_of course rounds v run n d.0 d.1 in
+      let w = found.1 in
+      let within = slice_get_within (part v found.0).entries n w.entry w.entered.0 in
+      omega (arith, all_entered found.0 w.core, is, within)
 
   -- and each round of the run has one
   all_counted : (c n : ℕ) → c < v.cores → n ≡ rounds → length (counts_of v) ≡ rounds
@@ -48,7 +49,8 @@ module _ (course : CourseView) (rounds : ℕ) (v : View) (run : IsRunView course
   all_counted c (suc n) lt is =
       let most = none_beyond (length (counts_of v)) refl in
       let e = element_at (part v c).entries n (omega (arith, all_entered c lt, is)) in
-      let within = slice_get_within (counts_of v) n e.0.used (entry_count course rounds v run c n e.0 lt e.1) in
+      let count = entry_count course rounds v run c n e.0 lt e.1 in
+      let within = slice_get_within (counts_of v) n e.0.used count in
       omega (arith, most, within, is)
 
 -- each core used the decided counts, of which there is one for each round

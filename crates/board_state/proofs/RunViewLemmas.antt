@@ -1,25 +1,23 @@
 -- A view of all parts of a run, read as a state, keeps the invariant of a run.
-use Rattle.std.proofs.Common.{◌≡◌, ℕ, suc, ◌+◌, ◌*◌, ◌/◌, ◌<◌, ◌≤◌, true, List, [], ◌∷◌, length, Some, ap, sym, subst, ◌∙◌, arith}
+use Rattle.std.proofs.Common.{◌≡◌, ℕ, suc, ◌+◌, ◌*◌, ◌/◌, ◌<◌, ◌≤◌, true, List, length, Some, ap, sym, subst, ◌∙◌, arith}
 use Rattle.std.specs.Prelude.{slice_get, take}
 use Rattle.std.proofs.lemmas.List.Elements.{All-get_or}
 use Rattle.std.proofs.lemmas.List.FromFn.{length-map-range_with_len}
 use Rattle.std.proofs.lemmas.List.{length-map}
 use Rattle.std.proofs.lemmas.Option.{slice_get_within}
-use Rattle.tab_core.specs.Timelines.{AreContiguous, IsStintOf}
 use Rattle.tab_core.specs.declared.TheConstants.{ROUND}
 use Rattle.tab_core.specs.declared.entry.Entry.{Entry}
 use Rattle.tab_core.specs.declared.stint.Stint.{Stint}
-use Rattle.table_form.specs.Running.Courses.{CourseView, IsCourse, tick_at}
+use Rattle.table_form.specs.Running.Courses.{CourseView, tick_at}
 use Rattle.table_form.specs.Running.Invariant.{CoreInvariant, IsFresh, SightInvariant, StateInvariant, StintInvariant}
 use Rattle.table_form.specs.Running.OneTable.{HasOneTable, HasOneWinner}
 use Rattle.table_form.specs.Running.State.{CoreState, IsCore}
 use Rattle.round_words.specs.declared.view.Part.{Part}
 use Rattle.round_words.specs.declared.view.View.{View}
 use Rattle.round_words.specs.Views.{controller, part}
-use Rattle.round_words.specs.Rule.{Above, Before, Chain}
-use Rattle.round_words.specs.Lessons.{Core, Floored, Own}
+use Rattle.round_words.specs.Rule.{CoversEarlier, FloorsUpTo, IsCorePart}
+use Rattle.round_words.specs.Shown.{HoldsCore, IsWonBy, KeepsFloors}
 use Rattle.dispatch_core.specs.Parts.{IsPartOf}
-use Rattle.run_promises.proofs.ChoiceLemmas.{stint_bounds}
 use Rattle.run_promises.proofs.Lists.{element_at, same}
 use Rattle.board_state.specs.Readings.{core_parts, core_state, decided_by, seen_by, state_of}
 use Rattle.board_state.specs.RunViews.{IsRunView}
@@ -46,29 +44,25 @@ core_is course v c core at =
 -- and the other way round
 is_core : (course : CourseView) (v : View) (c : ℕ) → c < v.cores
     → IsCore (state_of course v) c (core_state course (part v c))
-is_core course v c lt = in_map (core_state course) (core_parts v) c (part v c) (in_numbers (part v) v.cores c lt)
-
--- stints without a gap, in the words of the board and in those of a run
-contiguous_of : (from to : ℕ) (ss : List Stint) → Chain from ss to → AreContiguous from ss to
-contiguous_of from to [] chain = chain
-contiguous_of from to (s ∷ ss) chain = (chain.0, contiguous_of s.end to ss chain.1)
+is_core course v c lt =
+    in_map (core_state course) (core_parts v) c (part v c) (in_numbers (part v) v.cores c lt)
 
 -- what the board's rule and the core's actor say of the core's part
 pub record OfCore (course : CourseView) (rounds : ℕ) (v : View) (c : ℕ) : Type 0 where
-  pub core : Core v c
-  pub own : Own (part v c)
-  pub floored : Floored (floors_of v) (part v c)
+  pub core : HoldsCore v c
+  pub own : IsCorePart (part v c)
+  pub floors : KeepsFloors (floors_of v) (part v c)
   pub agrees : IsPartOf course rounds c (part v c)
 
 -- they say it of each core
 pub of_core : (course : CourseView) (rounds : ℕ) (v : View) (c : ℕ) → IsRunView course rounds v → c < v.cores
     → OfCore course rounds v c
 of_core course rounds v c run lt =
-    let core : Core v c = (lt, run.all.cores c lt) in
+    let core : HoldsCore v c = (lt, run.all.cores c lt) in
     record {
       core = core;
-      own = run.learned.own c core;
-      floored = run.learned.posted run.all.controller c core;
+      own = run.shown.cores c core;
+      floors = run.shown.floors run.all.controller c core;
       agrees = run.cores c lt;
     }
 
@@ -108,69 +102,54 @@ module _ (course : CourseView) (rounds : ℕ) (v : View) (run : IsRunView course
       let mine = of_core course rounds v c run lt in
       let theirs = of_core course rounds v count.c run count.within in
       let one : count.entry.used ≡ e.used =
-      run.learned.one_count count.c c r count.entry e theirs.core mine.core
-      (count.at, theirs.own.numbered r count.entry count.at) (at, mine.own.numbered r e at) in
+      run.shown.one_count count.c c r count.entry e theirs.core mine.core
+      (count.at, theirs.own.timeline.numbered r count.entry count.at) (at, mine.own.timeline.numbered r e at) in
       found.1 ∙ some_count found.0 e.used (sym count.used ∙ one)
 
   -- what came before a tick by the floors came at most the lag after it
-  none_later : (count x : ℕ) → count ≤ length (floors_of v) → Before (floors_of v) count x
+  none_later : (count x : ℕ) → count ≤ length (floors_of v) → FloorsUpTo (floors_of v) count x
       → (i : ℕ) → i < count → tick_at course i ≤ x + course.lag
   none_later count x few before i lt =
       let floor = run.floors.each i (omega arith) in
       let low = before i lt in
       omega (arith, floor, low)
 
-  -- what is known of an entry of round r
-  record OfEntry (r : ℕ) (e : Entry) : Type 0 where
-    seen_posted : e.seen ≤ length (floors_of v)
-    used_posted : e.used ≤ length (floors_of v)
-    fresh : IsFresh course e.seen (r * ROUND)
-
-  -- it is known of each entry of a core
-  of_entry : (c r : ℕ) (e : Entry) → c < v.cores → slice_get (part v c).entries r ≡ Some e → OfEntry r e
-  of_entry c r e lt at =
+  -- an entry had seen only posted events
+  entry_seen : (c r : ℕ) (e : Entry) → c < v.cores → slice_get (part v c).entries r ≡ Some e
+      → e.seen ≤ length (floors_of v)
+  entry_seen c r e lt at =
       let mine = of_core course rounds v c run lt in
-      let facts = at_place (λ (x : Entry). (x.seen ≤ length (floors_of v)) × (x.used ≤ length (floors_of v))
-      × Before (floors_of v) x.seen (x.round * ROUND)) (part v c).entries r e at mine.floored.2 in
-      record {
-        seen_posted = facts.0;
-        used_posted = facts.1;
-        fresh = subst (λ (k : ℕ). IsFresh course e.seen (k * ROUND)) (mine.own.numbered r e at) (record {
-          has = mine.agrees.entered r e at;
-          none_later = none_later e.seen (e.round * ROUND) facts.0 facts.2;
-        });
-      }
+      (at_place (λ (x : Entry). (x.seen ≤ length (floors_of v)) × (x.used ≤ length (floors_of v)))
+      (part v c).entries r e at mine.floors.fits.counts.entries).0
 
-  -- a stint uses the count of its round's entry, and stays in the round
-  stint_of : (c k : ℕ) (s : Stint) → IsCourse course → c < v.cores → slice_get (part v c).stints k ≡ Some s
-      → IsStintOf (part v c).entries s
-  stint_of c k s ok lt at =
+  -- and they were fresh at its round's start
+  entry_fresh : (c r : ℕ) (e : Entry) → c < v.cores → slice_get (part v c).entries r ≡ Some e
+      → IsFresh course e.seen (r * ROUND)
+  entry_fresh c r e lt at =
       let mine = of_core course rounds v c run lt in
-      let entry = at_place (λ (x : Stint). (e : Entry) × (slice_get (part v c).entries (x.from / ROUND) ≡ Some e)
-      × (x.used ≡ e.used)) (part v c).stints k s at mine.own.used in
-      let bounds = stint_bounds course c (take k (part v c).stints) s ok (mine.agrees.chosen k s at) in
-      record {
-        some_ticks = bounds.0;
-        in_round = bounds.1;
-        entry = entry.0;
-        entered = entry.1;
-        used = entry.2;
-      }
+      let before = at_place (λ (x : Entry). FloorsUpTo (floors_of v) x.seen (x.round * ROUND))
+          (part v c).entries r e at mine.floors.fits.entered in
+      subst (λ (k : ℕ). IsFresh course e.seen (k * ROUND)) (mine.own.timeline.numbered r e at) (record {
+        has = mine.agrees.timely.entered r e at;
+        none_later = none_later e.seen (e.round * ROUND) (entry_seen c r e lt at) before;
+      })
 
   -- a stint's seen count was posted, and fresh
   stint_kept : (c k : ℕ) (s : Stint) → c < v.cores → slice_get (part v c).stints k ≡ Some s
       → StintInvariant course (length (floors_of v)) c (take k (part v c).stints) s
   stint_kept c k s lt at =
       let mine = of_core course rounds v c run lt in
-      let facts = at_place (λ (x : Stint). (x.seen ≤ length (floors_of v)) × (x.used ≤ length (floors_of v))
-      × Before (floors_of v) x.seen x.from) (part v c).stints k s at mine.floored.3 in
+      let seen = (at_place (λ (x : Stint). (x.seen ≤ length (floors_of v)) × (x.used ≤ length (floors_of v)))
+          (part v c).stints k s at mine.floors.fits.counts.stints).0 in
+      let before = at_place (λ (x : Stint). FloorsUpTo (floors_of v) x.seen x.from)
+          (part v c).stints k s at mine.floors.fits.began in
       record {
-        seen_posted = facts.0;
+        seen_posted = seen;
         fresh = record {
-          has = mine.agrees.began k s at;
-          none_later = none_later s.seen s.from facts.0 facts.2;
+          has = mine.agrees.timely.began k s at;
+          none_later = none_later s.seen s.from seen before;
         };
-        dispatch = mine.agrees.chosen k s at;
+        dispatch = mine.agrees.dispatched k s at;
       }
 
   -- no posted event is more than the lag after a clock
@@ -179,154 +158,145 @@ module _ (course : CourseView) (rounds : ℕ) (v : View) (run : IsRunView course
   events_near c lt i below =
       let mine = of_core course rounds v c run lt in
       let floor = run.floors.each i below in
-      let low = All-get_or (λ f. f ≤ (part v c).clock) (floors_of v) i 0 below mine.floored.0 in
+      let low = All-get_or (λ f. f ≤ (part v c).clock) (floors_of v) i 0 below mine.floors.low in
       omega (arith, floor, low)
 
-  -- what a core has seen since its last stint is above what it saw and used before
+  -- what a core has seen since its last stint is at least what it saw and used before
   sight_kept : (c n : ℕ) → c < v.cores → seen_by course (part v c).clock (part v c).sights ≡ Some n
       → SightInvariant course (length (floors_of v)) (counts_of v) (core_state course (part v c)) n
   sight_kept c n lt is =
+      let p = part v c in
       let mine = of_core course rounds v c run lt in
-      let last = seen_last course (part v c).clock n (part v c).sights is in
-      let posted = last_passes (λ k. k ≤ length (floors_of v)) (part v c).sights last.0 mine.floored.1 in
+      let last = seen_last course p.clock n p.sights is in
+      let posted = last_passes (λ k. k ≤ length (floors_of v)) p.sights last.0 mine.floors.fits.counts.sights in
       let few : n ≤ length (floors_of v) = omega (arith, posted, last.1) in
-      let above = subst (Above (part v c)) last.1 (last_passes (Above (part v c)) (part v c).sights last.0 mine.own.risen) in
+      let covers : CoversEarlier p n =
+      subst (CoversEarlier p) last.1 (last_passes (CoversEarlier p) p.sights last.0 mine.own.sights) in
       record {
         seen_posted = few;
         fresh = record { has = last.2; none_later = λ i below. events_near c lt i (omega (arith, few)) };
-        stints = λ k s at. at_place (λ (x : Stint). x.seen ≤ n) (part v c).stints k s at above.0;
+        stints = λ k s at. at_place (λ (x : Stint). x.seen ≤ n) p.stints k s at covers.stints;
         counts = λ r d h past.
-            let e = element_at (part v c).entries r (omega (arith, mine.own.covered)) in
-            let one : d ≡ e.0.used = same (slice_get (counts_of v) r) d e.0.used h (entry_count c r e.0 lt e.1) in
-            let round = mine.own.numbered r e.0 e.1 in
-            let most = at_place (λ (x : Entry). x.round * ROUND < (part v c).clock → (x.seen ≤ n) × (x.used ≤ n))
-            (part v c).entries r e.0 e.1 above.1 (omega (arith, round)) in
+            let e = element_at p.entries r (omega (arith, mine.own.timeline.reach)) in
+            let one : d ≡ e.0.used =
+            same (slice_get (counts_of v) r) d e.0.used h (entry_count c r e.0 lt e.1) in
+            let round = mine.own.timeline.numbered r e.0 e.1 in
+            let most = at_place (λ (x : Entry). x.round * ROUND < p.clock → (x.seen ≤ n) × (x.used ≤ n))
+            p.entries r e.0 e.1 covers.entries (omega (arith, round)) in
             omega (arith, one, most.1);
       }
 
   -- each core keeps the invariant of a core
-  core_kept : (c : ℕ) → IsCourse course → c < v.cores
+  core_kept : (c : ℕ) → c < v.cores
       → CoreInvariant course rounds (length (floors_of v)) (counts_of v) c (core_state course (part v c))
-  core_kept c ok lt =
+  core_kept c lt =
       let mine = of_core course rounds v c run lt in
       record {
-        timeline = record {
-          contiguous = contiguous_of 0 (part v c).clock (part v c).stints mine.own.chain;
-          numbered = mine.own.numbered;
-          reach = mine.own.covered.0;
-          ahead = mine.own.covered.1;
-          each = λ k s at. stint_of c k s ok lt at;
-        };
-        clock = record { in_run = mine.agrees.in_run; events = events_near c lt };
+        timeline = mine.own.timeline;
+        clock = record { in_run = mine.agrees.timely.in_run; events = events_near c lt };
         entries = record {
-          few = mine.agrees.in_rounds;
-          seen_posted = λ r e at. (of_entry c r e lt at).seen_posted;
+          few = mine.agrees.timely.in_rounds;
+          seen_posted = λ r e at. entry_seen c r e lt at;
         };
-        stints = record { each = λ k s at. stint_kept c k s lt at; risen = mine.agrees.risen };
+        stints = record { each = λ k s at. stint_kept c k s lt at; risen = mine.agrees.timely.risen };
         sight = λ n is. sight_kept c n lt is;
       }
 
-  -- the core that won a round, with the entry by which it did
-  pub record Winner (r d : ℕ) : Type 0 where
-    pub c : ℕ
-    pub within : c < v.cores
-    pub entry : Entry
-    pub at : slice_get (part v c).entries r ≡ Some entry
-    pub won : entry.won ≡ true
-    pub seen : entry.seen ≡ d
-    pub only : (b : ℕ) (e : Entry) → b < v.cores → slice_get (part v b).entries r ≡ Some e → e.won ≡ true → b ≡ c
-
-  -- there is one in each round that has a count
-  pub winner_of : (r d : ℕ) → slice_get (counts_of v) r ≡ Some d → Winner r d
+  -- one core won each round that has a count
+  pub winner_of : (r d : ℕ) → slice_get (counts_of v) r ≡ Some d → (c : ℕ) × IsWonBy v r d c
   winner_of r d h =
       let count = count_of v r d h in
       let mine = of_core course rounds v count.c run count.within in
-      let won = run.learned.one_won run.all.cores count.c r count.entry mine.core
-      (count.at, mine.own.numbered r count.entry count.at) in
-      record {
-        c = won.0;
-        within = won.2;
-        entry = won.1;
-        at = won.3.0;
-        won = won.4;
-        seen = won.5 ∙ count.used;
-        only = λ b e lt at is.
-            let theirs = of_core course rounds v b run lt in
-            won.6 b e theirs.core (at, theirs.own.numbered r e at) is;
-      }
+      let won = run.shown.one_winner run.all.cores count.c r count.entry mine.core
+      (count.at, mine.own.timeline.numbered r count.entry count.at) in
+      (won.0, subst (λ (n : ℕ). IsWonBy v r n won.0) count.used won.1)
 
   -- in the words of a state
   one_winner : (r d : ℕ) → slice_get (counts_of v) r ≡ Some d → HasOneWinner (state_of course v).cores r d
   one_winner r d h =
-      let w = winner_of r d h in
+      let found = winner_of r d h in
+      let w = found.1 in
       record {
-        winner = w.c;
+        winner = found.0;
         won_by = record {
-          core = core_state course (part v w.c);
-          at = is_core course v w.c w.within;
+          core = core_state course (part v found.0);
+          at = is_core course v found.0 w.core;
           entry = w.entry;
-          entered = w.at;
+          entered = w.entered.0;
           won = w.won;
           seen = w.seen;
         };
         only = λ b core e at entered is.
             let place = core_is course v b core at in
-            w.only b e place.0 (subst (λ (x : CoreState). slice_get x.entries r ≡ Some e) place.1 entered) is;
+            let at' = subst (λ (x : CoreState). slice_get x.entries r ≡ Some e) place.1 entered in
+            let theirs = of_core course rounds v b run place.0 in
+            w.only b e theirs.core (at', theirs.own.timeline.numbered r e at') is;
       }
 
   -- the winner of a round had seen what the round before used
   rises : (r a b : ℕ) → slice_get (counts_of v) r ≡ Some a → slice_get (counts_of v) (suc r) ≡ Some b → a ≤ b
   rises r a b h g =
-      let w = winner_of (suc r) b g in
-      let within = slice_get_within (part v w.c).entries (suc r) w.entry w.at in
-      let e = element_at (part v w.c).entries r (omega arith) in
-      let one : a ≡ e.0.used = same (slice_get (counts_of v) r) a e.0.used h (entry_count w.c r e.0 w.within e.1) in
-      let above = (run.cores w.c w.within).rising r (suc r) e.0 w.entry (omega arith) e.1 w.at in
+      let found = winner_of (suc r) b g in
+      let c = found.0 in
+      let w = found.1 in
+      let within = slice_get_within (part v c).entries (suc r) w.entry w.entered.0 in
+      let e = element_at (part v c).entries r (omega arith) in
+      let one : a ≡ e.0.used =
+      same (slice_get (counts_of v) r) a e.0.used h (entry_count c r e.0 w.core e.1) in
+      let above = (run.cores c w.core).timely.rising r (suc r) e.0 w.entry (omega arith) e.1 w.entered.0 in
       omega (arith, one, above, w.seen)
 
   -- all cores use one plan in a round
-  one_table : IsCourse course → HasOneTable (state_of course v)
-  one_table ok = record {
+  one_table : HasOneTable (state_of course v)
+  one_table = record {
     cores = λ c core at.
         let place = core_is course v c core at in
         let lt = place.0 in
+        let mine = of_core course rounds v c run lt in
         record {
-          entries = λ r e h. entry_count c r e lt (subst (λ (x : CoreState). slice_get x.entries r ≡ Some e) place.1 h);
+          entries = λ r e h.
+              entry_count c r e lt (subst (λ (x : CoreState). slice_get x.entries r ≡ Some e) place.1 h);
           stints = λ k s h.
-              let own = stint_of c k s ok lt (subst (λ (x : CoreState). slice_get x.stints k ≡ Some s) place.1 h) in
-              entry_count c (s.from / ROUND) own.entry lt own.entered ∙ some_count own.entry.used s.used (sym own.used);
+              let at' = subst (λ (x : CoreState). slice_get x.stints k ≡ Some s) place.1 h in
+              let own = mine.own.timeline.each k s at' in
+              entry_count c (s.from / ROUND) own.entry lt own.entered
+              ∙ some_count own.entry.used s.used (sym own.used);
         };
     one_winner = one_winner;
     rises = rises;
   }
 
   -- the invariant of the state
-  is_kept : IsCourse course → StateInvariant course rounds (state_of course v)
-  is_kept ok = record {
+  is_kept : StateInvariant course rounds (state_of course v)
+  is_kept = record {
     size = length-map (core_parts v) (core_state course)
         ∙ (length-map-range_with_len (part v) 0 v.cores ∙ run.started.cores_are);
-    table = one_table ok;
+    table = one_table;
     cores = λ c core at.
         let place = core_is course v c core at in
-        subst (λ (x : CoreState). CoreInvariant course rounds (length (floors_of v)) (counts_of v) c x) (sym place.1)
-        (core_kept c ok place.0);
+        subst (CoreInvariant course rounds (length (floors_of v)) (counts_of v) c) (sym place.1)
+        (core_kept c place.0);
     fresh = λ r d h.
-        let w = winner_of r d h in
-        subst (λ (n : ℕ). IsFresh course n (r * ROUND)) w.seen (of_entry w.c r w.entry w.within w.at).fresh;
+        let found = winner_of r d h in
+        let w = found.1 in
+        subst (λ (n : ℕ). IsFresh course n (r * ROUND)) w.seen
+        (entry_fresh found.0 r w.entry w.core w.entered.0);
     decided_posted = λ r d h.
-        let w = winner_of r d h in
-        (let posted = (of_entry w.c r w.entry w.within w.at).seen_posted in omega (arith, posted, w.seen));
+        let found = winner_of r d h in
+        let w = found.1 in
+        let posted = entry_seen found.0 r w.entry w.core w.entered.0 in
+        omega (arith, posted, w.seen);
     posted_most = run.floors.few;
     near = λ c d core other at at'.
         let mine = core_is course v c core at in
         let theirs = core_is course v d other at' in
-        let near = run.learned.near c d (mine.0, run.all.cores c mine.0) (theirs.0, run.all.cores d theirs.0) in
+        let near = run.shown.near c d (mine.0, run.all.cores c mine.0) (theirs.0, run.all.cores d theirs.0) in
         let clock = ap (λ (x : CoreState). x.clock) mine.1 in
         let clock' = ap (λ (x : CoreState). x.clock) theirs.1 in
         omega (arith, near, clock, clock', run.started.lag_is);
   }
 
 -- the view of a run is kept
-pub view_kept : (course : CourseView) (rounds : ℕ) (v : View) → IsCourse course → IsRunView course rounds v
+pub view_kept : (course : CourseView) (rounds : ℕ) (v : View) → IsRunView course rounds v
     → StateInvariant course rounds (state_of course v)
-view_kept course rounds v ok run = is_kept course rounds v run ok
+view_kept course rounds v run = is_kept course rounds v run

@@ -28,7 +28,8 @@ test_has course count x h = λ i lt due. elim (cases_lt i count) [
 pub has_test : (course : CourseView) (count x : ℕ) → HasUpTo course count x → has_up_to course count x ≡ true
 has_test course count x has =
     list_all-from_AllPass (λ tick. nat_lt x (tick + course.lag)) (drop count course.ticks)
-    (All-from_get_or (λ tick. nat_lt x (tick + course.lag) ≡ true) (drop count course.ticks) 0 (λ k lt. later k lt))
+    (All-from_get_or (λ tick. nat_lt x (tick + course.lag) ≡ true) (drop count course.ticks) 0
+    (λ k lt. later k lt))
   where
     later : (k : ℕ) → k < length (drop count course.ticks)
         → nat_lt x (slice_index (drop count course.ticks) k + course.lag) ≡ true

@@ -7,7 +7,7 @@ use Rattle.table_form.specs.Running.State.{State, CoreState}
 use Rattle.round_words.specs.declared.view.Part.{Part}
 use Rattle.round_words.specs.declared.view.View.{View}
 use Rattle.round_words.specs.Views.{controller, part, last_of}
-use Rattle.dispatch_core.specs.Actors.{used_counts}
+use Rattle.dispatch_core.specs.Parts.{used_counts}
 
 -- the count has each event of tick at most x less the lag: all events after the first `count` come later
 abbrev pub has_up_to : CourseView → ℕ → ℕ → Bool

@@ -2,12 +2,11 @@
 -- Source: the rules of this project.
 use Rattle.std.specs.Prelude.{◌≡◌, ℕ, ◌*◌, ◌<◌, ◌≤◌, true, List, length, slice_index}
 use Rattle.tab_core.specs.declared.TheConstants.{ROUND}
-use Rattle.table_form.specs.Running.Courses.{CourseView}
-use Rattle.table_form.specs.Running.Outlines.{outline_of}
+use Rattle.table_form.specs.Running.Courses.{CourseView, outline_of}
 use Rattle.round_words.specs.declared.view.View.{View}
+use Rattle.round_words.specs.Shown.{ViewInvariant}
 use Rattle.round_words.specs.Views.{controller, holds, part}
-use Rattle.round_words.specs.Lessons.{Learned}
-use Rattle.dispatch_core.specs.Parts.{IsOfCourse, IsPartOf}
+use Rattle.dispatch_core.specs.Parts.{IsOfOutline, IsPartOf}
 use Rattle.plan_switch.specs.Controllers.{floor_of}
 
 -- the view holds the part of each core, and the controller's
@@ -20,13 +19,13 @@ pub record AreFloorsOf (course : CourseView) (floors : List ℕ) : Type 0 where
   pub few : length floors ≤ length course.ticks
   pub each : (i : ℕ) → i < length floors → slice_index floors i ≡ floor_of (outline_of course) i
 
--- The view holds all parts of a board that was started for the course, each core's part is one of a run
--- of so many rounds, and the controller's has the floors of the first events. What the rule of the board
--- shows of such a view, a seat has learned
+-- The view holds all parts of a board that was started for the course, each core's part is one of a run of
+-- so many rounds, and the controller's has the floors of the first events. What every view shows by the
+-- board's rule, this one shows too
 pub record IsRunView (course : CourseView) (rounds : ℕ) (v : View) : Type 0 where
-  pub started : IsOfCourse course v
+  pub started : IsOfOutline (outline_of course) v
   pub all : HoldsAllParts v
-  pub learned : Learned v
+  pub shown : ViewInvariant v
   pub cores : (c : ℕ) → c < v.cores → IsPartOf course rounds c (part v c)
   pub floors : AreFloorsOf course (part v controller).floors
 

@@ -5,13 +5,13 @@ ghost use Rattle.table_form.specs.Running.Promises.{KeepsPromises};
 ghost use Rattle.table_form.specs.Running.Waiting.{HasUpTo};
 ghost use Rattle.round_words.specs.Views.{last_of, part};
 ghost use Rattle.round_words.specs.declared.view.View.{View};
-ghost use Rattle.dispatch_core.specs.Actors.{used_counts};
+ghost use Rattle.dispatch_core.specs.Parts.{used_counts};
 ghost use Rattle.board_state.specs.Readings.{has_up_to, seen_by, state_of};
 ghost use Rattle.board_state.specs.RunViews.{IsFinished, IsRunView};
 
 /// A view of all parts of a run, read as a state, keeps what every step of a run keeps.
 pub fn a_run_view_is_kept()
-    ensures { (course : CourseView) (rounds : ℕ) (v : View) → IsCourse course → IsRunView course rounds v
+    ensures { (course : CourseView) (rounds : ℕ) (v : View) → IsRunView course rounds v
         → StateInvariant course rounds (state_of course v) }
 {}
 
