@@ -103,7 +103,8 @@ module _ (course : CourseView) (rounds : ℕ) (v : View) (run : IsRunView course
       let theirs = of_core course rounds v count.c run count.within in
       let one : count.entry.used ≡ e.used =
       run.shown.one_count count.c c r count.entry e theirs.core mine.core
-      (count.at, theirs.own.timeline.numbered r count.entry count.at) (at, mine.own.timeline.numbered r e at) in
+      (count.at, theirs.own.timeline.numbered r count.entry count.at)
+          (at, mine.own.timeline.numbered r e at) in
       found.1 ∙ some_count found.0 e.used (sym count.used ∙ one)
 
   -- what came before a tick by the floors came at most the lag after it
@@ -168,7 +169,8 @@ module _ (course : CourseView) (rounds : ℕ) (v : View) (run : IsRunView course
       let p = part v c in
       let mine = of_core course rounds v c run lt in
       let last = seen_last course p.clock n p.sights is in
-      let posted = last_passes (λ k. k ≤ length (floors_of v)) p.sights last.0 mine.floors.fits.counts.sights in
+      let posted = last_passes (λ k. k ≤ length (floors_of v)) p.sights last.0
+          mine.floors.fits.counts.sights in
       let few : n ≤ length (floors_of v) = omega (arith, posted, last.1) in
       let covers : CoversEarlier p n =
       subst (CoversEarlier p) last.1 (last_passes (CoversEarlier p) p.sights last.0 mine.own.sights) in

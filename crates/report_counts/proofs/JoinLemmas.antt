@@ -46,7 +46,8 @@ all_join : (waits : ℕ → Bool) (from m n : ℕ) → AllWait waits from m → 
     → AllWait waits from (m + n)
 all_join waits from m n first second t lt = elim (cases_lt t m) [
   | inl low ↦ first t low
-  | inr high ↦ same_test waits (from + m + (t - m)) (from + t) true (omega arith) (second (t - m) (omega arith))
+  | inr high ↦ same_test waits (from + m + (t - m)) (from + t) true (omega arith)
+      (second (t - m) (omega arith))
 ]
 
 -- a part of a run
@@ -66,7 +67,8 @@ at_end waits offered from w t n tells at all = elim (cases_lt w.tail n) [
   | inl more ↦ (let p = n - (w.tail + 1) in
       let is : waits (from + t + p) ≡ true = all p (omega arith) in
       let isnt : waits (from + (t + p)) ≡ false = tells.tail_begins (t + p) (omega (arith, at)) in
-      absurd (both waits (from + t + p) is (same_test waits (from + (t + p)) (from + t + p) false (omega arith) isnt)))
+      absurd (both waits (from + t + p) is (same_test waits (from + (t + p)) (from + t + p) false
+      (omega arith) isnt)))
 ]
 
 -- and one that begins it no longer than its lead
@@ -125,9 +127,11 @@ module _ (waits offered : ℕ → Bool) (from : ℕ) (a b : Stretch) (first : Te
   unfolding lead
   lead_ends lt = elim (cases_eq a.lead a.ticks) [
     | inl whole ↦ (let is = lead_of.same whole in
-        same_test waits (from + a.ticks + b.lead) (from + lead) false (omega (arith, is)) (next.lead_ends (omega (arith, is, lt))))
+        same_test waits (from + a.ticks + b.lead) (from + lead) false (omega (arith, is))
+        (next.lead_ends (omega (arith, is, lt))))
     | inr part ↦ (let is = lead_of.other part in
-        same_test waits (from + a.lead) (from + lead) false (omega (arith, is)) (first.lead_ends (omega (arith, first.small.lead, part))))
+        same_test waits (from + a.lead) (from + lead) false (omega (arith, is))
+        (first.lead_ends (omega (arith, first.small.lead, part))))
   ]
 
   -- the tail waits
@@ -151,7 +155,8 @@ module _ (waits offered : ℕ → Bool) (from : ℕ) (a b : Stretch) (first : Te
   tail_begins t at = elim (cases_eq b.tail b.ticks) [
     | inl whole ↦ first.tail_begins t (omega (arith, tail_of.same whole, at))
     | inr part ↦ (let is = tail_of.other part in
-        same_test waits (from + a.ticks + (t - a.ticks)) (from + t) false (omega (arith, is, at, next.small.tail, part))
+        same_test waits (from + a.ticks + (t - a.ticks)) (from + t) false
+        (omega (arith, is, at, next.small.tail, part))
         (next.tail_begins (t - a.ticks) (omega (arith, is, at, next.small.tail, part))))
   ]
 
@@ -187,7 +192,8 @@ module _ (waits offered : ℕ → Bool) (from : ℕ) (a b : Stretch) (first : Te
   at_next = record {
     place = a.ticks + next.place;
     inside = omega (arith, next.inside);
-    reached = all_at waits (from + a.ticks + next.place) (from + (a.ticks + next.place)) b.most (omega arith) next.reached;
+    reached = all_at waits (from + a.ticks + next.place) (from + (a.ticks + next.place)) b.most
+        (omega arith) next.reached;
   }
 
   -- across the seam
@@ -196,9 +202,12 @@ module _ (waits offered : ℕ → Bool) (from : ℕ) (a b : Stretch) (first : Te
     place = a.ticks - a.tail;
     inside = omega (arith, first.small.tail, next.small.lead);
     reached = all_join waits (from + (a.ticks - a.tail)) a.tail b.lead
-        (λ t lt. same_test waits (from + (a.ticks - a.tail + t)) (from + (a.ticks - a.tail) + t) true (omega arith)
-        (first.tail (a.ticks - a.tail + t) (omega (arith, first.small.tail)) (omega (arith, first.small.tail))))
-        (all_at waits (from + a.ticks) (from + (a.ticks - a.tail) + a.tail) b.lead (omega (arith, first.small.tail)) next.lead);
+        (λ t lt. same_test waits (from + (a.ticks - a.tail + t)) (from + (a.ticks - a.tail) + t)
+        true (omega arith)
+        (first.tail (a.ticks - a.tail + t) (omega (arith, first.small.tail))
+        (omega (arith, first.small.tail))))
+        (all_at waits (from + a.ticks) (from + (a.ticks - a.tail) + a.tail) b.lead
+        (omega (arith, first.small.tail)) next.lead);
   }
 
   -- the greatest of the three
@@ -220,7 +229,12 @@ module _ (waits offered : ℕ → Bool) (from : ℕ) (a b : Stretch) (first : Te
       lead = lead_small;
       tail = tail_small;
     };
-    count = (let sum = passing_join offered from a.ticks b.ticks in omega (arith, first.count, next.count, sum));
+    count = (let sum = passing_join offered from a.ticks b.ticks in omega (
+      arith,
+      first.count,
+      next.count,
+      sum,
+    ));
     lead = lead_waits;
     lead_ends = lead_ends;
     tail = tail_waits;

@@ -33,7 +33,8 @@ told_more course decided v r count w round at run is = record {
   tells = tells_both (waits_at course decided v) (is_offered course decided v) 0 w round run.tells
       (tells_moved (waits_in (plan_after course count) v) (some_row_has (plan_after course count).rows v) 0
       (waits_at course decided v) (is_offered course decided v) (0 + w.ticks) round
-      (λ t lt. waits_here t (omega (arith, lt, is.whole))) (λ t lt. offered_here t (omega (arith, lt, is.whole))) is.tells);
+      (λ t lt. waits_here t (omega (arith, lt, is.whole)))
+      (λ t lt. offered_here t (omega (arith, lt, is.whole))) is.tells);
   whole = omega (arith, run.whole, is.whole);
 }
   where
@@ -45,16 +46,22 @@ told_more course decided v r count w round at run is = record {
         rw (round_is, place, at) refl
 
     offered_here : (t : ℕ) → t < ROUND
-        → is_offered course decided v (0 + w.ticks + t) ≡ some_row_has (plan_after course count).rows v (0 + t)
+        → is_offered course decided v (0 + w.ticks + t) ≡ some_row_has
+        (plan_after course count).rows v (0 + t)
     offered_here t lt =
         let round_is : (0 + w.ticks + t) / ROUND ≡ r = omega (arith, run.whole) in
         let place : (0 + w.ticks + t) % ROUND ≡ 0 + t = omega (arith, run.whole) in
         rw (round_is, place, at) refl
 
 -- such a stretch can be lengthened by a round more
-pub ends_run : (course : CourseView) (decided : List ℕ) (v r : ℕ) (w : Stretch) → IsToldRun course decided v r w
+pub ends_run : (course : CourseView) (decided : List ℕ) (v r : ℕ) (w : Stretch)
+    → IsToldRun course decided v r w
     → r ≤ MAX_ROUNDS → EndsBy (MAX_ROUNDS * ROUND) w
-ends_run course decided v r w told le = record { small = told.tells.small; before = omega (arith, told.whole) }
+ends_run course decided v r w told le = record {
+  small = told.tells.small;
+  before =
+      omega (arith, told.whole);
+}
 
 -- and so can that of a round
 pub ends_round : (plan : PlanView) (v : ℕ) (w : Stretch) → IsToldRound plan v w → EndsBy ROUND w

@@ -14,22 +14,32 @@ differ : (b : Bool) → b ≡ true → b ≡ false → ⊥
 differ b h g = cc
 
 -- where no tick passes
-none_pass : (test : ℕ → Bool) (from n : ℕ) → ((t : ℕ) → t < n → test (from + t) ≡ false) → passing test from n ≡ 0
+none_pass : (test : ℕ → Bool) (from n : ℕ) → ((t : ℕ) → t < n → test (from + t) ≡ false)
+    → passing test from n ≡ 0
 unfolding passing
 none_pass test from zero none = refl
 none_pass test from (suc n) none =
-    omega (arith, none_pass test from n (λ t lt. none t (omega arith)), off (test (from + n)) (none n (omega arith)))
+    omega (
+      arith,
+      none_pass test from n (λ t lt. none t (omega arith)),
+      off (test (from + n)) (none n (omega arith)),
+    )
   where
     off : (b : Bool) → b ≡ false → one b ≡ 0
     off true h = absurd cc
     off false h = refl
 
 -- where each passes
-all_pass : (test : ℕ → Bool) (from n : ℕ) → ((t : ℕ) → t < n → test (from + t) ≡ true) → passing test from n ≡ n
+all_pass : (test : ℕ → Bool) (from n : ℕ) → ((t : ℕ) → t < n → test (from + t) ≡ true)
+    → passing test from n ≡ n
 unfolding passing
 all_pass test from zero all = refl
 all_pass test from (suc n) all =
-    omega (arith, all_pass test from n (λ t lt. all t (omega arith)), on (test (from + n)) (all n (omega arith)))
+    omega (
+      arith,
+      all_pass test from n (λ t lt. all t (omega arith)),
+      on (test (from + n)) (all n (omega arith)),
+    )
   where
     on : (b : Bool) → b ≡ true → one b ≡ 1
     on true h = refl
@@ -130,13 +140,15 @@ tells_moved waits offered from waits' offered' at w same same_offer tells = reco
 
 -- a stretch that goes on with waiting ticks up to `place`, and with offered ticks from there up to `end`
 pub tells_offer : (waits offered : ℕ → Bool) (w : Stretch) (place end : ℕ) → Tells waits offered 0 w
-    → w.ticks ≤ place → place ≤ end → ((x : ℕ) → w.ticks ≤ x → x < place → (waits x ≡ true) × (offered x ≡ false))
+    → w.ticks ≤ place → place ≤ end
+    → ((x : ℕ) → w.ticks ≤ x → x < place → (waits x ≡ true) × (offered x ≡ false))
     → ((x : ℕ) → place ≤ x → x < end → (waits x ≡ false) × (offered x ≡ true))
     → Tells waits offered 0 (offered_to w place end)
 tells_offer waits offered w place end tells low high wait offer =
     let gap = place - w.ticks in
     let before = tells_both waits offered 0 w (all_wait gap) tells
-    (tells_wait waits offered (0 + w.ticks) gap (λ t lt. (wait (0 + w.ticks + t) (omega arith) (omega arith)).0)
+    (tells_wait waits offered (0 + w.ticks) gap
+    (λ t lt. (wait (0 + w.ticks + t) (omega arith) (omega arith)).0)
     (λ t lt. (wait (0 + w.ticks + t) (omega arith) (omega arith)).1)) in
     tells_both waits offered 0 (joined w (all_wait gap)) (all_offered (end - place)) before
     (tells_offered waits offered (0 + (w.ticks + gap)) (end - place)

@@ -18,13 +18,15 @@ use Rattle.report_counts.proofs.ReportLemmas.{and_not}
 use Rattle.report_counts.proofs.StretchLemmas.{tells_neither, tells_offer, tells_wait}
 
 -- a row that has the vCPU is one of some
-row_has : (rows : List Row) (v place c : ℕ) → owner_at rows c place ≡ Some v → some_row_has rows v place ≡ true
+row_has : (rows : List Row) (v place c : ℕ) → owner_at rows c place ≡ Some v
+    → some_row_has rows v place ≡ true
 row_has [] v place c h = absurd cc
 row_has (row ∷ rows) v place zero h =
     let is : is_cell_of v (flat (slice_get row place)) ≡ true = rw h (eq-eqb v v refl) in
     or_left (is_cell_of v (flat (slice_get row place))) (some_row_has rows v place) is
 row_has (row ∷ rows) v place (suc c) h =
-    or_right (is_cell_of v (flat (slice_get row place))) (some_row_has rows v place) (row_has rows v place c h)
+    or_right (is_cell_of v (flat (slice_get row place))) (some_row_has rows v place)
+    (row_has rows v place c h)
 
 -- a cell of the vCPU is its own
 cell_is : (v : ℕ) (o : Option ℕ) → is_cell_of v o ≡ true → o ≡ Some v
@@ -51,7 +53,8 @@ row_step : (rows : List Row) (k v place : ℕ) → k < length rows
     ≡ (some_row_has (take k rows) v place || is_cell_of v (owner_at rows k place))
 row_step [] k v place lt = absurd (omega arith)
 row_step (row ∷ rows) zero v place lt =
-    or-false (is_cell_of v (flat (slice_get row place))) ∙ sym (false-or (is_cell_of v (flat (slice_get row place))))
+    or-false (is_cell_of v (flat (slice_get row place)))
+    ∙ sym (false-or (is_cell_of v (flat (slice_get row place))))
 row_step (row ∷ rows) (suc k) v place lt =
     ap (λ (b : Bool). is_cell_of v (flat (slice_get row place)) || b) (row_step rows k v place (omega arith))
     ∙ sym (or_assoc (is_cell_of v (flat (slice_get row place))) (some_row_has (take k rows) v place)
@@ -80,7 +83,8 @@ none_before rows k v place apart at = by_test (some_row_has (take k rows) v plac
     by_test false is = is
 
 -- so they leave its stretch
-pub swept_before : (rows : List Row) (k v place end : ℕ) (s : Stretch) → Apart rows → owner_at rows k place ≡ Some v
+pub swept_before : (rows : List Row) (k v place end : ℕ) (s : Stretch) → Apart rows
+    → owner_at rows k place ≡ Some v
     → swept (take k rows) v place end s ≡ s
 swept_before rows k v place end s apart at = rw (none_before rows k v place apart at) refl
 
@@ -91,16 +95,19 @@ swept_owner rows k v place end s lt at =
     let e : k + 1 ≡ suc k = omega arith in
     let here : is_cell_of v (owner_at rows k place) ≡ true = rw at (eq-eqb v v refl) in
     let is : some_row_has (take (suc k) rows) v place ≡ true =
-    row_step rows k v place lt ∙ or_right (some_row_has (take k rows) v place) (is_cell_of v (owner_at rows k place)) here in
+    row_step rows k v place lt
+    ∙ or_right (some_row_has (take k rows) v place) (is_cell_of v (owner_at rows k place)) here in
     rw (e, is) refl
 
 -- and leaves that of another vCPU
 swept_other : (rows : List Row) (k v place end : ℕ) (s : Stretch) → k < length rows
-    → owner_at rows k place ≢ Some v → swept (take (k + 1) rows) v place end s ≡ swept (take k rows) v place end s
+    → owner_at rows k place ≢ Some v
+    → swept (take (k + 1) rows) v place end s ≡ swept (take k rows) v place end s
 swept_other rows k v place end s lt ne =
     let e : k + 1 ≡ suc k = omega arith in
     let is : some_row_has (take (suc k) rows) v place ≡ some_row_has (take k rows) v place =
-    row_step rows k v place lt ∙ no_last (some_row_has (take k rows) v place) (is_cell_of v (owner_at rows k place))
+    row_step rows k v place lt
+    ∙ no_last (some_row_has (take k rows) v place) (is_cell_of v (owner_at rows k place))
     (λ h. ne (cell_is v (owner_at rows k place) h)) in
     rw (e, is) refl
   where
@@ -168,11 +175,19 @@ module _ (plan : PlanView) (v : ℕ) (owned : OwnersHaveTasks plan.tasks plan.ro
       here : (x : ℕ) → place ≤ x → x < end → some_row_has plan.rows v x ≡ some_row_has plan.rows v place
       here x low lt = sym (steady_has plan.rows v place x (λ d. steady d x low lt))
 
-      by_test : (b : Bool) → some_row_has plan.rows v place ≡ b → IsToldTo plan v end (swept plan.rows v place end s)
+      by_test : (b : Bool) → some_row_has plan.rows v place ≡ b
+          → IsToldTo plan v end (swept plan.rows v place end s)
       by_test true is = subst (IsToldTo plan v end) (sym (rw is refl)) (record {
         tells = tells_offer (waits_in plan v) (some_row_has plan.rows v) s place end told.tells told.before le
-            (λ x low lt. (and_not held (some_row_has plan.rows v x) (has_its_task place is) (told.rest x low lt), told.rest x low lt))
-            (λ x low lt. (and_yes held (some_row_has plan.rows v x) (here x low lt ∙ is), here x low lt ∙ is));
+            (λ x low lt. (
+              and_not held (some_row_has plan.rows v x) (has_its_task place is)
+                  (told.rest x low lt),
+              told.rest x low lt,
+            ))
+            (λ x low lt. (
+              and_yes held (some_row_has plan.rows v x) (here x low lt ∙ is),
+              here x low lt ∙ is,
+            ));
         before = (let b = told.before in omega arith);
         rest = λ x low lt. absurd (let b = told.before in omega arith);
       })
@@ -192,7 +207,8 @@ module _ (plan : PlanView) (v : ℕ) (owned : OwnersHaveTasks plan.tasks plan.ro
     where
       by_test : (b : Bool) → has_task plan.tasks v ≡ b → IsToldRound plan v (closed (has_task plan.tasks v) s)
       by_test true is = subst (IsToldRound plan v) (sym (rw is refl)) (record {
-        tells = tells_both (waits_in plan v) (some_row_has plan.rows v) 0 s (all_wait (ROUND - s.ticks)) told.tells
+        tells = tells_both (waits_in plan v) (some_row_has plan.rows v) 0 s
+            (all_wait (ROUND - s.ticks)) told.tells
             (tells_wait (waits_in plan v) (some_row_has plan.rows v) (0 + s.ticks) (ROUND - s.ticks)
             (λ t lt. and_not held (some_row_has plan.rows v (0 + s.ticks + t)) (task_is plan.tasks v ∙ is)
             (told.rest (0 + s.ticks + t) (omega arith) (omega arith)))
@@ -215,7 +231,8 @@ pub start_told : (plan : PlanView) (v : ℕ) → OwnersHaveTasks plan.tasks plan
 start_told plan v owned = told_start plan v owned
 
 -- a step of the sweep tells of the ticks up to its end
-pub step_told : (plan : PlanView) (v : ℕ) → OwnersHaveTasks plan.tasks plan.rows → (place end : ℕ) (s : Stretch)
+pub step_told : (plan : PlanView) (v : ℕ) → OwnersHaveTasks plan.tasks plan.rows
+    → (place end : ℕ) (s : Stretch)
     → IsToldTo plan v place s → place ≤ end
     → ((d x : ℕ) → place ≤ x → x < end → owner_at plan.rows d place ≡ owner_at plan.rows d x)
     → IsToldTo plan v end (swept plan.rows v place end s)
@@ -227,14 +244,16 @@ pub end_told : (plan : PlanView) (v : ℕ) → OwnersHaveTasks plan.tasks plan.r
 end_told plan v owned s told = told_end plan v owned s told
 
 -- the stretches once one more row is gone over: that of its owner is lengthened
-pub swept_with : (rows : List Row) (k v place end n : ℕ) (was now old : List Stretch) (s : Stretch) → Apart rows
+pub swept_with : (rows : List Row) (k v place end n : ℕ) (was now old : List Stretch) (s : Stretch)
+    → Apart rows
     → k < length rows → owner_at rows k place ≡ Some v → v < length was → v < n
     → ((u : ℕ) → u < n → stretch_at was u ≡ swept (take k rows) u place end (stretch_at old u))
     → now ≡ set was v s → s ≡ offered_to (stretch_at was v) place end
     → (u : ℕ) → u < n → stretch_at now u ≡ swept (take (k + 1) rows) u place end (stretch_at old u)
 swept_with rows k v place end n was now old s apart lt owner within small before put is u below =
     elim (cases_eq u v) [
-      | inl same ↦ subst (λ (j : ℕ). stretch_at now j ≡ swept (take (k + 1) rows) j place end (stretch_at old j)) (sym same)
+      | inl same ↦ subst (λ (j : ℕ). stretch_at now j ≡ swept (take (k + 1) rows) j place end
+          (stretch_at old j)) (sym same)
           (ap (λ (xs : List Stretch). stretch_at xs v) put ∙ (get_or-set_same was v s no_ticks within ∙ (is
           ∙ (ap (λ (x : Stretch). offered_to x place end)
           (before v small ∙ swept_before rows k v place end (stretch_at old v) apart owner)
@@ -256,7 +275,8 @@ pub swept_without : (rows : List Row) (k place end n : ℕ) (was now old : List 
     → (u : ℕ) → u < n → stretch_at now u ≡ swept (take (k + 1) rows) u place end (stretch_at old u)
 swept_without rows k place end n was now old lt idle before same u below =
     ap (λ (xs : List Stretch). stretch_at xs u) same ∙ (before u below
-    ∙ sym (swept_other rows k u place end (stretch_at old u) lt (λ h. nobody u (owner_at rows k place) h idle)))
+    ∙ sym (swept_other rows k u place end (stretch_at old u) lt
+    (λ h. nobody u (owner_at rows k place) h idle)))
   where
     nobody : (a : ℕ) (o : Option ℕ) → o ≡ Some a → o ≡ None → ⊥
     nobody a o h g = cc

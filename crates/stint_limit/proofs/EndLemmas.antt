@@ -40,7 +40,8 @@ more_one : (e p q : ℕ) → p ≤ q → one_if (nat_le e p) ≤ one_if (nat_le 
 more_one e p q le = by_test (nat_le e p) refl
   where
     by_test : (b : Bool) → nat_le e p ≡ b → one_if (nat_le e p) ≤ one_if (nat_le e q)
-    by_test true is = (let low : e ≤ p = grind (arith, nat_tests) in omega (arith, above e p low, above e q (omega arith)))
+    by_test true is = (let low : e
+        ≤ p = grind (arith, nat_tests) in omega (arith, above e p low, above e q (omega arith)))
     by_test false is = omega (arith, none_of (nat_le e p) is)
 
 -- no more are reached than there are

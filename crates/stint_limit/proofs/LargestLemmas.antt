@@ -95,7 +95,8 @@ pub sum_none : (course : CourseView) → IsSumOf course 0 0
 sum_none course = record { spans = []; size = refl; largest = λ c most at. absurd cc; sum_is = refl }
 
 -- of a core more
-pub sum_more : (course : CourseView) (n sum most more : ℕ) → IsSumOf course n sum → IsLargestSpans course n most
+pub sum_more : (course : CourseView) (n sum most more : ℕ) → IsSumOf course n sum
+    → IsLargestSpans course n most
     → more ≡ stints_of_round course most → IsSumOf course (n + 1) (sum + more)
 sum_more course n sum most more so_far largest is = record {
   spans = so_far.spans ++ most ∷ [];

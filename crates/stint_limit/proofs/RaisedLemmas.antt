@@ -23,7 +23,8 @@ div_more k p q some le =
 
 -- the three ways in which a stint ends: with its span, after the lag, after the quantum
 ends_by : (b : Bool) (f e span lag quantum : ℕ)
-    → e ≡ cond b (min (min (f - f % ROUND + span) (f + lag)) (f + quantum)) (min (f - f % ROUND + span) (f + lag))
+    → e ≡ cond b (min (min (f - f % ROUND + span) (f + lag)) (f + quantum))
+    (min (f - f % ROUND + span) (f + lag))
     → f % ROUND < span → 1 ≤ lag → 1 ≤ quantum
     → (f < e) × ((f % ROUND + (e - f) ≡ span) ⊎ ((e ≡ f + lag) ⊎ (e ≡ f + quantum)))
 ends_by true f e span lag quantum is after l q = (
@@ -72,7 +73,8 @@ ends_by_count course (Some n) c most each =
       start = none_reached (plan_after course n) c 0 spans.ends ROUND spans.spans;
       stand = λ d place is lt.
           let same : n ≡ d = cc in
-          subst (λ (m : ℕ). (k : ℕ) × (x : ℕ) × (slice_get spans.ends k ≡ Some x) × IsSpanEnd (plan_after course m) c place x)
+          subst (λ (m : ℕ). (k : ℕ) × (x : ℕ) × (slice_get spans.ends k ≡ Some x)
+          × IsSpanEnd (plan_after course m) c place x)
           same (in_spans (plan_after course n) c 0 spans.ends ROUND place spans.spans (omega arith) lt);
     }
 
@@ -131,7 +133,8 @@ module _ (course : CourseView) (decided : List ℕ) (c most : ℕ) (ok : IsCours
   up_quantum : (r p q : ℕ) → q ≡ p + course.quantum → within_round r p + 1 ≤ within_round r q
   unfolding within_round
   up_quantum r p q is =
-      let next : q / course.quantum ≡ p / course.quantum + 1 = rw is (add-div_right p ok.form.outline.some_quantum) in
+      let next : q / course.quantum ≡ p / course.quantum + 1 =
+      rw is (add-div_right p ok.form.outline.some_quantum) in
       omega (
         arith,
         next,
@@ -151,10 +154,12 @@ module _ (course : CourseView) (decided : List ℕ) (c most : ℕ) (ok : IsCours
       f.span.after ok.form.outline.some_lag ok.form.outline.some_quantum in
       elim ways.1 [
         | inl at_span ↦ (let found = (e r).stand s.used p used (omega arith) in
-            let one : found.1 ≡ f.span_end = one_end (plan_after course s.used) c p found.1 f.span_end found.3 f.span in
+            let one : found.1 ≡ f.span_end = one_end (plan_after course s.used) c p found.1 f.span_end
+            found.3 f.span in
             let after = f.span.after in
             up_span r p (p + (s.end - s.from)) (omega arith)
-            (reached_one (e r).ends found.0 found.1 p (p + (s.end - s.from)) found.2 (omega (arith, one, after)) (omega (arith, one, at_span))))
+            (reached_one (e r).ends found.0 found.1 p (p + (s.end - s.from)) found.2
+            (omega (arith, one, after)) (omega (arith, one, at_span))))
         | inr later ↦ elim later [
           | inl at_lag ↦ up_lag r p (p + (s.end - s.from)) (omega (arith, at_lag))
           | inr at_quantum ↦ up_quantum r p (p + (s.end - s.from)) (omega (arith, at_quantum))

@@ -42,7 +42,8 @@ none_reached plan c from (e ∷ es) to are =
     omega (arith, below e from after, reached_more es from e (omega arith), none_reached plan c e es to are.1)
 
 -- spans go on from where they begin
-spans_rise : (plan : PlanView) (c from : ℕ) (ends : List ℕ) (to : ℕ) → AreSpans plan c from ends to → from ≤ to
+spans_rise : (plan : PlanView) (c from : ℕ) (ends : List ℕ) (to : ℕ)
+    → AreSpans plan c from ends to → from ≤ to
 spans_rise plan c from [] to are = omega (arith, are)
 spans_rise plan c from (e ∷ es) to are =
     (let after = are.0.after in let rest = spans_rise plan c e es to are.1 in omega arith)
@@ -52,9 +53,11 @@ one_length : (plan : PlanView) (c from : ℕ) (ends others : List ℕ) (to : ℕ
     → AreSpans plan c from others to → length ends ≡ length others
 one_length plan c from [] [] to a b = refl
 one_length plan c from [] (e ∷ es) to a b =
-    absurd (let after = b.0.after in let rest = spans_rise plan c e es to b.1 in omega (arith, a, after, rest))
+    absurd (let after = b.0.after in let rest = spans_rise plan c e es to b.1 in
+    omega (arith, a, after, rest))
 one_length plan c from (e ∷ es) [] to a b =
-    absurd (let after = a.0.after in let rest = spans_rise plan c e es to a.1 in omega (arith, b, after, rest))
+    absurd (let after = a.0.after in let rest = spans_rise plan c e es to a.1 in
+    omega (arith, b, after, rest))
 one_length plan c from (e ∷ es) (f ∷ fs) to a b =
     let same : f ≡ e = one_end plan c from f e b.0 a.0 in
     ap suc (one_length plan c e es fs to a.1 (subst (λ (x : ℕ). AreSpans plan c x fs to) same b.1))

@@ -21,7 +21,8 @@ spans_after course c most n ok largest le =
     (slice_get-get_or course.plans (plan_number_after course n) no_plan (ok.form.planned n le))
 
 -- the ends of each round of a state
-ends_of : (course : CourseView) (rounds c most : ℕ) (s : State) → IsCourse course → StateInvariant course rounds s
+ends_of : (course : CourseView) (rounds c most : ℕ) (s : State) → IsCourse course
+    → StateInvariant course rounds s
     → IsLargestSpans course c most → (r : ℕ) → EndsBy course (slice_get s.decided r) c most
 ends_of course rounds c most s ok kept largest r =
     ends_by_count course (slice_get s.decided r) c most (λ d at.
@@ -47,7 +48,8 @@ few_stints course rounds c most s core ok kept largest at =
 -- numbers that are bounded core by core, and their sums
 sums : (rounds : ℕ) (f : ℕ → ℕ) (g : CoreState → ℕ) (cores : List CoreState) (spans : List ℕ)
     → length spans ≡ length cores
-    → ((c most : ℕ) (core : CoreState) → slice_get cores c ≡ Some core → slice_get spans c ≡ Some most → g core ≤ rounds * f most)
+    → ((c most : ℕ) (core : CoreState) → slice_get cores c ≡ Some core → slice_get spans c ≡ Some most
+    → g core ≤ rounds * f most)
     → sum_by g cores ≤ rounds * sum_by f spans
 sums rounds f g [] spans size each = omega arith
 sums rounds f g (core ∷ cores) [] size each = absurd (omega (arith, size))
@@ -65,7 +67,8 @@ sums rounds f g (core ∷ cores) (most ∷ spans) size each =
 pub all_stints : (course : CourseView) (rounds bound : ℕ) (s : State) → IsCourse course
     → StateInvariant course rounds s → IsStintBound course rounds bound → stints_in s ≤ bound
 all_stints course rounds bound s ok kept is =
-    let most = sums rounds (stints_of_round course) (λ (core : CoreState). length core.stints) s.cores is.spans
+    let most = sums rounds (stints_of_round course) (λ (core : CoreState). length core.stints)
+    s.cores is.spans
     (omega (arith, is.size, kept.size))
     (λ c m core at listed. few_stints course rounds c m s core ok kept (is.largest c m listed) at) in
     omega (arith, most, is.bound_is)

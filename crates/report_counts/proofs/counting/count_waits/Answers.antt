@@ -20,8 +20,10 @@ pub append-requires-clause-round : goal.append-requires-clause-round
 append-requires-clause-round c = λ v lt.
     let r = c.loop-r.r in
     let at = slice_get-get_or c.args.used.now r 0 c.loop-r-test.true in
-    ends_round (plan_after c.args.course.now (slice_index_or c.args.used.now r 0)) v (stretch_at c.describe_round.new.round v)
-    (c.describe_round.ensures.told v (slice_index_or c.args.used.now r 0) (omega (arith, lt, c.loop-r.invariant.run_size)) at)
+    ends_round (plan_after c.args.course.now (slice_index_or c.args.used.now r 0)) v
+    (stretch_at c.describe_round.new.round v)
+    (c.describe_round.ensures.told v (slice_index_or c.args.used.now r 0)
+    (omega (arith, lt, c.loop-r.invariant.run_size)) at)
 
 pub loop-r-preserved : goal.loop-r-preserved
 loop-r-preserved c =
@@ -35,7 +37,8 @@ loop-r-preserved c =
       round_size = c.describe_round.ensures.size;
       run_size = c.append.ensures.size ∙ c.loop-r.invariant.run_size;
       told = λ v lt.
-          let more = told_more course used v r count (stretch_at c.loop-r.run v) (stretch_at c.describe_round.new.round v) at
+          let more = told_more course used v r count (stretch_at c.loop-r.run v)
+          (stretch_at c.describe_round.new.round v) at
           (c.loop-r.invariant.told v lt) (c.describe_round.ensures.told v count lt at) in
           let is = c.append.ensures.joined v (omega (arith, lt, c.loop-r.invariant.run_size)) in
           subst (λ (k : ℕ). IsToldRun course used v k (stretch_at c.append.new.run v)) next

@@ -12,9 +12,11 @@ equal a b h = by_test (nat_eq a b) refl h
     by_test true is g = eqb-true a b is
     by_test false is g = absurd (let e : not (nat_eq a b) ≡ true = rw is refl in cc)
 
-number_of : (course : CourseView) (used : List ℕ) (r count n : ℕ) → n ≡ plan_number_after course (get_or used r 0)
+number_of : (course : CourseView) (used : List ℕ) (r count n : ℕ)
+    → n ≡ plan_number_after course (get_or used r 0)
     → slice_get used r ≡ Some count → n ≡ plan_number_after course count
-number_of course used r count n is at = is ∙ ap (plan_number_after course) (get_or_from_slice_get used r count 0 at)
+number_of course used r count n is at = is
+    ∙ ap (plan_number_after course) (get_or_from_slice_get used r count 0 at)
 
 pub returns-else-r-eq0 : goal.returns-else-r-eq0
 returns-else-r-eq0 c = λ h.

@@ -7,6 +7,7 @@ use Rattle.report_counts.proofs.describing.close.Given as goal
 abbrev pub invariant-loop-v : goal.invariant-loop-v
 invariant-loop-v l = record {
   size : length l.stretches ≡ length l.fn.stretches;
-  done : (u : ℕ) → u < l.v → stretch_at l.stretches u ≡ closed (has_task l.tasks u) (stretch_at l.fn.stretches u);
+  done : (u : ℕ) → u < l.v → stretch_at l.stretches u ≡ closed (has_task l.tasks u)
+      (stretch_at l.fn.stretches u);
   rest : (u : ℕ) → l.v ≤ u → stretch_at l.stretches u ≡ stretch_at l.fn.stretches u;
 }

@@ -10,7 +10,8 @@ loop-number-preserved c =
     let course = c.args.course.now in
     let core = c.args.core in
     let n = c.loop-number.number in
-    let most : max c.loop-number.most c.spans.result ≡ c.max-most.result = search (rules, c.max-most.ensures) in
+    let most : max c.loop-number.most c.spans.result ≡ c.max-most.result =
+    search (rules, c.max-most.ensures) in
     subst (IsLargestOf course core (n + 1)) most
     (largest_more course core n c.loop-number.most c.spans.result c.loop-number.invariant
     (subst (λ (p : PlanView). HasSpans p core ROUND c.spans.result) c.plan.ensures.plan c.spans.ensures))
