@@ -1,4 +1,4 @@
-ghost use Rattle.std.specs.Prelude.{◌≡◌, ◌≤◌, ◌+◌, ℕ, IfOk, Some, length, slice_get};
+ghost use Rattle.std.specs.Prelude.{◌≡◌, ◌≤◌, ℕ, IfOk, Some, length, slice_get};
 ghost use Rattle.tab_core.specs.declared.TheConstants.{MAX_ROUNDS};
 
 use plan_book::{BookFault, PlanBook, make_book};
@@ -9,7 +9,7 @@ use std::cmp::min;
 use std::test::Fail;
 use std::thread::Threads;
 use stint_limit::{round_stints, stint_bound};
-use tab_core::{CoreNo, Host, MAX_VCPUS, Name, NoMemory, Reservation, Vcpu, Vcpus};
+use tab_core::{CoreNo, Host, MAX_ROUNDS, MAX_VCPUS, Name, NoMemory, Reservation, Vcpu, Vcpus};
 use table_form::Course;
 
 // One core with a, which has half of it until tick 102600 and a quarter from then on.
@@ -30,7 +30,7 @@ fn halved<R: Threads + Sync>(rt: &R, alloc: Global) -> Result<PlanBook, Fail> {
         quantum: 102_600,
         vcpus: Vcpus::of(vcpus),
     };
-    let script = read_script(alloc, b"102600 change set a 250000 102702600", &host, 1)?;
+    let script = read_script(alloc, b"102600 change set a 250000 102702600", &host, 2)?;
     make_book(rt, alloc, &host, &script).map_err(|fault| told(&fault))
 }
 
@@ -42,19 +42,20 @@ fn told(fault: &BookFault) -> Fail {
     }
 }
 
-// So many rounds by the plan before the change, and then so many by the plan after it.
-fn used_of(alloc: Global, course: &Course, before: u32, after: u32) -> Result<Vec<u32>, NoMemory>
-    requires { before + after ≤ MAX_ROUNDS }
-    ensures count { IfOk result (λ used. length used.items ≡ before + after) }
+// The counts of so many rounds, the first of them by the plan before the change.
+fn used_of(alloc: Global, course: &Course, before: u32, rounds: u32) -> Result<Vec<u32>, NoMemory>
+    ensures few { IfOk result (λ used. length used.items ≤ MAX_ROUNDS) }
     ensures each { IfOk result (λ used. (r count : ℕ) → slice_get used.items r ≡ Some count
         → count ≤ length course.now.ticks) }
 {
     let mut used = Vec::new(alloc);
-    for _ in 0..before {
-        used.push(0)?;
-    }
-    for _ in 0..after {
-        used.push(min(1, course.count()))?;
+    for round in 0..min(rounds, MAX_ROUNDS) {
+        let count = if round < before {
+            0
+        } else {
+            min(1, course.count())
+        };
+        used.push(count)?;
     }
     Ok(used)
 }
@@ -71,18 +72,18 @@ fn offers_and_gaps_of_a_run(rt: HostRuntime) -> Result<(), Fail> {
     let alloc = rt.alloc();
     let book = halved(&rt, alloc)?;
     let course = book.course();
-    // rounds before and after the change, the ticks that are offered, the greatest gap, and the rounds
-    // that begin with another plan
+    // how many rounds go by the first plan, and how many there are; the ticks that are offered, the
+    // greatest gap, and the rounds that begin with another plan
     let cases: [(u32, u32, u32, u32, &[RoundPlan]); 6] = [
         (0, 0, 0, 0, &[]),
-        (2, 0, 102_600, 51_300, &[OLD]),
+        (2, 2, 102_600, 51_300, &[OLD]),
         (0, 1, 25_650, 38_475, &[NEW]),
         (0, 2, 51_300, 38_475, &[NEW]),
-        (1, 1, 76_950, 51_300, &[OLD, THEN_NEW]),
+        (1, 2, 76_950, 51_300, &[OLD, THEN_NEW]),
         (0, 10_000, 256_500_000, 38_475, &[NEW]),
     ];
-    for (before, after, offered, gap, plans) in cases {
-        let used = used_of(alloc, course, before, after)?;
+    for (before, rounds, offered, gap, plans) in cases {
+        let used = used_of(alloc, course, before, rounds)?;
         let mut round = vec![in alloc; Stretch::none(); MAX_VCPUS as usize]?;
         let mut run = vec![in alloc; Stretch::none(); MAX_VCPUS as usize]?;
         count_waits(course, &used, &mut round, &mut run);
@@ -90,7 +91,7 @@ fn offers_and_gaps_of_a_run(rt: HostRuntime) -> Result<(), Fail> {
         assert_eq!(rt; (run[1].offered, run[1].most), (0, 0));
         let mut listed = Vec::with_capacity(alloc, used.len())?;
         round_plans(course, &used, &mut listed);
-        assert_eq!(rt; listed, plans);
+        assert_eq!(rt; listed.as_slice(), plans);
     }
     Ok(())
 }
