@@ -9,7 +9,7 @@ use Rattle.table_form.specs.Running.Outlines.{OutlineView}
 use Rattle.run_promises.proofs.Lists.{within}
 use Rattle.round_words.specs.declared.view.Part.{Part}
 use Rattle.round_words.specs.Views.{enters, last_of, runs}
-use Rattle.round_words.proofs.Lasts.{at_get}
+use Rattle.round_words.proofs.ListLemmas.{at_get}
 use Rattle.dispatch_core.specs.Parts.{HasEvents, HasSeen, IsTimely}
 use Rattle.dispatch_core.specs.Told.{BeginsNext, ComesToEnter, MakesEntry}
 
@@ -78,12 +78,13 @@ pub record SameButEntries (p q : Part) : Type 0 where
   pub clock : q.clock ≡ p.clock
   pub sights : q.sights ≡ p.sights
   pub stints : q.stints ≡ p.stints
+  pub heard : q.heard ≡ p.heard
 
 -- so it does
 pub entered_same : (p q : Part) → ComesToEnter p q → SameButEntries p q
 entered_same p q enters = elim enters [
-  | inl had ↦ subst (SameButEntries p) (sym had.1) (record { clock = refl; sights = refl; stints = refl })
-  | inr d ↦ subst (SameButEntries p) (sym d.becomes) (record { clock = refl; sights = refl; stints = refl })
+  | inl had ↦ subst (SameButEntries p) (sym had.1) (record { clock = refl; sights = refl; stints = refl; heard = refl })
+  | inr d ↦ subst (SameButEntries p) (sym d.becomes) (record { clock = refl; sights = refl; stints = refl; heard = refl })
 ]
 
 -- the sight is the same once the core has entered its round

@@ -9,14 +9,15 @@ use Rattle.table_form.specs.Running.Courses.{CourseView, outline_of}
 use Rattle.table_form.specs.Running.Outlines.{OutlineView}
 use Rattle.round_words.specs.declared.view.Part.{Part}
 use Rattle.round_words.specs.declared.view.View.{View}
-use Rattle.round_words.specs.Lessons.{Core}
-use Rattle.round_words.specs.Others.{Others}
-use Rattle.round_words.specs.Views.{part}
-use Rattle.round_words.proofs.Others.{core_still, started_still}
+use Rattle.round_words.specs.Hearing.{KnowsClocks}
+use Rattle.round_words.specs.Shown.{HoldsCore}
+use Rattle.round_words.specs.Changes.{ChangesOnly}
+use Rattle.round_words.specs.Views.{last_of, part}
+use Rattle.round_words.proofs.ChangesLemmas.{core_still, started_still}
 use Rattle.dispatch_core.specs.declared.log.CoreLog.{CoreLog}
 use Rattle.dispatch_core.specs.Accounts.{IsAccountOf, idle_ticks, shared_ticks, slot_ticks}
 use Rattle.dispatch_core.specs.Inside.Logs.{IsNewLog, log_view}
-use Rattle.dispatch_core.specs.Parts.{AreDispatched, HasSeen, IsOfOutline, IsPartOf, IsTimely, used_counts}
+use Rattle.dispatch_core.specs.Parts.{HasSeen, IsNewPart, IsOfOutline, IsPartOf, IsTimely, used_counts}
 use Rattle.dispatch_core.specs.States.{AgreesWith, FollowsPlans, Stands, StateView}
 use Rattle.dispatch_core.specs.Told.{ComesToEnter}
 use Rattle.dispatch_core.proofs.PartLemmas.{SameRun, entered_same, entered_timely, timely_same}
@@ -44,16 +45,16 @@ none_taken (suc n) [] is = refl
 none_taken (suc n) (s ∷ ss) is = absurd cc
 
 -- a new state agrees with a part to which nothing has happened, in what needs no plan
-pub stands_new : (o : OutlineView) (log : CoreLog) (v : View) → IsNewLog log → IsOfOutline o v → Core v log.core
-    → (part v log.core).clock ≡ 0 → (part v log.core).entries ≡ [] → (part v log.core).stints ≡ []
-    → Stands o (log_view log) v
-stands_new o log v new of core clock entries stints = record {
+pub stands_new : (o : OutlineView) (log : CoreLog) (v : View) → IsNewLog log → IsOfOutline o v → HoldsCore v log.core
+    → IsNewPart (part v log.core) → Stands o (log_view log) v
+stands_new o log v new of core fresh = record {
   of_outline = of;
   core = core;
-  timely = timely_new o log.rounds (part v log.core) clock entries stints;
-  clock = new.clock ∙ sym clock;
-  used = new.used ∙ sym (ap used_counts entries);
-  stints = new.stints ∙ sym (none_taken log.keep (part v log.core).stints stints);
+  timely = timely_new o log.rounds (part v log.core) fresh.clock fresh.entries fresh.stints;
+  clock = new.clock ∙ sym fresh.clock;
+  used = new.used ∙ sym (ap used_counts fresh.entries);
+  stints = new.stints ∙ sym (none_taken log.keep (part v log.core).stints fresh.stints);
+  known = λ d. new.known d ∙ sym (ap last_of (fresh.heard d));
   within = record {
     slots = λ v lt. omega (arith, new.slots v lt);
     shared = λ v lt. omega (arith, new.shared v lt);
@@ -71,24 +72,23 @@ plans_new course log p new stints = record {
       (record { slots = new.slots; shared = new.shared; idle = new.idle });
 }
 
--- an array of zeros
-pub zero_at : (n v : ℕ) → slice_index (replicate n 0) v ≡ 0
-zero_at zero v = refl
-zero_at (suc n) zero = refl
-zero_at (suc n) (suc v) = zero_at n v
-
--- other parts, sights and what was heard don't matter
-pub stands_same : (o : OutlineView) (s : StateView) (v w : View) → Stands o s v → Others v w s.core
-    → SameRun (part v s.core) (part w s.core) → Stands o s w
-stands_same o s v w stands others same = record {
+-- other parts and sights don't matter, and what was heard only to the known clocks
+pub stands_same : (o : OutlineView) (s : StateView) (v w : View) (known : List ℕ) → Stands o s v → ChangesOnly v w s.core
+    → SameRun (part v s.core) (part w s.core) → KnowsClocks known (part w s.core) → Stands o (record s { known = known }) w
+stands_same o s v w known stands others same knows = record {
   of_outline = started_still o.lag o.cores (length o.ticks) v w s.core others stands.of_outline;
   core = core_still v w s.core s.core others stands.core;
   timely = timely_same o s.rounds (part v s.core) (part w s.core) same stands.timely;
   clock = stands.clock ∙ sym same.clock;
   used = stands.used ∙ ap used_counts (sym same.entries);
   stints = stands.stints ∙ ap (take s.keep) (sym same.stints);
+  known = knows;
   within = stands.within;
 }
+
+-- the clocks are known as long as nothing is heard
+pub knows_same : (known : List ℕ) (p q : Part) → q.heard ≡ p.heard → KnowsClocks known p → KnowsClocks known q
+knows_same known p q same knows = rw same knows
 
 -- what the plans give depends on the stints alone
 pub plans_same : (course : CourseView) (s t : StateView) (p q : Part) → t.core ≡ s.core → t.last ≡ s.last → t.account ≡ s.account
@@ -101,7 +101,7 @@ plans_same course s t p q core last account stints follows = record {
 
 -- the core entered its clock's round
 pub stands_entered : (o : OutlineView) (s : StateView) (v w : View) (used : List ℕ) (count : ℕ) → Stands o s v
-    → s.clock < s.rounds * ROUND → Others v w s.core → HasSeen o count (part v s.core)
+    → s.clock < s.rounds * ROUND → ChangesOnly v w s.core → HasSeen o count (part v s.core)
     → All (λ (e : Entry). (e.seen ≤ count) × (e.used ≤ count)) (part v s.core).entries
     → ComesToEnter (part v s.core) (part w s.core) → used ≡ used_counts (part w s.core).entries
     → Stands o (record s { used = used }) w
@@ -115,5 +115,6 @@ stands_entered o s v w used count stands less others seen entries enters is =
       clock = stands.clock ∙ sym same.clock;
       used = is;
       stints = stands.stints ∙ ap (take s.keep) (sym same.stints);
+      known = knows_same s.known p q same.heard stands.known;
       within = stands.within;
     }

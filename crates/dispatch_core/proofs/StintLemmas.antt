@@ -13,10 +13,10 @@ use Rattle.table_form.specs.Running.Courses.{CourseView}
 use Rattle.round_words.specs.declared.view.Part.{Part}
 use Rattle.table_form.specs.Running.Outlines.{OutlineView}
 use Rattle.round_words.specs.declared.view.View.{View}
-use Rattle.round_words.specs.Others.{Others}
+use Rattle.round_words.specs.Changes.{ChangesOnly}
 use Rattle.round_words.specs.Views.{last_of, part, runs}
-use Rattle.round_words.proofs.Others.{core_still, started_still}
-use Rattle.round_words.proofs.Heeding.{SamePart}
+use Rattle.round_words.proofs.ChangesLemmas.{core_still, started_still}
+use Rattle.round_words.proofs.HearingLemmas.{SamePart}
 use Rattle.dispatch_core.specs.declared.account.CoreAccount.{CoreAccount}
 use Rattle.dispatch_core.specs.declared.log.CoreLog.{CoreLog}
 use Rattle.dispatch_core.specs.Accounts.{IsAccountOf, IsWithin, idle_ticks, length_of, shared_ticks, slot_ticks}
@@ -164,11 +164,11 @@ kept_stints keep ss s = elim (cases_lt (length (take keep ss)) keep) [
 -- in what needs no plan, once the core ran its next stint
 pub stands_ran : (o : OutlineView) (s t : StateView) (v w : View) (stint : Stint) (shared : Bool) (count : ℕ) → Stands o s v
     → s.clock < s.rounds * ROUND → HasSeen o count (part v s.core) → BeginsNext (part v s.core) stint
-    → stint.from < stint.end → stint.end ≤ (stint.from / ROUND + 1) * ROUND → Others v w s.core
+    → stint.from < stint.end → stint.end ≤ (stint.from / ROUND + 1) * ROUND → ChangesOnly v w s.core
     → part w s.core ≡ runs (part v s.core) stint → t.core ≡ s.core → t.rounds ≡ s.rounds → t.keep ≡ s.keep → t.clock ≡ stint.end
     → t.used ≡ s.used → t.stints ≡ (if nat_lt (length s.stints) s.keep then s.stints ++ stint ∷ [] else s.stints)
-    → Adds s.account t.account stint shared → Stands o t w
-stands_ran o s t v w stint shared count stands less seen begins some in_round others is core rounds keep clock used stints adds =
+    → Adds s.account t.account stint shared → t.known ≡ s.known → Stands o t w
+stands_ran o s t v w stint shared count stands less seen begins some in_round others is core rounds keep clock used stints adds known =
     let p : Part = part v s.core in
     let from : stint.from ≡ s.clock = begins.from ∙ sym stands.clock in
     let becomes : part w t.core ≡ runs p stint = ap (part w) core ∙ is in record {
@@ -179,5 +179,6 @@ stands_ran o s t v w stint shared count stands less seen begins some in_round ot
       used = used ∙ (stands.used ∙ sym (ap (λ (q : Part). used_counts q.entries) becomes));
       stints = stints ∙ (ap (λ (ss : List Stint). if nat_lt (length ss) s.keep then ss ++ stint ∷ [] else ss) stands.stints
           ∙ (kept_stints s.keep p.stints stint ∙ sym (ap (λ (k : ℕ). take k (part w t.core).stints) keep ∙ ap (λ (q : Part). take s.keep q.stints) becomes)));
+      known = rw (known, becomes) (λ d. stands.known d);
       within = rw clock (within_more s.account t.account stint shared (rw from stands.within) (omega (arith, some)) adds);
     }

@@ -6,12 +6,12 @@ use Rattle.tab_core.specs.declared.stint.Stint.{Stint}
 use Rattle.table_form.specs.Running.Outlines.{IsOutline, OutlineView}
 use Rattle.round_words.specs.declared.view.Part.{Part}
 use Rattle.round_words.specs.declared.view.View.{View}
-use Rattle.round_words.specs.Lessons.{Sighted}
-use Rattle.round_words.specs.Others.{Others}
+use Rattle.round_words.specs.Shown.{IsSight}
+use Rattle.round_words.specs.Changes.{ChangesOnly}
 use Rattle.round_words.specs.Hearing.{HearsCores}
 use Rattle.round_words.specs.Views.{hears, holds, last_of, part, sees}
-use Rattle.round_words.proofs.Heeding.{SamePart, heard_same}
-use Rattle.round_words.proofs.Lasts.{last_of-push, length_push}
+use Rattle.round_words.proofs.HearingLemmas.{SamePart, heard_same}
+use Rattle.round_words.proofs.ListLemmas.{last_of-push, length_push}
 use Rattle.dispatch_core.specs.Parts.{HasEvents, HasSeen}
 use Rattle.dispatch_core.specs.Told.{LacksEvent}
 use Rattle.dispatch_core.proofs.DueLemmas.{has_by_next}
@@ -47,19 +47,19 @@ pub sees_same : (p q : Part) (count : ℕ) → q ≡ sees p count → SameRun p 
 sees_same p q count is = subst (SameRun p) (sym is) (record { clock = refl; entries = refl; stints = refl })
 
 -- a count that has what is due was seen
-pub has_seen : (o : OutlineView) (v : View) (c count : ℕ) (q : Part) → q ≡ sees (part v c) count → Sighted v c count
+pub has_seen : (o : OutlineView) (v : View) (c count : ℕ) (q : Part) → q ≡ sees (part v c) count → IsSight v c count
     → HasEvents o count (part v c).clock → v.events ≡ length o.ticks → HasSeen o count q
 has_seen o v c count q is sighted has events = subst (HasSeen o count) (sym is) (record {
   some = omega (arith, length_push (part v c).sights count);
   last = last_of-push (part v c).sights count;
   has = has;
   within = omega (arith, sighted.within, events);
-  stints = λ k d lt. (sighted.stints k d lt).0;
+  stints = λ k d lt. (sighted.counts.stints k d lt).0;
 })
 
 -- a count that lacks an event that is due was seen
 pub lacks_event : (o : OutlineView) (v w : View) (c count tick : ℕ) → IsOutline o → (HasEvents o count (part v c).clock → ⊥)
-    → Sighted v c count → v.events ≡ length o.ticks → tick ≡ slice_index o.ticks count → part w c ≡ sees (part v c) count
+    → IsSight v c count → v.events ≡ length o.ticks → tick ≡ slice_index o.ticks count → part w c ≡ sees (part v c) count
     → LacksEvent o c v w tick
 lacks_event o v w c count tick ok lacks sighted events tick_is is = record {
   count = count;
@@ -74,6 +74,6 @@ lacks_event o v w c count tick ok lacks sighted events tick_is is = record {
 }
 
 -- the clock that was loaded is that core's, where the view holds it
-pub low_told : (c : ℕ) (v u : View) (d tick : ℕ) → Others v u c → d ≢ c → (holds u d ≡ true → tick ≡ (part u d).clock)
+pub low_told : (c : ℕ) (v u : View) (d tick : ℕ) → ChangesOnly v u c → d ≢ c → (holds u d ≡ true → tick ≡ (part u d).clock)
     → holds v d ≡ true → tick ≡ (part v d).clock
 low_told c v u d tick others away exact has = exact (others.actors d ∙ has) ∙ ap (λ (p : Part). p.clock) (others.parts d away)

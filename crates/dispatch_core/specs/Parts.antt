@@ -10,8 +10,8 @@ use Rattle.table_form.specs.Running.Outlines.{OutlineView}
 use Rattle.table_form.specs.Running.Waiting.{HasUpTo}
 use Rattle.round_words.specs.declared.view.Part.{Part}
 use Rattle.round_words.specs.declared.view.View.{View}
-use Rattle.round_words.specs.Others.{IsStarted}
-use Rattle.round_words.specs.Views.{last_of}
+use Rattle.round_words.specs.Views.{IsStarted}
+use Rattle.round_words.specs.Views.{heard_of, last_of}
 
 -- the view was started with the lag, cores and events of the outline
 abbrev pub IsOfOutline : OutlineView → View → Type 0
@@ -21,12 +21,19 @@ IsOfOutline o v = IsStarted o.lag o.cores (length o.ticks) v
 abbrev pub HasEvents : OutlineView → ℕ → ℕ → Type 0
 HasEvents o count x = HasUpTo (with_plans o [] []) count x
 
+-- nothing has happened to the core's part
+pub record IsNewPart (p : Part) : Type 0 where
+  pub clock : p.clock ≡ 0
+  pub heard : (d : ℕ) → heard_of p d ≡ []
+  pub entries : p.entries ≡ []
+  pub stints : p.stints ≡ []
+
 abbrev pub used_counts : List Entry → List ℕ
 used_counts entries = map (λ (e : Entry). e.used) entries
 
 -- The part is one of a run of so many rounds, by all that needs no plan. That it has stints from 0 to
 -- its clock, an entry for each round in which one begins and each stint its round's used count, the
--- board shows of each part (`Own` of round_words).
+-- board shows of each part (`IsCorePart` of round_words).
 pub record IsTimely (o : OutlineView) (rounds : ℕ) (p : Part) : Type 0 where
   pub in_run : p.clock ≤ rounds * ROUND
   -- it enters no round beyond the run

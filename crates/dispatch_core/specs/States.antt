@@ -8,7 +8,8 @@ use Rattle.table_form.specs.Running.Courses.{CourseView, outline_of}
 use Rattle.table_form.specs.Running.Outlines.{OutlineView}
 use Rattle.round_words.specs.declared.view.Part.{Part}
 use Rattle.round_words.specs.declared.view.View.{View}
-use Rattle.round_words.specs.Lessons.{Core}
+use Rattle.round_words.specs.Hearing.{KnowsClocks}
+use Rattle.round_words.specs.Shown.{HoldsCore}
 use Rattle.round_words.specs.Views.{part}
 use Rattle.dispatch_core.specs.declared.account.CoreAccount.{CoreAccount}
 use Rattle.dispatch_core.specs.Accounts.{IsAccountOf, IsWithin}
@@ -27,6 +28,8 @@ pub record StateView : Type 0 where
   -- the used count of each round that the core entered
   pub used : List ℕ
   pub stints : List Stint
+  -- for each core the clock that was heard last
+  pub known : List ℕ
 
 -- an actor: the course, and what it keeps
 pub record ActorView : Type 0 where
@@ -39,11 +42,12 @@ actor_view course state = record { course = course; state = state }
 -- The state agrees with its core's part of the view, which the view holds, in all that needs no plan.
 pub record Stands (o : OutlineView) (s : StateView) (v : View) : Type 0 where
   pub of_outline : IsOfOutline o v
-  pub core : Core v s.core
+  pub core : HoldsCore v s.core
   pub timely : IsTimely o s.rounds (part v s.core)
   pub clock : s.clock ≡ (part v s.core).clock
   pub used : s.used ≡ used_counts (part v s.core).entries
   pub stints : s.stints ≡ take s.keep (part v s.core).stints
+  pub known : KnowsClocks s.known (part v s.core)
   pub within : IsWithin s.account s.clock
 
 -- The rest of it: by the plans of the course the part's stints are those that the rules choose, and the last

@@ -12,7 +12,7 @@ use Rattle.round_words.specs.declared.view.Part.{Part}
 use Rattle.round_words.specs.declared.view.View.{View}
 use Rattle.round_words.specs.Views.{holds, part, sees, hears, enters, runs, last_of}
 use Rattle.round_words.specs.Hearing.{HearsCores}
-use Rattle.round_words.specs.Lessons.{Sighted}
+use Rattle.round_words.specs.Shown.{IsSight}
 use Rattle.dispatch_core.specs.declared.answer.Begun.{Begun}
 use Rattle.dispatch_core.specs.declared.answer.Begun.TheVariants.{At, Behind as Unseen, Finished as Over}
 use Rattle.dispatch_core.specs.declared.answer.CoreAnswer.{CoreAnswer}
@@ -59,13 +59,13 @@ pub record ComesNext (course : CourseView) (c : ℕ) (p : Part) (s : Stint) : Ty
 
 -- See, with a count that has every event of tick at most the clock less the lag
 pub record SeesAll (o : OutlineView) (c : ℕ) (v : View) (count : ℕ) : Type 0 where
-  pub sighted : Sighted v c count
+  pub sighted : IsSight v c count
   pub has : HasEvents o count (part v c).clock
 
 -- See, with a count that lacks such an event. The tick is that of the first one
 pub record LacksEvent (o : OutlineView) (c : ℕ) (v w : View) (tick : ℕ) : Type 0 where
   pub count : ℕ
-  pub sighted : Sighted v c count
+  pub sighted : IsSight v c count
   pub some : count < length o.ticks
   pub tick_is : tick ≡ slice_index o.ticks count
   pub due : tick + o.lag ≤ (part v c).clock

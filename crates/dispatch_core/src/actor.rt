@@ -1,9 +1,9 @@
-ghost use Rattle.std.specs.Prelude.{◌≡◌, ◌<◌, ℕ, IfOk, []};
+ghost use Rattle.std.specs.Prelude.{◌≡◌, ◌<◌, ℕ, IfOk};
 ghost use Rattle.table_form.specs.Running.Courses.{FitsRounds, outline_of};
 ghost use Rattle.round_words.specs.declared.view.View.{View as ViewValue};
-ghost use Rattle.round_words.specs.Lessons.{Core};
+ghost use Rattle.round_words.specs.Shown.{HoldsCore};
 ghost use Rattle.round_words.specs.Views.{part};
-ghost use Rattle.dispatch_core.specs.Parts.{IsOfOutline};
+ghost use Rattle.dispatch_core.specs.Parts.{IsNewPart, IsOfOutline};
 ghost use Rattle.dispatch_core.specs.States.{AgreesWith};
 
 use crate::account::CoreAccount;
@@ -50,8 +50,8 @@ impl CoreActor<'_> {
         requires fits { FitsRounds course.now rounds }
         ensures course { IfOk result (λ a. a.course ≡ course.now) }
         ensures same { IfOk result (λ a. (a.state.core ≡ core) × (a.state.rounds ≡ rounds) × (a.state.keep ≡ keep)) }
-        ensures agrees { IfOk result (λ a. (v : ViewValue) → IsOfOutline (outline_of course.now) v → Core v core
-            → (part v core).clock ≡ 0 → (part v core).entries ≡ [] → (part v core).stints ≡ []
+        ensures agrees { IfOk result (λ a. (v : ViewValue) → IsOfOutline (outline_of course.now) v → HoldsCore v core
+            → IsNewPart (part v core)
             → AgreesWith course.now a.state v) }
     {
         let slices = CoreSlices::make(alloc, course, core)?;

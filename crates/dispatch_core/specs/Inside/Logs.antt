@@ -14,6 +14,7 @@ log_view log = record {
   account = log.account;
   used = log.used.items;
   stints = log.stints.items;
+  known = log.known;
 }
 
 -- the numbers are small, and there is room for a used count for each round and for the stints to keep
@@ -32,3 +33,4 @@ pub record IsNewLog (log : CoreLog) : Type 0 where
   pub idle : log.account.idle ≡ 0
   pub used : log.used.items ≡ []
   pub stints : log.stints.items ≡ []
+  pub known : (d : ℕ) → slice_index log.known d ≡ 0

@@ -5,8 +5,8 @@ use Rattle.round_words.specs.declared.view.Part.{Part}
 use Rattle.round_words.specs.declared.view.View.{View}
 use Rattle.round_words.specs.Views.{part, runs}
 use Rattle.round_words.specs.Seats.{view_of}
-use Rattle.round_words.proofs.Lasts.{some_same}
-use Rattle.round_words.proofs.Others.{part_with}
+use Rattle.round_words.proofs.ListLemmas.{some_same}
+use Rattle.round_words.proofs.ChangesLemmas.{part_with}
 use Rattle.dispatch_core.proofs.StintLemmas.{same_stint}
 use Rattle.dispatch_core.proofs.ending.advance.Goals as goal
 

@@ -7,7 +7,7 @@ use Rattle.round_words.specs.declared.view.View.{View}
 use Rattle.round_words.specs.Hearing.{HearsCores}
 use Rattle.round_words.specs.Seats.{view_of}
 use Rattle.round_words.specs.Views.{part, runs}
-use Rattle.round_words.proofs.Heeding.{SamePart, heard_same}
+use Rattle.round_words.proofs.HearingLemmas.{SamePart, heard_same}
 use Rattle.dispatch_core.specs.declared.log.CoreLog.{CoreLog}
 use Rattle.dispatch_core.specs.Inside.Logs.{log_view}
 use Rattle.dispatch_core.specs.States.{FollowsPlans, Stands}
@@ -39,7 +39,7 @@ returns-in-Some-clause-stands c =
     let v : View = view_of c.args.seat.now in
     let w : View = view_of c.hear_cores.new.seat in
     let low = c.in-Some.ensures.low in
-    stands_same c.args.outline.now (log_view log) v w c.requires.stands c.in-Some.ensures.others (low_same log.core _ _ _ _ (part v log.core) low.heard (part w log.core) low.near low.becomes)
+    stands_same c.args.outline.now (log_view log) v w c.hear_cores.new.known c.requires.stands c.in-Some.ensures.changes (low_same log.core _ _ _ _ (part v log.core) low.heard (part w log.core) low.near low.becomes) c.in-Some.ensures.known
 
 pub returns-in-Some-clause-told : goal.returns-in-Some-clause-told
 returns-in-Some-clause-told c = λ plan shown plans numbers is follows.
@@ -72,7 +72,7 @@ returns-in-Some-clause-plans c = λ plan shown plans numbers is follows.
     let w : View = view_of c.hear_cores.new.seat in
     let low = c.in-Some.ensures.low in
     let same : SameRun (part v log.core) (part w log.core) = low_same log.core _ _ _ _ (part v log.core) low.heard (part w log.core) low.near low.becomes in
-    plans_same _ (log_view log) (log_view log) (part v log.core) (part w log.core) refl refl refl same.stints follows
+    plans_same _ (log_view log) _ (part v log.core) (part w log.core) refl refl refl same.stints follows
 
 pub returns-in-None-clause-stands : goal.returns-in-None-clause-stands
 returns-in-None-clause-stands c =
@@ -83,13 +83,13 @@ returns-in-None-clause-stands c =
     let hs = heard_same log.core _ _ _ (part v log.core) q c.in-None.ensures.heard in
     let n = c.next_stint-next.ensures in
     let t = c.note.ensures in
-    stands_ran c.args.outline.now (log_view log) (log_view c.note.new.log) u _ c.next_stint-next.result.stint c.next_stint-next.result.shared c.args.seen
-    (stands_same c.args.outline.now (log_view log) v u c.requires.stands c.in-None.ensures.others (run_of_same (part v log.core) q hs))
+    stands_ran c.args.outline.now (record (log_view log) { known = c.hear_cores.new.known }) (log_view c.note.new.log) u _ c.next_stint-next.result.stint c.next_stint-next.result.shared c.args.seen
+    (stands_same c.args.outline.now (log_view log) v u c.hear_cores.new.known c.requires.stands c.in-None.ensures.changes (run_of_same (part v log.core) q hs) c.in-None.ensures.known)
     c.requires.begun.unfinished (heard_seen c.args.outline.now c.args.seen (part v log.core) q hs c.requires.begun.sight)
     (begins_same (part v log.core) q c.next_stint-next.result.stint hs
     (begins_next (part v log.core) c.next_stint-next.result.stint log.clock c.args.seen c.args.used log.used.items c.requires.stands.used c.requires.begun.entered
     c.requires.stands.clock c.requires.begun.sight.last n.from n.seen n.used))
-    n.some n.in_round c.advance.ensures.others c.advance.ensures.becomes t.same.0 t.same.1 t.same.2 t.clock t.used.0 t.stints t.account
+    n.some n.in_round c.advance.ensures.changes c.advance.ensures.becomes t.same.0 t.same.1 t.same.2 t.clock t.used.0 t.stints t.account t.known
 
 pub returns-in-None-clause-told : goal.returns-in-None-clause-told
 returns-in-None-clause-told c = λ plan shown plans numbers is follows.

@@ -1,7 +1,7 @@
 use Rattle.std.proofs.Common.{◌+◌, inl, inr, arith}
 use Rattle.std.proofs.lemmas.Bool.{cases_lt, lt-ltb, ltb-true}
 use Rattle.dispatch_core.proofs.DueLemmas.{has_by_next}
-use Rattle.dispatch_core.proofs.entering.has_events.Goals as goal
+use Rattle.dispatch_core.proofs.beginning.has_events.Goals as goal
 
 pub returns-clause-known : goal.returns-clause-known
 returns-clause-known c = (
