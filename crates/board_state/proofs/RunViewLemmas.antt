@@ -104,7 +104,7 @@ module _ (course : CourseView) (rounds : ℕ) (v : View) (run : IsRunView course
       let one : count.entry.used ≡ e.used =
       run.shown.one_count count.c c r count.entry e theirs.core mine.core
       (count.at, theirs.own.timeline.numbered r count.entry count.at)
-          (at, mine.own.timeline.numbered r e at) in
+      (at, mine.own.timeline.numbered r e at) in
       found.1 ∙ some_count found.0 e.used (sym count.used ∙ one)
 
   -- what came before a tick by the floors came at most the lag after it
@@ -129,7 +129,7 @@ module _ (course : CourseView) (rounds : ℕ) (v : View) (run : IsRunView course
   entry_fresh c r e lt at =
       let mine = of_core course rounds v c run lt in
       let before = at_place (λ (x : Entry). FloorsUpTo (floors_of v) x.seen (x.round * ROUND))
-          (part v c).entries r e at mine.floors.fits.entered in
+      (part v c).entries r e at mine.floors.fits.entered in
       subst (λ (k : ℕ). IsFresh course e.seen (k * ROUND)) (mine.own.timeline.numbered r e at) (record {
         has = mine.agrees.timely.entered r e at;
         none_later = none_later e.seen (e.round * ROUND) (entry_seen c r e lt at) before;
@@ -141,9 +141,9 @@ module _ (course : CourseView) (rounds : ℕ) (v : View) (run : IsRunView course
   stint_kept c k s lt at =
       let mine = of_core course rounds v c run lt in
       let seen = (at_place (λ (x : Stint). (x.seen ≤ length (floors_of v)) × (x.used ≤ length (floors_of v)))
-          (part v c).stints k s at mine.floors.fits.counts.stints).0 in
+      (part v c).stints k s at mine.floors.fits.counts.stints).0 in
       let before = at_place (λ (x : Stint). FloorsUpTo (floors_of v) x.seen x.from)
-          (part v c).stints k s at mine.floors.fits.began in
+      (part v c).stints k s at mine.floors.fits.began in
       record {
         seen_posted = seen;
         fresh = record {
@@ -170,7 +170,7 @@ module _ (course : CourseView) (rounds : ℕ) (v : View) (run : IsRunView course
       let mine = of_core course rounds v c run lt in
       let last = seen_last course p.clock n p.sights is in
       let posted = last_passes (λ k. k ≤ length (floors_of v)) p.sights last.0
-          mine.floors.fits.counts.sights in
+      mine.floors.fits.counts.sights in
       let few : n ≤ length (floors_of v) = omega (arith, posted, last.1) in
       let covers : CoversEarlier p n =
       subst (CoversEarlier p) last.1 (last_passes (CoversEarlier p) p.sights last.0 mine.own.sights) in

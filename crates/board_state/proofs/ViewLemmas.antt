@@ -7,8 +7,9 @@ use Rattle.round_words.specs.Shown.{ViewInvariant}
 use Rattle.round_words.specs.Views.{holds, part}
 use Rattle.dispatch_core.specs.Parts.{IsPartOf}
 use Rattle.dispatch_core.specs.States.{AgreesWith, StateView}
-use Rattle.dispatch_core.proofs.PartLemmas.{agreed_part}
-use Rattle.plan_switch.specs.Controllers.{HasPosted}
+use Rattle.dispatch_core.proofs.StateLemmas.{agreed_part}
+use Rattle.plan_switch.specs.Controllers as controllers
+use Rattle.plan_switch.specs.declared.state.ControlState.{ControlState}
 use Rattle.board_state.specs.RunViews.{IsFinished, IsRunView}
 
 -- the state of core c in a run agrees with the core's part
@@ -26,14 +27,13 @@ part_of course rounds c v s by =
     (agreed_part course s v by.agrees))
 
 -- where each core has such a state, and the controller agrees with its part, it is a view of the run
-pub run_view : (course : CourseView) (rounds posted : ℕ) (v : View)
+pub run_view : (course : CourseView) (rounds : ℕ) (v : View) (k : ControlState)
     → ((c : ℕ) → c < course.cores → (s : StateView) × IsAgreedBy course rounds c v s)
-    → HasPosted (outline_of course) posted v → posted ≤ length course.ticks → ViewInvariant v
-    → IsRunView course rounds v
-run_view course rounds posted v states control few shown =
-    let cores = control.of_course.cores_are in
+    → controllers.AgreesWith course k v → ViewInvariant v → IsRunView course rounds v
+run_view course rounds v k states control shown =
+    let cores = control.of_outline.cores_are in
     record {
-      started = control.of_course;
+      started = control.of_outline;
       all = record {
         cores = λ c lt.
             let s = states c (omega (arith, lt, cores)) in
@@ -42,20 +42,20 @@ run_view course rounds posted v states control few shown =
       };
       shown = shown;
       cores = λ c lt. (let s = states c (omega (arith, lt, cores)) in part_of course rounds c v s.0 s.1);
-      floors = record { few = omega (arith, control.posted, few); each = control.floors };
+      floors = control.floors;
     }
 
 -- and where they have finished, of the finished run
-pub finished_view : (course : CourseView) (rounds posted : ℕ) (v : View)
+pub finished_view : (course : CourseView) (rounds : ℕ) (v : View) (k : ControlState)
     → ((c : ℕ) → c < course.cores
     → (s : StateView) × IsAgreedBy course rounds c v s × (s.clock ≡ s.rounds * ROUND))
-    → HasPosted (outline_of course) posted v → posted ≡ length course.ticks → IsFinished rounds v
-finished_view course rounds posted v states control all =
-    let cores = control.of_course.cores_are in
+    → controllers.AgreesWith course k v → k.posted ≡ length course.ticks → IsFinished rounds v
+finished_view course rounds v k states control all =
+    let cores = control.of_outline.cores_are in
     record {
       clocks = λ c lt.
           let s = states c (omega (arith, lt, cores)) in
           ap (λ (k : ℕ). (part v k).clock) (sym s.1.core_is)
           ∙ (sym s.1.agrees.stands.clock ∙ (s.2 ∙ ap (λ (n : ℕ). n * ROUND) s.1.rounds_are));
-      posted = sym control.posted ∙ (all ∙ sym control.of_course.events_are);
+      posted = sym control.posted ∙ (all ∙ sym control.of_outline.events_are);
     }
