@@ -1,6 +1,3 @@
-ghost use Rattle.std.specs.Prelude.{◌≡◌, ◌≤◌, ℕ, IfOk, Some, length, slice_get};
-ghost use Rattle.tab_core.specs.declared.TheConstants.{MAX_ROUNDS};
-
 use plan_book::{BookFault, PlanBook, make_book};
 use report_counts::{RoundPlan, Stretch, count_waits, round_plans};
 use script_doc::read_script;
@@ -42,12 +39,14 @@ fn told(fault: &BookFault) -> Fail {
     }
 }
 
-// The counts of so many rounds, the first of them by the plan before the change.
-fn used_of(alloc: Global, course: &Course, before: u32, rounds: u32) -> Result<Vec<u32>, NoMemory>
-    ensures few { IfOk result (λ used. length used.items ≤ MAX_ROUNDS) }
-    ensures each { IfOk result (λ used. (r count : ℕ) → slice_get used.items r ≡ Some count
-        → count ≤ length course.now.ticks) }
-{
+// What is counted of so many rounds, the first of them by the plan before the change: the run of vCPU 0,
+// that of vCPU 1, and the rounds that begin with another plan.
+fn counted(
+    alloc: Global,
+    course: &Course,
+    before: u32,
+    rounds: u32,
+) -> Result<(Stretch, Stretch, Vec<RoundPlan>), NoMemory> {
     let mut used = Vec::new(alloc);
     for round in 0..min(rounds, MAX_ROUNDS) {
         let count = if round < before {
@@ -57,7 +56,12 @@ fn used_of(alloc: Global, course: &Course, before: u32, rounds: u32) -> Result<V
         };
         used.push(count)?;
     }
-    Ok(used)
+    let mut plans = Vec::with_capacity(alloc, used.len())?;
+    let mut round = vec![in alloc; Stretch::none(); MAX_VCPUS as usize]?;
+    let mut run = vec![in alloc; Stretch::none(); MAX_VCPUS as usize]?;
+    count_waits(course, &used, &mut round, &mut run);
+    round_plans(course, &used, &mut plans);
+    Ok((run[0], run[1], plans))
 }
 
 const OLD: RoundPlan = RoundPlan { round: 0, plan: 0 };
@@ -83,15 +87,10 @@ fn offers_and_gaps_of_a_run(rt: HostRuntime) -> Result<(), Fail> {
         (0, 10_000, 256_500_000, 38_475, &[NEW]),
     ];
     for (before, rounds, offered, gap, plans) in cases {
-        let used = used_of(alloc, course, before, rounds)?;
-        let mut round = vec![in alloc; Stretch::none(); MAX_VCPUS as usize]?;
-        let mut run = vec![in alloc; Stretch::none(); MAX_VCPUS as usize]?;
-        count_waits(course, &used, &mut round, &mut run);
-        assert_eq!(rt; (run[0].offered, run[0].most), (offered, gap));
-        assert_eq!(rt; (run[1].offered, run[1].most), (0, 0));
-        let mut listed = Vec::with_capacity(alloc, used.len())?;
-        round_plans(course, &used, &mut listed);
-        assert_eq!(rt; listed.as_slice(), plans);
+        let (first, second, begun) = counted(alloc, course, before, rounds)?;
+        assert_eq!(rt; (first.offered, first.most), (offered, gap));
+        assert_eq!(rt; (second.offered, second.most), (0, 0));
+        assert_eq!(rt; begun.as_slice(), plans);
     }
     Ok(())
 }

@@ -1,6 +1,6 @@
 use Rattle.std.proofs.Common.{◌≡◌, ◌≤◌, ℕ, Some, length}
 use Rattle.std.specs.Prelude.{slice_get}
-use Rattle.report_tests.proofs.counts.used_of.Given as goal
+use Rattle.report_tests.proofs.counts.counted.Given as goal
 
 -- the rounds so far have counts of the course
 abbrev pub invariant-loop-round : goal.invariant-loop-round
