@@ -85,7 +85,8 @@ largest_at_most (task ∷ tasks) most all =
 each_at_most : (seed cores vcpus : ℕ) (host : Host) (tasks : List (Option Periodic))
     → 1 ≤ most_percent cores vcpus → IsGenerated seed cores vcpus host → AreTasksOf host.vcpus tasks
     → All (TakesAtMost (1026 * most_percent cores vcpus)) tasks
-each_at_most seed cores vcpus host tasks some is are = All-from_get_or (TakesAtMost (1026 * most_percent cores vcpus)) tasks None (λ k low.
+each_at_most seed cores vcpus host tasks some is are =
+    All-from_get_or (TakesAtMost (1026 * most_percent cores vcpus)) tasks None (λ k low.
     let size = are.as_many in
     elim ((slice_get_cases host.vcpus k).1) [
       | inl (vcpu, within, at, same) ↦

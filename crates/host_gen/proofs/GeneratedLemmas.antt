@@ -70,13 +70,14 @@ pub generated_next : (seed most number : ℕ) (vcpus : List Vcpu) (vcpu : Vcpu) 
     → AreGenerated seed most vcpus
     → IsGeneratedVcpu most number (first_word seed number) (second_word seed number) vcpu
     → AreGenerated seed most (vcpus ++ vcpu ∷ [])
-generated_next seed most number vcpus vcpu size before next k other at = elim (push_split vcpus k vcpu other at) [
-  | inl old ↦ before k other old
-  | inr new ↦
-      (let here : number ≡ k = sym (new.0 ∙ size) in
-      subst (λ v. IsGeneratedVcpu most k (first_word seed k) (second_word seed k) v) new.1
-      (subst (λ n. IsGeneratedVcpu most n (first_word seed n) (second_word seed n) vcpu) here next))
-]
+generated_next seed most number vcpus vcpu size before next k other at =
+    elim (push_split vcpus k vcpu other at) [
+      | inl old ↦ before k other old
+      | inr new ↦
+          (let here : number ≡ k = sym (new.0 ∙ size) in
+          subst (λ v. IsGeneratedVcpu most k (first_word seed k) (second_word seed k) v) new.1
+          (subst (λ n. IsGeneratedVcpu most n (first_word seed n) (second_word seed n) vcpu) here next))
+    ]
 
 -- names of different numbers differ
 same_number : (j k : ℕ) → j < 256 → k < 256 → name_of j ≡ name_of k → j ≡ k

@@ -20,11 +20,7 @@ most_at_least cores vcpus some shared = elim (cases_eq vcpus 0) [
       grind (arith, nat_tests))
 ]
 
--- and no more than a whole core
-pub most_at_most : (cores vcpus : ℕ) → most_percent cores vcpus ≤ 100
-most_at_most cores vcpus = grind (arith, nat_tests)
-
--- nor than the part
+-- but no more than the part
 most_is_part : (cores vcpus : ℕ) → vcpus ≢ 0 → most_percent cores vcpus ≤ part cores vcpus
 most_is_part cores vcpus many = grind (arith, nat_tests)
 

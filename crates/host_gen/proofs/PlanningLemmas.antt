@@ -11,7 +11,7 @@ use Rattle.period_choice.specs.Choice.{IsAdmissible, MeetsLatency, demand_at}
 use Rattle.host_gen.specs.Generated.{IsReservationOf, period_of, whole_periods}
 use Rattle.host_gen.specs.Planning.{HasWholePeriod}
 
--- what holds of each of the six periods holds of a vCPU's
+-- what holds of each of the six periods holds of the one at any place
 each_period : (P : ℕ → Type 0) → P 100 → P 300 → P 900 → P 2700 → P 5700 → P 11400
     → (k : ℕ) → k < 6 → P (slice_index whole_periods k)
 each_period P a b c d e f zero low = a
@@ -23,19 +23,18 @@ each_period P a b c d e f (suc (suc (suc (suc (suc zero))))) low = f
 each_period P a b c d e f (suc (suc (suc (suc (suc (suc k)))))) low = absurd (omega arith)
 
 -- no period takes less of a round than the share comes to
-pub demand_covers : (r : Reservation) (percent period : ℕ) → IsTrue (is_period period)
+demand_covers : (r : Reservation) (percent period : ℕ) → IsTrue (is_period period)
     → r.share_ppm ≡ 10000 * percent → 1026 * percent ≤ demand_at r period
 demand_covers r percent period listed share =
     let facts = period_facts period listed in
     let enough : r.share_ppm * period ≤ cost r.share_ppm period * 1000000 = omega arith in
-    let times : (102600 / period) * (r.share_ppm * period) ≤ (102600 / period) * (cost r.share_ppm period * 1000000)
-    = mul-le-mul_left (102600 / period) enough in
+    let times = mul-le-mul_left (102600 / period) enough in
     let round : r.share_ppm * (period * (102600 / period)) ≡ r.share_ppm * 102600 =
     ap (λ n. r.share_ppm * n) facts.whole in
     omega arith
 
 -- what is left to show of a period: it is listed, and costs a whole number of ticks
-pub record IsWhole (percent period : ℕ) : Type 0 where
+record IsWhole (percent period : ℕ) : Type 0 where
   pub listed : IsTrue (is_period period)
   pub cost_is : cost (10000 * percent) period ≡ period / 100 * percent
   pub takes : demand (period / 100 * percent) period ≡ 1026 * percent
@@ -52,8 +51,8 @@ whole_each percent = each_period (IsWhole percent)
     (record { listed = refl; cost_is = omega arith; takes = omega arith })
 
 -- so it keeps the latency that is made of it
-whole_period : (percent period : ℕ) (r : Reservation) → IsWhole percent period → IsReservationOf percent period r
-    → HasWholePeriod percent period r
+whole_period : (percent period : ℕ) (r : Reservation) → IsWhole percent period
+    → IsReservationOf percent period r → HasWholePeriod percent period r
 whole_period percent period r whole is =
     let cost_is : cost r.share_ppm period ≡ period / 100 * percent = rw is.share whole.cost_is in
     let takes : demand_at r period ≡ 1026 * percent = rw cost_is whole.takes in

@@ -1,6 +1,6 @@
 -- The host that is generated from a seed, for counts of cores and vCPUs.
--- Source: the rule is this project's own. Shares are whole percents, so that they cost a whole number
--- of ticks in each of the periods. None is more than what leaves the sum of all within the bound of
+-- Source: the rule is this project's own. A share is a whole percent of a core, which costs a whole
+-- number of ticks in each period below. The most percent is such that all vCPUs lie within the bound of
 -- worst fit.
 use Rattle.std.specs.Prelude.{◌≡◌, ℕ, ◌+◌, ◌-◌, ◌*◌, ◌/◌, ◌%◌, ◌==◌, min, not, Bool, if◌then◌else◌, List, [], ◌∷◌, ◌++◌, codes, decimal, length, slice_get, slice_index, Some, IsSomeAnd}
 use Rattle.tab_core.specs.declared.TheConstants.{TICK_NS}
@@ -17,22 +17,23 @@ most_percent cores vcpus = if vcpus == 0 then 100 else min 100 (100 * cores / (v
 abbrev pub percent_of : ℕ → ℕ → ℕ
 percent_of most word = 1 + word % most
 
--- periods that are multiples of 100 ticks, from which a vCPU's latency is made
+-- six periods of the table, each a multiple of 100 ticks
 abbrev pub whole_periods : List ℕ
 whole_periods = 100 ∷ 300 ∷ 900 ∷ 2700 ∷ 5700 ∷ 11400 ∷ []
 
--- the one of a vCPU
+-- the one that a vCPU's latency is made of
 abbrev pub period_of : ℕ → ℕ
 period_of word = slice_index whole_periods (word % 6)
 
--- a vCPU waits for its first wake-up in one of four cases
+-- it wants to run as the run begins, but in one of four cases
 abbrev pub is_runnable : ℕ → Bool
 is_runnable word = not (word / 6 % 4 == 0)
 
--- twice the time that a period doesn't give, in ns
+-- twice the time that the period doesn't give, in ns
 abbrev pub latency_of : ℕ → ℕ → ℕ
 latency_of percent period = 2 * (period - period / 100 * percent) * TICK_NS
 
+-- the name of the vCPU of this number
 abbrev pub name_of : ℕ → List ℕ
 name_of number = codes "v" ++ decimal number
 

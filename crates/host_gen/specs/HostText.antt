@@ -18,6 +18,7 @@ key_words key value = key ∷ codes "=" ∷ value ∷ []
 abbrev pub quoted : List ℕ → List ℕ
 quoted text = 34 ∷ (text ++ 34 ∷ [])
 
+-- a truth value as the word that TOML has for it
 abbrev pub truth_word : Bool → List ℕ
 truth_word true = codes "true"
 truth_word false = codes "false"

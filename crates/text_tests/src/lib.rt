@@ -5,6 +5,8 @@
 #[cfg(test)]
 mod ends;
 #[cfg(test)]
+mod generated;
+#[cfg(test)]
 mod hosts;
 #[cfg(test)]
 mod plan_texts;

@@ -1,5 +1,4 @@
-use Rattle.std.proofs.Common.{◌≡◌, [], ◌∷◌, length, refl, ap, ◌∙◌, arith, length-append}
-use Rattle.std.specs.Int.{w64, from_le_bytes}
+use Rattle.std.proofs.Common.{rules, ◌≡◌, length, refl, ap, ◌∙◌, arith, length-append}
 use Rattle.host_gen.specs.GeneratorWords.{state_after, word_of}
 use Rattle.host_gen.proofs.GeneratedLemmas.{admitted, distinct, generated_next, generated_none, state_at-more, state_at-zero, with_words}
 use Rattle.host_gen.proofs.generator.generate.Goals as goal
@@ -7,8 +6,7 @@ use Rattle.host_gen.proofs.generator.generate.Goals as goal
 pub loop-number-init : goal.loop-number-init
 loop-number-init c = record {
   size = ap length c.in_ok-made.ensures.items;
-  state = rw (state_at-zero c.args.seed)
-      (c.from_seed-words.ensures ∙ ap (from_le_bytes w64) c.to_le_bytes.ensures);
+  state = rw (state_at-zero c.args.seed) (search rules);
   each = generated_none _ _ _ c.in_ok-made.ensures.items;
 }
 
@@ -18,7 +16,7 @@ loop-number-preserved c =
     let before = c.loop-number.invariant in
     let first = c.take_word-first.ensures.state ∙ ap state_after before.state in
     record {
-      size = rw items (omega (arith, before.size, length-append c.loop-number.made.items (c.in_ok-vcpu_of.field-0 ∷ [])));
+      size = rw items (simp length-append (omega (arith, before.size)));
       state = rw (state_at-more c.args.seed c.loop-number.number)
           (c.take_word-second.ensures.state ∙ ap state_after first);
       each = rw items (generated_next _ _ c.loop-number.number _ _ before.size before.each
