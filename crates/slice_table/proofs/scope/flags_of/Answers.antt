@@ -1,8 +1,7 @@
-use Rattle.std.proofs.Common.{◌≡◌, ◌≢◌, ℕ, ◌<◌, false, length, set, inl, inr, ap, sym, ◌∙◌, arith, length-set}
+use Rattle.std.proofs.Common.{◌≡◌, ◌≢◌, ◌<◌, false, length, set, inl, inr, ap, sym, ◌∙◌, arith, length-set}
 use Rattle.std.proofs.lemmas.Bool.{cases_lt}
 use Rattle.std.proofs.lemmas.List.{get_or-set_other, get_or-set_same}
 use Rattle.tab_core.specs.VcpuSets.{has_vcpu}
-use Rattle.tab_core.specs.declared.TheConstants.{MAX_VCPUS}
 use Rattle.slice_table.proofs.scope.flags_of.Goals as goal
 
 pub loop-number-preserved : goal.loop-number-preserved
