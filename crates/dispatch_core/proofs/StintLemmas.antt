@@ -8,7 +8,8 @@ use denote.Struct.Props.{props}
 use Rattle.tab_core.specs.declared.TheConstants.{MAX_VCPUS, ROUND}
 use Rattle.tab_core.proofs.Lists.{push_split}
 use Rattle.tab_core.specs.declared.stint.Stint.{Stint}
-use Rattle.table_form.specs.Running.Choice.{IsDispatch, is_shared, is_vcpu, last_after, last_shared}
+use Rattle.table_form.specs.Tables.Serves.{is_cell_of}
+use Rattle.table_form.specs.Running.Choice.{IsDispatch, is_shared, last_after, last_shared}
 use Rattle.table_form.specs.Running.Courses.{CourseView}
 use Rattle.round_words.specs.declared.view.Part.{Part}
 use Rattle.table_form.specs.Running.Outlines.{OutlineView}
@@ -98,8 +99,8 @@ idle_part s = by s.ran s refl
 pub within_more : (old new : CoreAccount) (s : Stint) (shared : Bool) → IsWithin old s.from → s.from ≤ s.end
     → Adds old new s shared → IsWithin new s.end
 within_more old new s shared within le adds = record {
-  slots = λ v lt. omega (arith, adds.slots v lt, within.slots v lt, part_of (is_vcpu v s.ran && not shared) (length_of s), le);
-  shared = λ v lt. omega (arith, adds.picked v lt, within.shared v lt, part_of (is_vcpu v s.ran && shared) (length_of s), le);
+  slots = λ v lt. omega (arith, adds.slots v lt, within.slots v lt, part_of (is_cell_of v s.ran && not shared) (length_of s), le);
+  shared = λ v lt. omega (arith, adds.picked v lt, within.shared v lt, part_of (is_cell_of v s.ran && shared) (length_of s), le);
   idle = omega (arith, adds.idle, within.idle, idle_part s, le);
 }
 
@@ -107,10 +108,10 @@ within_more old new s shared within le adds = record {
 account_more : (course : CourseView) (c : ℕ) (ss : List Stint) (s : Stint) (shared : Bool) (old new : CoreAccount)
     → IsAccountOf course c ss old → shared ≡ is_shared course c s → Adds old new s shared → IsAccountOf course c (ss ++ s ∷ []) new
 account_more course c ss s shared old new is shared_is adds = record {
-  slots = λ v lt. adds.slots v lt ∙ (ap (λ (x : ℕ). x + (if is_vcpu v s.ran && not shared then length_of s else 0)) (is.slots v lt)
-      ∙ (ap (λ (b : Bool). sum_by (slot_ticks course c v) ss + (if is_vcpu v s.ran && not b then length_of s else 0)) shared_is ∙ sym (sum_by_push (slot_ticks course c v) ss s)));
-  shared = λ v lt. adds.picked v lt ∙ (ap (λ (x : ℕ). x + (if is_vcpu v s.ran && shared then length_of s else 0)) (is.shared v lt)
-      ∙ (ap (λ (b : Bool). sum_by (shared_ticks course c v) ss + (if is_vcpu v s.ran && b then length_of s else 0)) shared_is ∙ sym (sum_by_push (shared_ticks course c v) ss s)));
+  slots = λ v lt. adds.slots v lt ∙ (ap (λ (x : ℕ). x + (if is_cell_of v s.ran && not shared then length_of s else 0)) (is.slots v lt)
+      ∙ (ap (λ (b : Bool). sum_by (slot_ticks course c v) ss + (if is_cell_of v s.ran && not b then length_of s else 0)) shared_is ∙ sym (sum_by_push (slot_ticks course c v) ss s)));
+  shared = λ v lt. adds.picked v lt ∙ (ap (λ (x : ℕ). x + (if is_cell_of v s.ran && shared then length_of s else 0)) (is.shared v lt)
+      ∙ (ap (λ (b : Bool). sum_by (shared_ticks course c v) ss + (if is_cell_of v s.ran && b then length_of s else 0)) shared_is ∙ sym (sum_by_push (shared_ticks course c v) ss s)));
   idle = adds.idle ∙ (ap (λ (x : ℕ). x + idle_ticks s) is.idle ∙ sym (sum_by_push idle_ticks ss s));
 }
 
