@@ -1,15 +1,15 @@
 -- The stint that a core runs next, and what its actor keeps then.
-use Rattle.std.proofs.Common.{◌≡◌, ◌≢◌, ℕ, zero, suc, ◌+◌, ◌-◌, ◌*◌, ◌/◌, ◌<◌, ◌≤◌, Bool, true, false, List, [], ◌∷◌, ◌++◌, Option, None, Some, inl, inr, length, take, refl, sym, ap, ◌∙◌, subst, arith}
+use Rattle.std.proofs.Common.{◌≡◌, ℕ, zero, suc, ◌+◌, ◌*◌, ◌/◌, ◌<◌, ◌≤◌, Bool, true, false, List, [], ◌∷◌, ◌++◌, Option, None, Some, inl, inr, length, take, refl, sym, ap, ◌∙◌, subst, arith}
 use Rattle.std.specs.Option.{ForSome}
-use Rattle.std.specs.Prelude.{nat_lt, slice_get, slice_index, sum_by, not, ◌&&◌, if◌then◌else◌}
+use Rattle.std.specs.Prelude.{nat_lt, slice_get, sum_by, not, ◌&&◌, if◌then◌else◌}
 use Rattle.std.proofs.lemmas.Bool.{cases_lt, le-ltb, lt-ltb}
 use Rattle.std.proofs.lemmas.List.Sums.{fold_push, sum_by_push}
 use denote.Struct.Props.{props}
 use Rattle.tab_core.specs.declared.TheConstants.{MAX_VCPUS, ROUND}
 use Rattle.tab_core.proofs.Lists.{push_split}
 use Rattle.tab_core.specs.declared.stint.Stint.{Stint}
-use Rattle.table_form.specs.Running.Choice.{IsDispatch, is_shared, last_after, last_shared}
 use Rattle.table_form.specs.Tables.Serves.{is_cell_of}
+use Rattle.table_form.specs.Running.Choice.{IsDispatch, is_shared, last_after, last_shared}
 use Rattle.table_form.specs.Running.Courses.{CourseView}
 use Rattle.round_words.specs.declared.view.Part.{Part}
 use Rattle.table_form.specs.Running.Outlines.{OutlineView}
@@ -19,12 +19,11 @@ use Rattle.round_words.specs.Views.{last_of, part, runs}
 use Rattle.round_words.proofs.ChangesLemmas.{core_still, started_still}
 use Rattle.round_words.proofs.HearingLemmas.{SamePart}
 use Rattle.dispatch_core.specs.declared.account.CoreAccount.{CoreAccount}
-use Rattle.dispatch_core.specs.declared.log.CoreLog.{CoreLog}
 use Rattle.dispatch_core.specs.Accounts.{IsAccountOf, IsWithin, idle_ticks, length_of, shared_ticks, slot_ticks}
 use Rattle.dispatch_core.specs.Inside.Adding.{Adds}
 use Rattle.dispatch_core.specs.Parts.{AreDispatched, HasSeen, used_counts}
 use Rattle.dispatch_core.specs.States.{FollowsPlans, Stands, StateView}
-use Rattle.dispatch_core.specs.Told.{BeginsNext, ComesNext}
+use Rattle.dispatch_core.specs.Told.{BeginsNext}
 use Rattle.dispatch_core.proofs.EntryLemmas.{used_at}
 use Rattle.dispatch_core.proofs.PartLemmas.{ran_timely}
 use Rattle.dispatch_core.proofs.StateLemmas.{none_taken}

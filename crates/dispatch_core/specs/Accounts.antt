@@ -3,8 +3,8 @@
 use Rattle.std.specs.Prelude.{◌≡◌, ℕ, ◌-◌, ◌<◌, ◌≤◌, ◌&&◌, not, List, Option, None, Some, sum_by, slice_index, if◌then◌else◌}
 use Rattle.tab_core.specs.declared.TheConstants.{MAX_VCPUS}
 use Rattle.tab_core.specs.declared.stint.Stint.{Stint}
-use Rattle.table_form.specs.Running.Choice.{is_shared}
 use Rattle.table_form.specs.Tables.Serves.{is_cell_of}
+use Rattle.table_form.specs.Running.Choice.{is_shared}
 use Rattle.table_form.specs.Running.Courses.{CourseView}
 use Rattle.dispatch_core.specs.declared.account.CoreAccount.{CoreAccount}
 
