@@ -1,7 +1,7 @@
 -- How a view of a run comes about: all actors of a run agree with their parts.
-use Rattle.std.proofs.Common.{◌≡◌, ℕ, ◌*◌, ◌<◌, ◌≤◌, true, length, ap, sym, subst, ◌∙◌, arith}
+use Rattle.std.proofs.Common.{◌≡◌, ℕ, ◌*◌, ◌<◌, true, length, ap, sym, subst, ◌∙◌, arith}
 use Rattle.tab_core.specs.declared.TheConstants.{ROUND}
-use Rattle.table_form.specs.Running.Courses.{CourseView, outline_of}
+use Rattle.table_form.specs.Running.Courses.{CourseView}
 use Rattle.round_words.specs.declared.view.View.{View}
 use Rattle.round_words.specs.Shown.{ViewInvariant}
 use Rattle.round_words.specs.Views.{holds, part}

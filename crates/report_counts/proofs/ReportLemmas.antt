@@ -1,7 +1,8 @@
 -- What is told of all ticks of a run is its report.
 use Rattle.std.proofs.Common.{◌≡◌, ℕ, zero, suc, ◌+◌, ◌-◌, ◌*◌, ◌/◌, ◌<◌, ◌≤◌, inl, inr, Bool, true, false, not, List, length, Option, Some, None, is_some, refl, ap, sym, ◌∙◌, arith}
 use Rattle.std.specs.Prelude.{slice_get, ◌&&◌}
-use Rattle.std.proofs.lemmas.Bool.{cases_eq}
+use Rattle.std.proofs.lemmas.Bool.{and_parts, cases_eq, not-true, not_from_false}
+use Rattle.std.specs.Cmp.Derive.{both_true}
 use Rattle.std.proofs.lemmas.Option.{slice_get_within}
 use Rattle.tab_core.specs.declared.TheConstants.{ROUND}
 use Rattle.table_form.specs.Running.Courses.{CourseView}
@@ -13,14 +14,11 @@ use Rattle.report_counts.specs.declared.stretch.Stretch.{Stretch}
 
 -- a test that passes where one holds and the other doesn't
 pub and_not : (a b : Bool) → a ≡ true → b ≡ false → (a && not b) ≡ true
-and_not true b h g = rw g refl
-and_not false b h g = absurd cc
+and_not a b h g = both_true h (not_from_false b g)
 
 -- the two cases of a test that passes
 not_and : (a b : Bool) → (a && not b) ≡ true → (a ≡ true) × (b ≡ false)
-not_and true true h = absurd cc
-not_and true false h = (refl, refl)
-not_and false b h = absurd cc
+not_and a b h = (let parts = and_parts a (not b) h in (parts.0, not-true b parts.1))
 
 -- the offers of a run, counted by a test
 offers_are : (course : CourseView) (decided : List ℕ) (v from n : ℕ)

@@ -2,7 +2,7 @@
 use Rattle.std.proofs.Common.{◌≡◌, ◌≢◌, ℕ, zero, suc, ◌+◌, ◌-◌, ◌<◌, ◌≤◌, Bool, true, false, not, List, [], ◌∷◌, length, get_or-set_same, get_or-set_other, set, take, is_some, Option, Some, None, inl, inr, refl, ap, sym, subst, ◌∙◌, arith}
 use Rattle.std.specs.Prelude.{slice_get, ◌||◌, ◌&&◌}
 use Rattle.std.proofs.Math.Bool.{false-or, or-false, or_assoc}
-use Rattle.std.proofs.lemmas.Bool.{cases_eq, cases_lt, eq-eqb, eqb-true, or_left, or_right}
+use Rattle.std.proofs.lemmas.Bool.{and_left, and_right, cases_eq, cases_lt, eq-eqb, eqb-true, not_from_true, or_left, or_right}
 use Rattle.tab_core.specs.declared.TheConstants.{ROUND}
 use Rattle.tab_core.specs.declared.periodic.Periodic.{Periodic}
 use Rattle.table_form.specs.Running.Offered.{some_row_has}
@@ -128,13 +128,11 @@ steady_has (row ∷ rows) v x y same =
 
 -- a vCPU that is offered a place doesn't wait there
 and_yes : (a b : Bool) → b ≡ true → (a && not b) ≡ false
-and_yes true b h = rw h refl
-and_yes false b h = refl
+and_yes a b h = and_right a (not b) (not_from_true b h)
 
 -- nor does one without a task
 and_none : (a b : Bool) → a ≡ false → (a && not b) ≡ false
-and_none true b h = absurd cc
-and_none false b h = refl
+and_none a b h = and_left a (not b) h
 
 -- whether a vCPU has a task, in two words
 task_is : (tasks : List (Option Periodic)) (v : ℕ) → is_some (flat (slice_get tasks v)) ≡ has_task tasks v
