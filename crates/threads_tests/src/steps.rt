@@ -2,11 +2,12 @@
 ghost use Rattle.std.specs.Prelude.{◌≡◌, ◌<◌, IfOk, length};
 ghost use Rattle.table_form.specs.Running.Courses.{FitsRounds};
 
-use dispatch_core::{CoreActor, CoreAnswer, CoreSlices, CoreState, core_step, step_state};
+use dispatch_core::{CoreActor, CoreAnswer, CoreState, core_step, step_state};
 use plan_book::{PlanBook, make_book};
 use plan_switch::{ControlAnswer, Controller, control_step};
 use round_words::RoundBoard;
 use script_doc::read_script;
+use slice_table::CoreSlices;
 use std::alloc::Global;
 use std::test::Fail;
 use std::thread::Threads;
@@ -77,21 +78,58 @@ fn two_cores_run_a_round(rt: HostRuntime) -> Result<(), Fail> {
     let mut state = CoreState::make(rt.alloc(), course.outline(), CoreNo(1), 1, 1)?;
     let mut controller = Controller::make(course);
     let a = Some(VcpuNo(0));
-    assert_eq!(rt; core_step(&board, &mut first, &mut actor), ran(0, 51_300, 0, a));
-    assert_eq!(rt; core_step(&board, &mut first, &mut actor), waits_for(Actor::Controller, 0));
-    assert_eq!(rt; control_step(&board, &mut third, &mut controller), ControlAnswer::Posted { count: 1 });
-    assert_eq!(rt; control_step(&board, &mut third, &mut controller), ControlAnswer::Finished);
+    assert_eq!(rt;
+        core_step(&board, &mut first, &mut actor),
+        ran(0, 51_300, 0, a)
+    );
+    assert_eq!(rt;
+        core_step(&board, &mut first, &mut actor),
+        waits_for(Actor::Controller, 0)
+    );
+    assert_eq!(rt;
+        control_step(&board, &mut third, &mut controller),
+        ControlAnswer::Posted { count: 1 }
+    );
+    assert_eq!(rt;
+        control_step(&board, &mut third, &mut controller),
+        ControlAnswer::Finished
+    );
     assert_eq!(rt; controller.posted(), 1);
-    assert_eq!(rt; core_step(&board, &mut first, &mut actor), waits_for(Actor::Core(CoreNo(1)), 0));
-    assert_eq!(rt; step_state(&board, &mut second, course, &slices, &mut state), ran(0, 51_300, 1, None));
-    assert_eq!(rt; core_step(&board, &mut first, &mut actor), ran(51_300, 102_600, 1, a));
-    assert_eq!(rt; core_step(&board, &mut first, &mut actor), CoreAnswer::Finished);
-    assert_eq!(rt; step_state(&board, &mut second, course, &slices, &mut state), ran(51_300, 102_600, 1, None));
+    assert_eq!(rt;
+        core_step(&board, &mut first, &mut actor),
+        waits_for(Actor::Core(CoreNo(1)), 0)
+    );
+    assert_eq!(rt;
+        step_state(&board, &mut second, course, &slices, &mut state),
+        ran(0, 51_300, 1, None)
+    );
+    assert_eq!(rt;
+        core_step(&board, &mut first, &mut actor),
+        ran(51_300, 102_600, 1, a)
+    );
+    assert_eq!(rt;
+        core_step(&board, &mut first, &mut actor),
+        CoreAnswer::Finished
+    );
+    assert_eq!(rt;
+        step_state(&board, &mut second, course, &slices, &mut state),
+        ran(51_300, 102_600, 1, None)
+    );
     assert_eq!(rt; state.clock(), 102_600);
     let account = actor.account();
-    assert_eq!(rt; (account.slots[0], account.shared[0], account.idle), (51_300, 51_300, 0));
+    assert_eq!(rt;
+        (account.slots[0], account.shared[0], account.idle),
+        (51_300, 51_300, 0)
+    );
     assert_eq!(rt; (actor.used().len(), actor.stints().len()), (1, 2));
-    assert_eq!(rt; (state.account().idle, state.used().len(), state.stints().len()), (102_600, 1, 1));
+    assert_eq!(rt;
+        (
+            state.account().idle,
+            state.used().len(),
+            state.stints().len()
+        ),
+        (102_600, 1, 1)
+    );
     Ok(())
 }
 
@@ -108,7 +146,10 @@ fn an_event_waits_for_the_lowest_core(rt: HostRuntime) -> Result<(), Fail> {
     let mut controller = Controller::make(course);
     assert_eq!(rt;
         control_step(&board, &mut seat, &mut controller),
-        ControlAnswer::Behind { core: CoreNo(0), tick: 0 }
+        ControlAnswer::Behind {
+            core: CoreNo(0),
+            tick: 0
+        }
     );
     Ok(())
 }
