@@ -1,0 +1,79 @@
+-- What a team keeps.
+use Rattle.std.specs.Prelude.{◌≡◌, ℕ, ◌+◌, ◌<◌, ◌≤◌, true, false, List, [], ◌∷◌, Some, is_some, length}
+use Rattle.table_form.specs.Running.Courses.{CourseView, FitsRounds, IsCourse}
+use Rattle.round_words.specs.declared.view.View.{View}
+use Rattle.round_words.specs.Views.{controller, holds, names}
+use Rattle.dispatch_core.specs.Actors.{ActorView, IsStateOf, state_view}
+use Rattle.core_workers.specs.declared.team.Deal.{Deal}
+use Rattle.core_workers.specs.declared.team.Group.{Group}
+use Rattle.core_workers.specs.declared.team.Lead.{Lead}
+use Rattle.core_workers.specs.declared.team.Member.{Member}
+use Rattle.core_workers.specs.declared.team.Team.{Team}
+use Rattle.core_workers.specs.Crews.{AllAgree, IsSameCrew, IsWhole, SameActors}
+use Rattle.core_workers.specs.Groups.{CrewView, actor_of, crew_of, deal_of, member_of, team_view}
+
+-- the member is that of core c, in a run of the course
+pub record IsMemberOf (course : CourseView) (rounds c : ℕ) (m : Member) : Type 0 where
+  pub state : IsStateOf course m.state
+  pub core : (state_view course m.state).core ≡ c
+  pub rounds_is : (state_view course m.state).rounds ≡ rounds
+
+-- the groups are those of some threads, of a run that has all events of its course
+pub record IsTeam (course : CourseView) (rounds : ℕ) (deal : Deal) (groups : List Group) : Type 0 where
+  pub course_kept : IsCourse course
+  pub fits : FitsRounds course rounds
+  pub few : deal.first + length groups ≤ deal.threads
+  pub some : 0 < deal.threads
+  pub each : (c : ℕ) (m : Member) → member_of deal groups c ≡ Some m → IsMemberOf course rounds c m
+
+-- the controller posts the events of the course
+abbrev pub IsLead : Lead → Type 0
+IsLead lead = lead.controller.course ≡ lead.course.now
+
+-- the core is in the crew
+abbrev pub IsPresent : CrewView → ℕ → Type 0
+IsPresent crew c = (a : ActorView) × (actor_of crew c ≡ Some a)
+
+-- each core whose part the view holds is in the crew
+abbrev pub IsManned : CrewView → View → Type 0
+IsManned crew v = (c : ℕ) → c < crew.course.cores → holds v c ≡ true → IsPresent crew c
+
+-- some steps were taken: the same actors, parts of the same actors, and those that are held agree
+pub record GoesOn (crew : CrewView) (v : View) (crew' : CrewView) (w : View) : Type 0 where
+  pub same : IsSameCrew crew crew'
+  pub actors : SameActors v w
+  pub agree : AllAgree crew' w
+
+-- the view holds the parts of the crew's cores
+abbrev pub HoldsEach : CrewView → View → Type 0
+HoldsEach crew v = (c : ℕ) → IsPresent crew c → holds v c ≡ true
+
+-- what each team keeps: it has the groups of the first threads, and the controller of the course
+pub record IsTeamKept (team : Team) : Type 0 where
+  pub lead : IsLead team.lead
+  pub groups : IsTeam team.lead.course.now team.lead.rounds (deal_of team) team.groups.items
+
+-- what each crew keeps: its team has all cores
+pub record IsWholeTeam (team : Team) : Type 0 where
+  pub kept : IsTeamKept team
+  pub whole : IsWhole (team_view team)
+
+-- the group is that of a thread, whose seat has this view: it holds the parts of the group's cores alone
+pub record IsWorker (course : CourseView) (rounds : ℕ) (deal : Deal) (group : Group) (v : View) : Type 0 where
+  pub team : IsTeam course rounds deal (group ∷ [])
+  pub agree : AllAgree (crew_of course rounds 0 deal (group ∷ [])) v
+  pub holds_each : HoldsEach (crew_of course rounds 0 deal (group ∷ [])) v
+  pub manned : IsManned (crew_of course rounds 0 deal (group ∷ [])) v
+  pub alone : holds v controller ≡ false
+
+-- the view holds the parts of the team's cores alone, and the controller's
+pub record IsWorking (team : Team) (v : View) : Type 0 where
+  pub kept : IsTeamKept team
+  pub agree : AllAgree (team_view team) v
+  pub holds_each : HoldsEach (team_view team) v
+  pub manned : IsManned (team_view team) v
+  pub control : holds v controller ≡ true
+
+-- the bits of the mask are the group's cores
+abbrev pub Names : Deal → Group → ℕ → Type 0
+Names deal group mask = (c : ℕ) → names mask c ≡ is_some (member_of deal (group ∷ []) c)
