@@ -1,7 +1,7 @@
 -- The member of a core, after one is changed.
 use Rattle.std.proofs.Common.{◌≡◌, ◌≢◌, ◌⊎◌, ℕ, zero, suc, ◌+◌, ◌-◌, ◌*◌, ◌/◌, ◌%◌, ◌<◌, ◌≤◌, Bool, true, false, inl, inr, List, [], ◌∷◌, ◌++◌, length, Option, Some, None, refl, sym, ap, ap₂, ◌∙◌, subst, arith, get_or}
 use Rattle.std.proofs.Math.Nat.{div-add-mod}
-use Rattle.std.specs.Prelude.{slice_get, slice_set, nat_le, if◌then◌else◌}
+use Rattle.std.specs.Prelude.{slice_get, slice_set, nat_le, if◌then◌else◌, vec_len}
 use Rattle.std.specs.Vec.{with_item}
 use Rattle.std.proofs.lemmas.Bool.{leb-true, le-leb}
 use Rattle.std.proofs.lemmas.Option.{get_or_from_slice_get, slice_get-get_or, slice_get_within}
@@ -100,3 +100,10 @@ read_member deal groups c m h d e =
     let f = found deal groups c m h in
     let g = get_or_from_slice_get groups (c % deal.threads - deal.first) f.group d f.group_is in
     sym (ap (λ (x : Group). get_or x.members.items (c / deal.threads) e) g ∙ get_or_from_slice_get f.group.members.items (c / deal.threads) m e f.member_is)
+
+pub member_inside : (deal : Deal) (groups : List Group) (c : ℕ) (m : Member) → member_of deal groups c ≡ Some m → (d : Group)
+    → c / deal.threads < vec_len (get_or groups (c % deal.threads - deal.first) d).members
+member_inside deal groups c m h d =
+    let f = found deal groups c m h in
+    let g : get_or groups (c % deal.threads - deal.first) d ≡ f.group = get_or_from_slice_get groups (c % deal.threads - deal.first) f.group d f.group_is in
+    subst (λ (x : Group). c / deal.threads < vec_len x.members) (sym g) (omega (arith, slice_get_within f.group.members.items (c / deal.threads) m f.member_is))

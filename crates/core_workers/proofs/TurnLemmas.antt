@@ -27,8 +27,8 @@ use Rattle.core_workers.specs.declared.team.Lead.{Lead}
 use Rattle.core_workers.specs.Groups.{CrewView, actor_of, crew_view}
 use Rattle.core_workers.specs.Crews.{AllAgree, HasFinished, HasPosted, HeldFinished, HoldsAll, IsCrew, IsSameAt, IsSameCrew, SameActors, control_of}
 use Rattle.core_workers.specs.Inside.Clocks.{AreClocks, IsClockOf, IsLeast, left_of}
-use Rattle.core_workers.specs.Inside.Teams.{GoesOn, IsPresent}
-use Rattle.core_workers.specs.Inside.Turns.{CoresTold, IsStuck, LacksNext, LeadStep, LeadWaits, LeastIsStuck, RanTo, RunsOn, Steps, TurnTold, WaitsFor}
+use Rattle.core_workers.specs.Inside.Teams.{GoesOn, IsLead}
+use Rattle.core_workers.specs.Inside.Turns.{CoresTold, IsStuck, LacksNext, LeadStep, LeadWaits, LeastIsStuck, RanTo, RunsOn, Steps, TurnTold, WaitsFor, unless_moved}
 use Rattle.core_workers.proofs.CrewLemmas.{agrees_others, at_same, crew_same, same_as}
 
 -- a core runs on
@@ -247,3 +247,61 @@ left_same crew crew' clocks c answer course posted inside is =
     let same : slice_set clocks.ticks c answer ≡ clocks.ticks = ap (slice_set clocks.ticks c) is ∙ set-get_or clocks.ticks c _ in
     let less : sum_by (λ (t : ℕ). OUT - t) (slice_set clocks.ticks c answer) ≡ sum_by (λ (t : ℕ). OUT - t) clocks.ticks = ap (sum_by (λ (t : ℕ). OUT - t)) same in
     omega (arith, less, posted, ap (λ (k : CourseView). length k.ticks) course)
+
+-- the whole turn, of which the cores' part led from crew to crew'
+
+pub lead_view : (lead lead' : Lead) (deal : Deal) (groups : List Group) → lead'.course.now ≡ lead.course.now → lead'.rounds ≡ lead.rounds
+    → posted_to (crew_view lead deal groups) lead'.controller.posted ≡ crew_view lead' deal groups
+lead_view lead lead' deal groups course rounds = cc
+
+pub all_held : (crew crew' : CrewView) (u v : View) → GoesOn crew u crew' v → HoldsAll crew u → HoldsAll crew' v
+all_held crew crew' u v on all = record {
+  cores = λ d lt. on.actors.actors d ∙ all.cores d (subst (λ (k : CourseView). d < k.cores) on.same.course lt);
+  control = on.actors.actors controller ∙ all.control;
+}
+
+module _ (crew crew' : CrewView) (u v : View) (clocks clocks' : Clocks) where
+  cores_left : (p : Progress) → CoresTold crew clocks u p crew' clocks' → left_of crew' clocks' ≤ left_of crew clocks
+  cores_left Moved told = omega (arith, told)
+  cores_left Waits told = told.0
+  cores_left Done told = told.0
+
+  pub told_over : IsCrew crew' → GoesOn crew u crew' v → AreClocks crew' v clocks' → clocks'.posting ≡ false → (p : Progress) → CoresTold crew clocks u p crew' clocks' → TurnTold crew clocks u p crew' clocks' v
+  told_over is on are over Moved told = told
+  told_over is on are over Waits told = (told.0, λ all. let held = all_held crew crew' u v on all in nobody crew' v clocks' is are held (inl (are.over over held.control)) (told.1 all))
+  told_over is on are over Done told = all_finished crew' v clocks' is are told.1 over
+
+  pub told_posted : (n : ℕ) → (p : Progress) → CoresTold crew clocks u p crew' clocks' → (crew'.posted < length crew'.course.ticks) × (n ≡ suc crew'.posted) → left_of (posted_to crew' n) clocks' < left_of crew clocks
+  told_posted n p told posted = omega (arith, cores_left p told, posted.0, posted.1)
+
+  pub told_done : (n : ℕ) → (p : Progress) → CoresTold crew clocks u p crew' clocks' → n ≡ crew'.posted → clocks'.posting ≡ true
+      → left_of (posted_to crew' n) (record { ticks = clocks'.ticks; posting = false }) < left_of crew clocks
+  told_done n p told same on = let one : ◌≡◌ {A = ℕ} (if clocks'.posting then 1 else 0) 1 = ap (λ (b : Bool). if b then 1 else 0) on in omega (arith, cores_left p told, same, one)
+
+  pub told_behind : (n : ℕ) (w : View) → IsCrew crew' → GoesOn crew u crew' v → AreClocks crew' v clocks' → LeadWaits (control_of crew') v → n ≡ crew'.posted → (p : Progress) → CoresTold crew clocks u p crew' clocks'
+      → TurnTold crew clocks u (unless_moved p) (posted_to crew' n) clocks' w
+  told_behind n w is on are waits same Moved told = omega (arith, told, same)
+  told_behind n w is on are waits same Waits told = (omega (arith, told.0, same), λ all. let held = all_held crew crew' u v on all in nobody crew' v clocks' is are held (lead_stands crew' v is on.agree held waits) (told.1 all))
+  told_behind n w is on are waits same Done told = (omega (arith, told.0, same), λ all. let held = all_held crew crew' u v on all in
+      let posted = none_low crew' v clocks' is are held told.1 (lead_stands crew' v is on.agree held waits) in omega (arith, posted, waits.some))
+
+control_is : (k : controllers.ControllerView) (course : CourseView) → k.course ≡ course → k ≡ record { course = course; posted = k.posted }
+control_is k course same = ap (λ (x : CourseView). record { course = x; posted = k.posted }) same
+
+module _ (lead lead' : Lead) (deal : Deal) (groups : List Group) (u w : View) where
+  abbrev pub IsSameLead : Type 0
+  IsSameLead = (lead'.controller.course ≡ lead.controller.course) × (lead'.course.now ≡ lead.course.now) × (lead'.rounds ≡ lead.rounds)
+
+  pub lead_goes : IsCrew (crew_view lead deal groups) → IsLead lead → AllAgree (crew_view lead deal groups) u → IsSameLead → Others u w controller → controllers.AgreesWith lead'.controller w
+      → GoesOn (crew_view lead deal groups) u (crew_view lead' deal groups) w
+  lead_goes is lead_is agree same others agrees = subst (λ (k : CrewView). GoesOn (crew_view lead deal groups) u k w) (lead_view lead lead' deal groups same.1 same.2)
+      (on_lead (crew_view lead deal groups) lead'.controller.posted u w is agree others (subst (λ (k : controllers.ControllerView). controllers.AgreesWith k w) (control_is lead'.controller lead.course.now (same.0 ∙ lead_is)) agrees))
+
+  pub lead_clocks : (clocks : Clocks) (on : Bool) → AreClocks (crew_view lead deal groups) u clocks → clocks.posting ≡ true → IsSameLead → Others u w controller
+      → (on ≡ false → lead'.controller.posted ≡ length lead.course.now.ticks) → AreClocks (crew_view lead' deal groups) w (record { ticks = clocks.ticks; posting = on })
+  lead_clocks clocks on are was same others over = subst (λ (k : CrewView). AreClocks k w (record { ticks = clocks.ticks; posting = on })) (lead_view lead lead' deal groups same.1 same.2)
+      (clocks_lead (crew_view lead deal groups) lead'.controller.posted u w clocks on are was others over)
+
+  -- what the controller's step brings, by what the crew shows
+  pub lead_step : (answer : ControlAnswer) → IsLead lead → LeadStep lead.controller u answer lead'.controller → LeadStep (control_of (crew_view lead deal groups)) u answer lead'.controller
+  lead_step answer lead_is step = subst (λ (k : controllers.ControllerView). LeadStep k u answer lead'.controller) (control_is lead.controller lead.course.now lead_is) step

@@ -3,7 +3,7 @@ ghost use Rattle.tab_core.specs.declared.TheConstants.{MAX_CORES};
 ghost use Rattle.round_words.specs.Seats.{view_of};
 ghost use Rattle.core_workers.specs.Crews.{AllAgree};
 ghost use Rattle.core_workers.specs.Groups.{crew_view};
-ghost use Rattle.core_workers.specs.Inside.Clocks.{AreClocks, IsLeast};
+ghost use Rattle.core_workers.specs.Inside.Clocks.{AreClocks, IsClockOf, IsLeast};
 ghost use Rattle.core_workers.specs.Inside.Teams.{IsManned, IsTeam};
 
 use crate::steps::CONTROLLER;
@@ -33,13 +33,26 @@ pub(crate) fn read_clocks(seat: &RoundSeat, lead: &Lead<'_>, deal: Deal, groups:
         posting: seat.holds(CONTROLLER),
     };
     for core in 0..lead.course.cores() {
-        if seat.holds(core) {
-            let group = (core % deal.threads - deal.first) as usize;
-            let at = (core / deal.threads) as usize;
-            clocks.ticks[core as usize] = groups[group].members[at].state.clock();
-        }
+        clocks.ticks[core as usize] = read_clock(seat, lead, deal, groups, core);
     }
     clocks
+}
+
+// The clock of a core, or OUT where the seat doesn't hold its part. `lead` is for the proof alone.
+fn read_clock(seat: &RoundSeat, lead: &Lead<'_>, deal: Deal, groups: &[Group], core: u32) -> u32
+    requires team { IsTeam lead.now.course.now lead.now.rounds deal groups.now }
+    requires agree { AllAgree (crew_view lead.now deal groups.now) (view_of seat.now) }
+    requires manned { IsManned (crew_view lead.now deal groups.now) (view_of seat.now) }
+    requires core { core < lead.now.course.now.cores }
+    ensures { IsClockOf (crew_view lead.now deal groups.now) (view_of seat.now) core result }
+{
+    let _ = lead;
+    if !seat.holds(core) {
+        return OUT;
+    }
+    let group = (core % deal.threads - deal.first) as usize;
+    let at = (core / deal.threads) as usize;
+    groups[group].members[at].state.clock()
 }
 
 /// A core of least clock, and the least clock of the others.

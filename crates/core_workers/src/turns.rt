@@ -6,7 +6,7 @@ ghost use Rattle.core_workers.specs.Crews.{AllAgree};
 ghost use Rattle.core_workers.specs.Groups.{actor_of, crew_view};
 ghost use Rattle.core_workers.specs.Inside.Clocks.{AreClocks};
 ghost use Rattle.core_workers.specs.Inside.Teams.{GoesOn, IsLead, IsTeam};
-ghost use Rattle.core_workers.specs.Inside.Turns.{CoresTold, RunsOn, TurnTold};
+ghost use Rattle.core_workers.specs.Inside.Turns.{CoresTold, RunsOn, TurnTold, unless_moved};
 
 use crate::clocks::{Clocks, OUT, find_least};
 use crate::gate::Gate;
@@ -56,15 +56,20 @@ pub(crate) fn turn<G: Gate>(
     }
     match step_lead(board, seat, lead, gate) {
         ControlAnswer::Posted { count: _ } => Progress::Moved,
-        ControlAnswer::Behind { core: _, tick: _ } => match cores {
-            Progress::Moved => Progress::Moved,
-            Progress::Waits => Progress::Waits,
-            Progress::Done => Progress::Waits,
-        },
+        ControlAnswer::Behind { core: _, tick: _ } => or_waits(cores),
         ControlAnswer::Finished => {
             clocks.posting = false;
             Progress::Moved
         }
+    }
+}
+
+fn or_waits(cores: Progress) -> Progress
+    ensures { result ≡ unless_moved cores }
+{
+    match cores {
+        Progress::Moved => Progress::Moved,
+        Progress::Waits | Progress::Done => Progress::Waits,
     }
 }
 

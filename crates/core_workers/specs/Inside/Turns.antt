@@ -88,6 +88,12 @@ CoresTold crew clocks v Waits crew' clocks' = (left_of crew' clocks' ≤ left_of
 CoresTold crew clocks v Done crew' clocks' = (left_of crew' clocks' ≤ left_of crew clocks)
     × ((d : ℕ) → d < crew'.course.cores → slice_index clocks'.ticks d ≡ OUT)
 
+-- what a turn is in which the controller waits
+abbrev pub unless_moved : Progress → Progress
+unless_moved Moved = Moved
+unless_moved Waits = Waits
+unless_moved Done = Waits
+
 -- A turn in which somebody got on leaves less to do. Where the view holds all parts, there is none in which nobody did
 abbrev pub TurnTold : CrewView → Clocks → View → Progress → CrewView → Clocks → View → Type 0
 TurnTold crew clocks v Moved crew' clocks' w = left_of crew' clocks' < left_of crew clocks
