@@ -3,11 +3,10 @@ use Rattle.std.proofs.Common.{◌≡◌, ℕ, suc, ◌+◌, ◌-◌, ◌<◌, �
 use Rattle.std.proofs.Math.Seq.{drop-cons}
 use Rattle.std.proofs.lemmas.List.{nil_from_length}
 use Rattle.tab_core.specs.declared.TheConstants.{ROUND}
-use Rattle.table_form.specs.Tables.Segments.{AreMaximal, SegmentView, segment_view}
+use Rattle.table_form.specs.Tables.Segments.{AreMaximal, SegmentView, segment_view, put_before}
 use Rattle.table_form.specs.declared.segment.Segment.{Segment}
 use Rattle.coalesce.specs.Joining.{filled, filled_after, given, is_given}
 use Rattle.coalesce.proofs.Swapping.{front_length}
-use Rattle.table_form.specs.Inside.Appending.{put_before}
 use Rattle.table_form.proofs.AppendingLemmas.{before_nothing, before_one_more}
 use Rattle.table_form.proofs.SegmentLemmas.{maximal_front}
 

@@ -2,9 +2,8 @@
 -- leftmost swap.
 use Rattle.std.proofs.Common.{◌≡◌, ℕ, ◌≤◌, List, [], ◌∷◌, ◌++◌, refl, ap, subst, sym, ◌∙◌, inl, inr, arith, append_assoc}
 use Rattle.tab_core.specs.declared.piece.Piece.{Piece}
-use Rattle.table_form.specs.Tables.Segments.{SegmentView, put_front}
+use Rattle.table_form.specs.Tables.Segments.{SegmentView, put_front, put_before}
 use Rattle.coalesce.specs.Joining.{CanSwap, NoSwap}
-use Rattle.table_form.specs.Inside.Appending.{put_before}
 use Rattle.table_form.proofs.AppendingLemmas.{before_last, last_of}
 use Rattle.table_form.proofs.SegmentLemmas.{front_cases, front_joins, front_stays, same_first}
 

@@ -4,8 +4,7 @@ use Rattle.std.proofs.Math.Seq.{drop-cons}
 use Rattle.std.proofs.lemmas.List.{drop_all}
 use Rattle.tab_core.specs.declared.TheConstants.{ROUND}
 use Rattle.tab_core.specs.declared.piece.Piece.{Piece}
-use Rattle.table_form.specs.Inside.Appending.{put_before}
-use Rattle.table_form.specs.Tables.Segments.{AreMaximal, SegmentView, segment_view}
+use Rattle.table_form.specs.Tables.Segments.{put_before, AreMaximal, SegmentView, segment_view}
 use Rattle.table_form.specs.declared.segment.Segment.{Segment}
 use Rattle.table_form.proofs.AppendingLemmas.{before_last_two, before_nothing, before_one_more, maximal_append}
 use Rattle.table_form.proofs.SegmentLemmas.{front_stays, maximal_end}

@@ -1,5 +1,6 @@
 -- What a core's stints come to.
-use Rattle.std.specs.Prelude.{◌≡◌, ℕ, ◌+◌, ◌-◌, ◌<◌, ◌≤◌, ◌&&◌, not, List, Option, None, Some, Bool, true, false, sum_by, slice_index, if◌then◌else◌}
+-- Source: the rules of this project.
+use Rattle.std.specs.Prelude.{◌≡◌, ℕ, ◌-◌, ◌<◌, ◌≤◌, ◌&&◌, not, List, Option, None, Some, sum_by, slice_index, if◌then◌else◌}
 use Rattle.tab_core.specs.declared.TheConstants.{MAX_VCPUS}
 use Rattle.tab_core.specs.declared.stint.Stint.{Stint}
 use Rattle.table_form.specs.Running.Choice.{is_shared, is_vcpu}
@@ -36,11 +37,3 @@ pub record IsWithin (account : CoreAccount) (tick : ℕ) : Type 0 where
   pub slots : (v : ℕ) → v < MAX_VCPUS → slice_index account.slots v ≤ tick
   pub shared : (v : ℕ) → v < MAX_VCPUS → slice_index account.shared v ≤ tick
   pub idle : account.idle ≤ tick
-
--- the account took in one more stint
-pub record Adds (old new : CoreAccount) (s : Stint) (shared : Bool) : Type 0 where
-  pub slots : (v : ℕ) → v < MAX_VCPUS → slice_index new.slots v
-      ≡ slice_index old.slots v + (if is_vcpu v s.ran && not shared then length_of s else 0)
-  pub picked : (v : ℕ) → v < MAX_VCPUS → slice_index new.shared v
-      ≡ slice_index old.shared v + (if is_vcpu v s.ran && shared then length_of s else 0)
-  pub idle : new.idle ≡ old.idle + idle_ticks s

@@ -1,14 +1,13 @@
 -- The demand of an interval by the windows that begin at each of its ticks.
-use Rattle.std.proofs.Common.{◌≡◌, ◌≢◌, ℕ, zero, suc, ◌+◌, ◌-◌, ◌*◌, ◌/◌, ◌%◌, ◌<◌, ◌≤◌, cond, ◌&&◌, eqb, leb, List, [], ◌∷◌, ◌++◌, length, get_or, take, refl, ap, subst, sym, ◌∙◌, inl, inr, arith, append_assoc, zero-add}
-use Rattle.std.proofs.lemmas.List.{take_more}
+use Rattle.std.proofs.Common.{◌≡◌, ◌≢◌, ℕ, zero, suc, ◌+◌, ◌-◌, ◌*◌, ◌/◌, ◌%◌, ◌<◌, ◌≤◌, ◌⊎◌, cond, ◌&&◌, eqb, leb, List, [], ◌∷◌, ◌++◌, length, get_or, take, max, refl, ap, subst, sym, ◌∙◌, inl, inr, arith, append_assoc, zero-add}
+use Rattle.std.proofs.lemmas.List.{get_or_default, take_more}
 use Rattle.std.proofs.lemmas.List.Sums.{sum_by-append}
 use Rattle.std.proofs.lemmas.Bool.{cases_eq, cases_lt, lt-leb, cases_Bool, and_parts, and_from, leb-true, le-leb, eqb-true, eq-eqb}
 use Rattle.tab_core.specs.declared.TheConstants.{ROUND}
 use Rattle.tab_core.specs.declared.piece.Piece.{Piece}
 use Rattle.table_form.specs.Planning.Jobs.{Job, Subtask, job_of, subtask_of, first_jobs, jobs_of}
 use Rattle.table_form.specs.Planning.Demand.{IsOverloaded, demand_in, is_inside}
-use Rattle.edf_table.specs.Inside.Progress.{Among, NoBegin}
-use Rattle.edf_table.specs.Inside.Progress.{demand_from}
+use Rattle.edf_table.specs.Inside.Progress.{Among, NoBegin, SomeBegin, demand_from}
 use Rattle.edf_table.proofs.Sums.{sum_le, sum_zero}
 use Rattle.edf_table.proofs.Turns.{some_period}
 use Rattle.edf_table.proofs.Misses.{ends_in_round, demand_step}
@@ -213,4 +212,44 @@ fits_later ps from tick end none within small after s lt over = elim (cases_lt s
   | inl between ↦ (let same = demand_between ps from s tick end none lt (omega arith) in
       let much = over.too_much in omega arith)
   | inr later ↦ after s later over
+]
+
+-- a window of the piece at a place begins at the tick
+pub some_begin : (ps : List Piece) (i : ℕ) (p q : Piece) (k tick : ℕ) → i < length ps
+    → tick ≡ k * (get_or ps i p).period + (get_or ps i q).from → SomeBegin ps tick
+some_begin ps i p q k tick lt is = record {
+  at = i;
+  in_range = lt;
+  begins = λ d. (
+    k,
+    is ∙ (ap (λ (x : Piece). k * x.period + (get_or ps i q).from) (get_or_default ps i p d lt)
+    ∙ ap (λ (x : Piece). k * (get_or ps i d).period + x.from) (get_or_default ps i q d lt)),
+  );
+}
+
+-- of two ticks each of which is 0 or such a begin the later is too
+pub later_begin : (ps : List Piece) (a b m : ℕ) → m ≡ max a b → (a ≡ 0) ⊎ SomeBegin ps a
+    → (b ≡ 0) ⊎ SomeBegin ps b → (m ≡ 0) ⊎ SomeBegin ps m
+later_begin ps a b m is one other = elim (cases_lt a b) [
+  | inl lt ↦ (let later : m ≡ b = omega (arith, is, lt) in rw later other)
+  | inr le ↦ (let later : m ≡ a = omega (arith, is, le) in rw later one)
+]
+
+-- and between the later and the tick no window of one more piece begins
+pub no_begin_next : (ps : List Piece) (i a b m tick : ℕ) (p q : Piece) → i < length ps → m ≡ max a b
+    → NoBegin ps i a tick
+    → ((k : ℕ) → b < k * (get_or ps i p).period + (get_or ps i q).from
+    → tick ≤ k * (get_or ps i p).period + (get_or ps i q).from)
+    → NoBegin ps (i + 1) m tick
+no_begin_next ps i a b m tick p q lt is none last = λ j d low k after. elim (cases_eq j i) [
+  | inr other ↦ none j d (omega (arith, low, other)) k (omega (arith, is, after))
+  | inl same ↦
+      let of_p : get_or ps j d ≡ get_or ps i p = ap (λ n. get_or ps n d) same ∙ get_or_default ps i d p lt in
+      let of_q : get_or ps j d ≡ get_or ps i q = ap (λ n. get_or ps n d) same ∙ get_or_default ps i d q lt in
+      let begin : k * (get_or ps j d).period + (get_or ps j d).from
+          ≡ k * (get_or ps i p).period + (get_or ps i q).from =
+          ap (λ (x : Piece). k * x.period + (get_or ps j d).from) of_p
+          ∙ ap (λ (x : Piece). k * (get_or ps i p).period + x.from) of_q in
+      let later : m < k * (get_or ps i p).period + (get_or ps i q).from = rw begin at after in
+      rw begin (last k (omega (arith, is, later)))
 ]

@@ -1,8 +1,8 @@
-ghost use Rattle.std.specs.Prelude.{◌≡◌, ◌+◌, ◌<◌, ◌*◌, ◌/◌, ◌^◌, ◌≤◌, length};
+ghost use Rattle.std.specs.Prelude.{◌≡◌, ◌⊎◌, ◌+◌, ◌<◌, ◌*◌, ◌/◌, ◌^◌, ◌≤◌, length};
 ghost use Rattle.tab_core.specs.declared.TheConstants.{ROUND};
 ghost use Rattle.table_form.specs.Planning.Jobs.{first_jobs, jobs_of, subtask_of};
 ghost use Rattle.edf_table.specs.Overloads.{IsReportedOf};
-ghost use Rattle.edf_table.specs.Inside.Progress.{IsFirstEnd, NoBegin, demand_from};
+ghost use Rattle.edf_table.specs.Inside.Progress.{IsFirstEnd, NoBegin, SomeBegin, demand_from};
 ghost use Rattle.table_form.specs.Planning.Windows.{DistinctVcpus};
 
 use tab_core::{Over, Piece, ROUND};
@@ -43,6 +43,7 @@ fn demand_of_starts(pieces: &[Piece], start: u32, end: u32) -> u64
 fn last_begin(pieces: &[Piece], tick: u32) -> u32
     requires { 0 < tick }
     ensures earlier { result < tick }
+    ensures one { (result ≡ 0) ⊎ SomeBegin pieces.now result }
     ensures none { NoBegin pieces.now (length pieces.now) result tick }
 {
     let mut begin = 0;

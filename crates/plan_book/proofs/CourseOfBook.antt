@@ -92,9 +92,18 @@ form_of host events so_far numbers runnable made order few =
     let count = length-map events (λ (event : Event). event.tick) in
     let plans = length-map so_far.plans.items plan_view in
     record {
-      rising = λ i lt. ticks_rise events order i (omega arith);
+      outline = record {
+        rising = λ i lt. ticks_rise events order i (omega arith);
+        runnables = omega (arith, made.runnables);
+        some_core = host.some_core;
+        few_cores = host.few_cores;
+        some_lag = host.some_lag;
+        small_lag = host.lag_in_round;
+        some_quantum = host.some_quantum;
+        small_quantum = host.quantum_in_round;
+        few_events = omega (arith, few);
+      };
       numbered = omega (arith, made.numbered);
-      runnables = omega (arith, made.runnables);
       planned = λ n le.
           let kept = made.kept n (omega arith) in
           let within = slice_get_within (map plan_view so_far.plans.items) kept.known.number
@@ -108,13 +117,6 @@ form_of host events so_far numbers runnable made order few =
       same_vcpus =
           λ j k a b at_j at_k. (plan_is_of host events so_far numbers runnable made j a at_j).tasks
           ∙ sym (plan_is_of host events so_far numbers runnable made k b at_k).tasks;
-      some_core = host.some_core;
-      few_cores = host.few_cores;
-      some_lag = host.some_lag;
-      small_lag = host.lag_in_round;
-      some_quantum = host.some_quantum;
-      small_quantum = host.quantum_in_round;
-      few_events = omega (arith, few);
     }
 
 -- it shows what was recorded at each count

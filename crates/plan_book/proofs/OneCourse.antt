@@ -100,9 +100,9 @@ one_course host events a b of_a of_b =
     let numbers : a.numbers ≡ b.numbers = ext_get_or 0 a.numbers b.numbers numbered (λ k lt.
     (alike host events a b k of_a of_b (omega (arith, lt, in_a, of_a.form.numbered))).number) in
     let sized : length a.runnable ≡ length b.runnable =
-    of_a.form.runnables ∙ ap (λ n. n + 1) (in_a ∙ sym in_b) ∙ sym of_b.form.runnables in
+    of_a.form.outline.runnables ∙ ap (λ n. n + 1) (in_a ∙ sym in_b) ∙ sym of_b.form.outline.runnables in
     let runnable : a.runnable ≡ b.runnable = ext_get_or [] a.runnable b.runnable sized (λ k lt.
-    (alike host events a b k of_a of_b (omega (arith, lt, in_a, of_a.form.runnables))).runnable) in
+    (alike host events a b k of_a of_b (omega (arith, lt, in_a, of_a.form.outline.runnables))).runnable) in
     let same : course_with a.cores a.lag a.quantum a.ticks a.plans a.numbers a.runnable
     ≡ course_with b.cores b.lag b.quantum b.ticks b.plans b.numbers b.runnable = cc in
     same

@@ -5,6 +5,7 @@ use Rattle.tab_core.specs.declared.stint.Stint.{Stint}
 use Rattle.table_form.specs.Running.Choice.{IsDispatch, IsEligible, IsPick, is_shared}
 use Rattle.table_form.specs.Running.Courses.{CourseView, IsCourse, plan_after}
 use Rattle.table_form.specs.Tables.Plans.{PlanView}
+use Rattle.table_form.specs.Tables.Spans.{IsSharer}
 use Rattle.table_form.specs.Tables.Spots.{SameSpot}
 
 -- the arithmetic of `stint_bounds`, with and without the quantum
@@ -22,7 +23,7 @@ pub stint_bounds : (course : CourseView) (c : ℕ) (earlier : List Stint) (s : S
     → (s.from < s.end) × (s.end ≤ (s.from / ROUND + 1) * ROUND) × (s.end ≤ s.from + course.lag)
 stint_bounds course c earlier s ok f =
     end_bounds (is_shared course c s) s.from s.end f.span_end course.lag course.quantum f.end
-    f.span.after f.span.within ok.form.some_lag ok.form.some_quantum
+    f.span.after f.span.within ok.form.outline.some_lag ok.form.outline.some_quantum
 
 -- whoever is picked is eligible
 pub picked : (eligible : ℕ → Type 0) (last : Option ℕ) (v : ℕ) → IsPick eligible last (Some v) → eligible v
@@ -49,18 +50,22 @@ stint_within course c earlier s x f low lt =
     course.quantum x f.end low lt f.span.within in
     record { round = places.0; alike = f.span.alike (x % ROUND) places.1 places.2 }
 
--- whoever is eligible at a place is so at one that is alike
+-- whoever may share a place may share one that is alike
+pub sharer_alike : (plan : PlanView) (c x y v : ℕ) → SameSpot plan c x y → IsSharer plan c x v
+    → IsSharer plan c y v
+sharer_alike plan c x y v alike s = record {
+  home = s.home;
+  no_owner = λ q. s.no_owner (alike.owner ∙ q);
+  here = λ d ne q.
+      let away = alike.back v (record { home = s.home; other = d; elsewhere = ne; stands = q }) in
+      s.here away.other away.elsewhere away.stands;
+}
+
+-- so whoever is eligible at the one is so at the other
 pub eligible_alike : (plan : PlanView) (c x y : ℕ) (runnable : List Bool) (v : ℕ)
     → SameSpot plan c x y → IsEligible plan c x runnable v → IsEligible plan c y runnable v
-eligible_alike plan c x y runnable v alike e = record {
-  number = e.number;
-  home = e.home;
-  ready = e.ready;
-  no_owner = λ q. e.no_owner (alike.owner ∙ q);
-  here = λ d ne q.
-      let away = alike.back v (record { home = e.home; other = d; elsewhere = ne; stands = q }) in
-      e.here away.other away.elsewhere away.stands;
-}
+eligible_alike plan c x y runnable v alike e =
+    record { number = e.number; ready = e.ready; sharer = sharer_alike plan c x y v alike e.sharer }
 
 -- and the other way round
 pub eligible_back : (plan : PlanView) (c x y : ℕ) (runnable : List Bool) (v : ℕ)

@@ -37,7 +37,7 @@ few_counts course rounds s kept = elim (cases_lt rounds (length s.decided)) [
 pub complete_counts : (course : CourseView) (rounds : ℕ) (s : State) → IsCourse course
     → StateInvariant course rounds s → IsComplete course rounds s → length s.decided ≡ rounds
 complete_counts course rounds s ok kept whole =
-    let some = ok.form.some_core in
+    let some = ok.form.outline.some_core in
     let size = kept.size in
     let core = element_at s.cores 0 (omega arith) in
     let clock = whole.clocks 0 core.0 core.1 in

@@ -1,5 +1,5 @@
 -- Nobody runs on two cores at one tick: both use one plan, in which one core alone has the vCPU there.
-use Rattle.std.proofs.Common.{◌≡◌, ◌≢◌, ℕ, ◌/◌, ◌%◌, ◌<◌, ◌≤◌, inl, inr, Bool, true, false, List, Option, Some, refl, sym, subst, ◌∙◌}
+use Rattle.std.proofs.Common.{◌≡◌, ℕ, ◌/◌, ◌%◌, ◌<◌, ◌≤◌, inl, inr, Bool, true, false, List, Option, Some, refl, sym, subst, ◌∙◌}
 use Rattle.std.specs.Prelude.{slice_get}
 use Rattle.std.proofs.lemmas.Bool.{cases_eq}
 use Rattle.tab_core.specs.declared.TheConstants.{ROUND}
@@ -9,29 +9,28 @@ use Rattle.table_form.specs.Running.Courses.{CourseView, IsCourse, plan_after, r
 use Rattle.table_form.specs.Running.Invariant.{StateInvariant}
 use Rattle.table_form.specs.Running.State.{State}
 use Rattle.table_form.specs.Running.Together.{RunsOnOneCore}
-use Rattle.table_form.specs.Tables.Homes.{IsHome}
 use Rattle.table_form.specs.Tables.Plans.{PlanView}
 use Rattle.table_form.specs.Tables.Serves.{owner_at, Apart}
-use Rattle.run_promises.proofs.ChoiceLemmas.{Within, picked, eligible_alike, stint_within}
+use Rattle.table_form.specs.Tables.Spans.{IsSharer}
+use Rattle.run_promises.proofs.ChoiceLemmas.{Within, picked, sharer_alike, stint_within}
 use Rattle.run_promises.proofs.CourseLemmas.{apart_after}
 use Rattle.run_promises.proofs.Lists.{same}
 
--- how a vCPU comes to run on a core: it owns the place, or its home is here and no other core has it there
+-- how a vCPU comes to run on a core: it owns the place, or it may share it
 data Stands (plan : PlanView) (c place v : ℕ) : Type 0 where
   owns : owner_at plan.rows c place ≡ Some v → Stands plan c place v
-  fills : IsHome plan.homes c v → ((d : ℕ) → d ≢ c → owner_at plan.rows d place ≢ Some v)
-      → Stands plan c place v
+  fills : IsSharer plan c place v → Stands plan c place v
 
 -- in a plan whose rows are apart that is so of one core at most
 apart_stands : (plan : PlanView) (c d place v : ℕ) → Apart plan.rows → Stands plan c place v
     → Stands plan d place v → c ≡ d
 apart_stands plan c d place v apart (owns o) (owns o') = apart v place c d o o'
-apart_stands plan c d place v apart (owns o) (fills home here) =
-    elim (cases_eq c d) [ inl is ↦ is | inr isnt ↦ absurd (here c isnt o) ]
-apart_stands plan c d place v apart (fills home here) (owns o) =
-    elim (cases_eq c d) [ inl is ↦ is | inr isnt ↦ absurd (here d (λ e. isnt (sym e)) o) ]
-apart_stands plan c d place v apart (fills home here) (fills home' here') =
-    same_home c d (slice_get plan.homes v) home home'
+apart_stands plan c d place v apart (owns o) (fills s) =
+    elim (cases_eq c d) [ inl is ↦ is | inr isnt ↦ absurd (s.here c isnt o) ]
+apart_stands plan c d place v apart (fills s) (owns o) =
+    elim (cases_eq c d) [ inl is ↦ is | inr isnt ↦ absurd (s.here d (λ e. isnt (sym e)) o) ]
+apart_stands plan c d place v apart (fills s) (fills s') =
+    same_home c d (slice_get plan.homes v) s.home s'.home
   where
     same_home : (a b : ℕ) (o : Option (Option ℕ)) → o ≡ Some (Some a) → o ≡ Some (Some b) → a ≡ b
     same_home a b o h g = cc
@@ -63,9 +62,7 @@ stint_stands course c earlier s x v f low lt ran = (
         (IsEligible (plan_after course s.used) c (s.from % ROUND)
         (runnable_after course s.seen)) (last_shared course c earlier) o) ran
         (f.choice.shared is)) in
-        let there = eligible_alike (plan_after course s.used) c (s.from % ROUND) (x % ROUND)
-        (runnable_after course s.seen) v at.alike e in
-        fills there.home there.here
+        fills (sharer_alike (plan_after course s.used) c (s.from % ROUND) (x % ROUND) v at.alike e.sharer)
 
 -- the promise, since both stints use their round's one count
 pub one_core : (course : CourseView) (rounds : ℕ) (s : State) → IsCourse course

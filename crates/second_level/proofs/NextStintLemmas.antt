@@ -7,11 +7,13 @@ use Rattle.std.proofs.lemmas.Bool.{cases_lt}
 use Rattle.std.proofs.lemmas.Option.{slice_get_within}
 use Rattle.tab_core.specs.declared.TheConstants.{MAX_VCPUS, ROUND}
 use Rattle.tab_core.specs.declared.stint.Stint.{Stint}
+use Rattle.tab_core.specs.Least.{IsLeast}
 use Rattle.tab_core.specs.VcpuSets.{has_vcpu}
-use Rattle.table_form.specs.Running.Choice.{IsChoice, IsDispatch, IsEligible, IsLeast, IsPick, after_last, last_shared, owner_runs, runs_other, stint_end}
+use Rattle.table_form.specs.Running.Choice.{IsChoice, IsDispatch, IsEligible, IsPick, after_last, last_shared, owner_runs, runs_other, stint_end}
 use Rattle.table_form.specs.Running.Courses.{CourseView, plan_after, runnable_after}
 use Rattle.table_form.specs.Tables.Plans.{PlanView}
 use Rattle.table_form.specs.Tables.Serves.{owner_at}
+use Rattle.table_form.specs.Tables.Spans.{IsSharer}
 use Rattle.table_form.specs.Tables.Spots.{IsAway, SameSpot, IsSpanEnd}
 use Rattle.table_form.proofs.SpotLemmas.{owner_within, same_spot}
 
@@ -87,28 +89,33 @@ is_away plan c place v = elim (is_home (slice_get plan.homes v) c) [
   ]
 ]
 
--- who is eligible can be tested
+-- who may share a place can be tested
+is_sharer : (plan : PlanView) (c place v : ℕ) → IsSharer plan c place v ⊎ (IsSharer plan c place v → ⊥)
+is_sharer plan c place v = elim (is_home (slice_get plan.homes v) c) [
+  | inr isnt ↦ inr (λ s. isnt s.home)
+  | inl home ↦ elim (same_owner (owner_at plan.rows c place) (Some v)) [
+    | inl owns ↦ inr (λ s. s.no_owner owns)
+    | inr no_owner ↦ elim (is_away plan c place v) [
+      | inl a ↦ inr (λ s. s.here a.other a.elsewhere a.stands)
+      | inr here ↦ inl (record {
+        home = home;
+        no_owner = no_owner;
+        here = λ d ne is. here (record { home = home; other = d; elsewhere = ne; stands = is });
+      })
+    ]
+  ]
+]
+
+-- so who is eligible can be
 is_eligible : (plan : PlanView) (c place : ℕ) (runnable : List Bool) (v : ℕ)
     → IsEligible plan c place runnable v ⊎ (IsEligible plan c place runnable v → ⊥)
 is_eligible plan c place runnable v = elim (cases_lt v MAX_VCPUS) [
   | inr le ↦ inr (λ e. (let n = e.number in absurd (omega arith)))
-  | inl number ↦ elim (is_home (slice_get plan.homes v) c) [
-    | inr isnt ↦ inr (λ e. isnt e.home)
-    | inl home ↦ elim (is_true (has_vcpu runnable v)) [
-      | inr isnt ↦ inr (λ e. isnt e.ready)
-      | inl ready ↦ elim (same_owner (owner_at plan.rows c place) (Some v)) [
-        | inl owns ↦ inr (λ e. e.no_owner owns)
-        | inr no_owner ↦ elim (is_away plan c place v) [
-          | inl a ↦ inr (λ e. e.here a.other a.elsewhere a.stands)
-          | inr here ↦ inl (record {
-            number = number;
-            home = home;
-            ready = ready;
-            no_owner = no_owner;
-            here = λ d ne is. here (record { home = home; other = d; elsewhere = ne; stands = is });
-          })
-        ]
-      ]
+  | inl number ↦ elim (is_true (has_vcpu runnable v)) [
+    | inr isnt ↦ inr (λ e. isnt e.ready)
+    | inl ready ↦ elim (is_sharer plan c place v) [
+      | inr isnt ↦ inr (λ e. isnt e.sharer)
+      | inl sharer ↦ inl (record { number = number; ready = ready; sharer = sharer })
     ]
   ]
 ]

@@ -3,8 +3,8 @@
 //!
 //! The rule of `pick` is round robin by number among the vCPUs at home on the core: `IsPick` in
 //! `table_form/specs/Running/Choice.antt`. `specs/Pick.antt` says who may be picked, in terms of the
-//! sets that `pick` is given. `next_stint` gives the stint that `IsDispatch`, in the same file,
-//! determines. It takes a course without its plans, and the one plan that the stint needs.
+//! sets that `pick` is given. `next_stint` gives the stint that `IsDispatch`, in the file of `IsPick`,
+//! determines. It takes a course without its plans, and the span that the core's row shows.
 #![tactic(auto)]
 
 mod round_robin;

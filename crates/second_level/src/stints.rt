@@ -1,16 +1,16 @@
 ghost use Rattle.std.specs.Prelude.{◌≡◌, ℕ, ◌+◌, ◌-◌, ◌*◌, ◌/◌, ◌%◌, ◌^◌, ◌<◌, ◌≤◌, true, false, if◌then◌else◌, min, List, length};
 ghost use Rattle.tab_core.specs.declared.TheConstants.{ROUND};
 ghost use Rattle.tab_core.specs.declared.stint.Stint.{Stint as StintValue};
-ghost use Rattle.table_form.specs.Running.Choice.{IsDispatch, is_shared, last_after, last_shared, owner_runs, runs_other};
-ghost use Rattle.table_form.specs.Running.Outlines.{InEachCourse};
-ghost use Rattle.table_form.specs.Tables.Views.{plan_view};
-ghost use Rattle.table_form.specs.Tables.Spots.{IsSpot};
-ghost use Rattle.second_level.specs.Inside.Picks.{PicksFrom};
+ghost use Rattle.table_form.specs.Running.Choice.{IsDispatch, IsPick, is_shared, last_after, last_shared, owner_runs, runs_other};
+ghost use Rattle.table_form.specs.Running.Courses.{InEachCourse};
+ghost use Rattle.table_form.specs.Tables.Plans.{PlanView};
+ghost use Rattle.table_form.specs.Tables.Spans.{IsSpan};
+ghost use Rattle.tab_core.specs.VcpuSets.{IsInBoth};
 
-use crate::round_robin::pick;
+use crate::round_robin::pick_common;
 use std::cmp::min;
 use tab_core::{CoreNo, ROUND, Stint, VcpuNo, VcpuSet};
-use table_form::{Outline, Plan, Spot};
+use table_form::{Outline, Span};
 
 /// Where a stint begins.
 #[derive(Clone, Copy, Debug)]
@@ -35,27 +35,32 @@ pub struct Next {
     pub last: Option<VcpuNo>,
 }
 
-/// The stint that the core runs from there on, at this spot of the plan that its round uses.
+/// The stint that the core runs from there on, in this span of its row.
 ///
-/// The owner of the slot runs if it is runnable, otherwise the second level's pick. The stint ends
-/// with the spot, and at the latest a lag after its begin, a shared one a quantum after it. All that
-/// is said of it holds in each course of the outline that has this plan there. The rules are this
-/// project's, `IsDispatch` in `table_form/specs/Running/Choice.antt`.
-pub fn next_stint(outline: &Outline, plan: &Plan, core: CoreNo, begin: &Begin, spot: &Spot) -> Next
+/// The owner of the slot runs if it is runnable, otherwise by round robin one of the span's sharers
+/// that are runnable. The stint ends with the span, and at the latest a lag after its begin, a shared
+/// one a quantum after it. All that is said of it holds in each course of the outline whose plan there
+/// shows the core this span. The rules are this project's, `IsDispatch` in
+/// `table_form/specs/Running/Choice.antt`.
+pub fn next_stint(outline: &Outline, core: CoreNo, begin: &Begin, span: &Span<'_>) -> Next
     requires from { begin.now.from ≤ 2 ^ 31 }
     requires seen { begin.now.seen ≤ length outline.now.ticks }
-    requires spot { IsSpot (plan_view plan.now) core (begin.now.from % ROUND) spot.now }
+    requires after { begin.now.from % ROUND < span.now.end }
+    requires within { span.now.end ≤ ROUND }
     ensures from { result.stint.from ≡ begin.now.from }
     ensures seen { result.stint.seen ≡ begin.now.seen }
     ensures used { result.stint.used ≡ begin.now.used }
     ensures some { result.stint.from < result.stint.end }
     ensures in_round { result.stint.end ≤ (result.stint.from / ROUND + 1) * ROUND }
-    ensures follows { InEachCourse outline.now begin.now.used (plan_view plan.now)
+    ensures follows { (plan : PlanView) → IsSpan plan core (begin.now.from % ROUND) span.now.owner
+        span.now.sharers.now span.now.end → InEachCourse outline.now begin.now.used plan
         (λ course. (earlier : List StintValue) → begin.now.last ≡ last_shared course core earlier
         → IsDispatch course core earlier result.stint) }
-    ensures shared { InEachCourse outline.now begin.now.used (plan_view plan.now)
+    ensures shared { (plan : PlanView) → IsSpan plan core (begin.now.from % ROUND) span.now.owner
+        span.now.sharers.now span.now.end → InEachCourse outline.now begin.now.used plan
         (λ course. result.shared ≡ is_shared course core result.stint) }
-    ensures last { InEachCourse outline.now begin.now.used (plan_view plan.now)
+    ensures last { (plan : PlanView) → IsSpan plan core (begin.now.from % ROUND) span.now.owner
+        span.now.sharers.now span.now.end → InEachCourse outline.now begin.now.used plan
         (λ course. result.last ≡ last_after course core begin.now.last result.stint) }
 {
     let (lag, quantum) = (outline.lag(), outline.quantum());
@@ -65,10 +70,10 @@ pub fn next_stint(outline: &Outline, plan: &Plan, core: CoreNo, begin: &Begin, s
         used,
         last,
     } = *begin;
-    let ran = choose(plan, core, spot, outline.runnable_after(seen), last);
-    let shared = is_other(spot, &ran);
+    let ran = choose(span, outline.runnable_after(seen), last);
+    let shared = is_other(span, &ran);
     let last = last_pick(shared, &ran, &last);
-    let end = end_of(spot, from, lag, quantum, shared);
+    let end = end_of(span.end, from, lag, quantum, shared);
     Next {
         stint: Stint {
             from,
@@ -82,39 +87,32 @@ pub fn next_stint(outline: &Outline, plan: &Plan, core: CoreNo, begin: &Begin, s
     }
 }
 
-// Whom the core runs at the spot: the owner if it is runnable, otherwise the second level's pick.
-fn choose(
-    plan: &Plan,
-    core: CoreNo,
-    spot: &Spot,
-    runnable: &VcpuSet,
-    last: Option<VcpuNo>,
-) -> Option<VcpuNo>
-    ensures slot { owner_runs spot.now.owner runnable.now ≡ true → result ≡ spot.now.owner }
-    ensures shared { owner_runs spot.now.owner runnable.now ≡ false
-        → PicksFrom plan.now.tables.homes core spot.now runnable.now last result }
+// Whom the core runs in the span: the owner if it is runnable, otherwise the pick among the sharers.
+fn choose(span: &Span<'_>, runnable: &VcpuSet, last: Option<VcpuNo>) -> Option<VcpuNo>
+    ensures slot { owner_runs span.now.owner runnable.now ≡ true → result ≡ span.now.owner }
+    ensures shared { owner_runs span.now.owner runnable.now ≡ false
+        → IsPick (IsInBoth span.now.sharers.now runnable.now) last result }
 {
-    if owner_can_run(spot, runnable) {
-        return spot.owner;
+    if owner_can_run(span, runnable) {
+        return span.owner;
     }
-    let homes = plan.homes_of(core);
-    pick(last, &homes, spot, runnable)
+    pick_common(last, span.sharers, runnable)
 }
 
-fn owner_can_run(spot: &Spot, runnable: &VcpuSet) -> bool
-    ensures { result ≡ owner_runs spot.now.owner runnable.now }
+fn owner_can_run(span: &Span<'_>, runnable: &VcpuSet) -> bool
+    ensures { result ≡ owner_runs span.now.owner runnable.now }
 {
-    match spot.owner {
+    match span.owner {
         None => false,
         Some(vcpu) => runnable.has(vcpu),
     }
 }
 
 // Whether somebody runs who isn't the owner.
-fn is_other(spot: &Spot, ran: &Option<VcpuNo>) -> bool
-    ensures { result ≡ runs_other spot.now.owner ran.now }
+fn is_other(span: &Span<'_>, ran: &Option<VcpuNo>) -> bool
+    ensures { result ≡ runs_other span.now.owner ran.now }
 {
-    match (*ran, spot.owner) {
+    match (*ran, span.owner) {
         (None, _) => false,
         (Some(_), None) => true,
         (Some(vcpu), Some(owner)) => vcpu != owner,
@@ -128,16 +126,16 @@ fn last_pick(shared: bool, ran: &Option<VcpuNo>, last: &Option<VcpuNo>) -> Optio
 }
 
 // The end of the span in the round, or of the lag, or of a shared stint's quantum, whichever is first.
-fn end_of(spot: &Spot, from: u32, lag: u32, quantum: u32, shared: bool) -> u32
+fn end_of(span_end: u32, from: u32, lag: u32, quantum: u32, shared: bool) -> u32
     requires from { from ≤ 2 ^ 31 }
-    requires spot { spot.now.end ≤ ROUND }
+    requires span { span_end ≤ ROUND }
     requires lag { lag ≤ ROUND }
     requires quantum { quantum ≤ ROUND }
     ensures { result
-        ≡ (if shared then min (min (from - from % ROUND + spot.now.end) (from + lag))
-        (from + quantum) else min (from - from % ROUND + spot.now.end) (from + lag)) }
+        ≡ (if shared then min (min (from - from % ROUND + span_end) (from + lag))
+        (from + quantum) else min (from - from % ROUND + span_end) (from + lag)) }
 {
-    let slot = min(from - from % ROUND + spot.end, from + lag);
+    let slot = min(from - from % ROUND + span_end, from + lag);
     if shared {
         min(slot, from + quantum)
     } else {

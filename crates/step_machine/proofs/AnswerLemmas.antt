@@ -11,10 +11,9 @@ use Rattle.table_form.specs.Running.State.{State, CoreState}
 use Rattle.step_machine.specs.Answers.{Answers, shown}
 use Rattle.table_form.specs.Running.Waiting.{AreWithinLag, IsFirstBehind}
 use Rattle.table_form.specs.Running.Stints.{IsNextStint}
-use Rattle.table_form.specs.Running.Entering.{EntersFirst, EntersAfter}
-use Rattle.table_form.specs.Running.Phases.{phase_of, round_of}
+use Rattle.table_form.specs.Running.Entering.{Decides, EntersFirst, EntersAfter}
+use Rattle.table_form.specs.Running.Phases.{phase_of, round_of, to_decide}
 use Rattle.script_doc.specs.declared.step.Step.TheVariants as steps
-use Rattle.table_form.specs.Running.Phases.{to_decide}
 use Rattle.tab_core.specs.declared.actor.Actor.TheVariants.{Core, Controller}
 use Rattle.step_machine.specs.declared.answer.Answer.TheVariants.{Done, Behind, NotNow}
 use Rattle.run_promises.proofs.Lists.{same, within}
@@ -147,15 +146,14 @@ one_after rounds c s n m p q =
     p.becomes ∙ (rw (is, seen, used) refl ∙ sym q.becomes)
 
 -- so Decide leads to one state
-one_entering : (rounds c : ℕ) (s n m : State) → EntersFirst rounds c s n ⊎ EntersAfter rounds c s n
-    → EntersFirst rounds c s m ⊎ EntersAfter rounds c s m → n ≡ m
+one_entering : (rounds c : ℕ) (s n m : State) → Decides rounds c s n → Decides rounds c s m → n ≡ m
 one_entering rounds c s n m p q = elim p [
   | inl w ↦ elim q [ inl v ↦ one_first rounds c s n m w v | inr j ↦ absurd (first_or_after rounds c s n m w j) ]
   | inr i ↦ elim q [ inl v ↦ absurd (first_or_after rounds c s m n v i) | inr j ↦ one_after rounds c s n m i j ]
 ]
 
 -- who enters is to decide
-entering_due : (rounds c : ℕ) (s n : State) → EntersFirst rounds c s n ⊎ EntersAfter rounds c s n
+entering_due : (rounds c : ℕ) (s n : State) → Decides rounds c s n
     → (core : CoreState) × (slice_get s.cores c ≡ Some core) × (phase_of rounds core ≡ to_decide)
 entering_due rounds c s n p = elim p [
   | inl w ↦ (w.round.core, w.round.at, w.round.due)

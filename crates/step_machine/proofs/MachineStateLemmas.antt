@@ -10,13 +10,12 @@ use Rattle.table_form.specs.Running.State.{CoreState}
 use Rattle.table_form.specs.Running.Choice.{last_shared, last_after}
 use Rattle.table_form.specs.Running.Invariant.{StateInvariant, CoreInvariant}
 use Rattle.table_form.specs.Running.Next.{IsLeastClock}
-use Rattle.table_form.specs.Running.Phases.{phase_of}
+use Rattle.table_form.specs.Running.Phases.{phase_of, to_decide}
 use Rattle.step_machine.specs.declared.core_log.CoreLog.{CoreLog}
 use Rattle.step_machine.specs.declared.machine_state.MachineState.{MachineState}
 use Rattle.step_machine.specs.Inside.Logs.{core_of, KnowLast, Edits, IsLowestOf}
 use Rattle.step_machine.specs.Inside.MachineStates.{state_of, HasSpare}
 use Rattle.std.proofs.lemmas.Bool.{cases_lt}
-use Rattle.table_form.specs.Running.Phases.{to_decide}
 use Rattle.step_machine.proofs.PhaseLemmas.{deciding, entered_below}
 use Rattle.run_promises.proofs.Lists.{element_at}
 use Rattle.step_machine.proofs.Lists.{set_split}
@@ -46,7 +45,7 @@ pub clock_small : (course : CourseView) (rounds : ℕ) (p : MachineState) (c : �
     → StateInvariant course rounds (state_of p) → IsCourse course → rounds ≤ MAX_ROUNDS
     → slice_get p.logs.items c ≡ Some log → log.clock + course.lag < 2 ^ 32
 clock_small course rounds p c log kept ok few at =
-    (let k = log_kept course rounds p c log kept at in omega (arith, k.clock.in_run, ok.form.small_lag))
+    (let k = log_kept course rounds p c log kept at in omega (arith, k.clock.in_run, ok.form.outline.small_lag))
 
 -- the logs know their last picks after one of them is edited
 pub last_edited : (course : CourseView) (old new : List CoreLog) (c : ℕ) (before : CoreLog)

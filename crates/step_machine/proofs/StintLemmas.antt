@@ -7,12 +7,13 @@ use Rattle.tab_core.specs.declared.TheConstants.{MAX_VCPUS, ROUND}
 use Rattle.table_form.proofs.SpotLemmas.{one_end}
 use Rattle.table_form.specs.Tables.Serves.{owner_at}
 use Rattle.tab_core.specs.declared.stint.Stint.{Stint}
+use Rattle.tab_core.specs.Least.{IsLeast}
 use Rattle.tab_core.specs.declared.entry.Entry.{Entry}
 use Rattle.table_form.specs.Tables.Plans.{PlanView}
 use Rattle.table_form.specs.Tables.Spots.{IsSpanEnd}
 use Rattle.table_form.specs.Running.Courses.{CourseView, plan_after, runnable_after}
 use Rattle.table_form.specs.Running.State.{CoreState}
-use Rattle.table_form.specs.Running.Choice.{IsDispatch, IsEligible, IsPick, IsLeast, IsChoice, owner_runs, last_shared, after_last}
+use Rattle.table_form.specs.Running.Choice.{IsDispatch, IsEligible, IsPick, IsChoice, owner_runs, last_shared, after_last}
 use Rattle.table_form.specs.Running.Stints.{IsNextStint}
 use Rattle.table_form.specs.Running.Phases.{round_of}
 use Rattle.run_promises.proofs.Lists.{same}

@@ -1,7 +1,7 @@
 -- The machine's answer to each step: the four kinds of step of a run, when one isn't due, and what
 -- one waits for.
 -- Source: the rules of this project.
-use Rattle.std.specs.Prelude.{◌≡◌, ◌≢◌, ◌⊎◌, ℕ, ◌<◌, Some, None, length}
+use Rattle.std.specs.Prelude.{◌≡◌, ◌≢◌, ℕ, ◌<◌, Some, None, length}
 use Rattle.script_doc.specs.declared.step.Step.{Step}
 use Rattle.script_doc.specs.declared.step.Step.TheVariants as steps
 use Rattle.tab_core.specs.declared.stint.Stint.{Stint}
@@ -12,7 +12,7 @@ use Rattle.table_form.specs.Running.State.{State, CoreState, IsCore}
 use Rattle.table_form.specs.Running.Phases.{CorePhase, to_see, to_decide, to_run, at_end, phase_of}
 use Rattle.table_form.specs.Running.Waiting.{HasUpTo, IsFirstBehind}
 use Rattle.table_form.specs.Running.Posting.{Posts, Sees}
-use Rattle.table_form.specs.Running.Entering.{EntersFirst, EntersAfter}
+use Rattle.table_form.specs.Running.Entering.{Decides}
 use Rattle.table_form.specs.Running.Stints.{Runs, IsNextStint}
 use Rattle.step_machine.specs.declared.answer.Answer.{Answer}
 use Rattle.step_machine.specs.declared.answer.Answer.TheVariants.{Done, Behind, NotNow}
@@ -23,7 +23,7 @@ use Rattle.step_machine.specs.declared.answer.Phase.TheVariants as phases
 abbrev pub Moves : CourseView → ℕ → State → Step → State → Type 0
 Moves course rounds old steps.Post new = Posts course old new
 Moves course rounds old (steps.See c) new = Sees course rounds c old new
-Moves course rounds old (steps.Decide c) new = EntersFirst rounds c old new ⊎ EntersAfter rounds c old new
+Moves course rounds old (steps.Decide c) new = Decides rounds c old new
 Moves course rounds old (steps.Run c) new = Runs course rounds c old new
 
 -- the name that an answer gives to a core's phase

@@ -1,9 +1,9 @@
-ghost use Rattle.std.specs.Prelude.{◌≡◌, ◌⊎◌, ◌+◌, ◌<◌, ◌≤◌, ℕ, Some, slice_get};
+ghost use Rattle.std.specs.Prelude.{◌≡◌, ◌+◌, ◌<◌, ◌≤◌, ℕ, Some, slice_get};
 ghost use Rattle.tab_core.specs.declared.TheConstants.{MAX_ROUNDS};
 ghost use Rattle.script_doc.specs.declared.step.Step.{Step};
 ghost use Rattle.table_form.specs.Running.Invariant.{StateInvariant};
 ghost use Rattle.table_form.specs.Running.State.{CoreState};
-ghost use Rattle.table_form.specs.Running.Entering.{EntersFirst, EntersAfter};
+ghost use Rattle.table_form.specs.Running.Entering.{Decides};
 ghost use Rattle.table_form.specs.Running.Phases.{to_decide, phase_of, round_of};
 ghost use Rattle.step_machine.specs.Answers.{Answers};
 ghost use Rattle.step_machine.specs.Inside.Logs.{cores_of, KnowLast};
@@ -100,8 +100,7 @@ fn enter(course: &Course, rounds: u32, machine: &mut MachineState, c: usize, rou
     requires spare { HasSpare rounds 1 machine.old }
     requires due { (core : CoreState) → slice_get (cores_of machine.old.logs.items) c ≡ Some core
         → (phase_of rounds core ≡ to_decide) × (core.seen ≡ Some seen) × (round ≡ round_of core) }
-    ensures answer { EntersFirst rounds c (state_of machine.old) (state_of machine.new)
-        ⊎ EntersAfter rounds c (state_of machine.old) (state_of machine.new) }
+    ensures answer { Decides rounds c (state_of machine.old) (state_of machine.new) }
     ensures spare { (n : ℕ) → HasSpare rounds (n + 1) machine.old → HasSpare rounds n machine.new }
     ensures last { KnowLast course.now machine.old.logs.items → KnowLast course.now machine.new.logs.items }
 {

@@ -1,13 +1,16 @@
 -- Sets of vCPUs by their words: one bit for each truth value.
-use Rattle.std.proofs.Common.{◌≡◌, ◌≢◌, ◌∙◌, ℕ, zero, suc, ◌+◌, ◌*◌, ◌/◌, ◌%◌, ◌<◌, ◌^◌, Bool, false, true, eqb, List, [], ◌∷◌, length, get_or, set, replicate, refl, sym, ap, arith, inl, inr, w64, bit_and, bit_or, get_or-set_other, length-append}
-use Rattle.std.proofs.lemmas.List.{same_lists, get_or-replicate, length-replicate}
-use Rattle.std.proofs.lemmas.Bool.{cases_eq}
+use Rattle.std.proofs.Common.{◌≡◌, ◌≢◌, ◌∙◌, ℕ, zero, suc, ◌+◌, ◌-◌, ◌*◌, ◌/◌, ◌%◌, ◌<◌, ◌≤◌, ◌^◌, ◌↔◌, Bool, false, true, eqb, not, ◌&&◌, List, [], ◌∷◌, length, get_or, set, replicate, refl, sym, ap, arith, inl, inr, w64, bit_and, bit_or, get_or-set_other, length-append}
+use Rattle.std.proofs.lemmas.List.{same_lists, get_or_past, get_or-replicate, length-replicate}
+use Rattle.std.proofs.lemmas.Bool.{cases_eq, cases_lt}
+use Rattle.std.proofs.lemmas.Nat.{shr-shr}
+use Rattle.std.specs.Prelude.{IsTrue, min}
 use Rattle.std.proofs.Math.ListN.{length-set}
 use Rattle.std.proofs.lemmas.Bool.Decides.{nat_tests}
 use Rattle.std.proofs.lemmas.Grind.{common_steps, get_or-set_at, same_number_lists}
-use Rattle.std.proofs.lemmas.Nat.Bits.{bit_at-zero, bit_at-lt, same_from_bits_below, bit_at_set_same, bit_at_set_other, bit_at_clear_same, bit_at_clear_other}
-use Rattle.std.specs.Int.{bit_at, bit_not}
-use Rattle.tab_core.specs.VcpuSets.{has_bit, bits_below, members_of}
+use Rattle.std.proofs.lemmas.Nat.Bits.{bit_at-zero, bit_at-lt, same_from_bits_below, bit_at_above, bit_at_and, bit_at_not, bit_at-trailing_zeros, bit_at_set_same, bit_at_set_other, bit_at_clear_same, bit_at_clear_other}
+use Rattle.std.specs.Int.{bit_at, bit_not, trailing_zeros}
+use Rattle.tab_core.specs.Least.{IsLeast}
+use Rattle.tab_core.specs.VcpuSets.{IsInBoth, has_bit, has_vcpu, bits_below, members_of}
 
 -- the truth values are as many as were asked for, so a set has 256
 pub length-bits_below : (words : List ℕ) (n : ℕ) → length (bits_below words n) ≡ n
@@ -126,3 +129,155 @@ same_members a b four_a four_b fits_a fits_b same =
     let at_place = λ (words : List ℕ). ap (λ n. bit_at (get_or words n 0) (v.0 % 64)) v.1
     ∙ ap (λ n. bit_at (get_or words k 0) n) v.2 in
     sym (at_place a) ∙ same_bit _ _ _ bits ∙ at_place b))
+
+-- members have numbers below 256
+pub member_low : (words : List ℕ) (v : ℕ) → IsTrue (has_vcpu (members_of words) v) → v < 256
+member_low words v is = elim (cases_lt v 256) [
+  | inl lt ↦ lt
+  | inr le ↦
+      let none = get_or_past (members_of words) v false (omega (arith, le, length-bits_below words 256)) in
+      absurd (cc)
+]
+
+-- so members have a bit that is 1
+bit_of_member : (words : List ℕ) (v : ℕ) → IsTrue (has_vcpu (members_of words) v)
+    → bit_at (get_or words (v / 64) 0) (v % 64) ≡ 1
+bit_of_member words v is =
+    let bit = bits_below-at words 256 v false (member_low words v is) in
+    grind (arith, nat_tests)
+
+-- and whoever has one is a member
+member_of_bit : (words : List ℕ) (v : ℕ) → v < 256 → bit_at (get_or words (v / 64) 0) (v % 64) ≡ 1
+    → IsTrue (has_vcpu (members_of words) v)
+member_of_bit words v lt is = let bit = bits_below-at words 256 v false lt in grind (arith, nat_tests)
+
+-- the lesser of two bits is 1 only where both are
+both_one : (x y : ℕ) → x < 2 → y < 2 → (min x y ≡ 1) ↔ ((x ≡ 1) × (y ≡ 1))
+both_one x y lt lt' = ((λ is. (omega arith, omega arith)), (λ both. omega (arith, both.0, both.1)))
+
+-- the bits of both words from one on
+shifted : (a b k i : ℕ) → bit_at (bit_and a b / 2 ^ k) i ≡ min (bit_at a (k + i)) (bit_at b (k + i))
+shifted a b k i = ap (λ x. x % 2) (shr-shr (bit_and a b) k i) ∙ bit_at_and a b (k + i)
+
+-- a bit of them is 1 where it is in the word, and its number is in both sets
+pub common_bits : (a b : List ℕ) (at i : ℕ) → at < 256 → i < 64 → get_or a (at / 64) 0 < 2 ^ 64
+    → (bit_at (bit_and (get_or a (at / 64) 0) (get_or b (at / 64) 0) / 2 ^ (at % 64)) i ≡ 1)
+    ↔ ((i + at % 64 < 64) × IsInBoth (members_of a) (members_of b) (at + i))
+common_bits a b at i lt low fits =
+    let x = get_or a (at / 64) 0 in
+    let y = get_or b (at / 64) 0 in
+    let k = at % 64 in
+    let bits = shifted x y k i in
+    let ones = both_one (bit_at x (k + i)) (bit_at y (k + i)) (bit_at-lt x (k + i)) (bit_at-lt y (k + i)) in
+    elim (cases_lt (k + i) 64) [
+      | inl within ↦
+          let word : (at + i) / 64 ≡ at / 64 = omega (arith, within) in
+          let place : (at + i) % 64 ≡ k + i = omega (arith, within) in
+          let one_of = λ (words : List ℕ). ap (λ n. bit_at (get_or words n 0) ((at + i) % 64)) word
+          ∙ ap (bit_at (get_or words (at / 64) 0)) place in (
+            λ is. (let both = ones.0 (sym bits ∙ is) in (
+              omega (arith, within),
+              record {
+                one = member_of_bit a (at + i) (omega (arith, word, lt)) (one_of a ∙ both.0);
+                other = member_of_bit b (at + i) (omega (arith, word, lt)) (one_of b ∙ both.1);
+              },
+            )),
+            λ there. bits ∙ ones.1 (
+              sym (one_of a) ∙ bit_of_member a (at + i) there.1.one,
+              sym (one_of b) ∙ bit_of_member b (at + i) there.1.other,
+            ),
+          )
+      | inr beyond ↦ (
+        λ is.
+            let both = ones.0 (sym bits ∙ is) in
+            let none = bit_at_above x 64 (k + i) fits beyond in
+            absurd (omega (arith, none, both.0)),
+        λ there. absurd (omega (arith, there.0, beyond)),
+      )
+    ]
+
+-- what is known of the bits of both from one on
+abbrev pub AreCommon : List ℕ → List ℕ → ℕ → ℕ → Type 0
+AreCommon a b at both = (i : ℕ) → i < 64 → (bit_at both i ≡ 1)
+    ↔ ((i + at % 64 < 64) × IsInBoth (members_of a) (members_of b) (at + i))
+
+-- the lowest of them is the least common member, where nobody below is one
+pub lowest_common : (a b : List ℕ) (from at both : ℕ) → from ≤ at → 0 < both → both < 2 ^ 64
+    → AreCommon a b at both
+    → ((v : ℕ) → IsInBoth (members_of a) (members_of b) v → from ≤ v → v < at → ⊥)
+    → IsLeast (IsInBoth (members_of a) (members_of b)) from (at + trailing_zeros w64 both)
+lowest_common a b from at both le some fits are below =
+    let t = trailing_zeros w64 both in
+    let lowest = bit_at-trailing_zeros w64 both some fits in
+    let found = (are t lowest.0).0 lowest.1 in
+    record {
+      holds = found.1;
+      high = omega (arith, le);
+      first = λ w q low. elim (cases_lt w at) [
+        | inl lt ↦ absurd (below w q low lt)
+        | inr high ↦ elim (cases_lt w (at + t)) [
+          | inr after ↦ after
+          | inl before ↦
+              let i : (i : ℕ) × (at + i ≡ w) × (i < t) = (w - at, omega (arith, high), omega (arith, high, before)) in
+              let one = (are i.0 (omega (arith, i.2, lowest.0))).1
+              (omega (arith, i.2, found.0), rw i.1 q) in
+              let none = lowest.2 i.0 i.2 in
+              absurd (omega (arith, one, none))
+        ]
+      ];
+    }
+
+-- and where none is 1, nobody is common up to the end of the word
+pub none_common : (a b : List ℕ) (from at both v : ℕ) → both ≡ 0 → AreCommon a b at both
+    → ((v : ℕ) → IsInBoth (members_of a) (members_of b) v → from ≤ v → v < at → ⊥)
+    → IsInBoth (members_of a) (members_of b) v → from ≤ v → v < (at / 64 + 1) * 64 → ⊥
+none_common a b from at both v nothing are below q low lt = elim (cases_lt v at) [
+  | inl before ↦ below v q low before
+  | inr after ↦
+      let i : (i : ℕ) × (at + i ≡ v) × (i + at % 64 < 64) = (v - at, omega (arith, after), omega (arith, after, lt)) in
+      let one = (are i.0 (omega (arith, i.2))).1 (i.2, rw i.1 q) in
+      let zero_bit : bit_at both i.0 ≡ 0 = ap (λ n. bit_at n i.0) nothing ∙ bit_at-zero i.0 in
+      omega (arith, one, zero_bit)
+]
+
+-- the words of one set less the bits of another
+abbrev pub less : List ℕ → List ℕ → List ℕ
+less a b = bit_and (get_or a 0 0) (bit_not w64 (get_or b 0 0))
+    ∷ bit_and (get_or a 1 0) (bit_not w64 (get_or b 1 0))
+    ∷ bit_and (get_or a 2 0) (bit_not w64 (get_or b 2 0))
+    ∷ bit_and (get_or a 3 0) (bit_not w64 (get_or b 3 0)) ∷ []
+
+-- each of the four words
+less_word : (a b : List ℕ) (k : ℕ) → k < 4
+    → get_or (less a b) k 0 ≡ bit_and (get_or a k 0) (bit_not w64 (get_or b k 0))
+less_word a b zero lt = refl
+less_word a b (suc zero) lt = refl
+less_word a b (suc (suc zero)) lt = refl
+less_word a b (suc (suc (suc zero))) lt = refl
+less_word a b (suc (suc (suc (suc k)))) lt = absurd (omega arith)
+
+-- has the bits of the one that the other hasn't
+less_bit : (x y i : ℕ) → y < 2 ^ 64 → i < 64
+    → eqb (bit_at (bit_and x (bit_not w64 y)) i) 1 ≡ (eqb (bit_at x i) 1 && not (eqb (bit_at y i) 1))
+less_bit x y i fits low =
+    let both = bit_at_and x (bit_not w64 y) i in
+    let turned = bit_at_not w64 y i fits low in
+    let lt = bit_at-lt x i in
+    let lt' = bit_at-lt y i in
+    grind (arith, nat_tests)
+
+-- so they are the set of the one's members that aren't the other's
+pub members_less : (a b : List ℕ) (v : ℕ) → ((i : ℕ) → get_or b i 0 < 2 ^ 64)
+    → has_vcpu (members_of (less a b)) v ≡ (has_vcpu (members_of a) v && not (has_vcpu (members_of b) v))
+members_less a b v fits = elim (cases_lt v 256) [
+  | inl lt ↦
+      let one = bits_below-at a 256 v false lt in
+      let other = bits_below-at b 256 v false lt in
+      let here = bits_below-at (less a b) 256 v false lt in
+      let word = less_word a b (v / 64) (omega (arith, lt)) in
+      let bit = less_bit (get_or a (v / 64) 0) (get_or b (v / 64) 0) (v % 64) (fits (v / 64)) (omega arith) in
+      here ∙ (ap (λ w. eqb (bit_at w (v % 64)) 1) word ∙ (bit ∙ sym (rw (one, other) refl)))
+  | inr le ↦
+      let past = λ (words : List ℕ). get_or_past (members_of words) v false (omega (arith, le, length-bits_below words 256)) in
+      past (less a b) ∙ sym (rw (past a) refl)
+]

@@ -1,5 +1,6 @@
 pub mod Budgets
 pub mod Edits
+pub mod Least
 pub mod Name
 pub mod Period
 pub mod Timelines

@@ -1,11 +1,16 @@
 -- Sets of vCPUs, as one truth value for each of 256 numbers.
-use Rattle.std.specs.Prelude.{ℕ, zero, suc, ◌/◌, ◌%◌, ◌==◌, Bool, false, List, [], ◌∷◌, ◌++◌, slice_index, slice_index_or}
+use Rattle.std.specs.Prelude.{ℕ, zero, suc, ◌/◌, ◌%◌, ◌==◌, Bool, false, List, [], ◌∷◌, ◌++◌, slice_index, slice_index_or, IsTrue}
 use Rattle.std.specs.Int.{bit_at}
 use Rattle.tab_core.specs.declared.TheConstants.{MAX_VCPUS}
 
 -- the vCPU is a member
 abbrev pub has_vcpu : List Bool → ℕ → Bool
 has_vcpu set vcpu = slice_index_or set vcpu false
+
+-- the vCPU is a member of both sets
+pub record IsInBoth (a b : List Bool) (vcpu : ℕ) : Type 0 where
+  pub one : IsTrue (has_vcpu a vcpu)
+  pub other : IsTrue (has_vcpu b vcpu)
 
 -- bit number `vcpu` of words of 64 bits
 abbrev pub has_bit : List ℕ → ℕ → Bool

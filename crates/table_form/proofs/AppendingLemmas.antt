@@ -2,9 +2,9 @@
 use Rattle.std.proofs.Common.{◌≡◌, ◌≢◌, ℕ, ◌+◌, ◌-◌, ◌<◌, ◌≤◌, List, [], ◌∷◌, ◌++◌, length, map, set, replicate, Option, refl, ap, subst, sym, ◌∙◌, ◌⊎◌, inl, inr, arith, append_assoc, length-append}
 use Rattle.std.proofs.Math.Seq.{set-append_seam}
 use Rattle.std.proofs.lemmas.List.{append-nil, length-map, map-append}
-use Rattle.table_form.specs.Inside.Appending.{EndsWith, put_before}
+use Rattle.table_form.specs.Inside.Appending.{EndsWith}
+use Rattle.table_form.specs.Tables.Segments.{put_before, AreMaximal, BeginsOther, SegmentView, put_front, segment_view}
 use Rattle.table_form.specs.Tables.Rows.{cells_from}
-use Rattle.table_form.specs.Tables.Segments.{AreMaximal, BeginsOther, SegmentView, put_front, segment_view}
 use Rattle.table_form.specs.declared.segment.Segment.{Segment}
 use Rattle.table_form.proofs.SegmentLemmas.{BeginsWith, cells_of, cells_of-cons, cells_of-nil, cells_of_front, front_begins, front_cases, front_differs, front_joins, front_stays, front_twice, maximal_front, same_first, segments_are}
 

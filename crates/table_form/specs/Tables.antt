@@ -4,5 +4,6 @@ pub mod Plans
 pub mod Rows
 pub mod Segments
 pub mod Serves
+pub mod Spans
 pub mod Spots
 pub mod Views

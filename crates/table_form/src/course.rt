@@ -1,7 +1,6 @@
-ghost use Rattle.std.specs.Prelude.{◌≡◌, ◌<◌, ◌≤◌, length};
+ghost use Rattle.std.specs.Prelude.{◌≡◌, ◌<◌, ◌≤◌, length, slice_index_or};
 ghost use Rattle.table_form.specs.Running.CourseViews.{course_view};
-ghost use Rattle.table_form.specs.Running.Courses.{IsCourse, IsCourseForm, plan_after, plan_number_after, runnable_after, tick_at};
-ghost use Rattle.table_form.specs.Running.Outlines.{outline_of};
+ghost use Rattle.table_form.specs.Running.Courses.{IsCourse, IsCourseForm, no_plan, outline_of, plan_after, plan_number_after, runnable_after, tick_at};
 ghost use Rattle.table_form.specs.Tables.Views.{plan_view};
 
 use crate::outline::Outline;
@@ -20,8 +19,7 @@ pub struct Course {
 
 impl Model for Course {
     ghost use Rattle.std.specs.Prelude.{map};
-    ghost use Rattle.table_form.specs.Running.Courses.{CourseView, IsCourse};
-    ghost use Rattle.table_form.specs.Running.Outlines.{with_plans};
+    ghost use Rattle.table_form.specs.Running.Courses.{CourseView, IsCourse, with_plans};
     ghost use Rattle.table_form.specs.Tables.Views.{plan_view};
 
     ghost Value = { CourseView };
@@ -91,14 +89,30 @@ impl Course {
         self.numbers[n as usize]
     }
 
+    /// How many plans there are. What every course keeps holds of it.
+    pub fn plans(&self) -> u32
+        ensures count { result ≡ length self.now.plans }
+        ensures kept { IsCourse self.now }
+    {
+        self.plans.len() as u32
+    }
+
+    /// The plan of a number, which are counted from 0.
+    pub fn plan(&self, number: u32) -> &Plan
+        requires { number < length self.now.plans }
+        ensures plan { plan_view result.now ≡ slice_index_or self.now.plans number no_plan }
+        ensures rows { length result.now.tables.rows ≡ self.now.cores }
+    {
+        &self.plans[number as usize]
+    }
+
     /// The plan after the first `n` events.
     pub fn plan_after(&self, n: u32) -> &Plan
         requires { n ≤ length self.now.ticks }
         ensures plan { plan_view result.now ≡ plan_after self.now n }
         ensures rows { length result.now.tables.rows ≡ self.now.cores }
     {
-        let number = self.numbers[n as usize];
-        &self.plans[number as usize]
+        self.plan(self.plan_number(n))
     }
 
     /// The runnable vCPUs after the first `n` events.

@@ -1,9 +1,9 @@
 ghost use Rattle.std.specs.Prelude.{◌≡◌, ◌+◌, ◌<◌, ◌↔◌, IsTrue, [], ◌∷◌, OnErr, OnOk, Some, drop, length, map, slice_get};
 ghost use Rattle.tab_core.specs.declared.TheConstants.{ROUND};
 ghost use Rattle.table_form.specs.declared.segment.Segment.{Segment};
-ghost use Rattle.table_form.specs.Inside.Appending.{EndsWith, put_before};
+ghost use Rattle.table_form.specs.Inside.Appending.{EndsWith};
 ghost use Rattle.table_form.specs.Tables.Rows.{RisesTo, cells_from};
-ghost use Rattle.table_form.specs.Tables.Segments.{BeginsOther, segment_view, segments_from};
+ghost use Rattle.table_form.specs.Tables.Segments.{BeginsOther, put_before, segment_view, segments_from};
 
 use crate::segment::Segment;
 use std::alloc::AllocError;

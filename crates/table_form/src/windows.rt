@@ -1,4 +1,4 @@
-ghost use Rattle.std.specs.Prelude.{◌≡◌, ℕ, ◌+◌, ◌*◌, ◌<◌, ◌≤◌};
+ghost use Rattle.std.specs.Prelude.{◌≡◌, ◌⊎◌, ℕ, ◌+◌, ◌*◌, ◌<◌, ◌≤◌};
 ghost use Rattle.tab_core.specs.declared.TheConstants.{ROUND};
 
 /// The least tick after `tick` that is `offset` ticks behind a multiple of the period, as the begins
@@ -23,6 +23,7 @@ pub fn last_before(offset: u32, period: u32, tick: u32) -> u32
     requires some { 0 < period }
     requires later { 0 < tick }
     ensures earlier { result < tick }
+    ensures one { (result ≡ 0) ⊎ ((k : ℕ) × (result ≡ k * period + offset)) }
     ensures greatest { (k : ℕ) → result < k * period + offset → tick ≤ k * period + offset }
 {
     if tick <= offset {

@@ -2,8 +2,7 @@
 use Rattle.std.specs.Prelude.{◌≡◌, ℕ, ◌<◌, List, [], ◌∷◌, ◌++◌, Option, Some, length, slice_get}
 use Rattle.tab_core.specs.declared.TheConstants.{MAX_VCPUS, ROUND}
 use Rattle.tab_core.specs.declared.piece.Piece.{Piece}
-use Rattle.table_form.specs.Inside.Appending.{put_before}
-use Rattle.table_form.specs.Tables.Segments.{AreMaximal, SegmentView}
+use Rattle.table_form.specs.Tables.Segments.{put_before, AreMaximal, SegmentView}
 use Rattle.coalesce.specs.Joining.{CanSwap, NoSwap, SwapsTo}
 
 -- the table has the piece of each vCPU that has one here

@@ -97,6 +97,13 @@ NoBegin ps n from tick = (i : ℕ) (d : Piece) → i < n →
     (k : ℕ) → from < k * (slice_index_or ps i d).period + (slice_index_or ps i d).from
     → tick ≤ k * (slice_index_or ps i d).period + (slice_index_or ps i d).from
 
+-- some piece has a window that begins at the tick
+pub record SomeBegin (ps : List Piece) (tick : ℕ) : Type 0 where
+  pub at : ℕ
+  pub in_range : at < length ps
+  pub begins : (d : Piece) → (k : ℕ)
+      × (tick ≡ k * (slice_index_or ps at d).period + (slice_index_or ps at d).from)
+
 -- each tick from the first up to the second goes to the owner, or to nobody
 abbrev pub GoesTo : List Job → ℕ → ℕ → Option ℕ → Type 0
 GoesTo js tick end owner = (x : ℕ) → tick ≤ x → x < end → owner_of (cell js x) ≡ owner

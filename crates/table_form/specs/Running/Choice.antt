@@ -2,30 +2,22 @@
 -- Source: the second level of the Tableau scheduler (M. Vanga, A. Gujarati, B. B. Brandenburg,
 -- EuroSys 2018), which gives a core's unused time to the vCPUs at home there; the round robin by
 -- number, the lag and the quantum are this project's.
-use Rattle.std.specs.Prelude.{◌≡◌, ◌≢◌, ◌⊎◌, ℕ, ◌+◌, ◌-◌, ◌%◌, ◌<◌, ◌≤◌, ◌==◌, Bool, true, false, not, min, List, Option, Some, None, IsTrue, fold, if◌then◌else◌}
+use Rattle.std.specs.Prelude.{◌≡◌, ◌⊎◌, ℕ, ◌+◌, ◌-◌, ◌%◌, ◌<◌, ◌≤◌, ◌==◌, Bool, true, false, not, min, List, Option, Some, None, IsTrue, fold, if◌then◌else◌}
 use Rattle.tab_core.specs.declared.TheConstants.{MAX_VCPUS, ROUND}
 use Rattle.tab_core.specs.declared.stint.Stint.{Stint}
+use Rattle.tab_core.specs.Least.{IsLeast}
 use Rattle.tab_core.specs.VcpuSets.{has_vcpu}
-use Rattle.table_form.specs.Tables.Homes.{IsHome}
 use Rattle.table_form.specs.Tables.Plans.{PlanView}
 use Rattle.table_form.specs.Tables.Serves.{owner_at}
+use Rattle.table_form.specs.Tables.Spans.{IsSharer}
 use Rattle.table_form.specs.Tables.Spots.{IsSpanEnd}
 use Rattle.table_form.specs.Running.Courses.{CourseView, plan_after, runnable_after}
 
--- the vCPU may have the core's unused time at the place: its home is this core, it is runnable, it
--- isn't the slot's owner, and no row of another core has it there
+-- the vCPU may have the core's unused time at the place: it is a sharer there, and runnable
 pub record IsEligible (plan : PlanView) (c place : ℕ) (runnable : List Bool) (v : ℕ) : Type 0 where
   pub number : v < MAX_VCPUS
-  pub home : IsHome plan.homes c v
   pub ready : IsTrue (has_vcpu runnable v)
-  pub no_owner : owner_at plan.rows c place ≢ Some v
-  pub here : (d : ℕ) → d ≢ c → owner_at plan.rows d place ≢ Some v
-
--- the least of those from a number on
-pub record IsLeast (eligible : ℕ → Type 0) (from v : ℕ) : Type 0 where
-  pub holds : eligible v
-  pub high : from ≤ v
-  pub first : (w : ℕ) → eligible w → from ≤ w → v ≤ w
+  pub sharer : IsSharer plan c place v
 
 -- the first number above the last pick
 abbrev pub after_last : Option ℕ → ℕ

@@ -1,8 +1,9 @@
 -- A course: what a script makes of a host. It has the events by their ticks, and after each count
 -- of first events the plan and the set of runnable vCPUs.
 -- Source: the rules of this project.
-use Rattle.std.specs.Prelude.{◌≡◌, ℕ, suc, ◌+◌, ◌*◌, ◌<◌, ◌≤◌, Bool, List, [], length, Some, slice_get, slice_index, slice_index_or}
-use Rattle.tab_core.specs.declared.TheConstants.{MAX_CORES, MAX_EVENTS, MAX_ROUNDS, ROUND}
+use Rattle.std.specs.Prelude.{◌≡◌, ℕ, ◌+◌, ◌*◌, ◌<◌, ◌≤◌, Bool, List, [], length, Some, slice_get, slice_index, slice_index_or}
+use Rattle.tab_core.specs.declared.TheConstants.{MAX_ROUNDS, ROUND}
+use Rattle.table_form.specs.Running.Outlines.{IsOutline, OutlineView, outline_view}
 use Rattle.table_form.specs.Tables.Plans.{PlanView, IsPlan}
 
 -- times are in ticks; `numbers` has for each count of first events the place of its plan in
@@ -36,11 +37,35 @@ plan_after course n = slice_index_or course.plans (plan_number_after course n) n
 abbrev pub runnable_after : CourseView → ℕ → List Bool
 runnable_after course n = slice_index_or course.runnable n []
 
+-- the course without its plans
+abbrev pub outline_of : CourseView → OutlineView
+outline_of course = outline_view course.cores course.lag course.quantum course.ticks course.runnable
+
+-- the course of the outline with these plans, whose numbers by count of first events are these
+abbrev pub with_plans : OutlineView → List PlanView → List ℕ → CourseView
+with_plans o plans numbers = record {
+  cores = o.cores;
+  lag = o.lag;
+  quantum = o.quantum;
+  ticks = o.ticks;
+  plans = plans;
+  numbers = numbers;
+  runnable = o.runnable;
+}
+
+-- after the first n events this is the plan of the course of the outline with these plans
+abbrev pub PlanIs : OutlineView → List PlanView → List ℕ → ℕ → PlanView → Type 0
+PlanIs o plans numbers n plan = plan_after (with_plans o plans numbers) n ≡ plan
+
+-- it holds of each course of the outline whose plan after the first n events is this one
+abbrev pub InEachCourse : OutlineView → ℕ → PlanView → (CourseView → Type 0) → Type 0
+InEachCourse o n plan Holds = (plans : List PlanView) (numbers : List ℕ) → PlanIs o plans numbers n plan
+    → Holds (with_plans o plans numbers)
+
 -- how the parts of a course fit together
 pub record IsCourseForm (course : CourseView) : Type 0 where
-  pub rising : (i : ℕ) → suc i < length course.ticks → tick_at course i ≤ tick_at course (suc i)
+  pub outline : IsOutline (outline_of course)
   pub numbered : length course.numbers ≡ length course.ticks + 1
-  pub runnables : length course.runnable ≡ length course.ticks + 1
   pub planned : (n : ℕ) → n ≤ length course.ticks → plan_number_after course n < length course.plans
   pub all_used : (k : ℕ) → k < length course.plans
       → (n : ℕ) × (n ≤ length course.ticks) × (plan_number_after course n ≡ k)
@@ -49,13 +74,6 @@ pub record IsCourseForm (course : CourseView) : Type 0 where
   pub same_vcpus : (j k : ℕ) (a b : PlanView) → slice_get course.plans j ≡ Some a
       → slice_get course.plans k ≡ Some b →
       length a.tasks ≡ length b.tasks
-  pub some_core : 1 ≤ course.cores
-  pub few_cores : course.cores ≤ MAX_CORES
-  pub some_lag : 1 ≤ course.lag
-  pub small_lag : course.lag ≤ ROUND
-  pub some_quantum : 1 ≤ course.quantum
-  pub small_quantum : course.quantum ≤ ROUND
-  pub few_events : length course.ticks ≤ MAX_EVENTS
 
 -- what each course keeps
 pub record IsCourse (course : CourseView) : Type 0 where

@@ -1,6 +1,6 @@
 -- A core enters a round.
 -- Source: the rules of this project.
-use Rattle.std.specs.Prelude.{◌≡◌, ℕ, ◌*◌, true, false, [], ◌∷◌, ◌++◌, Some, length, slice_get, slice_set}
+use Rattle.std.specs.Prelude.{◌≡◌, ◌⊎◌, ℕ, ◌*◌, true, false, [], ◌∷◌, ◌++◌, Some, length, slice_get, slice_set}
 use Rattle.tab_core.specs.declared.TheConstants.{ROUND}
 use Rattle.tab_core.specs.declared.entry.Entry.{Entry}
 use Rattle.table_form.specs.Running.Phases.{to_decide, phase_of, round_of}
@@ -38,3 +38,7 @@ pub record EntersAfter (rounds c : ℕ) (old new : State) : Type 0 where
     cores = slice_set old.cores c (enters round.core
         (record { round = round_of round.core; used = used; seen = round.seen; won = false }));
   }
+
+-- as the first one or as a later one
+abbrev pub Decides : ℕ → ℕ → State → State → Type 0
+Decides rounds c old new = EntersFirst rounds c old new ⊎ EntersAfter rounds c old new

@@ -1,10 +1,8 @@
--- A course without its plans: the events by their ticks, and after each count of first events the
--- runnable vCPUs.
+-- The outline of a course: the course without its plans. It has the events by their ticks, and after
+-- each count of first events the runnable vCPUs.
 -- Source: the rules of this project.
 use Rattle.std.specs.Prelude.{◌≡◌, ℕ, suc, ◌+◌, ◌<◌, ◌≤◌, Bool, List, length, slice_index}
 use Rattle.tab_core.specs.declared.TheConstants.{MAX_CORES, MAX_EVENTS, ROUND}
-use Rattle.table_form.specs.Running.Courses.{CourseView, plan_after}
-use Rattle.table_form.specs.Tables.Plans.{PlanView}
 
 -- times are in ticks; `runnable` has for each count of first events the set of runnable vCPUs
 pub record OutlineView : Type 0 where
@@ -22,31 +20,6 @@ outline_view cores lag quantum ticks runnable = record {
   ticks = ticks;
   runnable = runnable;
 }
-
--- the course without its plans
-abbrev pub outline_of : CourseView → OutlineView
-outline_of course = outline_view course.cores course.lag course.quantum course.ticks course.runnable
-
--- the course of the outline with these plans, whose numbers by count of first events are these
-abbrev pub with_plans : OutlineView → List PlanView → List ℕ → CourseView
-with_plans o plans numbers = record {
-  cores = o.cores;
-  lag = o.lag;
-  quantum = o.quantum;
-  ticks = o.ticks;
-  plans = plans;
-  numbers = numbers;
-  runnable = o.runnable;
-}
-
--- after the first n events this is the plan of the course of the outline with these plans
-abbrev pub PlanIs : OutlineView → List PlanView → List ℕ → ℕ → PlanView → Type 0
-PlanIs o plans numbers n plan = plan_after (with_plans o plans numbers) n ≡ plan
-
--- it holds of each course of the outline whose plan after the first n events is this one
-abbrev pub InEachCourse : OutlineView → ℕ → PlanView → (CourseView → Type 0) → Type 0
-InEachCourse o n plan Holds = (plans : List PlanView) (numbers : List ℕ) → PlanIs o plans numbers n plan
-    → Holds (with_plans o plans numbers)
 
 -- what each outline keeps
 pub record IsOutline (o : OutlineView) : Type 0 where

@@ -18,6 +18,12 @@ abbrev pub put_front : SegmentView → List SegmentView → List SegmentView
 put_front s [] = s ∷ []
 put_front s (t ∷ ts) = if option_eq nat_eq s.owner t.owner then t ∷ ts else s ∷ t ∷ ts
 
+-- segments in front of others, where the last of them joins the first of those if they have one owner
+abbrev pub put_before : List SegmentView → List SegmentView → List SegmentView
+put_before [] rest = rest
+put_before (t ∷ []) rest = put_front t rest
+put_before (t ∷ u ∷ ts) rest = t ∷ put_before (u ∷ ts) rest
+
 -- the maximal segments of cells, the first of which is at the tick `at`
 unfoldable pub segments_from : ℕ → Row → List SegmentView
 segments_from at [] = []

@@ -1,8 +1,7 @@
 use Rattle.std.proofs.Common.{map, ◌∷◌, [], ap, subst, sym, ◌∙◌}
 use Rattle.tab_core.specs.VcpuSets.{has_vcpu}
-use Rattle.table_form.specs.Tables.Segments.{segment_view}
+use Rattle.table_form.specs.Tables.Segments.{segment_view, put_before}
 use Rattle.coalesce.proofs.Filled.{HasFilled, all_filled, one_filled}
-use Rattle.table_form.specs.Inside.Appending.{put_before}
 use Rattle.coalesce.proofs.filling.fill_all.Goals as goal
 
 pub loop-segment-preserved : goal.loop-segment-preserved

@@ -1,6 +1,6 @@
 use Rattle.std.proofs.Common.{map, sym, subst}
-use Rattle.table_form.specs.Running.Courses.{IsCourse}
-use Rattle.table_form.specs.Running.Outlines.{OutlineView, with_plans}
+use Rattle.table_form.specs.Running.Courses.{IsCourse, with_plans}
+use Rattle.table_form.specs.Running.Outlines.{OutlineView}
 use Rattle.table_form.specs.Tables.Views.{plan_view}
 use Rattle.table_form.proofs.CourseLemmas.{plans_kept}
 use Rattle.table_form.proofs.course.Course.of.Goals as goal

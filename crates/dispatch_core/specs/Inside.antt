@@ -1,0 +1,4 @@
+-- What the code keeps on its way. No reader of a public contract needs these.
+pub mod Adding
+pub mod Logs
+pub mod Making

@@ -1,0 +1,11 @@
+use Rattle.std.proofs.Common.{◌∙◌, ◌≡◌, suc, sym, refl, arith, length, ◌++◌, [], ◌∷◌}
+use Rattle.round_words.specs.Views.{controller, part, posts}
+use Rattle.round_words.proofs.ListLemmas.{length_push}
+use Rattle.round_words.proofs.NumbersLemmas.{agree_same}
+use Rattle.round_words.proofs.numbers.Numbers.note_post.Goals as goal
+
+pub returns : goal.returns
+returns c = λ v floor has next agrees.
+    agree_same c.args.self.now _ v controller (posts (part v controller) floor) agrees has refl
+    (λ e. next ∙ sym (length_push (part v controller).floors floor)) (λ away. absurd (away refl))
+    (λ lt. absurd (omega arith)) (λ k away. refl) (λ lt. absurd (omega arith)) (λ k away. refl) refl refl

@@ -1,0 +1,64 @@
+-- What each kind of step claims of the view before, the number found or stored, and the view after, and
+-- that a step keeps the rule.
+-- Source: the rules of this project.
+use Rattle.std.specs.Prelude.{◌≡◌, ◌≢◌, ℕ, suc, ◌-◌, ◌*◌, ◌+◌, ◌^◌, ◌<◌, ◌≤◌, ◌⊎◌, true, false, List, Option, Some, slice_get, slice_index, slice_set}
+use mathlib.Core.Option.{some}
+use lib.ListN.{get_elem?}
+use Rattle.tab_core.specs.declared.entry.Entry.{Entry}
+use Rattle.tab_core.specs.declared.stint.Stint.{Stint}
+use Rattle.round_words.specs.declared.view.Part.{Part}
+use Rattle.round_words.specs.declared.view.View.{View}
+use Rattle.round_words.specs.Views.{controller, just_started, part, with_part, entry, posts, sees, hears, enters, runs, IsStintAfter}
+use Rattle.round_words.specs.Rule.{decision_word, KeepsRule}
+use Rattle.round_words.specs.Shown.{IsSight, IsHeardClock}
+
+-- `start`, of the lag, the cores and the events
+abbrev pub StartsBoard : ℕ × ℕ × ℕ → View → ℕ → View → Type 0
+StartsBoard x v n w = w ≡ just_started x.0 x.1 x.2
+
+-- the load of `meet`
+abbrev pub ChangesNothing : View → ℕ → View → Type 0
+ChangesNothing v n w = w ≡ v
+
+-- `post`, of the floor
+abbrev pub PostsFloor : ℕ → View → ℕ → View → Type 0
+PostsFloor floor v n w = w ≡ with_part v controller (posts (part v controller) floor)
+
+-- `see`, of the core
+abbrev pub SeesCount : ℕ → View → ℕ → View → Type 0
+SeesCount c v n w = (w ≡ with_part v c (sees (part v c) n)) × IsSight v c n
+
+-- `clock_of`, of the actor and the other core
+abbrev pub HearsClock : ℕ × ℕ → View → ℕ → View → Type 0
+HearsClock x v n w = (w ≡ with_part v x.0 (hears (part v x.0) x.1 n)) × IsHeardClock v x.0 x.1 n
+
+-- what a core expects of the word of round k: 0, or its own entry of four rounds before
+abbrev pub IsExpected : Part → ℕ → ℕ → Type 0
+IsExpected p k old = (k < 4 → old ≡ 0)
+    × ((e : Entry) → 4 ≤ k → slice_get p.entries (k - 4) ≡ Some e → old ≡ decision_word (k - 4) e.used)
+
+-- `decide`, of the core, the round, the seen count and the word expected. The word found was that one, and
+-- the core won; or it was that of the round, with the count u
+abbrev pub EntersRound : ℕ × ℕ × ℕ × ℕ → View → ℕ → View → Type 0
+EntersRound x v n w =
+    ((n ≡ x.3) × (x.2 ≤ v.events)
+    × (w ≡ with_part v x.0 (enters (part v x.0) (entry x.1 x.2 x.2 true))))
+    ⊎ ((u : ℕ) × (n ≢ x.3) × (n ≡ decision_word x.1 u) × (u ≤ v.events)
+    × (w ≡ with_part v x.0 (enters (part v x.0) (entry x.1 u x.2 false))))
+
+-- `advance`, of the core, the end and who ran
+abbrev pub AppendsStint : ℕ × ℕ × Option ℕ → View → ℕ → View → Type 0
+AppendsStint x v n w = (s : Stint) × IsStintAfter (part v x.0) x.1 x.2 s
+    × (w ≡ with_part v x.0 (runs (part v x.0) s))
+
+-- where the view is started, it has a lag
+abbrev pub HasLag : View → Type 0
+HasLag v = v.started ≡ true → 0 < v.lag
+
+-- whatever the board is when the word i becomes f of what it was, the seat has a new view that keeps the
+-- rule, and `claim` holds of the number found and of that view
+abbrev pub StepKeepsRule : ℕ → View → ℕ → (ℕ → ℕ) → (ℕ → View → Type 0) → Type 0
+StepKeepsRule id v i f claim = (words : List ℕ) (views : List View) → KeepsRule words views
+    → get_elem? views id ≡ some v → slice_index words i < 2 ^ 64
+    → (w : View) × KeepsRule (slice_set words i (f (slice_index words i))) (slice_set views id w)
+    × claim (slice_index words i) w

@@ -1,2 +1,0 @@
--- What the code keeps on its way. No reader of a public contract needs these.
-pub mod Picks

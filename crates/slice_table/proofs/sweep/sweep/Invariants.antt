@@ -1,0 +1,18 @@
+use Rattle.std.proofs.Common.{◌-◌, ℕ}
+use Rattle.tab_core.specs.declared.TheConstants.{ROUND}
+use Rattle.table_form.specs.Tables.Views.{plan_view}
+use Rattle.slice_table.specs.Inside.Sweeps.{ArePast, IsPart}
+use Rattle.slice_table.specs.Slices.{AreSpansOf}
+use Rattle.slice_table.proofs.sweep.sweep.Given as goal
+
+-- the spans up to a place, and a part of the next
+abbrev pub invariant-growing : goal.invariant-growing
+invariant-growing l = record {
+  from : ℕ;
+  done : AreSpansOf (plan_view l.plan) l.scope.core 0 l.spans from;
+  part : IsPart (plan_view l.plan) l.scope.core from l.span;
+  past : ArePast l.plan.tables.rows l.span.end l.numbers;
+}
+
+abbrev pub decreases-growing : goal.decreases-growing
+decreases-growing l = ROUND - l.span.end

@@ -1,0 +1,4 @@
+-- What the code keeps on its way. No reader of a public contract needs these.
+pub mod SpanLists
+pub mod Spans
+pub mod Sweeps

@@ -1,0 +1,66 @@
+-- What a sweep over rows knows: which rows matter to a core, how far it has come in each, and what
+-- the place shows up to the next end of a segment.
+use Rattle.std.specs.Prelude.{◌≡◌, ◌≢◌, ◌↔◌, ℕ, ◌<◌, ◌≤◌, IsTrue, List, Some, length, slice_get, slice_index}
+use Rattle.tab_core.specs.declared.TheConstants.{MAX_VCPUS, ROUND}
+use Rattle.tab_core.specs.VcpuSets.{has_vcpu}
+use Rattle.table_form.specs.Tables.Homes.{IsHome}
+use Rattle.table_form.specs.Tables.Plans.{PlanView}
+use Rattle.table_form.specs.Tables.Rows.{Row}
+use Rattle.table_form.specs.Tables.Segments.{SegmentView, segments_from}
+use Rattle.table_form.specs.Tables.Serves.{owner_at}
+use Rattle.table_form.specs.Tables.Spots.{SameSpot}
+use Rattle.slice_table.specs.declared.full_span.FullSpan.{FullSpan}
+use Rattle.slice_table.specs.declared.scope.Scope.{Scope}
+use Rattle.slice_table.specs.Slices.{IsShown}
+
+-- the row's segments before the number end at or before the place
+pub record IsPast (row : Row) (place number : ℕ) : Type 0 where
+  pub within : number ≤ length (segments_from 0 row)
+  pub passed : (j : ℕ) (s : SegmentView) → j < number → slice_get (segments_from 0 row) j ≡ Some s
+      → s.end ≤ place
+
+-- in each row the sweep stands at a number whose segments before it are past
+abbrev pub ArePast : List Row → ℕ → List ℕ → Type 0
+ArePast rows place numbers = (d : ℕ) (row : Row) → slice_get rows d ≡ Some row
+    → IsPast row place (slice_index numbers d)
+
+-- among so many rows these are not the core's, and each that has a vCPU whose home is the core is one
+pub record AreOthers (plan : PlanView) (c count : ℕ) (others : List ℕ) : Type 0 where
+  pub within : (k : ℕ) → k < length others → slice_index others k < count
+  pub other : (k : ℕ) → k < length others → slice_index others k ≢ c
+  pub listed : (d v x : ℕ) → d < count → d ≢ c → IsHome plan.homes c v → owner_at plan.rows d x ≡ Some v
+      → (k : ℕ) × (k < length others) × (slice_index others k ≡ d)
+
+-- the core, the vCPUs at home on it, and the other rows that have some of these
+pub record IsScope (plan : PlanView) (scope : Scope) : Type 0 where
+  pub core : scope.core < length plan.rows
+  pub home : (v : ℕ) → v < MAX_VCPUS → (IsTrue (has_vcpu scope.home v) ↔ IsHome plan.homes scope.core v)
+  pub few : length plan.homes ≤ MAX_VCPUS
+  pub others : AreOthers plan scope.core (length plan.rows) scope.others.items
+
+-- what the core's row and so many of the other rows show: the owner, the vCPUs away, and those at
+-- home who aren't; up to the span's end none of these rows changes its owner
+pub record IsSightOf (plan : PlanView) (scope : Scope) (place count : ℕ) (span : FullSpan) : Type 0 where
+  pub owner : span.owner ≡ owner_at plan.rows scope.core place
+  pub size : length span.away ≡ MAX_VCPUS
+  pub found : (v : ℕ) → v < MAX_VCPUS → IsTrue (has_vcpu span.away v)
+      → IsTrue (has_vcpu scope.home v) × (d : ℕ) × (d ≢ scope.core) × (owner_at plan.rows d place ≡ Some v)
+  pub all : (k v : ℕ) → k < count → v < MAX_VCPUS → IsTrue (has_vcpu scope.home v)
+      → owner_at plan.rows (slice_index scope.others.items k) place ≡ Some v → IsTrue (has_vcpu span.away v)
+  pub rest : (v : ℕ) → v < MAX_VCPUS
+      → (IsTrue (has_vcpu span.sharers v) ↔ (IsTrue (has_vcpu scope.home v) × (IsTrue (has_vcpu span.away v) → ⊥)))
+  pub after : place < span.end
+  pub within : span.end ≤ ROUND
+  pub own : (x : ℕ) → place ≤ x → x < span.end
+      → owner_at plan.rows scope.core place ≡ owner_at plan.rows scope.core x
+  pub steady : (k x : ℕ) → k < count → place ≤ x → x < span.end
+      → owner_at plan.rows (slice_index scope.others.items k) place
+      ≡ owner_at plan.rows (slice_index scope.others.items k) x
+
+-- the span has what the place shows, and the places up to its end are alike
+pub record IsPart (plan : PlanView) (c place : ℕ) (span : FullSpan) : Type 0 where
+  pub shown : IsShown plan c place span
+  pub size : length span.away ≡ MAX_VCPUS
+  pub after : place < span.end
+  pub within : span.end ≤ ROUND
+  pub alike : (x : ℕ) → place ≤ x → x < span.end → SameSpot plan c place x

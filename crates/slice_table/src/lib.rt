@@ -1,0 +1,20 @@
+//! The dispatcher's look-up of a core's span by the tick of the round, in constant time.
+//!
+//! A `SliceTable` is seen as the list of its spans. `specs/Slices.antt` says when they are those of a
+//! core's row in a plan; a look-up takes one division, one reading of a slice's entry and one
+//! comparison, each told to a counter of steps.
+#![tactic(auto)]
+
+mod cursor;
+mod full_span;
+mod scope;
+mod sight;
+mod slice_table;
+mod slices;
+mod span_list;
+mod steps;
+mod sweep;
+
+pub use full_span::FullSpan;
+pub use slice_table::SliceTable;
+pub use steps::Steps;

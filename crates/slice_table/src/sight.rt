@@ -1,0 +1,92 @@
+ghost use Rattle.std.specs.Prelude.{◌≡◌, ◌<◌, ◌≤◌, ◌↔◌, ◌⊎◌, ◌≢◌, ℕ, IsTrue, Some, false, length, min, slice_index};
+ghost use Rattle.tab_core.specs.VcpuSets.{has_vcpu};
+ghost use Rattle.tab_core.specs.declared.TheConstants.{MAX_CORES, MAX_VCPUS, ROUND};
+ghost use Rattle.table_form.specs.Tables.Views.{plan_view};
+ghost use Rattle.slice_table.specs.Inside.Sweeps.{ArePast, IsPart, IsScope};
+
+use crate::cursor::segment_from;
+use crate::full_span::FullSpan;
+use crate::scope::Scope;
+use std::cmp::min;
+use tab_core::{ROUND, VcpuSet};
+use table_form::{Plan, Segment};
+
+/// Places for numbers of segments, one for each row.
+pub(crate) const ROWS: usize = 32;
+
+/// The numbers at which a sweep begins.
+pub(crate) fn first_numbers() -> [usize; ROWS]
+    ensures { (d : ℕ) → slice_index result d ≡ 0 }
+{
+    [0; ROWS]
+}
+
+/// What the place shows, up to the first end of a segment behind it in the rows that matter.
+///
+/// `numbers` has for each row the number of a segment from which the one of the place is sought.
+pub(crate) fn look(plan: &Plan, scope: &Scope, numbers: &mut [usize; ROWS], place: u32) -> FullSpan
+    requires in_round { place < ROUND }
+    requires scope { IsScope (plan_view plan.now) scope.now }
+    requires past { ArePast plan.now.tables.rows place numbers.old }
+    ensures part { IsPart (plan_view plan.now) scope.now.core place result }
+    ensures past { ArePast plan.now.tables.rows place numbers.new }
+{
+    let rows = plan.tables.rows.items();
+    let core = scope.core.index();
+    let (number, segment) = segment_from(&rows[core], numbers[core], place);
+    numbers[core] = number;
+    let mut span = FullSpan {
+        owner: segment.owner,
+        away: nobody(),
+        sharers: scope.home.copy(),
+        end: segment.end,
+    };
+    for at in 0..scope.others.len() {
+        let other = scope.others[at];
+        let (number, segment) = segment_from(&rows[other], numbers[other], place);
+        numbers[other] = number;
+        take_other(&mut span, &scope.home, &segment);
+    }
+    take_owner(&mut span);
+    span
+}
+
+// Takes into account the segment that another row has at the place.
+fn take_other(span: &mut FullSpan, home: &VcpuSet, segment: &Segment)
+    requires { length span.old.away ≡ MAX_VCPUS }
+    ensures end { span.new.end ≡ min span.old.end segment.now.end }
+    ensures owner { span.new.owner ≡ span.old.owner }
+    ensures size { length span.new.away ≡ MAX_VCPUS }
+    ensures away { (v : ℕ) → v < MAX_VCPUS → (IsTrue (has_vcpu span.new.away v)
+        ↔ (IsTrue (has_vcpu span.old.away v) ⊎ (IsTrue (has_vcpu home.now v) × (segment.now.owner ≡ Some v)))) }
+    ensures sharers { (v : ℕ) → v < MAX_VCPUS → (IsTrue (has_vcpu span.new.sharers v)
+        ↔ (IsTrue (has_vcpu span.old.sharers v) × (IsTrue (has_vcpu home.now v) → segment.now.owner ≢ Some v))) }
+{
+    span.end = min(span.end, segment.end);
+    if let Some(vcpu) = segment.owner {
+        if home.has(vcpu) {
+            span.away.put(vcpu);
+            span.sharers.take(vcpu);
+        }
+    }
+}
+
+// Leaves the owner out of those who may share its unused time.
+fn take_owner(span: &mut FullSpan)
+    ensures end { span.new.end ≡ span.old.end }
+    ensures owner { span.new.owner ≡ span.old.owner }
+    ensures away { span.new.away ≡ span.old.away }
+    ensures sharers { (v : ℕ) → v < MAX_VCPUS → (IsTrue (has_vcpu span.new.sharers v)
+        ↔ (IsTrue (has_vcpu span.old.sharers v) × (span.old.owner ≢ Some v))) }
+{
+    if let Some(vcpu) = span.owner {
+        span.sharers.take(vcpu);
+    }
+}
+
+fn nobody() -> VcpuSet
+    ensures size { length result ≡ MAX_VCPUS }
+    ensures none { (v : ℕ) → has_vcpu result v ≡ false }
+{
+    VcpuSet::empty()
+}

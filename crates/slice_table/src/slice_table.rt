@@ -1,0 +1,106 @@
+ghost use Rattle.std.specs.Prelude.{◌≡◌, ◌+◌, ◌<◌, ◌≤◌, ℕ, IfOk, length};
+ghost use Rattle.tab_core.specs.declared.TheConstants.{ROUND};
+ghost use Rattle.table_form.specs.Tables.Plans.{PlanView};
+ghost use Rattle.table_form.specs.Tables.Spans.{IsSpan};
+ghost use Rattle.table_form.specs.Tables.Spots.{HasSpans, IsSpot};
+ghost use Rattle.table_form.specs.Tables.Views.{plan_view};
+ghost use Rattle.slice_table.specs.Inside.Spans.{HoldsTick, ends_of};
+ghost use Rattle.slice_table.specs.Slices.{IsTableOf};
+
+use crate::slices::{shortest, slices_of};
+use crate::span_list::SpanList;
+use crate::steps::Steps;
+use crate::sweep::spans_of;
+use std::alloc::Global;
+use std::marker::Model;
+use std::sync::ledger::Ledger;
+use tab_core::{CoreNo, NoMemory};
+use table_form::{Plan, Span, Spot};
+
+/// A table of a core's spans, in which the one that holds a tick of the round is found at once.
+///
+/// The round is cut into slices of the length of the shortest span, and for each slice the number of
+/// the first span that it meets is kept. Contracts see the list of the spans.
+#[derive(Debug, Drop)]
+pub struct SliceTable {
+    spans: SpanList,
+    slices: Vec<u32>,
+    size: u32,
+}
+
+impl Model for SliceTable {
+    ghost use Rattle.std.specs.Prelude.{List};
+    ghost use Rattle.slice_table.specs.declared.full_span.FullSpan.{FullSpan};
+    ghost use Rattle.slice_table.specs.Inside.Spans.{IsSliced, ends_of};
+
+    ghost Value = { List FullSpan };
+
+    ghost view = { λ table. table.spans };
+
+    ghost invariant = { λ table. IsSliced table.size table.slices.items (ends_of table.spans) };
+}
+
+impl SliceTable {
+    /// The table of the core's spans in the plan.
+    pub fn build(alloc: Global, plan: &Plan, core: CoreNo) -> Result<SliceTable, NoMemory>
+        requires { core < length plan.now.tables.rows }
+        ensures { IfOk result (λ table. IsTableOf (plan_view plan.now) core table) }
+    {
+        let spans = spans_of(alloc, plan, core)?;
+        let size = shortest(&spans);
+        let slices = slices_of(alloc, &spans, size)?;
+        Ok(SliceTable {
+            spans,
+            slices,
+            size,
+        })
+    }
+
+    /// What the place of the core's row shows: `Plan::spot`, in at most three steps.
+    pub fn look_up<L: Ledger>(&self, tick: u32, steps: &mut Steps<L>) -> Spot
+        requires { tick < ROUND }
+        ensures spot { (plan : PlanView) (c : ℕ) → IsTableOf plan c self.now → IsSpot plan c tick result }
+        ensures steps { steps.new ≤ steps.old + 3 }
+    {
+        let number = self.number_at(tick, steps);
+        self.spans.spot(number)
+    }
+
+    /// The same look-up for a dispatcher, which asks who may share and not who is away.
+    pub fn span_at<L: Ledger>(&self, tick: u32, steps: &mut Steps<L>) -> Span<'_>
+        requires { tick < ROUND }
+        ensures after { tick < result.end }
+        ensures within { result.end ≤ ROUND }
+        ensures span { (plan : PlanView) (c : ℕ) → IsTableOf plan c self.now
+            → IsSpan plan c tick result.owner result.sharers.now result.end }
+        ensures steps { steps.new ≤ steps.old + 3 }
+    {
+        let number = self.number_at(tick, steps);
+        self.spans.span(number)
+    }
+
+    /// How many spans there are.
+    pub fn spans(&self) -> u32
+        ensures { (plan : PlanView) (c : ℕ) → IsTableOf plan c self.now → HasSpans plan c ROUND result }
+    {
+        self.spans.len() as u32
+    }
+
+    // The number of the span that holds the tick: the first that the tick's slice meets, or the next.
+    fn number_at<L: Ledger>(&self, tick: u32, steps: &mut Steps<L>) -> usize
+        requires { tick < ROUND }
+        ensures holds { HoldsTick (ends_of self.now) result tick }
+        ensures steps { steps.new ≤ steps.old + 3 }
+    {
+        steps.tell();
+        let slice = (tick / self.size) as usize;
+        steps.tell();
+        let first = self.slices[slice] as usize;
+        steps.tell();
+        if tick < self.spans.end(first) {
+            first
+        } else {
+            first + 1
+        }
+    }
+}

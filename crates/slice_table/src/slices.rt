@@ -1,0 +1,67 @@
+ghost use Rattle.std.specs.Prelude.{◌<◌, ◌≤◌, ◌+◌, IfOk, length, slice_index};
+ghost use Rattle.tab_core.specs.declared.TheConstants.{ROUND};
+ghost use Rattle.slice_table.specs.Inside.Spans.{AreEnds, AreLong, HoldsTick, IsSliced, begin_at, ends_of};
+
+use crate::span_list::SpanList;
+use std::alloc::{AllocError, Global};
+use std::cmp::min;
+use tab_core::ROUND;
+
+/// The ticks of the shortest of the spans.
+pub(crate) fn shortest(spans: &SpanList) -> u32
+    requires { AreEnds 1 (ends_of spans.now) }
+    ensures some { 0 < result }
+    ensures long { AreLong result (ends_of spans.now) }
+{
+    let mut least = ROUND;
+    let mut begin = 0;
+    for number in 0..spans.len() {
+        let end = spans.end(number);
+        least = shorter(least, begin, end);
+        begin = end;
+    }
+    least
+}
+
+// The ticks from the begin to the end, if they are fewer than the least so far.
+fn shorter(least: u32, begin: u32, end: u32) -> u32
+    requires some { 0 < least }
+    requires rises { begin < end }
+    ensures some { 0 < result }
+    ensures least { result ≤ least }
+    ensures span { begin + result ≤ end }
+{
+    min(least, end - begin)
+}
+
+/// For each slice of `size` ticks the number of the span that holds its first tick.
+pub(crate) fn slices_of(alloc: Global, spans: &SpanList, size: u32) -> Result<Vec<u32>, AllocError>
+    requires some { 0 < size }
+    requires ends { AreEnds size (ends_of spans.now) }
+    ensures { IfOk result (λ slices. IsSliced size slices.items (ends_of spans.now)) }
+{
+    let count = (ROUND - 1) / size + 1;
+    let mut slices = Vec::with_capacity(alloc, count as usize)?;
+    let mut number: u32 = 0;
+    for slice in 0..count {
+        number = holder_from(spans, number, slice * size);
+        slices.push(number)?;
+    }
+    Ok(slices)
+}
+
+// The number of the span that holds the tick: the given one or the next.
+fn holder_from(spans: &SpanList, number: u32, tick: u32) -> u32
+    requires ends { AreEnds 1 (ends_of spans.now) }
+    requires there { number < length spans.now }
+    requires begun { begin_at (ends_of spans.now) number ≤ tick }
+    requires in_round { tick < ROUND }
+    requires next { number + 1 < length spans.now → tick < slice_index (ends_of spans.now) (number + 1) }
+    ensures { HoldsTick (ends_of spans.now) result tick }
+{
+    if tick < spans.end(number as usize) {
+        number
+    } else {
+        number + 1
+    }
+}
