@@ -10,13 +10,12 @@ use Rattle.tab_core.specs.declared.actor.Actor.{Actor}
 use Rattle.table_form.specs.Running.Courses.{CourseView, tick_at}
 use Rattle.round_words.specs.declared.view.Part.{Part}
 use Rattle.round_words.specs.declared.view.View.{View}
-use Rattle.round_words.specs.Others.{Others}
+use Rattle.round_words.specs.Changes.{ChangesOnly}
 use Rattle.round_words.specs.Views.{controller, holds, part}
-use Rattle.dispatch_core.specs.Actors.{ActorView, AgreesWith, IsSameActor}
+use Rattle.dispatch_core.specs.States.{AgreesWith, StateView}
 use Rattle.dispatch_core.specs.declared.answer.CoreAnswer.TheVariants.{Ran, Behind, Finished}
 use Rattle.plan_switch.specs.Controllers as controllers
-use Rattle.plan_switch.specs.declared.answer.ControlAnswer.{ControlAnswer}
-use Rattle.plan_switch.specs.declared.answer.ControlAnswer.TheVariants as control
+use Rattle.plan_switch.specs.declared.state.ControlState.{ControlState}
 use Rattle.core_workers.specs.declared.clocks.TheConstants.{OUT}
 use Rattle.core_workers.specs.declared.clocks.Clocks.{Clocks}
 use Rattle.core_workers.specs.declared.turns.Progress.{Progress}
@@ -25,15 +24,15 @@ use Rattle.core_workers.specs.declared.team.Deal.{Deal}
 use Rattle.core_workers.specs.declared.team.Group.{Group}
 use Rattle.core_workers.specs.declared.team.Lead.{Lead}
 use Rattle.core_workers.specs.Groups.{CrewView, actor_of, crew_view}
-use Rattle.core_workers.specs.Crews.{AllAgree, HasFinished, HasPosted, HeldFinished, HoldsAll, IsCrew, IsSameAt, IsSameCrew, SameActors, control_of}
+use Rattle.core_workers.specs.Crews.{AllAgree, HasFinished, HasPosted, HeldFinished, HoldsAll, IsCrew, IsSameAt, IsSameCrew, SameActors}
 use Rattle.core_workers.specs.Inside.Clocks.{AreClocks, IsClockOf, IsLeast, left_of}
-use Rattle.core_workers.specs.Inside.Teams.{GoesOn, IsLead}
-use Rattle.core_workers.specs.Inside.Turns.{CoresTold, IsStuck, LacksNext, LeadStep, LeadWaits, LeastIsStuck, RanTo, RunsOn, Steps, TurnTold, WaitsFor, unless_moved}
+use Rattle.core_workers.specs.Inside.Teams.{GoesOn}
+use Rattle.core_workers.specs.Inside.Turns.{CoresTold, IsStuck, LacksNext, LeadWaits, LeastIsStuck, RanTo, RunsOn, Steps, TurnTold, WaitsFor, unless_moved}
 use Rattle.core_workers.proofs.CrewLemmas.{agrees_others, at_same, crew_same, same_as}
 
 -- a core runs on
 
-pub ran_none : (crew : CrewView) (c clock : ℕ) (a : ActorView) → actor_of crew c ≡ Some a → clock ≡ a.clock → RanTo crew c clock crew
+pub ran_none : (crew : CrewView) (c clock : ℕ) (a : StateView) → actor_of crew c ≡ Some a → clock ≡ a.clock → RanTo crew c clock crew
 ran_none crew c clock a at is = record { rest = λ d ne. refl; after = a; is = at; clock_is = is }
 
 module _ (crew crew' crew'' : CrewView) (v w : View) (c clock : ℕ) where
@@ -41,45 +40,44 @@ module _ (crew crew' crew'' : CrewView) (v w : View) (c clock : ℕ) where
   ran_more s ran step =
       let before : step.before ≡ ran.after = same_as (actor_of crew' c) step.before ran.after step.was ran.is in
       (record { rest = λ d ne. step.rest d ne ∙ ran.rest d ne; after = step.after; is = step.is; clock_is = sym step.step.1 },
-        omega (arith, step.step.0, step.step.1, ran.clock_is, ap (λ (a : ActorView). a.clock) before))
+        omega (arith, step.step.0, step.step.1, ran.clock_is, ap (λ (a : StateView). a.clock) before))
 
   -- a core that waits by the view waits by what the actors keep
   stuck : IsCrew crew' → AllAgree crew' v → HoldsAll crew' v → (who : Actor) (tick : ℕ) → RanTo crew c clock crew' → Steps crew' v c (Behind who tick) crew'' w → IsStuck crew'' clock
   stuck is agree all who tick ran step =
       let before : step.before ≡ ran.after = same_as (actor_of crew' c) step.before ran.after step.was ran.is in
-      let at : step.before.clock ≡ clock = ap (λ (a : ActorView). a.clock) before ∙ sym ran.clock_is in
-      let course : step.before.course ≡ crew'.course = (is.each c step.before step.was).course_is in
+      let at : step.before.clock ≡ clock = ap (λ (a : StateView). a.clock) before ∙ sym ran.clock_is in
       elim step.step.1 [
         | inl lacks ↦ (
             let l = lacks all.control in
-            let posted : length (part v controller).floors ≡ crew''.posted = sym (agree.control all.control).posted ∙ sym step.posted in
-            let one = subst (λ (k : CourseView). LacksNext k (length (part v controller).floors) step.before.clock) (course ∙ sym step.course) l in
-            inl (subst (LacksNext crew''.course crew''.posted) at (subst (λ (n : ℕ). LacksNext crew''.course n step.before.clock) posted one))
+            let posted : length (part v controller).floors ≡ crew''.control.posted = sym (agree.control all.control).posted ∙ ap (λ (k : ControlState). k.posted) (sym step.control) in
+            let one = subst (λ (k : CourseView). LacksNext k (length (part v controller).floors) step.before.clock) (sym step.course) l in
+            inl (subst (LacksNext crew''.course crew''.control.posted) at (subst (λ (n : ℕ). LacksNext crew''.course n step.before.clock) posted one))
             )
         | inr low ↦ (
             let d : ℕ = low.0 in
-            let lt : d < crew'.course.cores = subst (λ (k : CourseView). d < k.cores) course low.1 in
+            let lt : d < crew'.course.cores = low.1 in
             let has : holds v d ≡ true = all.cores d lt in
             let below : (part v d).clock < clock = omega (arith, low.2 has, at) in
             inr (d, subst (λ (k : CourseView). d < k.cores) (sym step.course) lt, λ x h. dite (ℕ_discrete d c)
-            (λ e. let b : step.before.clock ≡ (part v d).clock = (agree.cores c step.before step.was (subst (λ (i : ℕ). holds v i ≡ true) e has)).knows.clock
+            (λ e. let b : step.before.clock ≡ (part v d).clock = (agree.cores c step.before step.was (subst (λ (i : ℕ). holds v i ≡ true) e has)).stands.clock
               ∙ (ap (λ (i : ℕ). (part v i).clock) ((is.each c step.before step.was).core ∙ sym e)) in absurd (omega (arith, below, at, b)))
             (λ ne. let was : actor_of crew' d ≡ Some x = sym (step.rest d ne) ∙ h in
-              let clock_is : x.clock ≡ (part v d).clock = (agree.cores d x was has).knows.clock ∙ ap (λ (i : ℕ). (part v i).clock) (is.each d x was).core in
+              let clock_is : x.clock ≡ (part v d).clock = (agree.cores d x was has).stands.clock ∙ ap (λ (i : ℕ). (part v i).clock) (is.each d x was).core in
               omega (arith, below, clock_is)))
             )
       ]
 
-  pub ran_stuck : (from : ℕ) (u : View) → IsCrew crew' → GoesOn crew u crew' v → (who : Actor) (tick : ℕ) → RanTo crew c clock crew' → crew'.posted ≡ crew.posted → from ≤ clock
+  pub ran_stuck : (from : ℕ) (u : View) → IsCrew crew' → GoesOn crew u crew' v → (who : Actor) (tick : ℕ) → RanTo crew c clock crew' → crew'.control ≡ crew.control → from ≤ clock
       → Steps crew' v c (Behind who tick) crew'' w → RunsOn crew u c from clock crew''
   ran_stuck from u is on who tick ran posted le step =
       let before : step.before ≡ ran.after = same_as (actor_of crew' c) step.before ran.after step.was ran.is in
       record {
-        posted = step.posted ∙ posted;
+        control = step.control ∙ posted;
         rest = λ d ne. step.rest d ne ∙ ran.rest d ne;
         after = step.after;
         is = step.is;
-        ends = inr (ran.clock_is ∙ (sym (ap (λ (a : ActorView). a.clock) before) ∙ sym step.step.0), dite (ℕ_discrete from clock)
+        ends = inr (ran.clock_is ∙ (sym (ap (λ (a : StateView). a.clock) before) ∙ sym step.step.0), dite (ℕ_discrete from clock)
         (λ e. inr (e, λ all. subst (IsStuck crew'') (sym e) (stuck is on.agree (record {
               cores = λ d lt. on.actors.actors d ∙ all.cores d (subst (λ (k : CourseView). d < k.cores) on.same.course lt);
               control = on.actors.actors controller ∙ all.control;
@@ -87,9 +85,9 @@ module _ (crew crew' crew'' : CrewView) (v w : View) (c clock : ℕ) where
         (λ ne. inl (omega (arith, le, ne))));
       }
 
-  pub ran_done : (from : ℕ) (u : View) → IsCrew crew' → RanTo crew c clock crew' → crew'.posted ≡ crew.posted → Steps crew' v c Finished crew'' w → RunsOn crew u c from OUT crew''
+  pub ran_done : (from : ℕ) (u : View) → IsCrew crew' → RanTo crew c clock crew' → crew'.control ≡ crew.control → Steps crew' v c Finished crew'' w → RunsOn crew u c from OUT crew''
   ran_done from u is ran posted step = record {
-    posted = step.posted ∙ posted;
+    control = step.control ∙ posted;
     rest = λ d ne. step.rest d ne ∙ ran.rest d ne;
     after = step.after;
     is = step.is;
@@ -99,10 +97,10 @@ module _ (crew crew' crew'' : CrewView) (v w : View) (c clock : ℕ) where
 -- the clocks after a core ran on
 
 -- a clock of the crew is at most the run's end, and less than OUT
-pub in_run : (crew : CrewView) (v : View) (c : ℕ) (a : ActorView) → IsCrew crew → AllAgree crew v → actor_of crew c ≡ Some a → holds v c ≡ true → (a.clock ≤ crew.rounds * ROUND) × (a.clock < OUT)
+pub in_run : (crew : CrewView) (v : View) (c : ℕ) (a : StateView) → IsCrew crew → AllAgree crew v → actor_of crew c ≡ Some a → holds v c ≡ true → (a.clock ≤ crew.rounds * ROUND) × (a.clock < OUT)
 in_run crew v c a is agree at has =
     let g = agree.cores c a at has in
-    let le : a.clock ≤ crew.rounds * ROUND = omega (arith, g.kept.in_run, g.knows.clock, ap (λ (r : ℕ). r * ROUND) (is.each c a at).rounds_is) in
+    let le : a.clock ≤ crew.rounds * ROUND = omega (arith, g.stands.timely.in_run, g.stands.clock, ap (λ (r : ℕ). r * ROUND) (is.each c a at).rounds_is) in
     (le, omega (arith, le, is.fits.few_rounds))
 
 -- what stays at the other cores
@@ -123,7 +121,7 @@ module _ (crew crew' : CrewView) (v w : View) (clocks : Clocks) (c clock answer 
         (λ e. subst (λ (i : ℕ). IsClockOf crew' w i (slice_index (slice_set clocks.ticks c answer) i)) (sym e) (subst (IsClockOf crew' w c) (sym here) at))
         (λ ne. subst (IsClockOf crew' w d) (sym (there d ne)) (clock_same crew crew' v w d (slice_index clocks.ticks d) (runs.rest d ne) (on.actors.actors d) (clocks_are.cores d (subst (λ (k : CourseView). d < k.cores) on.same.course lt))));
     some = λ p. on.actors.actors controller ∙ clocks_are.some p;
-    over = λ p has'. runs.posted ∙ (clocks_are.over p (sym (on.actors.actors controller) ∙ has') ∙ ap (λ (k : CourseView). length k.ticks) (sym on.same.course));
+    over = λ p has'. ap (λ (k : ControlState). k.posted) runs.control ∙ (clocks_are.over p (sym (on.actors.actors controller) ∙ has') ∙ ap (λ (k : CourseView). length k.ticks) (sym on.same.course));
   }
     where
       here : slice_index (slice_set clocks.ticks c answer) c ≡ answer
@@ -158,26 +156,26 @@ module _ (crew crew' : CrewView) (v w : View) (clocks : Clocks) (c clock answer 
 
 -- the controller's step
 
--- the crew with so many events posted
-abbrev pub posted_to : CrewView → ℕ → CrewView
-posted_to crew n = record crew { posted = n }
+-- the crew with another state of its controller
+abbrev pub with_control : CrewView → ControlState → CrewView
+with_control crew n = record crew { control = n }
 
 -- a controller that doesn't post has posted all, or a core is too low for it
 abbrev pub LeadStands : CrewView → Type 0
 LeadStands crew = HasPosted crew
-    ⊎ ((crew.posted < length crew.course.ticks) × (d : ℕ) × (d < crew.course.cores)
-    × ((a : ActorView) → actor_of crew d ≡ Some a → a.clock + crew.course.lag < tick_at crew.course crew.posted))
+    ⊎ ((crew.control.posted < length crew.course.ticks) × (d : ℕ) × (d < crew.course.cores)
+    × ((a : StateView) → actor_of crew d ≡ Some a → a.clock + crew.course.lag < tick_at crew.course crew.control.posted))
 
-lead_stands : (crew : CrewView) (v : View) → IsCrew crew → AllAgree crew v → HoldsAll crew v → LeadWaits (control_of crew) v → LeadStands crew
+lead_stands : (crew : CrewView) (v : View) → IsCrew crew → AllAgree crew v → HoldsAll crew v → LeadWaits crew.course crew.control.posted v → LeadStands crew
 lead_stands crew v is agree all waits = inr (waits.some, waits.core, waits.within, λ a at.
     let has : holds v waits.core ≡ true = all.cores waits.core waits.within in
-    let clock : a.clock ≡ (part v waits.core).clock = (agree.cores waits.core a at has).knows.clock ∙ ap (λ (i : ℕ). (part v i).clock) (is.each waits.core a at).core in
+    let clock : a.clock ≡ (part v waits.core).clock = (agree.cores waits.core a at has).stands.clock ∙ ap (λ (i : ℕ). (part v i).clock) (is.each waits.core a at).core in
     omega (arith, waits.low has, clock))
 
 module _ (crew : CrewView) (v : View) (clocks : Clocks) where
   -- no core is at a lower clock than the least one that is stuck
   none_below : IsCrew crew → AreClocks crew v clocks → HoldsAll crew v → (clock : ℕ) → clock ≤ crew.rounds * ROUND → ((d : ℕ) → d < crew.course.cores → clock ≤ slice_index clocks.ticks d)
-      → (d : ℕ) → d < crew.course.cores → ((a : ActorView) → actor_of crew d ≡ Some a → a.clock < clock) → ⊥
+      → (d : ℕ) → d < crew.course.cores → ((a : StateView) → actor_of crew d ≡ Some a → a.clock < clock) → ⊥
   none_below is are all clock le least d lt low = elim (are.cores d lt) [
     | inl out ↦ (let x = out.1 (all.cores d lt) in omega (arith, low x.0 x.1, x.2, le, ap (λ (r : ℕ). r * ROUND) (is.each d x.0 x.1).rounds_is))
     | inr at ↦ omega (arith, low at.1 at.2, at.4, least d lt)
@@ -198,7 +196,7 @@ module _ (crew : CrewView) (v : View) (clocks : Clocks) where
   none_low is are all out stands = elim stands [
     | inl posted ↦ posted
     | inr low ↦ elim (are.cores low.1 low.2) [
-      | inl done ↦ (let x = done.1 (all.cores low.1 low.2) in absurd (omega (arith, low.3 x.0 x.1, x.2, is.fits.in_run crew.posted low.0, ap (λ (r : ℕ). r * ROUND) (is.each low.1 x.0 x.1).rounds_is)))
+      | inl done ↦ (let x = done.1 (all.cores low.1 low.2) in absurd (omega (arith, low.3 x.0 x.1, x.2, is.fits.in_run crew.control.posted low.0, ap (λ (r : ℕ). r * ROUND) (is.each low.1 x.0 x.1).rounds_is)))
       | inr at ↦ absurd (omega (arith, at.0, out low.1 low.2))
     ]
   ]
@@ -212,22 +210,22 @@ module _ (crew : CrewView) (v : View) (clocks : Clocks) where
     control = λ has. are.over over has;
   }
 
-module _ (crew : CrewView) (n : ℕ) (v w : View) where
-  pub on_lead : IsCrew crew → AllAgree crew v → Others v w controller → controllers.AgreesWith (control_of (posted_to crew n)) w → GoesOn crew v (posted_to crew n) w
+module _ (crew : CrewView) (n : ControlState) (v w : View) where
+  pub on_lead : IsCrew crew → AllAgree crew v → ChangesOnly v w controller → controllers.AgreesWith crew.course n w → GoesOn crew v (with_control crew n) w
   on_lead is agree others agrees = record {
     same = record { course = refl; rounds = refl; each = λ c. at_same (actor_of crew c) };
     actors = record { started = others.started; lag = others.lag; cores = others.cores; events = others.events; actors = λ a. others.actors a };
     agree = record {
-      cores = λ c a at has. agrees_others a v w controller (agree.cores c a at (sym (others.actors c) ∙ has)) others
-          (λ e. (let x = is.each c a at in omega (arith, e, x.core, x.within, is.course_kept.form.few_cores)));
+      cores = λ c a at has. agrees_others crew.course a v w controller (agree.cores c a at (sym (others.actors c) ∙ has)) others
+          (λ e. (let x = is.each c a at in omega (arith, e, x.core, x.within, is.course_kept.form.outline.few_cores)));
       control = λ has. agrees;
     };
   }
 
-  pub clocks_lead : (clocks : Clocks) (on : Bool) → AreClocks crew v clocks → clocks.posting ≡ true → Others v w controller → (on ≡ false → HasPosted (posted_to crew n)) → AreClocks (posted_to crew n) w (record { ticks = clocks.ticks; posting = on })
+  pub clocks_lead : (clocks : Clocks) (on : Bool) → AreClocks crew v clocks → clocks.posting ≡ true → ChangesOnly v w controller → (on ≡ false → HasPosted (with_control crew n)) → AreClocks (with_control crew n) w (record { ticks = clocks.ticks; posting = on })
   clocks_lead clocks on are was others over = record {
     size = are.size;
-    cores = λ c lt. clock_same crew (posted_to crew n) v w c (slice_index clocks.ticks c) refl (others.actors c) (are.cores c lt);
+    cores = λ c lt. clock_same crew (with_control crew n) v w c (slice_index clocks.ticks c) refl (others.actors c) (are.cores c lt);
     some = λ _. others.actors controller ∙ are.some was;
     over = λ e has. over e;
   }
@@ -241,17 +239,17 @@ going_on crew v clocks c are lt on = elim (are.cores c lt) [
 ]
 
 -- a clock that stays leaves as much to do
-pub left_same : (crew crew' : CrewView) (clocks : Clocks) (c answer : ℕ) → crew'.course ≡ crew.course → crew'.posted ≡ crew.posted → c < length clocks.ticks → answer ≡ slice_index clocks.ticks c
+pub left_same : (crew crew' : CrewView) (clocks : Clocks) (c answer : ℕ) → crew'.course ≡ crew.course → crew'.control ≡ crew.control → c < length clocks.ticks → answer ≡ slice_index clocks.ticks c
     → left_of crew' (record { ticks = slice_set clocks.ticks c answer; posting = clocks.posting }) ≤ left_of crew clocks
-left_same crew crew' clocks c answer course posted inside is =
+left_same crew crew' clocks c answer course control inside is =
     let same : slice_set clocks.ticks c answer ≡ clocks.ticks = ap (slice_set clocks.ticks c) is ∙ set-get_or clocks.ticks c _ in
     let less : sum_by (λ (t : ℕ). OUT - t) (slice_set clocks.ticks c answer) ≡ sum_by (λ (t : ℕ). OUT - t) clocks.ticks = ap (sum_by (λ (t : ℕ). OUT - t)) same in
-    omega (arith, less, posted, ap (λ (k : CourseView). length k.ticks) course)
+    omega (arith, less, ap (λ (k : ControlState). k.posted) control, ap (λ (k : CourseView). length k.ticks) course)
 
 -- the whole turn, of which the cores' part led from crew to crew'
 
 pub lead_view : (lead lead' : Lead) (deal : Deal) (groups : List Group) → lead'.course.now ≡ lead.course.now → lead'.rounds ≡ lead.rounds
-    → posted_to (crew_view lead deal groups) lead'.controller.posted ≡ crew_view lead' deal groups
+    → with_control (crew_view lead deal groups) lead'.control ≡ crew_view lead' deal groups
 lead_view lead lead' deal groups course rounds = cc
 
 pub all_held : (crew crew' : CrewView) (u v : View) → GoesOn crew u crew' v → HoldsAll crew u → HoldsAll crew' v
@@ -271,37 +269,30 @@ module _ (crew crew' : CrewView) (u v : View) (clocks clocks' : Clocks) where
   told_over is on are over Waits told = (told.0, λ all. let held = all_held crew crew' u v on all in nobody crew' v clocks' is are held (inl (are.over over held.control)) (told.1 all))
   told_over is on are over Done told = all_finished crew' v clocks' is are told.1 over
 
-  pub told_posted : (n : ℕ) → (p : Progress) → CoresTold crew clocks u p crew' clocks' → (crew'.posted < length crew'.course.ticks) × (n ≡ suc crew'.posted) → left_of (posted_to crew' n) clocks' < left_of crew clocks
+  pub told_posted : (n : ControlState) → (p : Progress) → CoresTold crew clocks u p crew' clocks' → (crew'.control.posted < length crew'.course.ticks) × (n.posted ≡ suc crew'.control.posted) → left_of (with_control crew' n) clocks' < left_of crew clocks
   told_posted n p told posted = omega (arith, cores_left p told, posted.0, posted.1)
 
-  pub told_done : (n : ℕ) → (p : Progress) → CoresTold crew clocks u p crew' clocks' → n ≡ crew'.posted → clocks'.posting ≡ true
-      → left_of (posted_to crew' n) (record { ticks = clocks'.ticks; posting = false }) < left_of crew clocks
+  pub told_done : (n : ControlState) → (p : Progress) → CoresTold crew clocks u p crew' clocks' → n.posted ≡ crew'.control.posted → clocks'.posting ≡ true
+      → left_of (with_control crew' n) (record { ticks = clocks'.ticks; posting = false }) < left_of crew clocks
   told_done n p told same on = let one : ◌≡◌ {A = ℕ} (if clocks'.posting then 1 else 0) 1 = ap (λ (b : Bool). if b then 1 else 0) on in omega (arith, cores_left p told, same, one)
 
-  pub told_behind : (n : ℕ) (w : View) → IsCrew crew' → GoesOn crew u crew' v → AreClocks crew' v clocks' → LeadWaits (control_of crew') v → n ≡ crew'.posted → (p : Progress) → CoresTold crew clocks u p crew' clocks'
-      → TurnTold crew clocks u (unless_moved p) (posted_to crew' n) clocks' w
+  pub told_behind : (n : ControlState) (w : View) → IsCrew crew' → GoesOn crew u crew' v → AreClocks crew' v clocks' → LeadWaits crew'.course crew'.control.posted v → n.posted ≡ crew'.control.posted → (p : Progress) → CoresTold crew clocks u p crew' clocks'
+      → TurnTold crew clocks u (unless_moved p) (with_control crew' n) clocks' w
   told_behind n w is on are waits same Moved told = omega (arith, told, same)
   told_behind n w is on are waits same Waits told = (omega (arith, told.0, same), λ all. let held = all_held crew crew' u v on all in nobody crew' v clocks' is are held (lead_stands crew' v is on.agree held waits) (told.1 all))
   told_behind n w is on are waits same Done told = (omega (arith, told.0, same), λ all. let held = all_held crew crew' u v on all in
       let posted = none_low crew' v clocks' is are held told.1 (lead_stands crew' v is on.agree held waits) in omega (arith, posted, waits.some))
 
-control_is : (k : controllers.ControllerView) (course : CourseView) → k.course ≡ course → k ≡ record { course = course; posted = k.posted }
-control_is k course same = ap (λ (x : CourseView). record { course = x; posted = k.posted }) same
-
 module _ (lead lead' : Lead) (deal : Deal) (groups : List Group) (u w : View) where
   abbrev pub IsSameLead : Type 0
-  IsSameLead = (lead'.controller.course ≡ lead.controller.course) × (lead'.course.now ≡ lead.course.now) × (lead'.rounds ≡ lead.rounds)
+  IsSameLead = (lead'.course.now ≡ lead.course.now) × (lead'.rounds ≡ lead.rounds)
 
-  pub lead_goes : IsCrew (crew_view lead deal groups) → IsLead lead → AllAgree (crew_view lead deal groups) u → IsSameLead → Others u w controller → controllers.AgreesWith lead'.controller w
+  pub lead_goes : IsCrew (crew_view lead deal groups) → AllAgree (crew_view lead deal groups) u → IsSameLead → ChangesOnly u w controller → controllers.AgreesWith lead'.course.now lead'.control w
       → GoesOn (crew_view lead deal groups) u (crew_view lead' deal groups) w
-  lead_goes is lead_is agree same others agrees = subst (λ (k : CrewView). GoesOn (crew_view lead deal groups) u k w) (lead_view lead lead' deal groups same.1 same.2)
-      (on_lead (crew_view lead deal groups) lead'.controller.posted u w is agree others (subst (λ (k : controllers.ControllerView). controllers.AgreesWith k w) (control_is lead'.controller lead.course.now (same.0 ∙ lead_is)) agrees))
+  lead_goes is agree same changes agrees = subst (λ (k : CrewView). GoesOn (crew_view lead deal groups) u k w) (lead_view lead lead' deal groups same.0 same.1)
+      (on_lead (crew_view lead deal groups) lead'.control u w is agree changes (subst (λ (k : CourseView). controllers.AgreesWith k lead'.control w) same.0 agrees))
 
-  pub lead_clocks : (clocks : Clocks) (on : Bool) → AreClocks (crew_view lead deal groups) u clocks → clocks.posting ≡ true → IsSameLead → Others u w controller
-      → (on ≡ false → lead'.controller.posted ≡ length lead.course.now.ticks) → AreClocks (crew_view lead' deal groups) w (record { ticks = clocks.ticks; posting = on })
-  lead_clocks clocks on are was same others over = subst (λ (k : CrewView). AreClocks k w (record { ticks = clocks.ticks; posting = on })) (lead_view lead lead' deal groups same.1 same.2)
-      (clocks_lead (crew_view lead deal groups) lead'.controller.posted u w clocks on are was others over)
-
-  -- what the controller's step brings, by what the crew shows
-  pub lead_step : (answer : ControlAnswer) → IsLead lead → LeadStep lead.controller u answer lead'.controller → LeadStep (control_of (crew_view lead deal groups)) u answer lead'.controller
-  lead_step answer lead_is step = subst (λ (k : controllers.ControllerView). LeadStep k u answer lead'.controller) (control_is lead.controller lead.course.now lead_is) step
+  pub lead_clocks : (clocks : Clocks) (on : Bool) → AreClocks (crew_view lead deal groups) u clocks → clocks.posting ≡ true → IsSameLead → ChangesOnly u w controller
+      → (on ≡ false → lead'.control.posted ≡ length lead.course.now.ticks) → AreClocks (crew_view lead' deal groups) w (record { ticks = clocks.ticks; posting = on })
+  lead_clocks clocks on are was same changes over = subst (λ (k : CrewView). AreClocks k w (record { ticks = clocks.ticks; posting = on })) (lead_view lead lead' deal groups same.0 same.1)
+      (clocks_lead (crew_view lead deal groups) lead'.control u w clocks on are was changes over)

@@ -3,7 +3,6 @@ ghost use Rattle.tab_core.specs.declared.TheConstants.{MAX_CORES};
 ghost use Rattle.table_form.specs.Running.Courses.{FitsRounds};
 ghost use Rattle.round_words.specs.declared.view.View.{View as ViewValue};
 ghost use Rattle.round_words.specs.Seats.{view_of, IsSeatOf};
-ghost use Rattle.dispatch_core.specs.Actors.{state_view};
 ghost use Rattle.core_workers.specs.Crews.{AllAgree, HeldFinished, HoldsAll, IsFresh, IsSameCrew, SameActors};
 ghost use Rattle.core_workers.specs.Groups.{actor_of};
 ghost use Rattle.core_workers.specs.Inside.Making.{AreGroups, AreMembers};
@@ -11,8 +10,8 @@ ghost use Rattle.core_workers.specs.Inside.Making.{AreGroups, AreMembers};
 use crate::driving::drive_team;
 use crate::gate::Gate;
 use crate::team::{Deal, Group, Lead, Member, Team};
-use dispatch_core::CoreState;
-use plan_switch::Controller;
+use dispatch_core::{CoreSlices, CoreState};
+use plan_switch::ControlState;
 use round_words::{RoundBoard, RoundSeat};
 use std::alloc::Global;
 use std::marker::Model;
@@ -63,7 +62,7 @@ impl<'a> Crew<'a> {
         let groups = make_groups(alloc, course, threads, rounds, keep)?;
         let lead = Lead {
             course,
-            controller: Controller::make(course),
+            control: ControlState::new(),
             rounds,
             steps: 0,
         };
@@ -80,7 +79,7 @@ impl<'a> Crew<'a> {
     /// What the core's actor keeps of its run.
     pub fn actor(&self, core: CoreNo) -> &CoreState
         requires { core < self.now.course.cores }
-        ensures { actor_of self.now core ≡ Some (state_view self.now.course result.now) }
+        ensures { actor_of self.now core ≡ Some result.now }
     {
         let number = core.index();
         let threads = self.team.threads as usize;
@@ -140,8 +139,13 @@ fn make_group(
     let mut members = Vec::new(alloc);
     let mut core = deal.first;
     'making: while core < course.cores() {
-        let state = CoreState::make(alloc, course, CoreNo(core), rounds, keep[core as usize])?;
-        members.push(Member { state, steps: 0 })?;
+        let slices = CoreSlices::make(alloc, course, CoreNo(core))?;
+        let state = CoreState::make(alloc, course.outline(), CoreNo(core), rounds, keep[core as usize])?;
+        members.push(Member {
+            slices,
+            state,
+            steps: 0,
+        })?;
         core += deal.threads;
     }
     Ok(Group { members })

@@ -2,7 +2,7 @@ ghost use Rattle.std.specs.Prelude.{◌≡◌, vec_capacity};
 ghost use Rattle.round_words.specs.Seats.{view_of, IsSeatOf};
 ghost use Rattle.core_workers.specs.Crews.{AllAgree, HeldFinished, HoldsAll};
 ghost use Rattle.core_workers.specs.Groups.{crew_view, team_view};
-ghost use Rattle.core_workers.specs.Inside.Teams.{GoesOn, IsLead, IsManned, IsTeam, IsTeamKept};
+ghost use Rattle.core_workers.specs.Inside.Teams.{GoesOn, IsManned, IsTeam, IsTeamKept};
 
 use crate::clocks::read_clocks;
 use crate::gate::Gate;
@@ -26,12 +26,10 @@ pub(crate) fn drive_groups<G: Gate>(
     gate: &G,
 )
     requires board { IsSeatOf board.now seat.old }
-    requires lead { IsLead lead.old }
     requires team { IsTeam lead.old.course.now lead.old.rounds deal groups.old }
     requires agree { AllAgree (crew_view lead.old deal groups.old) (view_of seat.old) }
     requires manned { IsManned (crew_view lead.old deal groups.old) (view_of seat.old) }
     ensures board { IsSeatOf board.now seat.new }
-    ensures lead { IsLead lead.new }
     ensures team { IsTeam lead.new.course.now lead.new.rounds deal groups.new }
     ensures goes { GoesOn (crew_view lead.old deal groups.old) (view_of seat.old) (crew_view lead.new deal groups.new) (view_of seat.new) }
     ensures finished { HoldsAll (crew_view lead.old deal groups.old) (view_of seat.old)

@@ -1,8 +1,10 @@
 ghost use Rattle.std.specs.Prelude.{◌≡◌, true};
-ghost use Rattle.round_words.specs.Others.{Others};
+ghost use Rattle.table_form.specs.Running.Courses.{IsCourse};
+ghost use Rattle.round_words.specs.Changes.{ChangesOnly};
 ghost use Rattle.round_words.specs.Seats.{view_of, IsSeatOf};
 ghost use Rattle.round_words.specs.Views.{controller as the_controller, holds};
-ghost use Rattle.dispatch_core.specs.Actors.{AgreesWith, IsSameActor, IsStateOf, state_view};
+ghost use Rattle.dispatch_core.specs.Slices.{AreSlicesOf};
+ghost use Rattle.dispatch_core.specs.States.{AgreesWith, IsSameCore};
 ghost use Rattle.plan_switch.specs.Controllers.{AgreesWith as LeadAgrees};
 ghost use Rattle.core_workers.specs.Crews.{AllAgree};
 ghost use Rattle.core_workers.specs.Groups.{crew_view};
@@ -11,8 +13,8 @@ ghost use Rattle.core_workers.specs.Inside.Turns.{CoreStep, LeadStep, Steps};
 
 use crate::gate::Gate;
 use crate::team::{Deal, Group, Lead, Member};
-use dispatch_core::{CoreAnswer, state_step};
-use plan_switch::{ControlAnswer, control_step};
+use dispatch_core::{CoreAnswer, step_state};
+use plan_switch::{ControlAnswer, post_step};
 use round_words::{RoundBoard, RoundSeat};
 use table_form::Course;
 
@@ -61,18 +63,19 @@ fn step_member<G: Gate>(
     gate: &G,
 ) -> CoreAnswer
     requires board { IsSeatOf board.now seat.old }
-    requires state { IsStateOf course.now member.old.state }
-    requires agrees { AgreesWith (state_view course.now member.old.state) (view_of seat.old) }
+    requires course { IsCourse course.now }
+    requires slices { AreSlicesOf course.now member.old.state.core member.old.slices }
+    requires agrees { AgreesWith course.now member.old.state (view_of seat.old) }
     ensures board { IsSeatOf board.now seat.new }
-    ensures state { IsStateOf course.now member.new.state }
-    ensures agrees { AgreesWith (state_view course.now member.new.state) (view_of seat.new) }
-    ensures same { IsSameActor (state_view course.now member.old.state) (state_view course.now member.new.state) }
-    ensures others { Others (view_of seat.old) (view_of seat.new) (state_view course.now member.old.state).core }
-    ensures step { CoreStep (state_view course.now member.old.state) (view_of seat.old) result (state_view course.now member.new.state) }
+    ensures slices { member.new.slices ≡ member.old.slices }
+    ensures agrees { AgreesWith course.now member.new.state (view_of seat.new) }
+    ensures same { IsSameCore member.old.state member.new.state }
+    ensures changes { ChangesOnly (view_of seat.old) (view_of seat.new) member.old.state.core }
+    ensures step { CoreStep course.now member.old.state (view_of seat.old) result member.new.state }
 {
     gate.pass(core, member.steps);
     member.steps = member.steps.saturating_add(1);
-    state_step(board, seat, course, &mut member.state)
+    step_state(board, seat, course, &member.slices, &mut member.state)
 }
 
 // A step of the controller.
@@ -83,15 +86,14 @@ pub(crate) fn step_lead<G: Gate>(
     gate: &G,
 ) -> ControlAnswer
     requires board { IsSeatOf board.now seat.old }
-    requires agrees { LeadAgrees lead.old.controller (view_of seat.old) }
+    requires agrees { LeadAgrees lead.old.course.now lead.old.control (view_of seat.old) }
     ensures board { IsSeatOf board.now seat.new }
-    ensures agrees { LeadAgrees lead.new.controller (view_of seat.new) }
-    ensures same { (lead.new.controller.course ≡ lead.old.controller.course) × (lead.new.course.now ≡ lead.old.course.now)
-        × (lead.new.rounds ≡ lead.old.rounds) }
-    ensures others { Others (view_of seat.old) (view_of seat.new) the_controller }
-    ensures step { LeadStep lead.old.controller (view_of seat.old) result lead.new.controller }
+    ensures agrees { LeadAgrees lead.new.course.now lead.new.control (view_of seat.new) }
+    ensures same { (lead.new.course.now ≡ lead.old.course.now) × (lead.new.rounds ≡ lead.old.rounds) }
+    ensures changes { ChangesOnly (view_of seat.old) (view_of seat.new) the_controller }
+    ensures step { LeadStep lead.old.course.now lead.old.control.posted (view_of seat.old) result lead.new.control.posted }
 {
     gate.pass(CONTROLLER, lead.steps);
     lead.steps = lead.steps.saturating_add(1);
-    control_step(board, seat, &mut lead.controller)
+    post_step(board, seat, lead.course.outline(), &mut lead.control)
 }

@@ -1,11 +1,11 @@
 ghost use Rattle.std.specs.Prelude.{◌≡◌, ◌≤◌, Some, true};
 ghost use Rattle.round_words.specs.Seats.{view_of, IsSeatOf};
 ghost use Rattle.round_words.specs.Views.{holds};
-ghost use Rattle.dispatch_core.specs.Actors.{ActorView};
+ghost use Rattle.dispatch_core.specs.States.{StateView};
 ghost use Rattle.core_workers.specs.Crews.{AllAgree};
 ghost use Rattle.core_workers.specs.Groups.{actor_of, crew_view};
 ghost use Rattle.core_workers.specs.Inside.Clocks.{AreClocks};
-ghost use Rattle.core_workers.specs.Inside.Teams.{GoesOn, IsLead, IsTeam};
+ghost use Rattle.core_workers.specs.Inside.Teams.{GoesOn, IsTeam};
 ghost use Rattle.core_workers.specs.Inside.Turns.{CoresTold, RunsOn, TurnTold, unless_moved};
 
 use crate::clocks::{Clocks, OUT, find_least};
@@ -38,12 +38,10 @@ pub(crate) fn turn<G: Gate>(
     gate: &G,
 ) -> Progress
     requires board { IsSeatOf board.now seat.old }
-    requires lead { IsLead lead.old }
     requires team { IsTeam lead.old.course.now lead.old.rounds deal groups.old }
     requires agree { AllAgree (crew_view lead.old deal groups.old) (view_of seat.old) }
     requires clocks { AreClocks (crew_view lead.old deal groups.old) (view_of seat.old) clocks.old }
     ensures board { IsSeatOf board.now seat.new }
-    ensures lead { IsLead lead.new }
     ensures team { IsTeam lead.new.course.now lead.new.rounds deal groups.new }
     ensures goes { GoesOn (crew_view lead.old deal groups.old) (view_of seat.old) (crew_view lead.new deal groups.new) (view_of seat.new) }
     ensures clocks { AreClocks (crew_view lead.new deal groups.new) (view_of seat.new) clocks.new }
@@ -130,7 +128,7 @@ fn run_core<G: Gate>(
     requires board { IsSeatOf board.now seat.old }
     requires team { IsTeam lead.now.course.now lead.now.rounds deal groups.old }
     requires agree { AllAgree (crew_view lead.now deal groups.old) (view_of seat.old) }
-    requires there { (a : ActorView) × (actor_of (crew_view lead.now deal groups.old) core ≡ Some a) × (from ≡ a.clock) }
+    requires there { (a : StateView) × (actor_of (crew_view lead.now deal groups.old) core ≡ Some a) × (from ≡ a.clock) }
     requires held { holds (view_of seat.old) core ≡ true }
     requires limit { from ≤ limit }
     ensures board { IsSeatOf board.now seat.new }

@@ -2,7 +2,7 @@
 use Rattle.std.specs.Prelude.{◌≡◌, ◌⊎◌, ℕ, ◌+◌, ◌-◌, ◌<◌, ◌≤◌, true, false, Some, if◌then◌else◌, slice_index, length, sum_by}
 use Rattle.round_words.specs.declared.view.View.{View}
 use Rattle.round_words.specs.Views.{controller, holds}
-use Rattle.dispatch_core.specs.Actors.{ActorView}
+use Rattle.dispatch_core.specs.States.{StateView}
 use Rattle.core_workers.specs.declared.clocks.TheConstants.{OUT}
 use Rattle.core_workers.specs.declared.clocks.Clocks.{Clocks}
 use Rattle.core_workers.specs.Groups.{CrewView, actor_of}
@@ -11,8 +11,8 @@ use Rattle.core_workers.specs.Crews.{HasFinished, HasPosted}
 -- the number is OUT where core c isn't held or has finished, otherwise its clock
 abbrev pub IsClockOf : CrewView → View → ℕ → ℕ → Type 0
 IsClockOf crew v c clock =
-    ((clock ≡ OUT) × (holds v c ≡ true → (a : ActorView) × (actor_of crew c ≡ Some a) × HasFinished a))
-    ⊎ ((clock < OUT) × (a : ActorView) × (actor_of crew c ≡ Some a) × (holds v c ≡ true) × (clock ≡ a.clock))
+    ((clock ≡ OUT) × (holds v c ≡ true → (a : StateView) × (actor_of crew c ≡ Some a) × HasFinished a))
+    ⊎ ((clock < OUT) × (a : StateView) × (actor_of crew c ≡ Some a) × (holds v c ≡ true) × (clock ≡ a.clock))
 
 -- each core's number is right, and the controller is to go on until it has posted all
 pub record AreClocks (crew : CrewView) (v : View) (clocks : Clocks) : Type 0 where
@@ -23,7 +23,7 @@ pub record AreClocks (crew : CrewView) (v : View) (clocks : Clocks) : Type 0 whe
 
 -- how much is left to do, at most
 abbrev pub left_of : CrewView → Clocks → ℕ
-left_of crew clocks = sum_by (λ (t : ℕ). OUT - t) clocks.ticks + (length crew.course.ticks - crew.posted)
+left_of crew clocks = sum_by (λ (t : ℕ). OUT - t) clocks.ticks + (length crew.course.ticks - crew.control.posted)
     + (if clocks.posting then 1 else 0)
 
 -- no core of the first n is behind core c

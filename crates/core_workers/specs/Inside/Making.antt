@@ -1,11 +1,11 @@
 -- A crew that is being made.
 use Rattle.std.specs.Prelude.{◌≡◌, ℕ, ◌+◌, ◌*◌, ◌<◌, List, [], Some, length, slice_get}
-use Rattle.table_form.specs.Running.Courses.{CourseView}
+use Rattle.table_form.specs.Running.Courses.{CourseView, outline_of}
 use Rattle.round_words.specs.declared.view.View.{View}
-use Rattle.round_words.specs.Lessons.{Core}
+use Rattle.round_words.specs.Shown.{HoldsCore}
 use Rattle.round_words.specs.Views.{part}
-use Rattle.dispatch_core.specs.Actors.{AgreesWith, state_view}
-use Rattle.dispatch_core.specs.Parts.{IsOfCourse}
+use Rattle.dispatch_core.specs.Parts.{IsNewPart, IsOfOutline}
+use Rattle.dispatch_core.specs.States.{AgreesWith}
 use Rattle.core_workers.specs.declared.team.Deal.{Deal}
 use Rattle.core_workers.specs.declared.team.Group.{Group}
 use Rattle.core_workers.specs.declared.team.Member.{Member}
@@ -14,8 +14,7 @@ use Rattle.core_workers.specs.Inside.Teams.{IsMemberOf}
 -- the member is that of core c, and agrees with each view in which nothing has happened to it
 pub record IsNewMember (course : CourseView) (rounds c : ℕ) (m : Member) : Type 0 where
   pub member : IsMemberOf course rounds c m
-  pub agrees : (v : View) → IsOfCourse course v → Core v c → (part v c).clock ≡ 0 → (part v c).entries ≡ []
-      → (part v c).stints ≡ [] → AgreesWith (state_view course m.state) v
+  pub agrees : (v : View) → IsOfOutline (outline_of course) v → HoldsCore v c → IsNewPart (part v c) → AgreesWith course m.state v
 
 -- the members are those of the thread's cores below `cores`
 pub record AreMembers (course : CourseView) (rounds : ℕ) (deal : Deal) (members : List Member) (cores : ℕ) : Type 0 where

@@ -3,20 +3,22 @@ use Rattle.std.specs.Prelude.{◌≡◌, ℕ, ◌+◌, ◌<◌, ◌≤◌, true,
 use Rattle.table_form.specs.Running.Courses.{CourseView, FitsRounds, IsCourse}
 use Rattle.round_words.specs.declared.view.View.{View}
 use Rattle.round_words.specs.Views.{controller, holds, names}
-use Rattle.dispatch_core.specs.Actors.{ActorView, IsStateOf, state_view}
+use Rattle.dispatch_core.specs.Slices.{AreSlicesOf}
+use Rattle.dispatch_core.specs.States.{StateView}
 use Rattle.core_workers.specs.declared.team.Deal.{Deal}
 use Rattle.core_workers.specs.declared.team.Group.{Group}
 use Rattle.core_workers.specs.declared.team.Lead.{Lead}
 use Rattle.core_workers.specs.declared.team.Member.{Member}
 use Rattle.core_workers.specs.declared.team.Team.{Team}
 use Rattle.core_workers.specs.Crews.{AllAgree, IsSameCrew, IsWhole, SameActors}
-use Rattle.core_workers.specs.Groups.{CrewView, actor_of, crew_of, deal_of, member_of, team_view}
+use Rattle.core_workers.specs.Groups.{CrewView, actor_of, deal_of, member_of, team_view, worker_view}
 
 -- the member is that of core c, in a run of the course
 pub record IsMemberOf (course : CourseView) (rounds c : ℕ) (m : Member) : Type 0 where
-  pub state : IsStateOf course m.state
-  pub core : (state_view course m.state).core ≡ c
-  pub rounds_is : (state_view course m.state).rounds ≡ rounds
+  pub slices : AreSlicesOf course m.state.core m.slices
+  pub core : m.state.core ≡ c
+  pub within : c < course.cores
+  pub rounds_is : m.state.rounds ≡ rounds
 
 -- the groups are those of some threads, of a run that has all events of its course
 pub record IsTeam (course : CourseView) (rounds : ℕ) (deal : Deal) (groups : List Group) : Type 0 where
@@ -26,13 +28,9 @@ pub record IsTeam (course : CourseView) (rounds : ℕ) (deal : Deal) (groups : L
   pub some : 0 < deal.threads
   pub each : (c : ℕ) (m : Member) → member_of deal groups c ≡ Some m → IsMemberOf course rounds c m
 
--- the controller posts the events of the course
-abbrev pub IsLead : Lead → Type 0
-IsLead lead = lead.controller.course ≡ lead.course.now
-
 -- the core is in the crew
 abbrev pub IsPresent : CrewView → ℕ → Type 0
-IsPresent crew c = (a : ActorView) × (actor_of crew c ≡ Some a)
+IsPresent crew c = (a : StateView) × (actor_of crew c ≡ Some a)
 
 -- each core whose part the view holds is in the crew
 abbrev pub IsManned : CrewView → View → Type 0
@@ -50,7 +48,6 @@ HoldsEach crew v = (c : ℕ) → IsPresent crew c → holds v c ≡ true
 
 -- what each team keeps: it has the groups of the first threads, and the controller of the course
 pub record IsTeamKept (team : Team) : Type 0 where
-  pub lead : IsLead team.lead
   pub groups : IsTeam team.lead.course.now team.lead.rounds (deal_of team) team.groups.items
 
 -- what each crew keeps: its team has all cores
@@ -58,12 +55,12 @@ pub record IsWholeTeam (team : Team) : Type 0 where
   pub kept : IsTeamKept team
   pub whole : IsWhole (team_view team)
 
--- the group is that of a thread, whose seat has this view: it holds the parts of the group's cores alone
+-- the group is that of a thread, whose seat has this view: it holds the parts of the group's cores alone.
 pub record IsWorker (course : CourseView) (rounds : ℕ) (deal : Deal) (group : Group) (v : View) : Type 0 where
   pub team : IsTeam course rounds deal (group ∷ [])
-  pub agree : AllAgree (crew_of course rounds 0 deal (group ∷ [])) v
-  pub holds_each : HoldsEach (crew_of course rounds 0 deal (group ∷ [])) v
-  pub manned : IsManned (crew_of course rounds 0 deal (group ∷ [])) v
+  pub agree : AllAgree (worker_view course rounds deal group) v
+  pub holds_each : HoldsEach (worker_view course rounds deal group) v
+  pub manned : IsManned (worker_view course rounds deal group) v
   pub alone : holds v controller ≡ false
 
 -- the view holds the parts of the team's cores alone, and the controller's

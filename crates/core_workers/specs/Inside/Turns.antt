@@ -4,11 +4,10 @@ use Rattle.tab_core.specs.declared.TheConstants.{ROUND}
 use Rattle.table_form.specs.Running.Courses.{CourseView, tick_at}
 use Rattle.round_words.specs.declared.view.View.{View}
 use Rattle.round_words.specs.Views.{controller, holds, part}
-use Rattle.round_words.specs.Others.{Others}
-use Rattle.dispatch_core.specs.Actors.{ActorView, AgreesWith, IsSameActor}
+use Rattle.round_words.specs.Changes.{ChangesOnly}
+use Rattle.dispatch_core.specs.States.{AgreesWith, IsSameCore, StateView}
 use Rattle.dispatch_core.specs.declared.answer.CoreAnswer.{CoreAnswer}
 use Rattle.dispatch_core.specs.declared.answer.CoreAnswer.TheVariants.{Ran, Behind, Finished}
-use Rattle.plan_switch.specs.Controllers.{ControllerView}
 use Rattle.plan_switch.specs.declared.answer.ControlAnswer.{ControlAnswer}
 use Rattle.plan_switch.specs.declared.answer.ControlAnswer.TheVariants as control
 use Rattle.core_workers.specs.declared.clocks.TheConstants.{OUT}
@@ -25,52 +24,55 @@ pub record LacksNext (course : CourseView) (posted clock : ℕ) : Type 0 where
   pub due : tick_at course posted + course.lag ≤ clock
 
 -- the core waits: for the controller, where the view holds that, or for a core of lower clock, where it holds that
-abbrev pub WaitsFor : ActorView → View → Type 0
-WaitsFor a v = (holds v controller ≡ true → LacksNext a.course (length (part v controller).floors) a.clock)
-    ⊎ ((d : ℕ) × (d < a.course.cores) × (holds v d ≡ true → (part v d).clock < a.clock))
+abbrev pub WaitsFor : CourseView → ℕ → View → Type 0
+WaitsFor course clock v = (holds v controller ≡ true → LacksNext course (length (part v controller).floors) clock)
+    ⊎ ((d : ℕ) × (d < course.cores) × (holds v d ≡ true → (part v d).clock < clock))
 
-abbrev pub CoreStep : ActorView → View → CoreAnswer → ActorView → Type 0
-CoreStep a v (Ran s) b = (a.clock < b.clock) × (b.clock ≡ s.end)
-CoreStep a v (Behind who tick) b = (b.clock ≡ a.clock) × WaitsFor a v
-CoreStep a v Finished b = (b.clock ≡ a.clock) × HasFinished a
+-- what a core's step does to its clock, by what it answers
+abbrev pub CoreStep : CourseView → StateView → View → CoreAnswer → StateView → Type 0
+CoreStep course a v (Ran s) b = (a.clock < b.clock) × (b.clock ≡ s.end)
+CoreStep course a v (Behind who tick) b = (b.clock ≡ a.clock) × WaitsFor course a.clock v
+CoreStep course a v Finished b = (b.clock ≡ a.clock) × HasFinished a
 
--- the controller waits for a core whose clock is below the next event's tick less the lag, where the view holds it
-pub record LeadWaits (k : ControllerView) (v : View) : Type 0 where
-  pub some : k.posted < length k.course.ticks
+-- the controller, which has posted n events, waits for a core whose clock is below the next event's tick less the lag,
+-- where the view holds it
+pub record LeadWaits (course : CourseView) (n : ℕ) (v : View) : Type 0 where
+  pub some : n < length course.ticks
   pub core : ℕ
-  pub within : core < k.course.cores
-  pub low : holds v core ≡ true → (part v core).clock + k.course.lag < tick_at k.course k.posted
+  pub within : core < course.cores
+  pub low : holds v core ≡ true → (part v core).clock + course.lag < tick_at course n
 
-abbrev pub LeadStep : ControllerView → View → ControlAnswer → ControllerView → Type 0
-LeadStep k v (control.Posted count) l = (k.posted < length k.course.ticks) × (l.posted ≡ suc k.posted)
-LeadStep k v (control.Behind core tick) l = (l.posted ≡ k.posted) × LeadWaits k v
-LeadStep k v control.Finished l = (l.posted ≡ k.posted) × (k.posted ≡ length k.course.ticks)
+-- how many events are posted after the controller's step, by what it answers
+abbrev pub LeadStep : CourseView → ℕ → View → ControlAnswer → ℕ → Type 0
+LeadStep course n v (control.Posted count) k = (n < length course.ticks) × (k ≡ suc n)
+LeadStep course n v (control.Behind core tick) k = (k ≡ n) × LeadWaits course n v
+LeadStep course n v control.Finished k = (k ≡ n) × (n ≡ length course.ticks)
 
 -- core c of the crew made a step
 pub record Steps (crew : CrewView) (v : View) (c : ℕ) (answer : CoreAnswer) (crew' : CrewView) (w : View) : Type 0 where
   pub course : crew'.course ≡ crew.course
   pub rounds : crew'.rounds ≡ crew.rounds
-  pub posted : crew'.posted ≡ crew.posted
-  pub before : ActorView
+  pub control : crew'.control ≡ crew.control
+  pub before : StateView
   pub was : actor_of crew c ≡ Some before
-  pub after : ActorView
+  pub after : StateView
   pub is : actor_of crew' c ≡ Some after
   pub rest : (d : ℕ) → d ≢ c → actor_of crew' d ≡ actor_of crew d
-  pub same : IsSameActor before after
-  pub others : Others v w c
-  pub agrees : AgreesWith after w
-  pub step : CoreStep before v answer after
+  pub same : IsSameCore before after
+  pub changes : ChangesOnly v w c
+  pub agrees : AgreesWith crew.course after w
+  pub step : CoreStep crew.course before v answer after
 
 -- at this clock a core waits for the controller, or for a core of lower clock
 abbrev pub IsStuck : CrewView → ℕ → Type 0
-IsStuck crew clock = LacksNext crew.course crew.posted clock
-    ⊎ ((d : ℕ) × (d < crew.course.cores) × ((a : ActorView) → actor_of crew d ≡ Some a → a.clock < clock))
+IsStuck crew clock = LacksNext crew.course crew.control.posted clock
+    ⊎ ((d : ℕ) × (d < crew.course.cores) × ((a : StateView) → actor_of crew d ≡ Some a → a.clock < clock))
 
 -- core c ran on from the clock as far as the answer, which is OUT where it has finished. If it didn't move it is stuck
 pub record RunsOn (crew : CrewView) (v : View) (c clock answer : ℕ) (crew' : CrewView) : Type 0 where
-  pub posted : crew'.posted ≡ crew.posted
+  pub control : crew'.control ≡ crew.control
   pub rest : (d : ℕ) → d ≢ c → actor_of crew' d ≡ actor_of crew d
-  pub after : ActorView
+  pub after : StateView
   pub is : actor_of crew' c ≡ Some after
   pub ends : ((answer ≡ OUT) × HasFinished after)
       ⊎ ((answer ≡ after.clock) × ((clock < answer) ⊎ ((clock ≡ answer) × (HoldsAll crew v → IsStuck crew' clock))))
@@ -103,6 +105,6 @@ TurnTold crew clocks v Done crew' clocks' w = HeldFinished crew' w
 -- core c ran, if at all, as far as the clock
 pub record RanTo (crew : CrewView) (c clock : ℕ) (crew' : CrewView) : Type 0 where
   pub rest : (d : ℕ) → d ≢ c → actor_of crew' d ≡ actor_of crew d
-  pub after : ActorView
+  pub after : StateView
   pub is : actor_of crew' c ≡ Some after
   pub clock_is : clock ≡ after.clock

@@ -1,6 +1,5 @@
 use Rattle.std.proofs.Common.{◌≡◌, ◌⊎◌, ◌<◌, ◌≤◌, ◌-◌, ℕ, true}
 use Rattle.std.specs.Prelude.{Some}
-use Rattle.dispatch_core.specs.Actors.{ActorView}
 use Rattle.round_words.specs.Seats.{view_of, IsSeatOf}
 use Rattle.round_words.specs.Views.{holds}
 use Rattle.core_workers.specs.Groups.{actor_of, crew_view}
