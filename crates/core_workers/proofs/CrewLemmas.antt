@@ -21,11 +21,12 @@ use Rattle.core_workers.specs.declared.team.Deal.{Deal}
 use Rattle.core_workers.specs.declared.team.Group.{Group}
 use Rattle.core_workers.specs.declared.team.Lead.{Lead}
 use Rattle.core_workers.specs.declared.team.Member.{Member}
-use Rattle.core_workers.specs.Groups.{CrewView, actor_in, actor_of, crew_of, crew_view, member_of}
+use Rattle.core_workers.specs.declared.team.Team.{Team}
+use Rattle.core_workers.specs.Groups.{CrewView, actor_in, actor_of, crew_of, crew_view, deal_of, member_of, team_view}
 use Rattle.core_workers.specs.Crews.{AllAgree, HoldsAll, IsActorOf, IsCrew, IsSameAt, IsSameCrew, SameActors}
-use Rattle.core_workers.specs.Inside.Teams.{GoesOn, IsManned, IsMemberOf, IsPresent, IsTeam}
+use Rattle.core_workers.specs.Inside.Teams.{GoesOn, IsMemberOf, IsTeam, IsWholeTeam}
 use Rattle.core_workers.specs.Inside.Turns.{CoreStep, Steps}
-use Rattle.core_workers.proofs.GroupLemmas.{changed, changed_here, changed_other}
+use Rattle.core_workers.proofs.GroupLemmas.{changed, changed_here, changed_other, found}
 
 -- the same actor
 
@@ -220,3 +221,20 @@ module _ (lead : Lead) (deal : Deal) (groups : List Group) (c : ℕ) (m n : Memb
     agrees = agrees;
     step = step;
   }
+
+-- where a core of a whole team stands
+pub whole_at : (team : Team) → IsWholeTeam team → (n c : ℕ) → n ≡ c → c < team.lead.course.now.cores
+    → (group : Group) × (slice_get team.groups.items (n % team.threads) ≡ Some group) × (m : Member) × (slice_get group.members.items (n / team.threads) ≡ Some m) × (actor_of (team_view team) c ≡ Some m.state)
+whole_at team is n c same lt =
+    let a = is.whole c lt in
+    let m = member (deal_of team) team.groups.items c a.0 a.1 in
+    let f = found (deal_of team) team.groups.items c m.0 m.1 in
+    let first : c % team.threads - 0 ≡ n % team.threads = sub_none (c % team.threads) ∙ ap (λ (k : ℕ). k % team.threads) (sym same) in
+    (f.group,
+      subst (λ (k : ℕ). slice_get team.groups.items k ≡ Some f.group) first f.group_is,
+      m.0,
+      subst (λ (k : ℕ). slice_get f.group.members.items (k / team.threads) ≡ Some m.0) (sym same) f.member_is,
+      ap actor_in m.1)
+  where
+    sub_none : (n : ℕ) → n - 0 ≡ n
+    sub_none n = omega arith

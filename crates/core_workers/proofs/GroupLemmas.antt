@@ -107,3 +107,8 @@ member_inside deal groups c m h d =
     let f = found deal groups c m h in
     let g : get_or groups (c % deal.threads - deal.first) d ≡ f.group = get_or_from_slice_get groups (c % deal.threads - deal.first) f.group d f.group_is in
     subst (λ (x : Group). c / deal.threads < vec_len x.members) (sym g) (omega (arith, slice_get_within f.group.members.items (c / deal.threads) m f.member_is))
+
+-- a member is found in its group at its place
+pub member_there : (deal : Deal) (groups : List Group) (c : ℕ) (m : Member) (group : Group) → deal.first ≤ c % deal.threads → slice_get groups (c % deal.threads - deal.first) ≡ Some group
+    → slice_get group.members.items (c / deal.threads) ≡ Some m → member_of deal groups c ≡ Some m
+member_there deal groups c m group le is at = member_in deal groups c le ∙ (ap (λ (o : Option Group). slice_get (members_in o) (c / deal.threads)) is ∙ at)

@@ -16,9 +16,13 @@ pub record IsNewMember (course : CourseView) (rounds c : ℕ) (m : Member) : Typ
   pub member : IsMemberOf course rounds c m
   pub agrees : (v : View) → IsOfOutline (outline_of course) v → HoldsCore v c → IsNewPart (part v c) → AgreesWith course m.state v
 
--- the members are those of the thread's cores below `cores`
+-- the members are the first of the thread's cores
+abbrev pub AreNew : CourseView → ℕ → Deal → List Member → Type 0
+AreNew course rounds deal members = (i : ℕ) (m : Member) → slice_get members i ≡ Some m → IsNewMember course rounds (deal.first + i * deal.threads) m
+
+-- and all of those below `cores`
 pub record AreMembers (course : CourseView) (rounds : ℕ) (deal : Deal) (members : List Member) (cores : ℕ) : Type 0 where
-  pub each : (i : ℕ) (m : Member) → slice_get members i ≡ Some m → IsNewMember course rounds (deal.first + i * deal.threads) m
+  pub each : AreNew course rounds deal members
   pub all : (i : ℕ) → deal.first + i * deal.threads < cores → i < length members
 
 -- the groups are those of the first threads
