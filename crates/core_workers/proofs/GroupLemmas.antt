@@ -4,6 +4,7 @@ use Rattle.std.proofs.Math.Nat.{div-add-mod}
 use Rattle.std.specs.Prelude.{slice_get, slice_set, nat_le, if◌then◌else◌, vec_len}
 use Rattle.std.specs.Vec.{with_item}
 use Rattle.std.proofs.lemmas.Bool.{leb-true, le-leb}
+use Rattle.std.proofs.lemmas.Bool.Decides.{leb_tells}
 use Rattle.std.proofs.lemmas.Option.{get_or_from_slice_get, slice_get-get_or, slice_get_within}
 use mathlib.Core.Logic.{dite}
 use native.Mathlib.Decide.{ℕ_discrete}
@@ -112,3 +113,10 @@ member_inside deal groups c m h d =
 pub member_there : (deal : Deal) (groups : List Group) (c : ℕ) (m : Member) (group : Group) → deal.first ≤ c % deal.threads → slice_get groups (c % deal.threads - deal.first) ≡ Some group
     → slice_get group.members.items (c / deal.threads) ≡ Some m → member_of deal groups c ≡ Some m
 member_there deal groups c m group le is at = member_in deal groups c le ∙ (ap (λ (o : Option Group). slice_get (members_in o) (c / deal.threads)) is ∙ at)
+
+-- a core of an earlier thread isn't there
+pub member_not : (deal : Deal) (groups : List Group) (c : ℕ) → c % deal.threads < deal.first → member_of deal groups c ≡ None
+member_not deal groups c lt = elim (leb_tells deal.first (c % deal.threads)) [
+  | inl le ↦ absurd (omega (arith, lt, le.1))
+  | inr gt ↦ then_not (nat_le deal.first (c % deal.threads)) (slice_get (members_in (slice_get groups (c % deal.threads - deal.first))) (c / deal.threads)) gt.0
+]

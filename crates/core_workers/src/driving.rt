@@ -1,8 +1,7 @@
-ghost use Rattle.std.specs.Prelude.{◌≡◌, vec_capacity};
 ghost use Rattle.round_words.specs.Seats.{view_of, IsSeatOf};
 ghost use Rattle.core_workers.specs.Crews.{AllAgree, HeldFinished, HoldsAll};
 ghost use Rattle.core_workers.specs.Groups.{crew_view, team_view};
-ghost use Rattle.core_workers.specs.Inside.Teams.{GoesOn, IsManned, IsTeam, IsTeamKept};
+ghost use Rattle.core_workers.specs.Inside.Teams.{GoesOn, IsManned, IsSameShape, IsTeam, IsTeamKept};
 
 use crate::clocks::read_clocks;
 use crate::gate::Gate;
@@ -64,7 +63,7 @@ pub(crate) fn drive_team<G: Gate>(
     ensures kept { IsTeamKept team.new }
     ensures goes { GoesOn (team_view team.old) (view_of seat.old) (team_view team.new) (view_of seat.new) }
     ensures finished { HoldsAll (team_view team.old) (view_of seat.old) → HeldFinished (team_view team.new) (view_of seat.new) }
-    ensures room { vec_capacity team.new.groups ≡ vec_capacity team.old.groups }
+    ensures shape { IsSameShape team.old team.new }
 {
     let deal = Deal {
         threads: team.threads,

@@ -1,5 +1,5 @@
 -- What a team keeps.
-use Rattle.std.specs.Prelude.{◌≡◌, ℕ, ◌+◌, ◌<◌, ◌≤◌, true, false, List, [], ◌∷◌, Some, is_some, length}
+use Rattle.std.specs.Prelude.{◌≡◌, ℕ, ◌+◌, ◌*◌, ◌<◌, ◌≤◌, true, false, List, [], ◌∷◌, Some, length, vec_capacity}
 use Rattle.table_form.specs.Running.Courses.{CourseView, FitsRounds, IsCourse}
 use Rattle.round_words.specs.declared.view.View.{View}
 use Rattle.round_words.specs.Views.{controller, holds, names}
@@ -63,14 +63,30 @@ pub record IsWorker (course : CourseView) (rounds : ℕ) (deal : Deal) (group : 
   pub manned : IsManned (worker_view course rounds deal group) v
   pub alone : holds v controller ≡ false
 
--- the view holds the parts of the team's cores alone, and the controller's
-pub record IsWorking (team : Team) (v : View) : Type 0 where
-  pub kept : IsTeamKept team
-  pub agree : AllAgree (team_view team) v
-  pub holds_each : HoldsEach (team_view team) v
-  pub manned : IsManned (team_view team) v
+-- the view holds the parts of the crew's cores alone, and the controller's
+pub record IsHeld (crew : CrewView) (v : View) : Type 0 where
+  pub agree : AllAgree crew v
+  pub holds_each : HoldsEach crew v
+  pub manned : IsManned crew v
   pub control : holds v controller ≡ true
 
+-- the team works with the seat of this view
+pub record IsWorking (team : Team) (v : View) : Type 0 where
+  pub kept : IsTeamKept team
+  pub held : IsHeld (team_view team) v
+
 -- the bits of the mask are the group's cores
-abbrev pub Names : Deal → Group → ℕ → Type 0
-Names deal group mask = (c : ℕ) → names mask c ≡ is_some (member_of deal (group ∷ []) c)
+pub record Names (deal : Deal) (group : Group) (mask : ℕ) : Type 0 where
+  pub there : (c : ℕ) → names mask c ≡ true → (m : Member) × (member_of deal (group ∷ []) c ≡ Some m)
+  pub all : (c : ℕ) (m : Member) → member_of deal (group ∷ []) c ≡ Some m → names mask c ≡ true
+
+-- the bits of the mask are the cores of the group's first members
+pub record NamesFirst (deal : Deal) (n mask : ℕ) : Type 0 where
+  pub there : (c : ℕ) → names mask c ≡ true → (i : ℕ) × (i < n) × (c ≡ deal.first + i * deal.threads)
+  pub all : (i : ℕ) → i < n → names mask (deal.first + i * deal.threads) ≡ true
+
+-- as many groups, for as many threads, in as much room
+pub record IsSameShape (team team' : Team) : Type 0 where
+  pub count : length team'.groups.items ≡ length team.groups.items
+  pub threads : team'.threads ≡ team.threads
+  pub room : vec_capacity team'.groups ≡ vec_capacity team.groups
