@@ -166,7 +166,7 @@ module _ (crew crew' : CrewView) (v w : View) (c : ℕ) (answer : CoreAnswer) wh
       cores = λ d b h has. subst (λ (k : CourseView). AgreesWith k b w) (sym s.course) (dite (ℕ_discrete d c)
           (λ e. subst (λ (x : StateView). AgreesWith crew.course x w) (same_as (actor_of crew' c) s.after b s.is (subst (λ (i : ℕ). actor_of crew' i ≡ Some b) e h)) s.agrees)
           (λ ne. let was : actor_of crew d ≡ Some b = sym (s.rest d ne) ∙ h in
-            agrees_others crew.course b v w c (agree.cores d b was (sym (s.changes.actors d) ∙ has)) s.changes (λ e. ne (sym (is.each d b was).core ∙ e))));
+          agrees_others crew.course b v w c (agree.cores d b was (sym (s.changes.actors d) ∙ has)) s.changes (λ e. ne (sym (is.each d b was).core ∙ e))));
       control = λ has. subst (λ (k : CourseView). controllers.AgreesWith k crew'.control w) (sym s.course) (subst (λ (k : ControlState). controllers.AgreesWith crew.course k w) (sym s.control)
           (lead_others crew.course crew.control v w c (agree.control (sym (s.changes.actors controller) ∙ has)) s.changes (λ e. omega (arith, e, small_core crew c s.before is s.was))));
     };
@@ -179,9 +179,9 @@ module _ (crew crew' : CrewView) (v w : View) (c : ℕ) (answer : CoreAnswer) wh
       there d ne = subst (IsSameAt (actor_of crew d)) (sym (s.rest d ne)) (at_same (actor_of crew d))
 
 -- one member of a team has made a step
-module _ (lead : Lead) (deal : Deal) (groups : List Group) (c : ℕ) (m n : Member) (old : Group) where
-  pub team_changed : IsTeam lead.course.now lead.rounds deal groups → member_of deal groups c ≡ Some m → slice_get groups (c % deal.threads - deal.first) ≡ Some old
-      → IsSameCore m.state n.state → n.slices ≡ m.slices → IsTeam lead.course.now lead.rounds deal (changed deal groups c m n old)
+module _ (course : CourseView) (lead : Lead) (deal : Deal) (groups : List Group) (c : ℕ) (m n : Member) (old : Group) where
+  pub team_changed : IsTeam course lead.rounds deal groups → member_of deal groups c ≡ Some m → slice_get groups (c % deal.threads - deal.first) ≡ Some old
+      → IsSameCore m.state n.state → n.slices ≡ m.slices → IsTeam course lead.rounds deal (changed deal groups c m n old)
   team_changed team h is same slices = record {
     course_kept = team.course_kept;
     fits = team.fits;
@@ -189,24 +189,24 @@ module _ (lead : Lead) (deal : Deal) (groups : List Group) (c : ℕ) (m n : Memb
     some = team.some;
     each = λ d x at. dite (ℕ_discrete d c)
         (λ e. let one : n ≡ x = same_member (member_of deal (changed deal groups c m n old) c) n x (changed_here deal groups c m n old h is) (subst (λ (i : ℕ). member_of deal (changed deal groups c m n old) i ≡ Some x) e at) in
-          subst (λ (i : ℕ). IsMemberOf lead.course.now lead.rounds i x) (sym e) (subst (IsMemberOf lead.course.now lead.rounds c) one new))
+        subst (λ (i : ℕ). IsMemberOf course lead.rounds i x) (sym e) (subst (IsMemberOf course lead.rounds c) one new))
         (λ ne. team.each d x (sym (changed_other deal groups c m n old h is d ne) ∙ at));
   }
     where
       same_member : (o : Option Member) (x y : Member) → o ≡ Some x → o ≡ Some y → x ≡ y
       same_member o x y h k = cc
 
-      new : IsMemberOf lead.course.now lead.rounds c n
+      new : IsMemberOf course lead.rounds c n
       new = let was = team.each c m h in record {
-        slices = subst (λ (i : ℕ). AreSlicesOf lead.course.now i n.slices) (sym same.core) (subst (AreSlicesOf lead.course.now m.state.core) (sym slices) was.slices);
+        slices = subst (λ (i : ℕ). AreSlicesOf course i n.slices) (sym same.core) (subst (AreSlicesOf course m.state.core) (sym slices) was.slices);
         core = same.core ∙ was.core;
         within = was.within;
         rounds_is = same.rounds ∙ was.rounds_is;
       }
 
   pub steps_changed : (v w : View) (answer : CoreAnswer) → member_of deal groups c ≡ Some m → slice_get groups (c % deal.threads - deal.first) ≡ Some old
-      → IsSameCore m.state n.state → ChangesOnly v w c → AgreesWith lead.course.now n.state w → CoreStep lead.course.now m.state v answer n.state
-      → Steps (crew_view lead deal groups) v c answer (crew_view lead deal (changed deal groups c m n old)) w
+      → IsSameCore m.state n.state → ChangesOnly v w c → AgreesWith course n.state w → CoreStep course m.state v answer n.state
+      → Steps (crew_view course lead deal groups) v c answer (crew_view course lead deal (changed deal groups c m n old)) w
   steps_changed v w answer h is same changes agrees step = record {
     course = refl;
     rounds = refl;
@@ -223,18 +223,19 @@ module _ (lead : Lead) (deal : Deal) (groups : List Group) (c : ℕ) (m n : Memb
   }
 
 -- where a core of a whole team stands
-pub whole_at : (team : Team) → IsWholeTeam team → (n c : ℕ) → n ≡ c → c < team.lead.course.now.cores
-    → (group : Group) × (slice_get team.groups.items (n % team.threads) ≡ Some group) × (m : Member) × (slice_get group.members.items (n / team.threads) ≡ Some m) × (actor_of (team_view team) c ≡ Some m.state)
-whole_at team is n c same lt =
+pub whole_at : (course : CourseView) (team : Team) → IsWholeTeam course team → (n c : ℕ) → n ≡ c → c < course.cores
+    → (group : Group) × (slice_get team.groups.items (n % team.threads) ≡ Some group) × (m : Member) × (slice_get group.members.items (n / team.threads) ≡ Some m) × (actor_of (team_view course team) c ≡ Some m.state)
+whole_at course team is n c same lt =
     let a = is.whole c lt in
     let m = member (deal_of team) team.groups.items c a.0 a.1 in
     let f = found (deal_of team) team.groups.items c m.0 m.1 in
-    let first : c % team.threads - 0 ≡ n % team.threads = sub_none (c % team.threads) ∙ ap (λ (k : ℕ). k % team.threads) (sym same) in
-    (f.group,
+    let first : c % team.threads - 0 ≡ n % team.threads = sub_none (c % team.threads) ∙ ap (λ (k : ℕ). k % team.threads) (sym same) in (
+      f.group,
       subst (λ (k : ℕ). slice_get team.groups.items k ≡ Some f.group) first f.group_is,
       m.0,
       subst (λ (k : ℕ). slice_get f.group.members.items (k / team.threads) ≡ Some m.0) (sym same) f.member_is,
-      ap actor_in m.1)
+      ap actor_in m.1,
+    )
   where
     sub_none : (n : ℕ) → n - 0 ≡ n
     sub_none n = omega arith

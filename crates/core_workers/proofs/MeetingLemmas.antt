@@ -228,7 +228,7 @@ module _ (k k' : CourseView) (r r' : ℕ) (control control' : ControlState) (thr
     rounds = rest.rounds;
     each = λ c. dite (ℕ_discrete (c % threads) (length groups))
         (λ e. two (in_last threads groups group c e).0
-          (subst (λ (n : ℕ). member_of (first_of threads groups group) (groups' ++ group' ∷ []) c ≡ member_of (record { threads = threads; first = n }) (group' ∷ []) c) count (in_last threads groups' group' c (e ∙ sym count)).0) (one.each c))
+        (subst (λ (n : ℕ). member_of (first_of threads groups group) (groups' ++ group' ∷ []) c ≡ member_of (record { threads = threads; first = n }) (group' ∷ []) c) count (in_last threads groups' group' c (e ∙ sym count)).0) (one.each c))
         (λ ne. two (in_first threads groups group c ne).0 (in_first threads groups' group' c (λ e. ne (e ∙ count))).0 (rest.each c));
   }
     where
@@ -274,14 +274,16 @@ worker_on course c' rounds r' k k' deal group gs v w worker team one on =
     let on3 : GoesOn (crew_of course rounds k deal (group ∷ [])) v (crew_of course rounds k' deal (g ∷ [])) w = subst (λ (r : ℕ). GoesOn (crew_of course rounds k deal (group ∷ [])) v (crew_of course r k' deal (g ∷ [])) w) on.same.rounds on2 in
     let alone : holds w controller ≡ false = on.actors.actors controller ∙ worker.alone in
     let agree : AllAgree (worker_view course rounds deal g) w = record { cores = on3.agree.cores; control = λ has. absurd (true≢false (sym has ∙ alone)) } in
-    let on4 : GoesOn (worker_view course rounds deal group) v (worker_view course rounds deal g) w = record { same = record { course = refl; rounds = refl; each = on3.same.each }; actors = on3.actors; agree = agree } in
-    (record {
-      team = subst (λ (hs : List Group). IsTeam course rounds deal hs) (one_list gs group one) (subst (λ (r : ℕ). IsTeam course r deal gs) on.same.rounds (subst (λ (c : CourseView). IsTeam c r' deal gs) on.same.course team));
-      agree = agree;
-      holds_each = holds_on (worker_view course rounds deal group) (worker_view course rounds deal g) v w on4 worker.holds_each;
-      manned = manned_on (worker_view course rounds deal group) (worker_view course rounds deal g) v w on4 worker.manned;
-      alone = alone;
-    }, on4)
+    let on4 : GoesOn (worker_view course rounds deal group) v (worker_view course rounds deal g) w = record { same = record { course = refl; rounds = refl; each = on3.same.each }; actors = on3.actors; agree = agree } in (
+      record {
+        team = subst (λ (hs : List Group). IsTeam course rounds deal hs) (one_list gs group one) (subst (λ (r : ℕ). IsTeam course r deal gs) on.same.rounds (subst (λ (c : CourseView). IsTeam c r' deal gs) on.same.course team));
+        agree = agree;
+        holds_each = holds_on (worker_view course rounds deal group) (worker_view course rounds deal g) v w on4 worker.holds_each;
+        manned = manned_on (worker_view course rounds deal group) (worker_view course rounds deal g) v w on4 worker.manned;
+        alone = alone;
+      },
+      on4,
+    )
 
 -- all that comes of it
 
@@ -297,16 +299,19 @@ module _ (k k' : CourseView) (r r' : ℕ) (control control' : ControlState) (thr
       → length groups' ≡ length groups → Met threads
   met_same named team is is' joined team' held on worker on1 count =
       let one : IsWorker k' r' (last_of threads groups' group') group' y = subst (λ (n : ℕ). IsWorker k' r' (record { threads = threads; first = n }) group' y) (sym count)
-        (subst (λ (q : ℕ). IsWorker k' q (last_of threads groups group) group' y) (sym on.same.rounds) (subst (λ (q : CourseView). IsWorker q r (last_of threads groups group) group' y) (sym on.same.course) worker)) in
+      (subst (λ (q : ℕ). IsWorker k' q (last_of threads groups group) group' y) (sym on.same.rounds) (subst (λ (q : CourseView). IsWorker q r (last_of threads groups group) group' y) (sym on.same.course) worker)) in
       let whole : IsTeam k' r' (first_of threads groups' group') (groups' ++ group' ∷ []) = team_whole k' r' threads control' groups' group' (omega (arith, team.few, length_push groups group, count)) team' one.team in
       let off : (c : ℕ) (m : Member) → member_of (last_of threads groups' group') (group' ∷ []) c ≡ Some m → holds x c ≡ false = λ c m at.
-        rest_off k r (last_of threads groups group) group group' mask v left own x y named is on.actors on1 c m (subst (λ (n : ℕ). member_of (record { threads = threads; first = n }) (group' ∷ []) c ≡ Some m) count at) in
-      let held' = held_whole k' r' threads control' groups' group' x y w whole held one (board_met mask v left own x y is is' on.actors on1.actors) off joined in
-      (whole, held', record {
+      rest_off k r (last_of threads groups group) group group' mask v left own x y named is on.actors on1 c m (subst (λ (n : ℕ). member_of (record { threads = threads; first = n }) (group' ∷ []) c ≡ Some m) count at) in
+      let held' = held_whole k' r' threads control' groups' group' x y w whole held one (board_met mask v left own x y is is' on.actors on1.actors) off joined in (
+        whole,
+        held',
+        record {
           same = same_met k k' r r' control control' threads groups groups' group group' count on.same on1.same;
           actors = actors_met mask v left own x y w is is' on.actors on1.actors joined;
           agree = held'.agree;
-        })
+        },
+      )
 
   pub met : (threads' : ℕ) → threads' ≡ threads → Names (last_of threads groups group) group mask → IsTeam k r (first_of threads groups group) (groups ++ group ∷ []) → left ≡ without mask v → own ≡ only mask v → w ≡ both x y
       → IsTeam k' r' (record { threads = threads'; first = 0 }) groups' → IsHeld (crew_of k' r' control' (record { threads = threads'; first = 0 }) groups') x
@@ -315,7 +320,7 @@ module _ (k k' : CourseView) (r r' : ℕ) (control control' : ControlState) (thr
       → length groups' ≡ length groups → Met threads'
   met threads' same named team is is' joined team' held on worker on1 count =
       subst Met (sym same) (met_same named team is is' joined
-        (subst (λ (t : ℕ). IsTeam k' r' (record { threads = t; first = 0 }) groups') same team')
-        (subst (λ (t : ℕ). IsHeld (crew_of k' r' control' (record { threads = t; first = 0 }) groups') x) same held)
-        (subst (λ (t : ℕ). GoesOn (crew_of k r control (first_of threads groups group) groups) left (crew_of k' r' control' (record { threads = t; first = 0 }) groups') x) same on)
-        worker on1 count)
+      (subst (λ (t : ℕ). IsTeam k' r' (record { threads = t; first = 0 }) groups') same team')
+      (subst (λ (t : ℕ). IsHeld (crew_of k' r' control' (record { threads = t; first = 0 }) groups') x) same held)
+      (subst (λ (t : ℕ). GoesOn (crew_of k r control (first_of threads groups group) groups) left (crew_of k' r' control' (record { threads = t; first = 0 }) groups') x) same on)
+      worker on1 count)

@@ -97,26 +97,26 @@ module _ (threads : ℕ) (groups : List Group) (group : Group) where
       let at : c % threads - 0 ≡ length groups = omega (arith, e) in
       let here : c % threads - length groups ≡ 0 = omega (arith, e) in (
         member_in first_of (groups ++ group ∷ []) c (omega arith)
-        ∙ (ap (λ (k : ℕ). slice_get (members_in (slice_get (groups ++ group ∷ []) k)) (c / threads)) at
-        ∙ (ap (λ (o : Option Group). slice_get (members_in o) (c / threads)) (push_new groups group)
-        ∙ sym (member_in last_of (group ∷ []) c (omega (arith, e)) ∙ ap (λ (k : ℕ). slice_get (members_in (slice_get (group ∷ []) k)) (c / threads)) here))),
+            ∙ (ap (λ (k : ℕ). slice_get (members_in (slice_get (groups ++ group ∷ []) k)) (c / threads)) at
+            ∙ (ap (λ (o : Option Group). slice_get (members_in o) (c / threads)) (push_new groups group)
+            ∙ sym (member_in last_of (group ∷ []) c (omega (arith, e)) ∙ ap (λ (k : ℕ). slice_get (members_in (slice_get (group ∷ []) k)) (c / threads)) here))),
         member_in first_of groups c (omega arith) ∙ none_in (slice_get groups (c % threads - 0)) (c / threads) (slice_get_past groups (c % threads - 0) (omega (arith, at))),
       )
 
   pub in_first : (c : ℕ) → c % threads ≢ length groups → (member_of first_of (groups ++ group ∷ []) c ≡ member_of first_of groups c) × (member_of last_of (group ∷ []) c ≡ None)
   in_first c ne = elim (leb_tells (length groups) (c % threads)) [
     | inl past ↦ (let more : length groups < c % threads = omega (arith, past.1, ne) in (
-        member_in first_of (groups ++ group ∷ []) c (omega arith)
-        ∙ (none_in (slice_get (groups ++ group ∷ []) (c % threads - 0)) (c / threads) (slice_get_past (groups ++ group ∷ []) (c % threads - 0) (omega (arith, more, length_push groups group)))
-        ∙ sym (member_in first_of groups c (omega arith) ∙ none_in (slice_get groups (c % threads - 0)) (c / threads) (slice_get_past groups (c % threads - 0) (omega (arith, more))))),
-        member_in last_of (group ∷ []) c (omega (arith, more)) ∙ none_in (slice_get (group ∷ []) (c % threads - length groups)) (c / threads) (past_one (c % threads - length groups) (omega (arith, more))),
-      ))
+      member_in first_of (groups ++ group ∷ []) c (omega arith)
+          ∙ (none_in (slice_get (groups ++ group ∷ []) (c % threads - 0)) (c / threads) (slice_get_past (groups ++ group ∷ []) (c % threads - 0) (omega (arith, more, length_push groups group)))
+          ∙ sym (member_in first_of groups c (omega arith) ∙ none_in (slice_get groups (c % threads - 0)) (c / threads) (slice_get_past groups (c % threads - 0) (omega (arith, more))))),
+      member_in last_of (group ∷ []) c (omega (arith, more)) ∙ none_in (slice_get (group ∷ []) (c % threads - length groups)) (c / threads) (past_one (c % threads - length groups) (omega (arith, more))),
+    ))
     | inr before ↦ (let g = element groups (c % threads - 0) (omega (arith, before.1)) in (
-        member_in first_of (groups ++ group ∷ []) c (omega arith)
-        ∙ (ap (λ (o : Option Group). slice_get (members_in o) (c / threads)) (push_old groups (c % threads - 0) group g.0 g.1 ∙ sym g.1)
-        ∙ sym (member_in first_of groups c (omega arith))),
-        member_not last_of (group ∷ []) c (omega (arith, before.1)),
-      ))
+      member_in first_of (groups ++ group ∷ []) c (omega arith)
+          ∙ (ap (λ (o : Option Group). slice_get (members_in o) (c / threads)) (push_old groups (c % threads - 0) group g.0 g.1 ∙ sym g.1)
+          ∙ sym (member_in first_of groups c (omega arith))),
+      member_not last_of (group ∷ []) c (omega (arith, before.1)),
+    ))
   ]
     where
       past_one : (k : ℕ) → 0 < k → slice_get (group ∷ []) k ≡ None

@@ -38,9 +38,10 @@ ran_none crew c clock a at is = record { rest = λ d ne. refl; after = a; is = a
 module _ (crew crew' crew'' : CrewView) (v w : View) (c clock : ℕ) where
   pub ran_more : (s : Stint) → RanTo crew c clock crew' → Steps crew' v c (Ran s) crew'' w → RanTo crew c s.end crew'' × (clock < s.end)
   ran_more s ran step =
-      let before : step.before ≡ ran.after = same_as (actor_of crew' c) step.before ran.after step.was ran.is in
-      (record { rest = λ d ne. step.rest d ne ∙ ran.rest d ne; after = step.after; is = step.is; clock_is = sym step.step.1 },
-        omega (arith, step.step.0, step.step.1, ran.clock_is, ap (λ (a : StateView). a.clock) before))
+      let before : step.before ≡ ran.after = same_as (actor_of crew' c) step.before ran.after step.was ran.is in (
+        record { rest = λ d ne. step.rest d ne ∙ ran.rest d ne; after = step.after; is = step.is; clock_is = sym step.step.1 },
+        omega (arith, step.step.0, step.step.1, ran.clock_is, ap (λ (a : StateView). a.clock) before),
+      )
 
   -- a core that waits by the view waits by what the actors keep
   stuck : IsCrew crew' → AllAgree crew' v → HoldsAll crew' v → (who : Actor) (tick : ℕ) → RanTo crew c clock crew' → Steps crew' v c (Behind who tick) crew'' w → IsStuck crew'' clock
@@ -59,12 +60,16 @@ module _ (crew crew' crew'' : CrewView) (v w : View) (c clock : ℕ) where
             let lt : d < crew'.course.cores = low.1 in
             let has : holds v d ≡ true = all.cores d lt in
             let below : (part v d).clock < clock = omega (arith, low.2 has, at) in
-            inr (d, subst (λ (k : CourseView). d < k.cores) (sym step.course) lt, λ x h. dite (ℕ_discrete d c)
-            (λ e. let b : step.before.clock ≡ (part v d).clock = (agree.cores c step.before step.was (subst (λ (i : ℕ). holds v i ≡ true) e has)).stands.clock
-              ∙ (ap (λ (i : ℕ). (part v i).clock) ((is.each c step.before step.was).core ∙ sym e)) in absurd (omega (arith, below, at, b)))
-            (λ ne. let was : actor_of crew' d ≡ Some x = sym (step.rest d ne) ∙ h in
-              let clock_is : x.clock ≡ (part v d).clock = (agree.cores d x was has).stands.clock ∙ ap (λ (i : ℕ). (part v i).clock) (is.each d x was).core in
-              omega (arith, below, clock_is)))
+            inr (
+              d,
+              subst (λ (k : CourseView). d < k.cores) (sym step.course) lt,
+              λ x h. dite (ℕ_discrete d c)
+                  (λ e. let b : step.before.clock ≡ (part v d).clock = (agree.cores c step.before step.was (subst (λ (i : ℕ). holds v i ≡ true) e has)).stands.clock
+                  ∙ (ap (λ (i : ℕ). (part v i).clock) ((is.each c step.before step.was).core ∙ sym e)) in absurd (omega (arith, below, at, b)))
+                  (λ ne. let was : actor_of crew' d ≡ Some x = sym (step.rest d ne) ∙ h in
+                  let clock_is : x.clock ≡ (part v d).clock = (agree.cores d x was has).stands.clock ∙ ap (λ (i : ℕ). (part v i).clock) (is.each d x was).core in
+                  omega (arith, below, clock_is)),
+            )
             )
       ]
 
@@ -77,12 +82,18 @@ module _ (crew crew' crew'' : CrewView) (v w : View) (c clock : ℕ) where
         rest = λ d ne. step.rest d ne ∙ ran.rest d ne;
         after = step.after;
         is = step.is;
-        ends = inr (ran.clock_is ∙ (sym (ap (λ (a : StateView). a.clock) before) ∙ sym step.step.0), dite (ℕ_discrete from clock)
-        (λ e. inr (e, λ all. subst (IsStuck crew'') (sym e) (stuck is on.agree (record {
-              cores = λ d lt. on.actors.actors d ∙ all.cores d (subst (λ (k : CourseView). d < k.cores) on.same.course lt);
-              control = on.actors.actors controller ∙ all.control;
-            }) who tick ran step)))
-        (λ ne. inl (omega (arith, le, ne))));
+        ends = inr (
+          ran.clock_is ∙ (sym (ap (λ (a : StateView). a.clock) before) ∙ sym step.step.0),
+          dite (ℕ_discrete from clock)
+              (λ e. inr (
+                e,
+                λ all. subst (IsStuck crew'') (sym e) (stuck is on.agree (record {
+                  cores = λ d lt. on.actors.actors d ∙ all.cores d (subst (λ (k : CourseView). d < k.cores) on.same.course lt);
+                  control = on.actors.actors controller ∙ all.control;
+                }) who tick ran step),
+              ))
+              (λ ne. inl (omega (arith, le, ne))),
+        );
       }
 
   pub ran_done : (from : ℕ) (u : View) → IsCrew crew' → RanTo crew c clock crew' → crew'.control ≡ crew.control → Steps crew' v c Finished crew'' w → RunsOn crew u c from OUT crew''
@@ -144,13 +155,15 @@ module _ (crew crew' : CrewView) (v w : View) (clocks : Clocks) (c clock answer 
     | inl out ↦ absurd (omega (arith, out.0, same, less))
     | inr ran ↦ elim ran.1 [
       | inl more ↦ absurd (omega (arith, more, same))
-      | inr here ↦ (clock,
+      | inr here ↦ (
+        clock,
         (let le = (in_run crew' w c runs.after is on.agree runs.is (on.actors.actors c ∙ has)).0 in omega (arith, le, ran.0, same)),
         here.1 all,
         λ d lt. dite (ℕ_discrete d c)
-        (λ e. (let x : slice_index (slice_set clocks.ticks c answer) d ≡ answer = ap (slice_index (slice_set clocks.ticks c answer)) e ∙ get_or-set_same clocks.ticks c answer _ small in omega (arith, x, same)))
-        (λ ne. (let x : slice_index (slice_set clocks.ticks c answer) d ≡ slice_index clocks.ticks d = get_or-set_other clocks.ticks c d answer _ ne in
-            omega (arith, x, clock_is, least d (subst (λ (k : CourseView). d < k.cores) on.same.course lt)))))
+            (λ e. (let x : slice_index (slice_set clocks.ticks c answer) d ≡ answer = ap (slice_index (slice_set clocks.ticks c answer)) e ∙ get_or-set_same clocks.ticks c answer _ small in omega (arith, x, same)))
+            (λ ne. (let x : slice_index (slice_set clocks.ticks c answer) d ≡ slice_index clocks.ticks d = get_or-set_other clocks.ticks c d answer _ ne in
+            omega (arith, x, clock_is, least d (subst (λ (k : CourseView). d < k.cores) on.same.course lt)))),
+      )
     ]
   ]
 
@@ -167,10 +180,15 @@ LeadStands crew = HasPosted crew
     × ((a : StateView) → actor_of crew d ≡ Some a → a.clock + crew.course.lag < tick_at crew.course crew.control.posted))
 
 lead_stands : (crew : CrewView) (v : View) → IsCrew crew → AllAgree crew v → HoldsAll crew v → LeadWaits crew.course crew.control.posted v → LeadStands crew
-lead_stands crew v is agree all waits = inr (waits.some, waits.core, waits.within, λ a at.
-    let has : holds v waits.core ≡ true = all.cores waits.core waits.within in
-    let clock : a.clock ≡ (part v waits.core).clock = (agree.cores waits.core a at has).stands.clock ∙ ap (λ (i : ℕ). (part v i).clock) (is.each waits.core a at).core in
-    omega (arith, waits.low has, clock))
+lead_stands crew v is agree all waits = inr (
+  waits.some,
+  waits.core,
+  waits.within,
+  λ a at.
+      let has : holds v waits.core ≡ true = all.cores waits.core waits.within in
+      let clock : a.clock ≡ (part v waits.core).clock = (agree.cores waits.core a at has).stands.clock ∙ ap (λ (i : ℕ). (part v i).clock) (is.each waits.core a at).core in
+      omega (arith, waits.low has, clock),
+)
 
 module _ (crew : CrewView) (v : View) (clocks : Clocks) where
   -- no core is at a lower clock than the least one that is stuck
@@ -248,9 +266,8 @@ left_same crew crew' clocks c answer course control inside is =
 
 -- the whole turn, of which the cores' part led from crew to crew'
 
-pub lead_view : (lead lead' : Lead) (deal : Deal) (groups : List Group) → lead'.course.now ≡ lead.course.now → lead'.rounds ≡ lead.rounds
-    → with_control (crew_view lead deal groups) lead'.control ≡ crew_view lead' deal groups
-lead_view lead lead' deal groups course rounds = cc
+pub lead_view : (course : CourseView) (lead lead' : Lead) (deal : Deal) (groups : List Group) → lead'.rounds ≡ lead.rounds → with_control (crew_view course lead deal groups) lead'.control ≡ crew_view course lead' deal groups
+lead_view course lead lead' deal groups rounds = cc
 
 pub all_held : (crew crew' : CrewView) (u v : View) → GoesOn crew u crew' v → HoldsAll crew u → HoldsAll crew' v
 all_held crew crew' u v on all = record {
@@ -280,19 +297,19 @@ module _ (crew crew' : CrewView) (u v : View) (clocks clocks' : Clocks) where
       → TurnTold crew clocks u (unless_moved p) (with_control crew' n) clocks' w
   told_behind n w is on are waits same Moved told = omega (arith, told, same)
   told_behind n w is on are waits same Waits told = (omega (arith, told.0, same), λ all. let held = all_held crew crew' u v on all in nobody crew' v clocks' is are held (lead_stands crew' v is on.agree held waits) (told.1 all))
-  told_behind n w is on are waits same Done told = (omega (arith, told.0, same), λ all. let held = all_held crew crew' u v on all in
-      let posted = none_low crew' v clocks' is are held told.1 (lead_stands crew' v is on.agree held waits) in omega (arith, posted, waits.some))
+  told_behind n w is on are waits same Done told = (
+    omega (arith, told.0, same),
+    λ all. let held = all_held crew crew' u v on all in
+        let posted = none_low crew' v clocks' is are held told.1 (lead_stands crew' v is on.agree held waits) in omega (arith, posted, waits.some),
+  )
 
-module _ (lead lead' : Lead) (deal : Deal) (groups : List Group) (u w : View) where
-  abbrev pub IsSameLead : Type 0
-  IsSameLead = (lead'.course.now ≡ lead.course.now) × (lead'.rounds ≡ lead.rounds)
+module _ (course : CourseView) (lead lead' : Lead) (deal : Deal) (groups : List Group) (u w : View) (same : lead'.rounds ≡ lead.rounds) where
+  pub lead_goes : IsCrew (crew_view course lead deal groups) → AllAgree (crew_view course lead deal groups) u → ChangesOnly u w controller → controllers.AgreesWith course lead'.control w
+      → GoesOn (crew_view course lead deal groups) u (crew_view course lead' deal groups) w
+  lead_goes is agree changes agrees = subst (λ (k : CrewView). GoesOn (crew_view course lead deal groups) u k w) (lead_view course lead lead' deal groups same)
+      (on_lead (crew_view course lead deal groups) lead'.control u w is agree changes agrees)
 
-  pub lead_goes : IsCrew (crew_view lead deal groups) → AllAgree (crew_view lead deal groups) u → IsSameLead → ChangesOnly u w controller → controllers.AgreesWith lead'.course.now lead'.control w
-      → GoesOn (crew_view lead deal groups) u (crew_view lead' deal groups) w
-  lead_goes is agree same changes agrees = subst (λ (k : CrewView). GoesOn (crew_view lead deal groups) u k w) (lead_view lead lead' deal groups same.0 same.1)
-      (on_lead (crew_view lead deal groups) lead'.control u w is agree changes (subst (λ (k : CourseView). controllers.AgreesWith k lead'.control w) same.0 agrees))
-
-  pub lead_clocks : (clocks : Clocks) (on : Bool) → AreClocks (crew_view lead deal groups) u clocks → clocks.posting ≡ true → IsSameLead → ChangesOnly u w controller
-      → (on ≡ false → lead'.control.posted ≡ length lead.course.now.ticks) → AreClocks (crew_view lead' deal groups) w (record { ticks = clocks.ticks; posting = on })
-  lead_clocks clocks on are was same changes over = subst (λ (k : CrewView). AreClocks k w (record { ticks = clocks.ticks; posting = on })) (lead_view lead lead' deal groups same.0 same.1)
-      (clocks_lead (crew_view lead deal groups) lead'.control u w clocks on are was changes over)
+  pub lead_clocks : (clocks : Clocks) (on : Bool) → AreClocks (crew_view course lead deal groups) u clocks → clocks.posting ≡ true → ChangesOnly u w controller
+      → (on ≡ false → lead'.control.posted ≡ length course.ticks) → AreClocks (crew_view course lead' deal groups) w (record { ticks = clocks.ticks; posting = on })
+  lead_clocks clocks on are was changes over = subst (λ (k : CrewView). AreClocks k w (record { ticks = clocks.ticks; posting = on })) (lead_view course lead lead' deal groups same)
+      (clocks_lead (crew_view course lead deal groups) lead'.control u w clocks on are was changes over)

@@ -45,12 +45,12 @@ abbrev pub crew_of : CourseView → ℕ → ControlState → Deal → List Group
 crew_of course rounds control deal groups = record { course = course; rounds = rounds; control = control; deal = deal; groups = groups }
 
 -- what the controller and some groups show
-abbrev pub crew_view : Lead → Deal → List Group → CrewView
-crew_view lead deal groups = crew_of lead.course.now lead.rounds lead.control deal groups
+abbrev pub crew_view : CourseView → Lead → Deal → List Group → CrewView
+crew_view course lead deal groups = crew_of course lead.rounds lead.control deal groups
 
 -- what a team shows: its groups are those of the first threads
-abbrev pub team_view : Team → CrewView
-team_view team = crew_view team.lead (deal_of team) team.groups.items
+abbrev pub team_view : CourseView → Team → CrewView
+team_view course team = crew_view course team.lead (deal_of team) team.groups.items
 
 -- what a thread's worker shows, that has no controller
 abbrev pub worker_view : CourseView → ℕ → Deal → Group → CrewView

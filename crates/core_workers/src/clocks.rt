@@ -9,6 +9,7 @@ ghost use Rattle.core_workers.specs.Inside.Teams.{IsManned, IsTeam};
 use crate::steps::CONTROLLER;
 use crate::team::{Deal, Group, Lead};
 use round_words::RoundSeat;
+use table_form::Course;
 
 // the clock of a core that isn't to go on
 pub(crate) const OUT: u32 = u32::MAX;
@@ -22,30 +23,44 @@ pub(crate) struct Clocks {
 }
 
 // The clocks of those cores whose parts the seat holds.
-pub(crate) fn read_clocks(seat: &RoundSeat, lead: &Lead<'_>, deal: Deal, groups: &[Group]) -> Clocks
-    requires team { IsTeam lead.now.course.now lead.now.rounds deal groups.now }
-    requires agree { AllAgree (crew_view lead.now deal groups.now) (view_of seat.now) }
-    requires manned { IsManned (crew_view lead.now deal groups.now) (view_of seat.now) }
-    ensures { AreClocks (crew_view lead.now deal groups.now) (view_of seat.now) result }
+pub(crate) fn read_clocks(
+    seat: &RoundSeat,
+    course: &Course,
+    lead: &Lead,
+    deal: Deal,
+    groups: &[Group],
+) -> Clocks
+    requires team { IsTeam course.now lead.now.rounds deal groups.now }
+    requires agree { AllAgree (crew_view course.now lead.now deal groups.now) (view_of seat.now) }
+    requires manned { IsManned (crew_view course.now lead.now deal groups.now) (view_of seat.now) }
+    ensures { AreClocks (crew_view course.now lead.now deal groups.now) (view_of seat.now) result }
 {
     let mut clocks = Clocks {
         ticks: [OUT; 32],
         posting: seat.holds(CONTROLLER),
     };
-    for core in 0..lead.course.cores() {
-        clocks.ticks[core as usize] = read_clock(seat, lead, deal, groups, core);
+    for core in 0..course.cores() {
+        clocks.ticks[core as usize] = read_clock(seat, course, lead, deal, groups, core);
     }
     clocks
 }
 
-// The clock of a core, or OUT where the seat doesn't hold its part. `lead` is for the proof alone.
-fn read_clock(seat: &RoundSeat, lead: &Lead<'_>, deal: Deal, groups: &[Group], core: u32) -> u32
-    requires team { IsTeam lead.now.course.now lead.now.rounds deal groups.now }
-    requires agree { AllAgree (crew_view lead.now deal groups.now) (view_of seat.now) }
-    requires manned { IsManned (crew_view lead.now deal groups.now) (view_of seat.now) }
-    requires core { core < lead.now.course.now.cores }
-    ensures { IsClockOf (crew_view lead.now deal groups.now) (view_of seat.now) core result }
+// The clock of a core, or OUT where the seat doesn't hold its part. `course` and `lead` are for the proof alone.
+fn read_clock(
+    seat: &RoundSeat,
+    course: &Course,
+    lead: &Lead,
+    deal: Deal,
+    groups: &[Group],
+    core: u32,
+) -> u32
+    requires team { IsTeam course.now lead.now.rounds deal groups.now }
+    requires agree { AllAgree (crew_view course.now lead.now deal groups.now) (view_of seat.now) }
+    requires manned { IsManned (crew_view course.now lead.now deal groups.now) (view_of seat.now) }
+    requires core { core < course.now.cores }
+    ensures { IsClockOf (crew_view course.now lead.now deal groups.now) (view_of seat.now) core result }
 {
+    let _ = course;
     let _ = lead;
     if !seat.holds(core) {
         return OUT;

@@ -26,7 +26,8 @@ const SPINS: u32 = 64;
 /// All actors of a run: one for each core, and the controller.
 #[derive(Debug, Drop)]
 pub struct Crew<'a> {
-    pub(crate) team: Team<'a>,
+    pub(crate) course: &'a Course,
+    pub(crate) team: Team,
 }
 
 impl<'a> Model for Crew<'a> {
@@ -35,9 +36,9 @@ impl<'a> Model for Crew<'a> {
 
     ghost Value = { CrewView };
 
-    ghost view = { λ c. team_view c.team };
+    ghost view = { λ c. team_view c.course.now c.team };
 
-    ghost invariant = { λ c. IsWholeTeam c.team };
+    ghost invariant = { λ c. IsWholeTeam c.course.now c.team };
 }
 
 impl<'a> Crew<'a> {
@@ -61,12 +62,12 @@ impl<'a> Crew<'a> {
         let spins = if threads < processors { SPINS } else { 0 };
         let groups = make_groups(alloc, course, threads, rounds, keep)?;
         let lead = Lead {
-            course,
             control: ControlState::new(),
             rounds,
             steps: 0,
         };
         Ok(Crew {
+            course,
             team: Team {
                 groups,
                 threads,
@@ -140,7 +141,13 @@ fn make_group(
     let mut core = deal.first;
     'making: while core < course.cores() {
         let slices = CoreSlices::make(alloc, course, CoreNo(core))?;
-        let state = CoreState::make(alloc, course.outline(), CoreNo(core), rounds, keep[core as usize])?;
+        let state = CoreState::make(
+            alloc,
+            course.outline(),
+            CoreNo(core),
+            rounds,
+            keep[core as usize],
+        )?;
         members.push(Member {
             slices,
             state,
@@ -169,5 +176,5 @@ pub fn drive<G: Gate>(board: &RoundBoard, seat: &mut RoundSeat, crew: &mut Crew<
     ensures actors { SameActors (view_of seat.old) (view_of seat.new) }
     ensures finished { HoldsAll crew.old (view_of seat.old) → HeldFinished crew.new (view_of seat.new) }
 {
-    drive_team(board, seat, &mut crew.team, gate);
+    drive_team(board, seat, crew.course, &mut crew.team, gate);
 }

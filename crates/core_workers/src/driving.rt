@@ -10,6 +10,7 @@ use crate::turns::{Progress, turn};
 use round_words::{RoundBoard, RoundSeat};
 use std::hint::spin_loop;
 use std::thread::yield_now;
+use table_form::Course;
 
 /// How many turns in a row in which nobody gets on are made before the actors are left as they are.
 pub const PATIENCE: u32 = 10_000_000;
@@ -18,26 +19,27 @@ pub const PATIENCE: u32 = 10_000_000;
 pub(crate) fn drive_groups<G: Gate>(
     board: &RoundBoard,
     seat: &mut RoundSeat,
-    lead: &mut Lead<'_>,
+    course: &Course,
+    lead: &mut Lead,
     deal: Deal,
     groups: &mut [Group],
     spins: u32,
     gate: &G,
 )
     requires board { IsSeatOf board.now seat.old }
-    requires team { IsTeam lead.old.course.now lead.old.rounds deal groups.old }
-    requires agree { AllAgree (crew_view lead.old deal groups.old) (view_of seat.old) }
-    requires manned { IsManned (crew_view lead.old deal groups.old) (view_of seat.old) }
+    requires team { IsTeam course.now lead.old.rounds deal groups.old }
+    requires agree { AllAgree (crew_view course.now lead.old deal groups.old) (view_of seat.old) }
+    requires manned { IsManned (crew_view course.now lead.old deal groups.old) (view_of seat.old) }
     ensures board { IsSeatOf board.now seat.new }
-    ensures team { IsTeam lead.new.course.now lead.new.rounds deal groups.new }
-    ensures goes { GoesOn (crew_view lead.old deal groups.old) (view_of seat.old) (crew_view lead.new deal groups.new) (view_of seat.new) }
-    ensures finished { HoldsAll (crew_view lead.old deal groups.old) (view_of seat.old)
-        → HeldFinished (crew_view lead.new deal groups.new) (view_of seat.new) }
+    ensures team { IsTeam course.now lead.new.rounds deal groups.new }
+    ensures goes { GoesOn (crew_view course.now lead.old deal groups.old) (view_of seat.old) (crew_view course.now lead.new deal groups.new) (view_of seat.new) }
+    ensures finished { HoldsAll (crew_view course.now lead.old deal groups.old) (view_of seat.old)
+        → HeldFinished (crew_view course.now lead.new deal groups.new) (view_of seat.new) }
 {
-    let mut clocks = read_clocks(seat, lead, deal, groups);
+    let mut clocks = read_clocks(seat, course, lead, deal, groups);
     let mut left = PATIENCE;
     'driving: while left > 0 {
-        match turn(board, seat, lead, deal, groups, &mut clocks, gate) {
+        match turn(board, seat, course, lead, deal, groups, &mut clocks, gate) {
             Progress::Moved => left = PATIENCE,
             Progress::Waits => {
                 left -= 1;
@@ -52,17 +54,18 @@ pub(crate) fn drive_groups<G: Gate>(
 pub(crate) fn drive_team<G: Gate>(
     board: &RoundBoard,
     seat: &mut RoundSeat,
-    team: &mut Team<'_>,
+    course: &Course,
+    team: &mut Team,
     gate: &G,
 )
     requires board { IsSeatOf board.now seat.old }
-    requires kept { IsTeamKept team.old }
-    requires agree { AllAgree (team_view team.old) (view_of seat.old) }
-    requires manned { IsManned (team_view team.old) (view_of seat.old) }
+    requires kept { IsTeamKept course.now team.old }
+    requires agree { AllAgree (team_view course.now team.old) (view_of seat.old) }
+    requires manned { IsManned (team_view course.now team.old) (view_of seat.old) }
     ensures board { IsSeatOf board.now seat.new }
-    ensures kept { IsTeamKept team.new }
-    ensures goes { GoesOn (team_view team.old) (view_of seat.old) (team_view team.new) (view_of seat.new) }
-    ensures finished { HoldsAll (team_view team.old) (view_of seat.old) → HeldFinished (team_view team.new) (view_of seat.new) }
+    ensures kept { IsTeamKept course.now team.new }
+    ensures goes { GoesOn (team_view course.now team.old) (view_of seat.old) (team_view course.now team.new) (view_of seat.new) }
+    ensures finished { HoldsAll (team_view course.now team.old) (view_of seat.old) → HeldFinished (team_view course.now team.new) (view_of seat.new) }
     ensures shape { IsSameShape team.old team.new }
 {
     let deal = Deal {
@@ -72,6 +75,7 @@ pub(crate) fn drive_team<G: Gate>(
     drive_groups(
         board,
         seat,
+        course,
         &mut team.lead,
         deal,
         &mut team.groups,

@@ -21,32 +21,34 @@ use table_form::Course;
 // the controller's number as an actor
 pub(crate) const CONTROLLER: u32 = 32;
 
-// A step of a core of the groups, whose part the seat holds.
+// A step of a core of the groups, whose part the seat holds. `lead` is for the proof alone.
 pub(crate) fn step_core<G: Gate>(
     board: &RoundBoard,
     seat: &mut RoundSeat,
-    lead: &Lead<'_>,
+    course: &Course,
+    lead: &Lead,
     deal: Deal,
     groups: &mut [Group],
     core: u32,
     gate: &G,
 ) -> CoreAnswer
     requires board { IsSeatOf board.now seat.old }
-    requires team { IsTeam lead.now.course.now lead.now.rounds deal groups.old }
-    requires agree { AllAgree (crew_view lead.now deal groups.old) (view_of seat.old) }
-    requires there { IsPresent (crew_view lead.now deal groups.old) core }
+    requires team { IsTeam course.now lead.now.rounds deal groups.old }
+    requires agree { AllAgree (crew_view course.now lead.now deal groups.old) (view_of seat.old) }
+    requires there { IsPresent (crew_view course.now lead.now deal groups.old) core }
     requires held { holds (view_of seat.old) core ≡ true }
     ensures board { IsSeatOf board.now seat.new }
-    ensures team { IsTeam lead.now.course.now lead.now.rounds deal groups.new }
-    ensures steps { Steps (crew_view lead.now deal groups.old) (view_of seat.old) core result
-        (crew_view lead.now deal groups.new) (view_of seat.new) }
+    ensures team { IsTeam course.now lead.now.rounds deal groups.new }
+    ensures steps { Steps (crew_view course.now lead.now deal groups.old) (view_of seat.old) core result
+        (crew_view course.now lead.now deal groups.new) (view_of seat.new) }
 {
+    let _ = lead;
     let group = (core % deal.threads - deal.first) as usize;
     let at = (core / deal.threads) as usize;
     step_member(
         board,
         seat,
-        lead.course,
+        course,
         &mut groups[group].members[at],
         core,
         gate,
@@ -82,18 +84,19 @@ fn step_member<G: Gate>(
 pub(crate) fn step_lead<G: Gate>(
     board: &RoundBoard,
     seat: &mut RoundSeat,
-    lead: &mut Lead<'_>,
+    course: &Course,
+    lead: &mut Lead,
     gate: &G,
 ) -> ControlAnswer
     requires board { IsSeatOf board.now seat.old }
-    requires agrees { LeadAgrees lead.old.course.now lead.old.control (view_of seat.old) }
+    requires agrees { LeadAgrees course.now lead.old.control (view_of seat.old) }
     ensures board { IsSeatOf board.now seat.new }
-    ensures agrees { LeadAgrees lead.new.course.now lead.new.control (view_of seat.new) }
-    ensures same { (lead.new.course.now ≡ lead.old.course.now) × (lead.new.rounds ≡ lead.old.rounds) }
+    ensures agrees { LeadAgrees course.now lead.new.control (view_of seat.new) }
+    ensures same { lead.new.rounds ≡ lead.old.rounds }
     ensures changes { ChangesOnly (view_of seat.old) (view_of seat.new) the_controller }
-    ensures step { LeadStep lead.old.course.now lead.old.control.posted (view_of seat.old) result lead.new.control.posted }
+    ensures step { LeadStep course.now lead.old.control.posted (view_of seat.old) result lead.new.control.posted }
 {
     gate.pass(CONTROLLER, lead.steps);
     lead.steps = lead.steps.saturating_add(1);
-    post_step(board, seat, lead.course.outline(), &mut lead.control)
+    post_step(board, seat, course.outline(), &mut lead.control)
 }

@@ -15,6 +15,7 @@ use crate::team::{Deal, Group, Lead};
 use dispatch_core::CoreAnswer;
 use plan_switch::ControlAnswer;
 use round_words::{RoundBoard, RoundSeat};
+use table_form::Course;
 
 /// What became of a turn.
 #[derive(Clone, Copy, Debug, PartialEq, Eq)]
@@ -31,28 +32,29 @@ pub(crate) enum Progress {
 pub(crate) fn turn<G: Gate>(
     board: &RoundBoard,
     seat: &mut RoundSeat,
-    lead: &mut Lead<'_>,
+    course: &Course,
+    lead: &mut Lead,
     deal: Deal,
     groups: &mut [Group],
     clocks: &mut Clocks,
     gate: &G,
 ) -> Progress
     requires board { IsSeatOf board.now seat.old }
-    requires team { IsTeam lead.old.course.now lead.old.rounds deal groups.old }
-    requires agree { AllAgree (crew_view lead.old deal groups.old) (view_of seat.old) }
-    requires clocks { AreClocks (crew_view lead.old deal groups.old) (view_of seat.old) clocks.old }
+    requires team { IsTeam course.now lead.old.rounds deal groups.old }
+    requires agree { AllAgree (crew_view course.now lead.old deal groups.old) (view_of seat.old) }
+    requires clocks { AreClocks (crew_view course.now lead.old deal groups.old) (view_of seat.old) clocks.old }
     ensures board { IsSeatOf board.now seat.new }
-    ensures team { IsTeam lead.new.course.now lead.new.rounds deal groups.new }
-    ensures goes { GoesOn (crew_view lead.old deal groups.old) (view_of seat.old) (crew_view lead.new deal groups.new) (view_of seat.new) }
-    ensures clocks { AreClocks (crew_view lead.new deal groups.new) (view_of seat.new) clocks.new }
-    ensures told { TurnTold (crew_view lead.old deal groups.old) clocks.old (view_of seat.old) result
-        (crew_view lead.new deal groups.new) clocks.new (view_of seat.new) }
+    ensures team { IsTeam course.now lead.new.rounds deal groups.new }
+    ensures goes { GoesOn (crew_view course.now lead.old deal groups.old) (view_of seat.old) (crew_view course.now lead.new deal groups.new) (view_of seat.new) }
+    ensures clocks { AreClocks (crew_view course.now lead.new deal groups.new) (view_of seat.new) clocks.new }
+    ensures told { TurnTold (crew_view course.now lead.old deal groups.old) clocks.old (view_of seat.old) result
+        (crew_view course.now lead.new deal groups.new) clocks.new (view_of seat.new) }
 {
-    let cores = turn_cores(board, seat, lead, deal, groups, clocks, gate);
+    let cores = turn_cores(board, seat, course, lead, deal, groups, clocks, gate);
     if !clocks.posting {
         return cores;
     }
-    match step_lead(board, seat, lead, gate) {
+    match step_lead(board, seat, course, lead, gate) {
         ControlAnswer::Posted { count: _ } => Progress::Moved,
         ControlAnswer::Behind { core: _, tick: _ } => or_waits(cores),
         ControlAnswer::Finished => {
@@ -75,26 +77,27 @@ fn or_waits(cores: Progress) -> Progress
 fn turn_cores<G: Gate>(
     board: &RoundBoard,
     seat: &mut RoundSeat,
-    lead: &Lead<'_>,
+    course: &Course,
+    lead: &Lead,
     deal: Deal,
     groups: &mut [Group],
     clocks: &mut Clocks,
     gate: &G,
 ) -> Progress
     requires board { IsSeatOf board.now seat.old }
-    requires team { IsTeam lead.now.course.now lead.now.rounds deal groups.old }
-    requires agree { AllAgree (crew_view lead.now deal groups.old) (view_of seat.old) }
-    requires clocks { AreClocks (crew_view lead.now deal groups.old) (view_of seat.old) clocks.old }
+    requires team { IsTeam course.now lead.now.rounds deal groups.old }
+    requires agree { AllAgree (crew_view course.now lead.now deal groups.old) (view_of seat.old) }
+    requires clocks { AreClocks (crew_view course.now lead.now deal groups.old) (view_of seat.old) clocks.old }
     ensures board { IsSeatOf board.now seat.new }
-    ensures team { IsTeam lead.now.course.now lead.now.rounds deal groups.new }
-    ensures goes { GoesOn (crew_view lead.now deal groups.old) (view_of seat.old) (crew_view lead.now deal groups.new) (view_of seat.new) }
-    ensures clocks { AreClocks (crew_view lead.now deal groups.new) (view_of seat.new) clocks.new }
+    ensures team { IsTeam course.now lead.now.rounds deal groups.new }
+    ensures goes { GoesOn (crew_view course.now lead.now deal groups.old) (view_of seat.old) (crew_view course.now lead.now deal groups.new) (view_of seat.new) }
+    ensures clocks { AreClocks (crew_view course.now lead.now deal groups.new) (view_of seat.new) clocks.new }
     ensures posting { clocks.new.posting ≡ clocks.old.posting }
-    ensures told { CoresTold (crew_view lead.now deal groups.old) clocks.old (view_of seat.old) result
-        (crew_view lead.now deal groups.new) clocks.new }
+    ensures told { CoresTold (crew_view course.now lead.now deal groups.old) clocks.old (view_of seat.old) result
+        (crew_view course.now lead.now deal groups.new) clocks.new }
 {
-    let cores = lead.course.cores();
-    let lag = lead.course.lag();
+    let cores = course.cores();
+    let lag = course.lag();
     let next = find_least(clocks, cores);
     let clock = clocks.ticks[next.core as usize];
     if clock == OUT {
@@ -102,7 +105,7 @@ fn turn_cores<G: Gate>(
     }
     let limit = next.next.min(clock.saturating_add(lag)).saturating_add(lag);
     let reached = run_core(
-        board, seat, lead, deal, groups, next.core, clock, limit, gate,
+        board, seat, course, lead, deal, groups, next.core, clock, limit, gate,
     );
     clocks.ticks[next.core as usize] = reached;
     if reached == clock {
@@ -117,7 +120,8 @@ fn turn_cores<G: Gate>(
 fn run_core<G: Gate>(
     board: &RoundBoard,
     seat: &mut RoundSeat,
-    lead: &Lead<'_>,
+    course: &Course,
+    lead: &Lead,
     deal: Deal,
     groups: &mut [Group],
     core: u32,
@@ -126,19 +130,19 @@ fn run_core<G: Gate>(
     gate: &G,
 ) -> u32
     requires board { IsSeatOf board.now seat.old }
-    requires team { IsTeam lead.now.course.now lead.now.rounds deal groups.old }
-    requires agree { AllAgree (crew_view lead.now deal groups.old) (view_of seat.old) }
-    requires there { (a : StateView) × (actor_of (crew_view lead.now deal groups.old) core ≡ Some a) × (from ≡ a.clock) }
+    requires team { IsTeam course.now lead.now.rounds deal groups.old }
+    requires agree { AllAgree (crew_view course.now lead.now deal groups.old) (view_of seat.old) }
+    requires there { (a : StateView) × (actor_of (crew_view course.now lead.now deal groups.old) core ≡ Some a) × (from ≡ a.clock) }
     requires held { holds (view_of seat.old) core ≡ true }
     requires limit { from ≤ limit }
     ensures board { IsSeatOf board.now seat.new }
-    ensures team { IsTeam lead.now.course.now lead.now.rounds deal groups.new }
-    ensures goes { GoesOn (crew_view lead.now deal groups.old) (view_of seat.old) (crew_view lead.now deal groups.new) (view_of seat.new) }
-    ensures runs { RunsOn (crew_view lead.now deal groups.old) (view_of seat.old) core from result (crew_view lead.now deal groups.new) }
+    ensures team { IsTeam course.now lead.now.rounds deal groups.new }
+    ensures goes { GoesOn (crew_view course.now lead.now deal groups.old) (view_of seat.old) (crew_view course.now lead.now deal groups.new) (view_of seat.new) }
+    ensures runs { RunsOn (crew_view course.now lead.now deal groups.old) (view_of seat.old) core from result (crew_view course.now lead.now deal groups.new) }
 {
     let mut clock = from;
     'running: while clock <= limit {
-        match step_core(board, seat, lead, deal, groups, core, gate) {
+        match step_core(board, seat, course, lead, deal, groups, core, gate) {
             CoreAnswer::Ran(stint) => clock = stint.end,
             CoreAnswer::Behind { who: _, tick: _ } => return clock,
             CoreAnswer::Finished => return OUT,

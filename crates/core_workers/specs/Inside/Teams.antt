@@ -47,13 +47,13 @@ abbrev pub HoldsEach : CrewView → View → Type 0
 HoldsEach crew v = (c : ℕ) → IsPresent crew c → holds v c ≡ true
 
 -- what each team keeps: it has the groups of the first threads, and the controller of the course
-pub record IsTeamKept (team : Team) : Type 0 where
-  pub groups : IsTeam team.lead.course.now team.lead.rounds (deal_of team) team.groups.items
+pub record IsTeamKept (course : CourseView) (team : Team) : Type 0 where
+  pub groups : IsTeam course team.lead.rounds (deal_of team) team.groups.items
 
 -- what each crew keeps: its team has all cores
-pub record IsWholeTeam (team : Team) : Type 0 where
-  pub kept : IsTeamKept team
-  pub whole : IsWhole (team_view team)
+pub record IsWholeTeam (course : CourseView) (team : Team) : Type 0 where
+  pub kept : IsTeamKept course team
+  pub whole : IsWhole (team_view course team)
 
 -- the group is that of a thread, whose seat has this view: it holds the parts of the group's cores alone.
 pub record IsWorker (course : CourseView) (rounds : ℕ) (deal : Deal) (group : Group) (v : View) : Type 0 where
@@ -71,9 +71,9 @@ pub record IsHeld (crew : CrewView) (v : View) : Type 0 where
   pub control : holds v controller ≡ true
 
 -- the team works with the seat of this view
-pub record IsWorking (team : Team) (v : View) : Type 0 where
-  pub kept : IsTeamKept team
-  pub held : IsHeld (team_view team) v
+pub record IsWorking (course : CourseView) (team : Team) (v : View) : Type 0 where
+  pub kept : IsTeamKept course team
+  pub held : IsHeld (team_view course team) v
 
 -- the bits of the mask are the group's cores
 pub record Names (deal : Deal) (group : Group) (mask : ℕ) : Type 0 where

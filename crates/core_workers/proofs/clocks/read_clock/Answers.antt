@@ -28,8 +28,8 @@ index-requires c =
 
 pub returns : goal.returns
 returns c =
-    let course = c.args.lead.now.course.now in
-    let crew : CrewView = crew_view c.args.lead.now c.args.deal c.args.groups.now in
+    let course = c.args.course.now in
+    let crew : CrewView = crew_view c.args.course.now c.args.lead.now c.args.deal c.args.groups.now in
     let v : View = view_of c.args.seat.now in
     let has : holds v c.args.core ≡ true = sym c.holds.ensures ∙ c.if-not-holds.false in
     let a = c.requires.manned c.args.core c.requires.core has in

@@ -10,6 +10,6 @@ use Rattle.core_workers.proofs.clocks.read_clocks.Given as goal
 abbrev pub invariant-loop-core : goal.invariant-loop-core
 invariant-loop-core l = record {
   size : length l.clocks.ticks ≡ 32;
-  read : (d : ℕ) → d < l.core → IsClockOf (crew_view l.fn.lead l.fn.deal l.fn.groups) (view_of l.fn.seat) d (slice_index l.clocks.ticks d);
+  read : (d : ℕ) → d < l.core → IsClockOf (crew_view l.fn.course l.fn.lead l.fn.deal l.fn.groups) (view_of l.fn.seat) d (slice_index l.clocks.ticks d);
   posting : l.clocks.posting ≡ holds (view_of l.fn.seat) controller;
 }

@@ -10,9 +10,9 @@ use Rattle.core_workers.proofs.turns.run_core.Given as goal
 abbrev pub invariant-running : goal.invariant-running
 invariant-running g l = record {
   board : IsSeatOf l.fn.board l.seat;
-  team : IsTeam l.fn.lead.course.now l.fn.lead.rounds l.fn.deal l.groups;
-  goes : GoesOn (crew_view l.fn.lead l.fn.deal l.fn.groups) (view_of l.fn.seat) (crew_view l.fn.lead l.fn.deal l.groups) (view_of l.seat);
-  ran : RanTo (crew_view l.fn.lead l.fn.deal l.fn.groups) l.fn.core l.clock (crew_view l.fn.lead l.fn.deal l.groups);
+  team : IsTeam l.fn.course l.fn.lead.rounds l.fn.deal l.groups;
+  goes : GoesOn (crew_view l.fn.course l.fn.lead l.fn.deal l.fn.groups) (view_of l.fn.seat) (crew_view l.fn.course l.fn.lead l.fn.deal l.groups) (view_of l.seat);
+  ran : RanTo (crew_view l.fn.course l.fn.lead l.fn.deal l.fn.groups) l.fn.core l.clock (crew_view l.fn.course l.fn.lead l.fn.deal l.groups);
   on : (l.fn.from ≤ l.clock) × (l.clock ≡ l.fn.from → l.clock ≤ l.fn.limit);
 }
 

@@ -1,4 +1,5 @@
 use Rattle.std.proofs.Common.{rules, ◌≡◌, ◌<◌, ◌≤◌, ◌+◌, ◌*◌, suc, true, ◌++◌, ◌∷◌, [], ℕ, List, length, Some, refl, sym, ap, ◌∙◌, subst, arith}
+use Rattle.std.proofs.lemmas.List.{append-nil}
 use Rattle.round_words.proofs.ListLemmas.{length_push}
 use Rattle.round_words.specs.declared.view.View.{View}
 use Rattle.round_words.specs.Seats.{view_of}
@@ -15,51 +16,54 @@ use Rattle.core_workers.proofs.workers.+fn-work-join+arg3+work.Goals as goal
 pub mask_of-requires-clause-small : goal.mask_of-requires-clause-small
 mask_of-requires-clause-small g t c = λ i inside.
     let team = c.args.team in
+    let course = c.args.course.now in
     let lead : Lead = team.lead in
     let gs : List Group = c.pop.new.self.items in
     let group : Group = c.in-Some.group in
     let v : View = view_of c.args.seat in
     let len : c.len.result ≡ length gs = omega (arith, c.len.ensures) in
-    let kept : IsTeam lead.course.now lead.rounds (first_of team.threads gs group) (gs ++ group ∷ []) = subst (IsTeam lead.course.now lead.rounds (first_of team.threads gs group)) c.in-Some.ensures.items c.requires.team.kept.groups in
+    let kept : IsTeam course lead.rounds (first_of team.threads gs group) (gs ++ group ∷ []) = subst (IsTeam course lead.rounds (first_of team.threads gs group)) c.in-Some.ensures.items c.requires.team.kept.groups in
     let first : length gs < team.threads = omega (arith, kept.few, length_push gs group) in
     let m = place_small (last_of team.threads gs group) group i first inside in
-    let small = ((team_one lead.course.now lead.rounds team.threads lead.control gs group kept).each (length gs + i * team.threads) m.0 m.1).within in
+    let small = ((team_one course lead.rounds team.threads lead.control gs group kept).each (length gs + i * team.threads) m.0 m.1).within in
     omega (arith, small, kept.course_kept.form.outline.few_cores, len)
 
 pub part-own-requires-clause-holds : goal.part-own-requires-clause-holds
 part-own-requires-clause-holds g t c =
     let team = c.args.team in
+    let course = c.args.course.now in
     let lead : Lead = team.lead in
     let gs : List Group = c.pop.new.self.items in
     let group : Group = c.in-Some.group in
     let v : View = view_of c.args.seat in
     let len : c.len.result ≡ length gs = omega (arith, c.len.ensures) in
-    let kept : IsTeam lead.course.now lead.rounds (first_of team.threads gs group) (gs ++ group ∷ []) = subst (IsTeam lead.course.now lead.rounds (first_of team.threads gs group)) c.in-Some.ensures.items c.requires.team.kept.groups in
+    let kept : IsTeam course lead.rounds (first_of team.threads gs group) (gs ++ group ∷ []) = subst (IsTeam course lead.rounds (first_of team.threads gs group)) c.in-Some.ensures.items c.requires.team.kept.groups in
     let first : length gs < team.threads = omega (arith, kept.few, length_push gs group) in
     let named : Names (last_of team.threads gs group) group c.mask_of.result = names_all (last_of team.threads gs group) group c.mask_of.result first
-      (subst (λ (n : ℕ). NamesFirst (record { threads = team.threads; first = n }) (length group.members.items) c.mask_of.result) len c.mask_of.ensures) in
-    let held : IsHeld (crew_view lead (first_of team.threads gs group) (gs ++ group ∷ [])) v = subst (λ (xs : List Group). IsHeld (crew_view lead (first_of team.threads gs group) xs) v) c.in-Some.ensures.items c.requires.team.held in
-    mask_held lead.course.now lead.rounds team.threads lead.control gs group c.mask_of.result v named kept held
+    (subst (λ (n : ℕ). NamesFirst (record { threads = team.threads; first = n }) (length group.members.items) c.mask_of.result) len c.mask_of.ensures) in
+    let held : IsHeld (crew_view course lead (first_of team.threads gs group) (gs ++ group ∷ [])) v = subst (λ (xs : List Group). IsHeld (crew_view course lead (first_of team.threads gs group) xs) v) c.in-Some.ensures.items c.requires.team.held in
+    mask_held course lead.rounds team.threads lead.control gs group c.mask_of.result v named kept held
 
 pub join-own-requires-after_bounds : goal.join-own-requires-after_bounds
 join-own-requires-after_bounds g t c κs within =
     let team = c.args.team in
+    let course = c.args.course.now in
     let lead : Lead = team.lead in
     let gs : List Group = c.pop.new.self.items in
     let group : Group = c.in-Some.group in
     let v : View = view_of c.args.seat in
     let len : c.len.result ≡ length gs = omega (arith, c.len.ensures) in
-    let kept : IsTeam lead.course.now lead.rounds (first_of team.threads gs group) (gs ++ group ∷ []) = subst (IsTeam lead.course.now lead.rounds (first_of team.threads gs group)) c.in-Some.ensures.items c.requires.team.kept.groups in
+    let kept : IsTeam course lead.rounds (first_of team.threads gs group) (gs ++ group ∷ []) = subst (IsTeam course lead.rounds (first_of team.threads gs group)) c.in-Some.ensures.items c.requires.team.kept.groups in
     let first : length gs < team.threads = omega (arith, kept.few, length_push gs group) in
     let named : Names (last_of team.threads gs group) group c.mask_of.result = names_all (last_of team.threads gs group) group c.mask_of.result first
-      (subst (λ (n : ℕ). NamesFirst (record { threads = team.threads; first = n }) (length group.members.items) c.mask_of.result) len c.mask_of.ensures) in
-    let held : IsHeld (crew_view lead (first_of team.threads gs group) (gs ++ group ∷ [])) v = subst (λ (xs : List Group). IsHeld (crew_view lead (first_of team.threads gs group) xs) v) c.in-Some.ensures.items c.requires.team.held in
+    (subst (λ (n : ℕ). NamesFirst (record { threads = team.threads; first = n }) (length group.members.items) c.mask_of.result) len c.mask_of.ensures) in
+    let held : IsHeld (crew_view course lead (first_of team.threads gs group) (gs ++ group ∷ [])) v = subst (λ (xs : List Group). IsHeld (crew_view course lead (first_of team.threads gs group) xs) v) c.in-Some.ensures.items c.requires.team.held in
     let rest : Team = record { groups = c.pop.new.self; threads = team.threads; spins = team.spins; lead = lead } in
-    let left = held_rest lead.course.now lead.rounds team.threads lead.control gs group c.mask_of.result v named kept held (view_of c.part-own.new.seat) c.part-own.ensures.kept in
-    let working : IsWorking rest (view_of c.part-own.new.seat) = record { kept = record { groups = team_rest lead.course.now lead.rounds team.threads lead.control gs group kept }; held = left } in
-    let worker : IsWorker lead.course.now lead.rounds (record { threads = team.threads; first = c.len.result }) group (view_of c.part-own.result) =
-      subst (λ (n : ℕ). IsWorker lead.course.now lead.rounds (record { threads = team.threads; first = n }) group (view_of c.part-own.result)) (sym len)
-      (worker_one lead.course.now lead.rounds team.threads lead.control gs group c.mask_of.result v named kept held (view_of c.part-own.result) c.part-own.ensures.given) in (
+    let left = held_rest course lead.rounds team.threads lead.control gs group c.mask_of.result v named kept held (view_of c.part-own.new.seat) c.part-own.ensures.kept in
+    let working : IsWorking course rest (view_of c.part-own.new.seat) = record { kept = record { groups = team_rest course lead.rounds team.threads lead.control gs group kept }; held = left } in
+    let worker : IsWorker course lead.rounds (record { threads = team.threads; first = c.len.result }) group (view_of c.part-own.result) =
+    subst (λ (n : ℕ). IsWorker course lead.rounds (record { threads = team.threads; first = n }) group (view_of c.part-own.result)) (sym len)
+    (worker_one course lead.rounds team.threads lead.control gs group c.mask_of.result v named kept held (view_of c.part-own.result) c.part-own.ensures.given) in (
       ((search rules, c.part-own.ensures.board.1, worker), search rules),
       (
         (let long : length team.groups.items ≡ suc (length gs) = ap length c.in-Some.ensures.items ∙ length_push gs group in search rules),
@@ -68,7 +72,7 @@ join-own-requires-after_bounds g t c κs within =
     )
 
 pub meet-requires : goal.meet-requires
-meet-requires g t c = let e = c.join-own.ensures in ?
+meet-requires g t c = record { board = (c.join-own.ensures.second.0, c.join-own.ensures.first.0) }
 
 pub push_reserved-requires : goal.push_reserved-requires
 push_reserved-requires g t c =
@@ -78,28 +82,29 @@ push_reserved-requires g t c =
     let room = shape.room in
     search rules
 
-no_more : (xs : List Group) → xs ++ [] ≡ xs
-no_more xs = append-nil xs
-
 pub returns-in-None-clause-team : goal.returns-in-None-clause-team
 returns-in-None-clause-team g t c =
     let e = c.drive_team.ensures in
-    record { kept = e.kept; held = held_on (crew_view c.args.team.lead (deal_of c.args.team) c.pop.new.self.items) (team_view c.drive_team.new.team) (view_of c.args.seat) (view_of c.drive_team.new.seat) e.goes
-      (subst (λ (xs : List Group). IsHeld (crew_view c.args.team.lead (deal_of c.args.team) xs) (view_of c.args.seat)) (c.in-None.ensures.items ∙ no_more c.pop.new.self.items) c.requires.team.held) }
+    record {
+      kept = e.kept;
+      held = held_on (crew_view c.args.course.now c.args.team.lead (deal_of c.args.team) c.pop.new.self.items) (team_view c.args.course.now c.drive_team.new.team) (view_of c.args.seat) (view_of c.drive_team.new.seat) e.goes
+          (subst (λ (xs : List Group). IsHeld (crew_view c.args.course.now c.args.team.lead (deal_of c.args.team) xs) (view_of c.args.seat)) (c.in-None.ensures.items ∙ append-nil c.pop.new.self.items) c.requires.team.held);
+    }
 
 pub returns-in-Some-clause-team : goal.returns-in-Some-clause-team
 returns-in-Some-clause-team g t c =
     let team = c.args.team in
+    let course = c.args.course.now in
     let lead : Lead = team.lead in
     let gs : List Group = c.pop.new.self.items in
     let group : Group = c.in-Some.group in
     let v : View = view_of c.args.seat in
     let len : c.len.result ≡ length gs = omega (arith, c.len.ensures) in
-    let kept : IsTeam lead.course.now lead.rounds (first_of team.threads gs group) (gs ++ group ∷ []) = subst (IsTeam lead.course.now lead.rounds (first_of team.threads gs group)) c.in-Some.ensures.items c.requires.team.kept.groups in
+    let kept : IsTeam course lead.rounds (first_of team.threads gs group) (gs ++ group ∷ []) = subst (IsTeam course lead.rounds (first_of team.threads gs group)) c.in-Some.ensures.items c.requires.team.kept.groups in
     let first : length gs < team.threads = omega (arith, kept.few, length_push gs group) in
     let named : Names (last_of team.threads gs group) group c.mask_of.result = names_all (last_of team.threads gs group) group c.mask_of.result first
-      (subst (λ (n : ℕ). NamesFirst (record { threads = team.threads; first = n }) (length group.members.items) c.mask_of.result) len c.mask_of.ensures) in
-    let held : IsHeld (crew_view lead (first_of team.threads gs group) (gs ++ group ∷ [])) v = subst (λ (xs : List Group). IsHeld (crew_view lead (first_of team.threads gs group) xs) v) c.in-Some.ensures.items c.requires.team.held in
+    (subst (λ (n : ℕ). NamesFirst (record { threads = team.threads; first = n }) (length group.members.items) c.mask_of.result) len c.mask_of.ensures) in
+    let held : IsHeld (crew_view course lead (first_of team.threads gs group) (gs ++ group ∷ [])) v = subst (λ (xs : List Group). IsHeld (crew_view course lead (first_of team.threads gs group) xs) v) c.in-Some.ensures.items c.requires.team.held in
     let team' = c.join-own.result.1.1 in
     let lead' : Lead = team'.lead in
     let group' : Group = c.join-own.result.0.1 in
@@ -108,30 +113,31 @@ returns-in-Some-clause-team g t c =
     let w : View = view_of c.meet.new.seat in
     let one = c.join-own.ensures.first in
     let rest = c.join-own.ensures.second in
-    let all : Met lead.course.now lead'.course.now lead.rounds lead'.rounds lead.control lead'.control team.threads gs team'.groups.items group group' c.mask_of.result v (view_of c.part-own.new.seat) (view_of c.part-own.result) x y w team'.threads =
-      met lead.course.now lead'.course.now lead.rounds lead'.rounds lead.control lead'.control team.threads gs team'.groups.items group group' c.mask_of.result v (view_of c.part-own.new.seat) (view_of c.part-own.result) x y w
-      team'.threads rest.3.threads named kept c.part-own.ensures.kept c.part-own.ensures.given c.meet.ensures.view rest.1.kept.groups rest.1.held rest.2
-      (subst (λ (n : ℕ). IsWorker lead.course.now lead.rounds (record { threads = team.threads; first = n }) group' y) len one.1)
-      (subst (λ (n : ℕ). GoesOn (worker_view lead.course.now lead.rounds (record { threads = team.threads; first = n }) group) (view_of c.part-own.result) (worker_view lead.course.now lead.rounds (record { threads = team.threads; first = n }) group') y) len one.2)
-      rest.3.count in
+    let all : Met course course lead.rounds lead'.rounds lead.control lead'.control team.threads gs team'.groups.items group group' c.mask_of.result v (view_of c.part-own.new.seat) (view_of c.part-own.result) x y w team'.threads =
+    met course course lead.rounds lead'.rounds lead.control lead'.control team.threads gs team'.groups.items group group' c.mask_of.result v (view_of c.part-own.new.seat) (view_of c.part-own.result) x y w
+    team'.threads rest.3.threads named kept c.part-own.ensures.kept c.part-own.ensures.given c.meet.ensures.view rest.1.kept.groups rest.1.held rest.2
+    (subst (λ (n : ℕ). IsWorker course lead.rounds (record { threads = team.threads; first = n }) group' y) len one.1)
+    (subst (λ (n : ℕ). GoesOn (worker_view course lead.rounds (record { threads = team.threads; first = n }) group) (view_of c.part-own.result) (worker_view course lead.rounds (record { threads = team.threads; first = n }) group') y) len one.2)
+    rest.3.count in
     record {
-      kept = record { groups = subst (IsTeam lead'.course.now lead'.rounds (record { threads = team'.threads; first = 0 })) (sym c.push_reserved.ensures.items) all.0 };
-      held = subst (λ (xs : List Group). IsHeld (crew_view lead' (record { threads = team'.threads; first = 0 }) xs) w) (sym c.push_reserved.ensures.items) all.1;
+      kept = record { groups = subst (IsTeam course lead'.rounds (record { threads = team'.threads; first = 0 })) (sym c.push_reserved.ensures.items) all.0 };
+      held = subst (λ (xs : List Group). IsHeld (crew_view course lead' (record { threads = team'.threads; first = 0 }) xs) w) (sym c.push_reserved.ensures.items) all.1;
     }
 
 pub returns-in-Some-clause-goes : goal.returns-in-Some-clause-goes
 returns-in-Some-clause-goes g t c =
     let team = c.args.team in
+    let course = c.args.course.now in
     let lead : Lead = team.lead in
     let gs : List Group = c.pop.new.self.items in
     let group : Group = c.in-Some.group in
     let v : View = view_of c.args.seat in
     let len : c.len.result ≡ length gs = omega (arith, c.len.ensures) in
-    let kept : IsTeam lead.course.now lead.rounds (first_of team.threads gs group) (gs ++ group ∷ []) = subst (IsTeam lead.course.now lead.rounds (first_of team.threads gs group)) c.in-Some.ensures.items c.requires.team.kept.groups in
+    let kept : IsTeam course lead.rounds (first_of team.threads gs group) (gs ++ group ∷ []) = subst (IsTeam course lead.rounds (first_of team.threads gs group)) c.in-Some.ensures.items c.requires.team.kept.groups in
     let first : length gs < team.threads = omega (arith, kept.few, length_push gs group) in
     let named : Names (last_of team.threads gs group) group c.mask_of.result = names_all (last_of team.threads gs group) group c.mask_of.result first
-      (subst (λ (n : ℕ). NamesFirst (record { threads = team.threads; first = n }) (length group.members.items) c.mask_of.result) len c.mask_of.ensures) in
-    let held : IsHeld (crew_view lead (first_of team.threads gs group) (gs ++ group ∷ [])) v = subst (λ (xs : List Group). IsHeld (crew_view lead (first_of team.threads gs group) xs) v) c.in-Some.ensures.items c.requires.team.held in
+    (subst (λ (n : ℕ). NamesFirst (record { threads = team.threads; first = n }) (length group.members.items) c.mask_of.result) len c.mask_of.ensures) in
+    let held : IsHeld (crew_view course lead (first_of team.threads gs group) (gs ++ group ∷ [])) v = subst (λ (xs : List Group). IsHeld (crew_view course lead (first_of team.threads gs group) xs) v) c.in-Some.ensures.items c.requires.team.held in
     let team' = c.join-own.result.1.1 in
     let lead' : Lead = team'.lead in
     let group' : Group = c.join-own.result.0.1 in
@@ -140,14 +146,14 @@ returns-in-Some-clause-goes g t c =
     let w : View = view_of c.meet.new.seat in
     let one = c.join-own.ensures.first in
     let rest = c.join-own.ensures.second in
-    let all : Met lead.course.now lead'.course.now lead.rounds lead'.rounds lead.control lead'.control team.threads gs team'.groups.items group group' c.mask_of.result v (view_of c.part-own.new.seat) (view_of c.part-own.result) x y w team'.threads =
-      met lead.course.now lead'.course.now lead.rounds lead'.rounds lead.control lead'.control team.threads gs team'.groups.items group group' c.mask_of.result v (view_of c.part-own.new.seat) (view_of c.part-own.result) x y w
-      team'.threads rest.3.threads named kept c.part-own.ensures.kept c.part-own.ensures.given c.meet.ensures.view rest.1.kept.groups rest.1.held rest.2
-      (subst (λ (n : ℕ). IsWorker lead.course.now lead.rounds (record { threads = team.threads; first = n }) group' y) len one.1)
-      (subst (λ (n : ℕ). GoesOn (worker_view lead.course.now lead.rounds (record { threads = team.threads; first = n }) group) (view_of c.part-own.result) (worker_view lead.course.now lead.rounds (record { threads = team.threads; first = n }) group') y) len one.2)
-      rest.3.count in
-    subst (λ (xs : List Group). GoesOn (crew_view lead (first_of team.threads gs group) xs) v (crew_view lead' (record { threads = team'.threads; first = 0 }) c.push_reserved.new.self.items) w) (sym c.in-Some.ensures.items)
-    (subst (λ (xs : List Group). GoesOn (crew_view lead (first_of team.threads gs group) (gs ++ group ∷ [])) v (crew_view lead' (record { threads = team'.threads; first = 0 }) xs) w) (sym c.push_reserved.ensures.items) all.2)
+    let all : Met course course lead.rounds lead'.rounds lead.control lead'.control team.threads gs team'.groups.items group group' c.mask_of.result v (view_of c.part-own.new.seat) (view_of c.part-own.result) x y w team'.threads =
+    met course course lead.rounds lead'.rounds lead.control lead'.control team.threads gs team'.groups.items group group' c.mask_of.result v (view_of c.part-own.new.seat) (view_of c.part-own.result) x y w
+    team'.threads rest.3.threads named kept c.part-own.ensures.kept c.part-own.ensures.given c.meet.ensures.view rest.1.kept.groups rest.1.held rest.2
+    (subst (λ (n : ℕ). IsWorker course lead.rounds (record { threads = team.threads; first = n }) group' y) len one.1)
+    (subst (λ (n : ℕ). GoesOn (worker_view course lead.rounds (record { threads = team.threads; first = n }) group) (view_of c.part-own.result) (worker_view course lead.rounds (record { threads = team.threads; first = n }) group') y) len one.2)
+    rest.3.count in
+    subst (λ (xs : List Group). GoesOn (crew_view course lead (first_of team.threads gs group) xs) v (crew_view course lead' (record { threads = team'.threads; first = 0 }) c.push_reserved.new.self.items) w) (sym c.in-Some.ensures.items)
+    (subst (λ (xs : List Group). GoesOn (crew_view course lead (first_of team.threads gs group) (gs ++ group ∷ [])) v (crew_view course lead' (record { threads = team'.threads; first = 0 }) xs) w) (sym c.push_reserved.ensures.items) all.2)
 
 pub returns-in-Some-clause-shape : goal.returns-in-Some-clause-shape
 returns-in-Some-clause-shape g t c =

@@ -18,12 +18,12 @@ pub returns-clause-worker : goal.returns-clause-worker
 returns-clause-worker g c =
     let e = c.drive_groups.ensures in
     let l = c.drive_groups.new.lead in
-    (worker_on c.args.course.now l.course.now c.args.rounds l.rounds c.new.result l.control c.args.deal c.args.group c.drive_groups.new.groups (view_of c.args.seat) (view_of c.drive_groups.new.seat) c.requires.worker e.team (c.drive_groups.auto.groups ∙ c.from_mut.ensures.len)
-      (subst (λ (gs : List Group). GoesOn (crew_of c.args.course.now c.args.rounds c.new.result c.args.deal gs) (view_of c.args.seat) (crew_view l c.args.deal c.drive_groups.new.groups) (view_of c.drive_groups.new.seat)) c.from_mut.ensures.value e.goes)).0
+    (worker_on c.args.course.now c.args.course.now c.args.rounds l.rounds c.new.result l.control c.args.deal c.args.group c.drive_groups.new.groups (view_of c.args.seat) (view_of c.drive_groups.new.seat) c.requires.worker e.team (c.drive_groups.auto.groups ∙ c.from_mut.ensures.len)
+    (subst (λ (gs : List Group). GoesOn (crew_of c.args.course.now c.args.rounds c.new.result c.args.deal gs) (view_of c.args.seat) (crew_view c.args.course.now l c.args.deal c.drive_groups.new.groups) (view_of c.drive_groups.new.seat)) c.from_mut.ensures.value e.goes)).0
 
 pub returns-clause-goes : goal.returns-clause-goes
 returns-clause-goes g c =
     let e = c.drive_groups.ensures in
     let l = c.drive_groups.new.lead in
-    (worker_on c.args.course.now l.course.now c.args.rounds l.rounds c.new.result l.control c.args.deal c.args.group c.drive_groups.new.groups (view_of c.args.seat) (view_of c.drive_groups.new.seat) c.requires.worker e.team (c.drive_groups.auto.groups ∙ c.from_mut.ensures.len)
-      (subst (λ (gs : List Group). GoesOn (crew_of c.args.course.now c.args.rounds c.new.result c.args.deal gs) (view_of c.args.seat) (crew_view l c.args.deal c.drive_groups.new.groups) (view_of c.drive_groups.new.seat)) c.from_mut.ensures.value e.goes)).1
+    (worker_on c.args.course.now c.args.course.now c.args.rounds l.rounds c.new.result l.control c.args.deal c.args.group c.drive_groups.new.groups (view_of c.args.seat) (view_of c.drive_groups.new.seat) c.requires.worker e.team (c.drive_groups.auto.groups ∙ c.from_mut.ensures.len)
+    (subst (λ (gs : List Group). GoesOn (crew_of c.args.course.now c.args.rounds c.new.result c.args.deal gs) (view_of c.args.seat) (crew_view c.args.course.now l c.args.deal c.drive_groups.new.groups) (view_of c.drive_groups.new.seat)) c.from_mut.ensures.value e.goes)).1
