@@ -1,28 +1,78 @@
--- What contracts see of a crew.
-use Rattle.std.specs.Prelude.{◌≡◌, ℕ, ◌<◌, true, List, [], length}
-use Rattle.table_form.specs.Running.Courses.{CourseView}
+-- The actors of a run, and when they agree with a view.
+-- Source: the rules of this project.
+use Rattle.std.specs.Prelude.{◌≡◌, ℕ, ◌*◌, ◌<◌, true, List, [], Option, None, Some, length}
+use Rattle.tab_core.specs.declared.TheConstants.{ROUND}
+use Rattle.table_form.specs.Running.Courses.{CourseView, FitsRounds, IsCourse, outline_of}
 use Rattle.round_words.specs.declared.view.View.{View}
-use Rattle.round_words.specs.Lessons.{Core}
-use Rattle.round_words.specs.Others.{IsStarted}
+use Rattle.round_words.specs.Shown.{HoldsCore}
 use Rattle.round_words.specs.Views.{controller, holds, part}
-use Rattle.core_workers.specs.declared.team.Lead.{Lead}
-use Rattle.core_workers.specs.declared.team.Member.{Member}
-use Rattle.core_workers.specs.Teams.{IsTeam, course_of}
+use Rattle.dispatch_core.specs.Parts.{IsNewPart, IsOfOutline}
+use Rattle.dispatch_core.specs.States.{AgreesWith, IsSameCore, StateView}
+use Rattle.plan_switch.specs.Controllers as controllers
+use Rattle.core_workers.specs.Groups.{CrewView, actor_of}
 
--- the controller, and a core's actor for each core
-pub record CrewView : Type 0 where
-  pub lead : Lead
-  pub members : List Member
+-- the actor is that of core c, in the crew's run
+pub record IsActorOf (crew : CrewView) (c : ℕ) (a : StateView) : Type 0 where
+  pub core : a.core ≡ c
+  pub within : c < crew.course.cores
+  pub rounds_is : a.rounds ≡ crew.rounds
 
--- what each crew keeps
-pub record IsCrew (lead : Lead) (members : List Member) : Type 0 where
-  pub team : IsTeam lead members
-  pub size : length members ≡ (course_of lead).cores
+-- the actors are those of some cores in a run that has all events of its course
+pub record IsCrew (crew : CrewView) : Type 0 where
+  pub course_kept : IsCourse crew.course
+  pub fits : FitsRounds crew.course crew.rounds
+  pub each : (c : ℕ) (a : StateView) → actor_of crew c ≡ Some a → IsActorOf crew c a
 
--- the view was started for the course, and nothing has happened in it to the actors that it holds
+-- each core has its actor
+abbrev pub IsWhole : CrewView → Type 0
+IsWhole crew = (c : ℕ) → c < crew.course.cores → (a : StateView) × (actor_of crew c ≡ Some a)
+
+-- those whose parts the view holds agree with them
+pub record AllAgree (crew : CrewView) (v : View) : Type 0 where
+  pub cores : (c : ℕ) (a : StateView) → actor_of crew c ≡ Some a → holds v c ≡ true → AgreesWith crew.course a v
+  pub control : holds v controller ≡ true → controllers.AgreesWith crew.course crew.control v
+
+-- the same actor, some steps on, or none
+abbrev pub IsSameAt : Option StateView → Option StateView → Type 0
+IsSameAt None None = Unit {0}
+IsSameAt None (Some b) = ⊥
+IsSameAt (Some a) None = ⊥
+IsSameAt (Some a) (Some b) = IsSameCore a b
+
+-- the same actors, some steps on
+pub record IsSameCrew (crew crew' : CrewView) : Type 0 where
+  pub course : crew'.course ≡ crew.course
+  pub rounds : crew'.rounds ≡ crew.rounds
+  pub each : (c : ℕ) → IsSameAt (actor_of crew c) (actor_of crew' c)
+
+-- the view holds the parts of all cores, and the controller's
+pub record HoldsAll (crew : CrewView) (v : View) : Type 0 where
+  pub cores : (c : ℕ) → c < crew.course.cores → holds v c ≡ true
+  pub control : holds v controller ≡ true
+
+-- the core's clock is at the run's end
+abbrev pub HasFinished : StateView → Type 0
+HasFinished a = a.clock ≡ a.rounds * ROUND
+
+-- every event is posted
+abbrev pub HasPosted : CrewView → Type 0
+HasPosted crew = crew.control.posted ≡ length crew.course.ticks
+
+-- those whose parts the view holds have finished
+pub record HeldFinished (crew : CrewView) (v : View) : Type 0 where
+  pub cores : (c : ℕ) (a : StateView) → actor_of crew c ≡ Some a → holds v c ≡ true → HasFinished a
+  pub control : holds v controller ≡ true → HasPosted crew
+
+-- the same board, and parts of the same actors
+pub record SameActors (v w : View) : Type 0 where
+  pub started : w.started ≡ v.started
+  pub lag : w.lag ≡ v.lag
+  pub cores : w.cores ≡ v.cores
+  pub events : w.events ≡ v.events
+  pub actors : (a : ℕ) → holds w a ≡ holds v a
+
+-- the view was started for the course, and nothing has happened to the parts that it holds
 pub record IsFresh (course : CourseView) (v : View) : Type 0 where
-  pub started : IsStarted course.lag course.cores (length course.ticks) v
-  pub clocks : (c : ℕ) → Core v c → (part v c).clock ≡ 0
-  pub entries : (c : ℕ) → Core v c → (part v c).entries ≡ []
-  pub stints : (c : ℕ) → Core v c → (part v c).stints ≡ []
-  pub floors : holds v controller ≡ true → (part v controller).floors ≡ []
+  pub started : IsOfOutline (outline_of course) v
+  pub cores : (c : ℕ) → HoldsCore v c → IsNewPart (part v c)
+  pub control : holds v controller ≡ true → controllers.IsNewPart (part v controller)

@@ -1,44 +1,53 @@
-ghost use Rattle.std.specs.Prelude.{◌≡◌, ◌<◌, ℕ, IfOk, Some, length, slice_get};
+ghost use Rattle.std.specs.Prelude.{◌≡◌, ◌<◌, ◌≤◌, IfOk, Some, length, min, max};
+ghost use Rattle.tab_core.specs.declared.TheConstants.{MAX_CORES};
 ghost use Rattle.table_form.specs.Running.Courses.{FitsRounds};
 ghost use Rattle.round_words.specs.declared.view.View.{View as ViewValue};
 ghost use Rattle.round_words.specs.Seats.{view_of, IsSeatOf};
-ghost use Rattle.core_workers.specs.declared.team.Member.{Member as MemberValue};
-ghost use Rattle.core_workers.specs.Crews.{IsFresh};
-ghost use Rattle.core_workers.specs.Making.{AreMembers};
-ghost use Rattle.core_workers.specs.Teams.{AllAgree, HeldFinished, HoldsAll, IsSameTeam, SameActors, course_of};
+ghost use Rattle.core_workers.specs.Crews.{AllAgree, HeldFinished, HoldsAll, IsFresh, IsSameCrew, SameActors};
+ghost use Rattle.core_workers.specs.Groups.{actor_of};
+ghost use Rattle.core_workers.specs.Inside.Making.{AreGroups, AreMembers};
 
-use crate::drives::drive_team;
+use crate::driving::drive_team;
 use crate::gate::Gate;
-use crate::team::{Lead, Member, Team};
-use dispatch_core::CoreActor;
-use plan_switch::Controller;
+use crate::team::{Deal, Group, Lead, Member, Team};
+use dispatch_core::CoreState;
+use plan_switch::ControlState;
 use round_words::{RoundBoard, RoundSeat};
+use slice_table::CoreSlices;
 use std::alloc::Global;
 use std::marker::Model;
+use std::num::NonZeroUsize;
+use std::thread::{Threads, available_parallelism};
 use tab_core::{CoreNo, NoMemory};
 use table_form::Course;
+
+// how many turns in a row a thread that has a processor of its own tries before it lets others have it
+const SPINS: u32 = 64;
 
 /// All actors of a run: one for each core, and the controller.
 #[derive(Debug, Drop)]
 pub struct Crew<'a> {
-    pub(crate) team: Team<'a>,
+    pub(crate) course: &'a Course,
+    pub(crate) team: Team,
 }
 
 impl<'a> Model for Crew<'a> {
-    ghost use Rattle.core_workers.specs.Crews.{CrewView, IsCrew};
+    ghost use Rattle.core_workers.specs.Groups.{CrewView, team_view};
+    ghost use Rattle.core_workers.specs.Inside.Teams.{IsWholeTeam};
 
     ghost Value = { CrewView };
 
-    ghost view = { λ c. record { lead = c.team.lead; members = c.team.members.items } };
+    ghost view = { λ c. team_view c.course.now c.team };
 
-    ghost invariant = { λ c. IsCrew c.team.lead c.team.members.items };
+    ghost invariant = { λ c. IsWholeTeam c.course.now c.team };
 }
 
 impl<'a> Crew<'a> {
     /// The actors of a run of so many rounds that has not begun. `keep` says for each core how many stints are kept.
     ///
     /// A run of so many rounds has all events of the course. Fails only for want of memory.
-    pub fn make(
+    pub fn make<R: Threads>(
+        rt: &R,
         alloc: Global,
         course: &'a Course,
         rounds: u32,
@@ -46,67 +55,127 @@ impl<'a> Crew<'a> {
     ) -> Result<Crew<'a>, NoMemory>
         requires fits { FitsRounds course.now rounds }
         requires count { length keep.now ≡ course.now.cores }
-        ensures same { IfOk result (λ c. (course_of c.lead ≡ course.now) × (c.lead.rounds ≡ rounds)) }
-        ensures agree { IfOk result (λ c. (v : ViewValue) → IsFresh course.now v → AllAgree c.lead c.members v) }
+        ensures same { IfOk result (λ c. (c.course ≡ course.now) × (c.rounds ≡ rounds)) }
+        ensures agree { IfOk result (λ c. (v : ViewValue) → IsFresh course.now v → AllAgree c v) }
     {
-        let members = make_members(alloc, course, rounds, keep)?;
-        // what every course keeps
-        let _cores = course.cores();
+        let processors = processors(rt);
+        let threads = threads_for(course.cores(), processors);
+        let spins = if threads < processors { SPINS } else { 0 };
+        let groups = make_groups(alloc, course, threads, rounds, keep)?;
         let lead = Lead {
-            controller: Controller::make(course),
+            control: ControlState::new(),
             rounds,
             steps: 0,
         };
         Ok(Crew {
-            team: Team { members, lead },
+            course,
+            team: Team {
+                groups,
+                threads,
+                spins,
+                lead,
+            },
         })
     }
 
-    /// The actor of the core.
-    pub fn actor(&self, core: CoreNo) -> &CoreActor<'a>
-        requires { core < (course_of self.now.lead).cores }
-        ensures { (m : MemberValue) → slice_get self.now.members core ≡ Some m → result.now ≡ m.actor }
+    /// What the core's actor keeps of its run.
+    pub fn actor(&self, core: CoreNo) -> &CoreState
+        requires { core < self.now.course.cores }
+        ensures { actor_of self.now core ≡ Some result.now }
     {
-        let at = core.index();
-        &self.team.members[at].actor
+        let number = core.index();
+        let threads = self.team.threads as usize;
+        &self.team.groups[number % threads].members[number / threads].state
     }
 }
 
-fn make_members<'a>(
+// How many processors there are, or 1 where that can't be told.
+fn processors<R: Threads>(rt: &R) -> u32 {
+    match available_parallelism(rt) {
+        Ok(count) => u32::try_from(count.get()).unwrap_or(u32::MAX),
+        Err(_) => 1,
+    }
+}
+
+// A thread for each core where there are as many processors, otherwise one for each processor, but two at least.
+fn threads_for(cores: u32, processors: u32) -> u32
+    ensures { result ≡ min cores (max processors 2) }
+{
+    cores.min(processors.max(2))
+}
+
+fn make_groups(
     alloc: Global,
-    course: &'a Course,
+    course: &Course,
+    threads: u32,
     rounds: u32,
     keep: &[u32],
-) -> Result<Vec<Member<'a>>, NoMemory>
+) -> Result<Vec<Group>, NoMemory>
     requires fits { FitsRounds course.now rounds }
     requires count { length keep.now ≡ course.now.cores }
-    ensures { IfOk result (λ members. AreMembers course.now rounds members.items × (length members.items ≡ course.now.cores)) }
+    requires threads { (0 < threads) × (threads ≤ MAX_CORES) }
+    ensures { IfOk result (λ groups. AreGroups course.now rounds threads groups.items × (length groups.items ≡ threads)) }
 {
-    let mut members = Vec::with_capacity(alloc, keep.len())?;
-    // what every course keeps
-    let cores = course.cores();
-    for core in 0..cores {
-        let actor = CoreActor::make(alloc, course, CoreNo(core), rounds, keep[core as usize])?;
-        members.push_reserved(Member { actor, steps: 0 });
+    let mut groups = Vec::with_capacity(alloc, threads as usize)?;
+    for first in 0..threads {
+        let deal = Deal { threads, first };
+        let group = make_group(alloc, course, deal, rounds, keep)?;
+        groups.push_reserved(group);
     }
-    Ok(members)
+    Ok(groups)
 }
 
-/// Turns of those actors whose parts the seat holds, one step of each in a turn, until all of them have finished, or
-/// none of them got on in `PATIENCE` turns in a row.
+// The cores of the thread `first`.
+fn make_group(
+    alloc: Global,
+    course: &Course,
+    deal: Deal,
+    rounds: u32,
+    keep: &[u32],
+) -> Result<Group, NoMemory>
+    requires fits { FitsRounds course.now rounds }
+    requires count { length keep.now ≡ course.now.cores }
+    requires threads { (deal.first < deal.threads) × (deal.threads ≤ MAX_CORES) }
+    ensures { IfOk result (λ group. AreMembers course.now rounds deal group.members.items course.now.cores) }
+{
+    let mut members = Vec::new(alloc);
+    let mut core = deal.first;
+    'making: while core < course.cores() {
+        let slices = CoreSlices::make(alloc, course, CoreNo(core))?;
+        let state = CoreState::make(
+            alloc,
+            course.outline(),
+            CoreNo(core),
+            rounds,
+            keep[core as usize],
+        )?;
+        members.push(Member {
+            slices,
+            state,
+            steps: 0,
+        })?;
+        core += deal.threads;
+    }
+    Ok(Group { members })
+}
+
+/// Turns of those actors whose parts the seat holds, until all of them have finished, or none of them gets on in
+/// `PATIENCE` turns in a row.
 ///
-/// Each of them agrees with its part, which it does again afterwards. Where the seat holds all parts, every actor has
+/// In a turn the core of least clock runs on, until it is stuck or more than the lag ahead of the others, and then the
+/// controller makes a step, until it has posted all. The gate is passed before each step, also before the one that
+/// finds that its actor has finished.
+///
+/// Each actor agrees with its part, which it does again afterwards. Where the seat holds all parts, every actor has
 /// finished at the end.
 pub fn drive<G: Gate>(board: &RoundBoard, seat: &mut RoundSeat, crew: &mut Crew<'_>, gate: &G)
     requires board { IsSeatOf board.now seat.old }
-    requires agree { AllAgree crew.old.lead crew.old.members (view_of seat.old) }
+    requires agree { AllAgree crew.old (view_of seat.old) }
     ensures board { IsSeatOf board.now seat.new }
-    ensures agree { AllAgree crew.new.lead crew.new.members (view_of seat.new) }
-    ensures same { IsSameTeam crew.old.lead crew.old.members crew.new.lead crew.new.members }
+    ensures agree { AllAgree crew.new (view_of seat.new) }
+    ensures same { IsSameCrew crew.old crew.new }
     ensures actors { SameActors (view_of seat.old) (view_of seat.new) }
-    ensures finished { HoldsAll crew.old.lead crew.old.members (view_of seat.old)
-        → HeldFinished crew.new.lead crew.new.members (view_of seat.new) }
+    ensures finished { HoldsAll crew.old (view_of seat.old) → HeldFinished crew.new (view_of seat.new) }
 {
-    let team = &mut crew.team;
-    drive_team(board, seat, &mut team.members, &mut team.lead, gate);
+    drive_team(board, seat, crew.course, &mut crew.team, gate);
 }

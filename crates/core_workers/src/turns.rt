@@ -1,96 +1,152 @@
-ghost use Rattle.std.specs.Prelude.{◌≡◌, ◌<◌, ℕ, true, Some, length, slice_get};
-ghost use Rattle.table_form.specs.Running.Courses.{IsCourse};
+ghost use Rattle.std.specs.Prelude.{◌≡◌, ◌≤◌, Some, true};
 ghost use Rattle.round_words.specs.Seats.{view_of, IsSeatOf};
 ghost use Rattle.round_words.specs.Views.{holds};
-ghost use Rattle.dispatch_core.specs.Actors.{AgreesWith};
-ghost use Rattle.core_workers.specs.declared.team.Member.{Member as MemberValue};
-ghost use Rattle.core_workers.specs.Teams.{AllAgree, IsSameTeam, IsTeam, SameActors};
-ghost use Rattle.core_workers.specs.Turns.{CoresTurn, MemberTurn, TurnTold, worse as the_worse};
+ghost use Rattle.dispatch_core.specs.States.{StateView};
+ghost use Rattle.core_workers.specs.Crews.{AllAgree};
+ghost use Rattle.core_workers.specs.Groups.{actor_of, crew_view};
+ghost use Rattle.core_workers.specs.Inside.Clocks.{AreClocks};
+ghost use Rattle.core_workers.specs.Inside.Teams.{GoesOn, IsTeam};
+ghost use Rattle.core_workers.specs.Inside.Turns.{CoresTold, RunsOn, TurnTold, unless_moved};
 
+use crate::clocks::{Clocks, OUT, find_least};
 use crate::gate::Gate;
-use crate::progress::Progress;
-use crate::steps::{CONTROLLER, step_lead, step_member};
-use crate::team::{Lead, Member};
+use crate::steps::{step_core, step_lead};
+use crate::team::{Deal, Group, Lead};
+use dispatch_core::CoreAnswer;
+use plan_switch::ControlAnswer;
 use round_words::{RoundBoard, RoundSeat};
+use table_form::Course;
 
-// One step of each of them whose part the seat holds, the cores first.
+/// What became of a turn.
+#[derive(Clone, Copy, Debug, PartialEq, Eq)]
+pub(crate) enum Progress {
+    /// Somebody got on.
+    Moved,
+    /// Nobody got on, and somebody waits.
+    Waits,
+    /// There is nothing left to do.
+    Done,
+}
+
+// A core of least clock runs on until it is stuck, or too far ahead of the others. Then the controller makes a step.
 pub(crate) fn turn<G: Gate>(
     board: &RoundBoard,
     seat: &mut RoundSeat,
-    members: &mut [Member<'_>],
-    lead: &mut Lead<'_>,
+    course: &Course,
+    lead: &mut Lead,
+    deal: Deal,
+    groups: &mut [Group],
+    clocks: &mut Clocks,
     gate: &G,
 ) -> Progress
     requires board { IsSeatOf board.now seat.old }
-    requires team { IsTeam lead.old members.old }
-    requires agree { AllAgree lead.old members.old (view_of seat.old) }
+    requires team { IsTeam course.now lead.old.rounds deal groups.old }
+    requires agree { AllAgree (crew_view course.now lead.old deal groups.old) (view_of seat.old) }
+    requires clocks { AreClocks (crew_view course.now lead.old deal groups.old) (view_of seat.old) clocks.old }
     ensures board { IsSeatOf board.now seat.new }
-    ensures team { IsTeam lead.new members.new }
-    ensures agree { AllAgree lead.new members.new (view_of seat.new) }
-    ensures same { IsSameTeam lead.old members.old lead.new members.new }
-    ensures actors { SameActors (view_of seat.old) (view_of seat.new) }
-    ensures told { TurnTold lead.old members.old (view_of seat.old) result lead.new members.new }
+    ensures team { IsTeam course.now lead.new.rounds deal groups.new }
+    ensures goes { GoesOn (crew_view course.now lead.old deal groups.old) (view_of seat.old) (crew_view course.now lead.new deal groups.new) (view_of seat.new) }
+    ensures clocks { AreClocks (crew_view course.now lead.new deal groups.new) (view_of seat.new) clocks.new }
+    ensures told { TurnTold (crew_view course.now lead.old deal groups.old) clocks.old (view_of seat.old) result
+        (crew_view course.now lead.new deal groups.new) clocks.new (view_of seat.new) }
 {
-    let cores = turn_cores(board, seat, members, lead, gate);
-    if seat.holds(CONTROLLER) {
-        worse(cores, step_lead(board, seat, lead, gate))
-    } else {
-        cores
+    let cores = turn_cores(board, seat, course, lead, deal, groups, clocks, gate);
+    if !clocks.posting {
+        return cores;
+    }
+    match step_lead(board, seat, course, lead, gate) {
+        ControlAnswer::Posted { count: _ } => Progress::Moved,
+        ControlAnswer::Behind { core: _, tick: _ } => or_waits(cores),
+        ControlAnswer::Finished => {
+            clocks.posting = false;
+            Progress::Moved
+        }
     }
 }
 
-// `lead` is for the proof alone: the members are in its run.
+fn or_waits(cores: Progress) -> Progress
+    ensures { result ≡ unless_moved cores }
+{
+    match cores {
+        Progress::Moved => Progress::Moved,
+        Progress::Waits | Progress::Done => Progress::Waits,
+    }
+}
+
+// A core of least clock runs on until it is stuck, or too far ahead of the others.
 fn turn_cores<G: Gate>(
     board: &RoundBoard,
     seat: &mut RoundSeat,
-    members: &mut [Member<'_>],
-    lead: &Lead<'_>,
+    course: &Course,
+    lead: &Lead,
+    deal: Deal,
+    groups: &mut [Group],
+    clocks: &mut Clocks,
     gate: &G,
 ) -> Progress
     requires board { IsSeatOf board.now seat.old }
-    requires team { IsTeam lead.now members.old }
-    requires agree { AllAgree lead.now members.old (view_of seat.old) }
+    requires team { IsTeam course.now lead.now.rounds deal groups.old }
+    requires agree { AllAgree (crew_view course.now lead.now deal groups.old) (view_of seat.old) }
+    requires clocks { AreClocks (crew_view course.now lead.now deal groups.old) (view_of seat.old) clocks.old }
     ensures board { IsSeatOf board.now seat.new }
-    ensures told { CoresTurn lead.now members.old (view_of seat.old) result members.new (view_of seat.new) (length members.old) }
+    ensures team { IsTeam course.now lead.now.rounds deal groups.new }
+    ensures goes { GoesOn (crew_view course.now lead.now deal groups.old) (view_of seat.old) (crew_view course.now lead.now deal groups.new) (view_of seat.new) }
+    ensures clocks { AreClocks (crew_view course.now lead.now deal groups.new) (view_of seat.new) clocks.new }
+    ensures posting { clocks.new.posting ≡ clocks.old.posting }
+    ensures told { CoresTold (crew_view course.now lead.now deal groups.old) clocks.old (view_of seat.old) result
+        (crew_view course.now lead.now deal groups.new) clocks.new }
 {
-    let _ = lead;
-    let mut all = Progress::Done;
-    for i in 0..members.len() {
-        let one = turn_member(board, seat, members, i, gate);
-        all = worse(all, one);
+    let cores = course.cores();
+    let lag = course.lag();
+    let next = find_least(clocks, cores);
+    let clock = clocks.ticks[next.core as usize];
+    if clock == OUT {
+        return Progress::Done;
     }
-    all
+    let limit = next.next.min(clock.saturating_add(lag)).saturating_add(lag);
+    let reached = run_core(
+        board, seat, course, lead, deal, groups, next.core, clock, limit, gate,
+    );
+    clocks.ticks[next.core as usize] = reached;
+    if reached == clock {
+        Progress::Waits
+    } else {
+        Progress::Moved
+    }
 }
 
-// A step of the member at the place, if the seat holds its core.
-fn turn_member<G: Gate>(
+// Steps of a core whose clock is given, while it runs and its clock is at most the limit. The answer is its clock then, or
+// OUT if it has finished.
+fn run_core<G: Gate>(
     board: &RoundBoard,
     seat: &mut RoundSeat,
-    members: &mut [Member<'_>],
-    at: usize,
+    course: &Course,
+    lead: &Lead,
+    deal: Deal,
+    groups: &mut [Group],
+    core: u32,
+    from: u32,
+    limit: u32,
     gate: &G,
-) -> Progress
+) -> u32
     requires board { IsSeatOf board.now seat.old }
-    requires within { (at < length members.old) × (at < 32) }
-    requires agrees { (m : MemberValue) → slice_get members.old at ≡ Some m → (m.actor.core ≡ at) × IsCourse m.actor.course
-        × (holds (view_of seat.old) at ≡ true → AgreesWith m.actor (view_of seat.old)) }
+    requires team { IsTeam course.now lead.now.rounds deal groups.old }
+    requires agree { AllAgree (crew_view course.now lead.now deal groups.old) (view_of seat.old) }
+    requires there { (a : StateView) × (actor_of (crew_view course.now lead.now deal groups.old) core ≡ Some a) × (from ≡ a.clock) }
+    requires held { holds (view_of seat.old) core ≡ true }
+    requires limit { from ≤ limit }
     ensures board { IsSeatOf board.now seat.new }
-    ensures told { (m : MemberValue) → slice_get members.old at ≡ Some m
-        → MemberTurn members.old at m (view_of seat.old) result members.new (view_of seat.new) }
+    ensures team { IsTeam course.now lead.now.rounds deal groups.new }
+    ensures goes { GoesOn (crew_view course.now lead.now deal groups.old) (view_of seat.old) (crew_view course.now lead.now deal groups.new) (view_of seat.new) }
+    ensures runs { RunsOn (crew_view course.now lead.now deal groups.old) (view_of seat.old) core from result (crew_view course.now lead.now deal groups.new) }
 {
-    if seat.holds(at as u32) {
-        step_member(board, seat, &mut members[at], at as u32, gate)
-    } else {
-        Progress::Done
+    let mut clock = from;
+    'running: while clock <= limit {
+        match step_core(board, seat, course, lead, deal, groups, core, gate) {
+            CoreAnswer::Ran(stint) => clock = stint.end,
+            CoreAnswer::Behind { who: _, tick: _ } => return clock,
+            CoreAnswer::Finished => return OUT,
+        }
     }
-}
-
-fn worse(a: Progress, b: Progress) -> Progress
-    ensures { result ≡ the_worse a b }
-{
-    match (a, b) {
-        (Progress::Moved, _) | (_, Progress::Moved) => Progress::Moved,
-        (Progress::Waits, _) | (_, Progress::Waits) => Progress::Waits,
-        (Progress::Done, Progress::Done) => Progress::Done,
-    }
+    clock
 }

@@ -1,32 +1,54 @@
-use Rattle.std.proofs.Common.{◌≡◌, ◌<◌, ◌+◌, ℕ, suc, length, get_or, refl, sym, ap, ◌∙◌, subst, arith}
-use Rattle.std.specs.Prelude.{slice_get, Some}
-use Rattle.table_form.specs.Running.Courses.{CourseView, IsCourse}
+use Rattle.std.proofs.Common.{◌≡◌, ◌<◌, ◌≤◌, ℕ, true, refl, sym, ap, ◌∙◌, subst, arith, length}
+use Rattle.std.specs.Prelude.{slice_index, slice_set}
 use Rattle.round_words.specs.declared.view.View.{View}
 use Rattle.round_words.specs.Seats.{view_of}
-use Rattle.dispatch_core.proofs.Lists.{element_at}
-use Rattle.core_workers.specs.declared.progress.Progress.{Progress}
-use Rattle.core_workers.specs.Turns.{CoresTurn, worse}
-use Rattle.core_workers.proofs.Turning.{turn_more}
+use Rattle.round_words.specs.Views.{holds}
+use Rattle.core_workers.specs.declared.clocks.TheConstants.{OUT}
+use Rattle.core_workers.specs.Groups.{CrewView, crew_view}
+use Rattle.core_workers.specs.Inside.Clocks.{IsLeast, left_of}
+use Rattle.core_workers.proofs.CrewLemmas.{crew_is}
+use Rattle.core_workers.proofs.TurnLemmas.{clocks_ran, going_on, least_stuck, left_same}
 use Rattle.core_workers.proofs.turns.turn_cores.Goals as goal
 
-pub turn_member-one-requires-clause-agrees : goal.turn_member-one-requires-clause-agrees
-turn_member-one-requires-clause-agrees g c = λ κs inside m at.
-    let t = c.loop-i.invariant.turn in
-    let is = t.team.each c.loop-i.i m at in
-    (is.core, subst IsCourse (sym is.course_is) t.team.course_kept, t.agree.cores c.loop-i.i m at)
+pub returns-then-reached-clock-clause-clocks : goal.returns-then-reached-clock-clause-clocks
+returns-then-reached-clock-clause-clocks g c =
+    let crew : CrewView = crew_view c.args.course.now c.args.lead.now c.args.deal c.args.groups.now in
+    let crew' : CrewView = crew_view c.args.course.now c.args.lead.now c.args.deal c.run_core-reached.new.groups in
+    let v : View = view_of c.args.seat.now in
+    let k : ℕ = c.find_least-next.result.core in
+    let lt : k < crew.course.cores = omega (arith, c.find_least-next.ensures.within, c.cores-cores.ensures.cores) in
+    let at = going_on crew v c.args.clocks.now k c.requires.clocks lt c.if-clock.false in
+    let e = c.run_core-reached.ensures in
+    clocks_ran crew crew' v (view_of c.run_core-reached.new.seat) c.args.clocks.now k (slice_index c.args.clocks.now.ticks k) c.run_core-reached.result
+    (crew_is c.args.course.now c.args.lead.now.rounds c.args.lead.now.control c.args.deal c.run_core-reached.new.groups e.team) c.requires.clocks e.goes
+    (omega (arith, lt, c.requires.team.course_kept.form.outline.few_cores)) at.1 e.runs
 
-pub loop-i-preserved : goal.loop-i-preserved
-loop-i-preserved g c =
-    let t = c.loop-i.invariant.turn in
-    let k : ℕ = c.loop-i.i in
-    let lt : k < length c.loop-i.members = let a = c.loop-i-test.true in omega (arith, t.same.count) in
-    let m = element_at c.loop-i.members k lt in
-    let small : k < 32 = omega (arith, lt, t.team.few, t.team.course_kept.form.few_cores) in
-    let more = turn_more c.args.lead.now c.args.members.now c.loop-i.members c.turn_member-one.new.members (view_of c.args.seat.now) (view_of c.loop-i.seat) (view_of c.turn_member-one.new.seat)
-    c.loop-i.all c.turn_member-one.result k m.0 small t m.1 (c.turn_member-one.ensures.told m.0 m.1) in
-    let next : suc k ≡ k + 1 = omega arith in
-    record {
-      board = c.turn_member-one.ensures.board;
-      turn = subst (λ (p : Progress). CoresTurn c.args.lead.now c.args.members.now (view_of c.args.seat.now) p c.turn_member-one.new.members (view_of c.turn_member-one.new.seat) (k + 1)) (sym c.worse-all.ensures)
-          (subst (λ (i : ℕ). CoresTurn c.args.lead.now c.args.members.now (view_of c.args.seat.now) (worse c.loop-i.all c.turn_member-one.result) c.turn_member-one.new.members (view_of c.turn_member-one.new.seat) i) next more);
-    }
+pub returns-else-reached-clock-clause-clocks : goal.returns-else-reached-clock-clause-clocks
+returns-else-reached-clock-clause-clocks g c =
+    let crew : CrewView = crew_view c.args.course.now c.args.lead.now c.args.deal c.args.groups.now in
+    let crew' : CrewView = crew_view c.args.course.now c.args.lead.now c.args.deal c.run_core-reached.new.groups in
+    let v : View = view_of c.args.seat.now in
+    let k : ℕ = c.find_least-next.result.core in
+    let lt : k < crew.course.cores = omega (arith, c.find_least-next.ensures.within, c.cores-cores.ensures.cores) in
+    let at = going_on crew v c.args.clocks.now k c.requires.clocks lt c.if-clock.false in
+    let e = c.run_core-reached.ensures in
+    clocks_ran crew crew' v (view_of c.run_core-reached.new.seat) c.args.clocks.now k (slice_index c.args.clocks.now.ticks k) c.run_core-reached.result
+    (crew_is c.args.course.now c.args.lead.now.rounds c.args.lead.now.control c.args.deal c.run_core-reached.new.groups e.team) c.requires.clocks e.goes
+    (omega (arith, lt, c.requires.team.course_kept.form.outline.few_cores)) at.1 e.runs
+
+pub returns-then-reached-clock-clause-told : goal.returns-then-reached-clock-clause-told
+returns-then-reached-clock-clause-told g c =
+    let crew : CrewView = crew_view c.args.course.now c.args.lead.now c.args.deal c.args.groups.now in
+    let crew' : CrewView = crew_view c.args.course.now c.args.lead.now c.args.deal c.run_core-reached.new.groups in
+    let v : View = view_of c.args.seat.now in
+    let k : ℕ = c.find_least-next.result.core in
+    let lt : k < crew.course.cores = omega (arith, c.find_least-next.ensures.within, c.cores-cores.ensures.cores) in
+    let at = going_on crew v c.args.clocks.now k c.requires.clocks lt c.if-clock.false in
+    let e = c.run_core-reached.ensures in
+    let small : k < 32 = omega (arith, lt, c.requires.team.course_kept.form.outline.few_cores) in
+    let inside : k < length c.args.clocks.now.ticks = omega (arith, small, c.requires.clocks.size) in
+    let least : IsLeast c.args.clocks.now k crew.course.cores = subst (IsLeast c.args.clocks.now k) c.cores-cores.ensures.cores c.find_least-next.ensures.least in (
+      left_same crew crew' c.args.clocks.now k c.run_core-reached.result refl refl inside c.if-reached-clock.true,
+      λ all. least_stuck crew crew' v (view_of c.run_core-reached.new.seat) c.args.clocks.now k (slice_index c.args.clocks.now.ticks k) c.run_core-reached.result
+          (crew_is c.args.course.now c.args.lead.now.rounds c.args.lead.now.control c.args.deal c.run_core-reached.new.groups e.team) e.goes inside at.1 e.runs c.if-reached-clock.true at.0 refl least all,
+    )

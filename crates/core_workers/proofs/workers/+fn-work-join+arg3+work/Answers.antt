@@ -1,112 +1,164 @@
-use Rattle.std.proofs.Common.{rules, ◌≡◌, ◌<◌, suc, true, false, ◌++◌, ◌∷◌, [], ℕ, List, length, refl, sym, ap, ◌∙◌, subst, arith}
-use Rattle.table_form.specs.Running.Courses.{CourseView, IsCourse}
-use Rattle.round_words.proofs.Lasts.{length_push}
+use Rattle.std.proofs.Common.{rules, ◌≡◌, ◌<◌, ◌≤◌, ◌+◌, ◌*◌, suc, true, ◌++◌, ◌∷◌, [], ℕ, List, length, Some, refl, sym, ap, ◌∙◌, subst, arith}
+use Rattle.std.proofs.lemmas.List.{append-nil}
+use Rattle.round_words.proofs.ListLemmas.{length_push}
 use Rattle.round_words.specs.declared.view.View.{View}
 use Rattle.round_words.specs.Seats.{view_of}
-use Rattle.round_words.specs.Views.{holds, only, without}
-use Rattle.dispatch_core.specs.Actors.{ActorView, AgreesWith, IsSameActor, state_view}
+use Rattle.round_words.specs.Views.{holds, names}
+use Rattle.core_workers.specs.declared.team.Group.{Group}
 use Rattle.core_workers.specs.declared.team.Lead.{Lead}
-use Rattle.core_workers.specs.declared.team.Member.{Member}
-use Rattle.core_workers.specs.Teams.{AllAgree, HoldsEach, IsActorOf, IsSameTeam, IsTeam, SameActors, course_of}
-use Rattle.core_workers.proofs.Parting.{actor_still, actors_whole, agree_own, agree_rest, agree_whole, board_whole, each_still, holds_rest, last_held, last_is, last_small, mask, mask_held, rest_off, same_whole, team_rest, team_whole}
+use Rattle.core_workers.specs.declared.team.Team.{Team}
+use Rattle.core_workers.specs.Groups.{crew_view, deal_of, team_view, worker_view}
+use Rattle.core_workers.specs.Inside.Teams.{GoesOn, IsHeld, IsSameShape, IsTeam, IsWorker, IsWorking, Names, NamesFirst}
+use Rattle.core_workers.proofs.PartingLemmas.{first_of, last_of, names_all, place_small}
+use Rattle.core_workers.proofs.MeetingLemmas.{Met, held_on, held_rest, mask_held, met, team_one, team_rest, worker_one}
 use Rattle.core_workers.proofs.workers.+fn-work-join+arg3+work.Goals as goal
+
+pub mask_of-requires-clause-small : goal.mask_of-requires-clause-small
+mask_of-requires-clause-small g t c = λ i inside.
+    let team = c.args.team in
+    let course = c.args.course.now in
+    let lead : Lead = team.lead in
+    let gs : List Group = c.pop.new.self.items in
+    let group : Group = c.in-Some.group in
+    let v : View = view_of c.args.seat in
+    let len : c.len.result ≡ length gs = omega (arith, c.len.ensures) in
+    let kept : IsTeam course lead.rounds (first_of team.threads gs group) (gs ++ group ∷ []) = subst (IsTeam course lead.rounds (first_of team.threads gs group)) c.in-Some.ensures.items c.requires.team.kept.groups in
+    let first : length gs < team.threads = omega (arith, kept.few, length_push gs group) in
+    let m = place_small (last_of team.threads gs group) group i first inside in
+    let small = ((team_one course lead.rounds team.threads lead.control gs group kept).each (length gs + i * team.threads) m.0 m.1).within in
+    omega (arith, small, kept.course_kept.form.outline.few_cores, len)
 
 pub part-own-requires-clause-holds : goal.part-own-requires-clause-holds
 part-own-requires-clause-holds g t c =
-    let ms : List Member = c.pop.new.self.items in
-    let m : Member = c.in-Some.member in
+    let team = c.args.team in
+    let course = c.args.course.now in
+    let lead : Lead = team.lead in
+    let gs : List Group = c.pop.new.self.items in
+    let group : Group = c.in-Some.group in
     let v : View = view_of c.args.seat in
-    let is : c.args.team.members.items ≡ ms ++ m ∷ [] = c.in-Some.ensures.items in
-    let core : c.len-core.result ≡ length ms = omega (arith, c.len-core.ensures) in
-    let team : IsTeam c.args.team.lead (ms ++ m ∷ []) = subst (IsTeam c.args.team.lead) is c.requires.team in
-    let each : HoldsEach (ms ++ m ∷ []) v = subst (λ (xs : List Member). HoldsEach xs v) is c.requires.holds in
-    mask_held c.len-core.result v (omega (arith, core, last_small c.args.team.lead ms m team)) (subst (λ (i : ℕ). holds v i ≡ true) (sym core) (last_held ms m v each))
+    let len : c.len.result ≡ length gs = omega (arith, c.len.ensures) in
+    let kept : IsTeam course lead.rounds (first_of team.threads gs group) (gs ++ group ∷ []) = subst (IsTeam course lead.rounds (first_of team.threads gs group)) c.in-Some.ensures.items c.requires.team.kept.groups in
+    let first : length gs < team.threads = omega (arith, kept.few, length_push gs group) in
+    let named : Names (last_of team.threads gs group) group c.mask_of.result = names_all (last_of team.threads gs group) group c.mask_of.result first
+    (subst (λ (n : ℕ). NamesFirst (record { threads = team.threads; first = n }) (length group.members.items) c.mask_of.result) len c.mask_of.ensures) in
+    let held : IsHeld (crew_view course lead (first_of team.threads gs group) (gs ++ group ∷ [])) v = subst (λ (xs : List Group). IsHeld (crew_view course lead (first_of team.threads gs group) xs) v) c.in-Some.ensures.items c.requires.team.held in
+    mask_held course lead.rounds team.threads lead.control gs group c.mask_of.result v named kept held
 
 pub join-own-requires-after_bounds : goal.join-own-requires-after_bounds
 join-own-requires-after_bounds g t c κs within =
-    let ms : List Member = c.pop.new.self.items in
-    let m : Member = c.in-Some.member in
-    let lead : Lead = c.args.team.lead in
+    let team = c.args.team in
+    let course = c.args.course.now in
+    let lead : Lead = team.lead in
+    let gs : List Group = c.pop.new.self.items in
+    let group : Group = c.in-Some.group in
     let v : View = view_of c.args.seat in
-    let is : c.args.team.members.items ≡ ms ++ m ∷ [] = c.in-Some.ensures.items in
-    let core : c.len-core.result ≡ length ms = omega (arith, c.len-core.ensures) in
-    let team : IsTeam lead (ms ++ m ∷ []) = subst (IsTeam lead) is c.requires.team in
-    let each : HoldsEach (ms ++ m ∷ []) v = subst (λ (xs : List Member). HoldsEach xs v) is c.requires.holds in
-    let agree : AllAgree lead (ms ++ m ∷ []) v = subst (λ (xs : List Member). AllAgree lead xs v) is c.requires.agree in
-    let left : view_of c.part-own.new.seat ≡ without (mask (length ms)) v = subst (λ (i : ℕ). view_of c.part-own.new.seat ≡ without (mask i) v) core c.part-own.ensures.kept in
-    let given : view_of c.part-own.result ≡ only (mask (length ms)) v = subst (λ (i : ℕ). view_of c.part-own.result ≡ only (mask i) v) core c.part-own.ensures.given in
-    let own : AgreesWith m.actor (view_of c.part-own.result) = agree_own lead ms m v (view_of c.part-own.result) team agree each given in
-    let own' : AgreesWith (state_view c.into_parts-state.result.0.now c.into_parts-state.result.1) (view_of c.part-own.result) = subst (λ (a : ActorView). AgreesWith a (view_of c.part-own.result)) (sym c.into_parts-state.ensures.view) own in
-    let team' : IsTeam lead ms = team_rest lead ms m team in
-    let agree' : AllAgree lead ms (view_of c.part-own.new.seat) = agree_rest lead ms m v (view_of c.part-own.new.seat) team agree left in
-    let each' : HoldsEach ms (view_of c.part-own.new.seat) = holds_rest ms m v (view_of c.part-own.new.seat) (last_small lead ms m team) each left in (
-      ((search rules, c.part-own.ensures.board.1, c.into_parts-state.ensures.kept, own'), search rules),
+    let len : c.len.result ≡ length gs = omega (arith, c.len.ensures) in
+    let kept : IsTeam course lead.rounds (first_of team.threads gs group) (gs ++ group ∷ []) = subst (IsTeam course lead.rounds (first_of team.threads gs group)) c.in-Some.ensures.items c.requires.team.kept.groups in
+    let first : length gs < team.threads = omega (arith, kept.few, length_push gs group) in
+    let named : Names (last_of team.threads gs group) group c.mask_of.result = names_all (last_of team.threads gs group) group c.mask_of.result first
+    (subst (λ (n : ℕ). NamesFirst (record { threads = team.threads; first = n }) (length group.members.items) c.mask_of.result) len c.mask_of.ensures) in
+    let held : IsHeld (crew_view course lead (first_of team.threads gs group) (gs ++ group ∷ [])) v = subst (λ (xs : List Group). IsHeld (crew_view course lead (first_of team.threads gs group) xs) v) c.in-Some.ensures.items c.requires.team.held in
+    let rest : Team = record { groups = c.pop.new.self; threads = team.threads; spins = team.spins; lead = lead } in
+    let left = held_rest course lead.rounds team.threads lead.control gs group c.mask_of.result v named kept held (view_of c.part-own.new.seat) c.part-own.ensures.kept in
+    let working : IsWorking course rest (view_of c.part-own.new.seat) = record { kept = record { groups = team_rest course lead.rounds team.threads lead.control gs group kept }; held = left } in
+    let worker : IsWorker course lead.rounds (record { threads = team.threads; first = c.len.result }) group (view_of c.part-own.result) =
+    subst (λ (n : ℕ). IsWorker course lead.rounds (record { threads = team.threads; first = n }) group (view_of c.part-own.result)) (sym len)
+    (worker_one course lead.rounds team.threads lead.control gs group c.mask_of.result v named kept held (view_of c.part-own.result) c.part-own.ensures.given) in (
+      ((search rules, c.part-own.ensures.board.1, worker), search rules),
       (
-        (let long : length c.args.team.members.items ≡ suc (length ms) = ap length is ∙ length_push ms m in search rules),
-        ((λ a x. x), ((λ a x. x), ((search rules, search rules, c.part-own.ensures.board.0, team', agree', each'), (search rules, search rules)))),
+        (let long : length team.groups.items ≡ suc (length gs) = ap length c.in-Some.ensures.items ∙ length_push gs group in search rules),
+        ((λ a x. x), ((λ a x. x), ((search rules, search rules, c.part-own.ensures.board.0, working), (search rules, search rules)))),
       ),
     )
 
+pub meet-requires : goal.meet-requires
+meet-requires g t c = record { board = (c.join-own.ensures.second.0, c.join-own.ensures.first.0) }
+
+pub push_reserved-requires : goal.push_reserved-requires
+push_reserved-requires g t c =
+    let shape = c.join-own.ensures.second.3 in
+    let long : length c.args.team.groups.items ≡ suc (length c.pop.new.self.items) = ap length c.in-Some.ensures.items ∙ length_push c.pop.new.self.items c.in-Some.group in
+    let count = shape.count in
+    let room = shape.room in
+    search rules
+
+pub returns-in-None-clause-team : goal.returns-in-None-clause-team
+returns-in-None-clause-team g t c =
+    let e = c.drive_team.ensures in
+    record {
+      kept = e.kept;
+      held = held_on (crew_view c.args.course.now c.args.team.lead (deal_of c.args.team) c.pop.new.self.items) (team_view c.args.course.now c.drive_team.new.team) (view_of c.args.seat) (view_of c.drive_team.new.seat) e.goes
+          (subst (λ (xs : List Group). IsHeld (crew_view c.args.course.now c.args.team.lead (deal_of c.args.team) xs) (view_of c.args.seat)) (c.in-None.ensures.items ∙ append-nil c.pop.new.self.items) c.requires.team.held);
+    }
+
 pub returns-in-Some-clause-team : goal.returns-in-Some-clause-team
 returns-in-Some-clause-team g t c =
-    let ms : List Member = c.pop.new.self.items in
-    let m : Member = c.in-Some.member in
-    let lead : Lead = c.args.team.lead in
-    let lead' : Lead = c.join-own.result.1.1.lead in
-    let ns : List Member = c.join-own.result.1.1.members.items in
-    let n : Member = record { actor = c.of_parts-actor.result; steps = c.join-own.result.0.2 } in
-    let one = c.join-own.ensures.first in
-    let made : n.actor ≡ state_view c.into_parts-state.result.0.now c.join-own.result.0.1 = c.of_parts-actor.ensures in
-    let same' : IsSameActor m.actor n.actor = subst (λ (a : ActorView). IsSameActor a n.actor) c.into_parts-state.ensures.view (subst (IsSameActor (state_view c.into_parts-state.result.0.now c.into_parts-state.result.1)) (sym made) one.3) in
-    let rest = c.join-own.ensures.second in
-    let team : IsTeam lead (ms ++ m ∷ []) = subst (IsTeam lead) c.in-Some.ensures.items c.requires.team in
-    let whole : IsTeam lead' (ns ++ n ∷ []) = team_whole lead' ns n rest.1 (actor_still lead lead' ms ns m n rest.3 same' (last_is lead ms m team))
-    (omega (arith, team.few, length_push ms m, rest.3.count, ap (λ (x : CourseView). x.cores) rest.3.course)) in
-    subst (IsTeam lead') (sym c.push_reserved.ensures.items) whole
-
-pub returns-in-Some-clause-same : goal.returns-in-Some-clause-same
-returns-in-Some-clause-same g t c =
-    let ms : List Member = c.pop.new.self.items in
-    let m : Member = c.in-Some.member in
-    let lead : Lead = c.args.team.lead in
-    let lead' : Lead = c.join-own.result.1.1.lead in
-    let ns : List Member = c.join-own.result.1.1.members.items in
-    let n : Member = record { actor = c.of_parts-actor.result; steps = c.join-own.result.0.2 } in
-    let one = c.join-own.ensures.first in
-    let made : n.actor ≡ state_view c.into_parts-state.result.0.now c.join-own.result.0.1 = c.of_parts-actor.ensures in
-    let same' : IsSameActor m.actor n.actor = subst (λ (a : ActorView). IsSameActor a n.actor) c.into_parts-state.ensures.view (subst (IsSameActor (state_view c.into_parts-state.result.0.now c.into_parts-state.result.1)) (sym made) one.3) in
-    subst (λ (xs : List Member). IsSameTeam lead xs lead' c.push_reserved.new.self.items) (sym c.in-Some.ensures.items)
-    (subst (IsSameTeam lead (ms ++ m ∷ []) lead') (sym c.push_reserved.ensures.items)
-    (same_whole lead lead' ms ns m n c.join-own.ensures.second.3 same'))
-
-pub returns-in-Some-clause-actors : goal.returns-in-Some-clause-actors
-returns-in-Some-clause-actors g t c =
-    actors_whole c.len-core.result (view_of c.args.seat) (view_of c.part-own.new.seat) (view_of c.part-own.result) (view_of c.join-own.result.1.0) (view_of c.join-own.result.0.0) (view_of c.meet.new.seat)
-    c.part-own.ensures.kept c.part-own.ensures.given c.join-own.ensures.second.4 c.join-own.ensures.first.4 c.meet.ensures.view
-
-pub returns-in-Some-clause-agree : goal.returns-in-Some-clause-agree
-returns-in-Some-clause-agree g t c =
-    let ms : List Member = c.pop.new.self.items in
-    let m : Member = c.in-Some.member in
-    let lead : Lead = c.args.team.lead in
-    let lead' : Lead = c.join-own.result.1.1.lead in
-    let ns : List Member = c.join-own.result.1.1.members.items in
-    let n : Member = record { actor = c.of_parts-actor.result; steps = c.join-own.result.0.2 } in
-    let one = c.join-own.ensures.first in
-    let made : n.actor ≡ state_view c.into_parts-state.result.0.now c.join-own.result.0.1 = c.of_parts-actor.ensures in
-    let same' : IsSameActor m.actor n.actor = subst (λ (a : ActorView). IsSameActor a n.actor) c.into_parts-state.ensures.view (subst (IsSameActor (state_view c.into_parts-state.result.0.now c.into_parts-state.result.1)) (sym made) one.3) in
+    let team = c.args.team in
+    let course = c.args.course.now in
+    let lead : Lead = team.lead in
+    let gs : List Group = c.pop.new.self.items in
+    let group : Group = c.in-Some.group in
     let v : View = view_of c.args.seat in
+    let len : c.len.result ≡ length gs = omega (arith, c.len.ensures) in
+    let kept : IsTeam course lead.rounds (first_of team.threads gs group) (gs ++ group ∷ []) = subst (IsTeam course lead.rounds (first_of team.threads gs group)) c.in-Some.ensures.items c.requires.team.kept.groups in
+    let first : length gs < team.threads = omega (arith, kept.few, length_push gs group) in
+    let named : Names (last_of team.threads gs group) group c.mask_of.result = names_all (last_of team.threads gs group) group c.mask_of.result first
+    (subst (λ (n : ℕ). NamesFirst (record { threads = team.threads; first = n }) (length group.members.items) c.mask_of.result) len c.mask_of.ensures) in
+    let held : IsHeld (crew_view course lead (first_of team.threads gs group) (gs ++ group ∷ [])) v = subst (λ (xs : List Group). IsHeld (crew_view course lead (first_of team.threads gs group) xs) v) c.in-Some.ensures.items c.requires.team.held in
+    let team' = c.join-own.result.1.1 in
+    let lead' : Lead = team'.lead in
+    let group' : Group = c.join-own.result.0.1 in
     let x : View = view_of c.join-own.result.1.0 in
     let y : View = view_of c.join-own.result.0.0 in
+    let w : View = view_of c.meet.new.seat in
+    let one = c.join-own.ensures.first in
     let rest = c.join-own.ensures.second in
-    let core : c.len-core.result ≡ length ms = omega (arith, c.len-core.ensures) in
-    let team : IsTeam lead (ms ++ m ∷ []) = subst (IsTeam lead) c.in-Some.ensures.items c.requires.team in
-    let each : HoldsEach (ms ++ m ∷ []) v = subst (λ (xs : List Member). HoldsEach xs v) c.in-Some.ensures.items c.requires.holds in
-    let small : length ms < 32 = last_small lead ms m team in
-    let left : view_of c.part-own.new.seat ≡ without (mask (length ms)) v = subst (λ (i : ℕ). view_of c.part-own.new.seat ≡ without (mask i) v) core c.part-own.ensures.kept in
-    let off : holds x (length ns) ≡ false = subst (λ (i : ℕ). holds x i ≡ false) (sym rest.3.count) (rest_off (length ms) v (view_of c.part-own.new.seat) x small left rest.4) in
-    let held : HoldsEach ns x = each_still ms ns (view_of c.part-own.new.seat) x rest.3.count rest.4 (holds_rest ms m v (view_of c.part-own.new.seat) small each left) in
-    let is = actor_still lead lead' ms ns m n rest.3 same' (last_is lead ms m team) in
-    let whole : AllAgree lead' (ns ++ n ∷ []) (view_of c.meet.new.seat) = agree_whole lead' ns n x y (view_of c.meet.new.seat) rest.1 rest.2 held is.core off (subst (λ (a : ActorView). AgreesWith a y) (sym made) one.2)
-    (board_whole c.len-core.result v (view_of c.part-own.new.seat) (view_of c.part-own.result) x y c.part-own.ensures.kept c.part-own.ensures.given rest.4 one.4) c.meet.ensures.view in
-    subst (λ (xs : List Member). AllAgree lead' xs (view_of c.meet.new.seat)) (sym c.push_reserved.ensures.items) whole
+    let all : Met course course lead.rounds lead'.rounds lead.control lead'.control team.threads gs team'.groups.items group group' c.mask_of.result v (view_of c.part-own.new.seat) (view_of c.part-own.result) x y w team'.threads =
+    met course course lead.rounds lead'.rounds lead.control lead'.control team.threads gs team'.groups.items group group' c.mask_of.result v (view_of c.part-own.new.seat) (view_of c.part-own.result) x y w
+    team'.threads rest.3.threads named kept c.part-own.ensures.kept c.part-own.ensures.given c.meet.ensures.view rest.1.kept.groups rest.1.held rest.2
+    (subst (λ (n : ℕ). IsWorker course lead.rounds (record { threads = team.threads; first = n }) group' y) len one.1)
+    (subst (λ (n : ℕ). GoesOn (worker_view course lead.rounds (record { threads = team.threads; first = n }) group) (view_of c.part-own.result) (worker_view course lead.rounds (record { threads = team.threads; first = n }) group') y) len one.2)
+    rest.3.count in
+    record {
+      kept = record { groups = subst (IsTeam course lead'.rounds (record { threads = team'.threads; first = 0 })) (sym c.push_reserved.ensures.items) all.0 };
+      held = subst (λ (xs : List Group). IsHeld (crew_view course lead' (record { threads = team'.threads; first = 0 }) xs) w) (sym c.push_reserved.ensures.items) all.1;
+    }
+
+pub returns-in-Some-clause-goes : goal.returns-in-Some-clause-goes
+returns-in-Some-clause-goes g t c =
+    let team = c.args.team in
+    let course = c.args.course.now in
+    let lead : Lead = team.lead in
+    let gs : List Group = c.pop.new.self.items in
+    let group : Group = c.in-Some.group in
+    let v : View = view_of c.args.seat in
+    let len : c.len.result ≡ length gs = omega (arith, c.len.ensures) in
+    let kept : IsTeam course lead.rounds (first_of team.threads gs group) (gs ++ group ∷ []) = subst (IsTeam course lead.rounds (first_of team.threads gs group)) c.in-Some.ensures.items c.requires.team.kept.groups in
+    let first : length gs < team.threads = omega (arith, kept.few, length_push gs group) in
+    let named : Names (last_of team.threads gs group) group c.mask_of.result = names_all (last_of team.threads gs group) group c.mask_of.result first
+    (subst (λ (n : ℕ). NamesFirst (record { threads = team.threads; first = n }) (length group.members.items) c.mask_of.result) len c.mask_of.ensures) in
+    let held : IsHeld (crew_view course lead (first_of team.threads gs group) (gs ++ group ∷ [])) v = subst (λ (xs : List Group). IsHeld (crew_view course lead (first_of team.threads gs group) xs) v) c.in-Some.ensures.items c.requires.team.held in
+    let team' = c.join-own.result.1.1 in
+    let lead' : Lead = team'.lead in
+    let group' : Group = c.join-own.result.0.1 in
+    let x : View = view_of c.join-own.result.1.0 in
+    let y : View = view_of c.join-own.result.0.0 in
+    let w : View = view_of c.meet.new.seat in
+    let one = c.join-own.ensures.first in
+    let rest = c.join-own.ensures.second in
+    let all : Met course course lead.rounds lead'.rounds lead.control lead'.control team.threads gs team'.groups.items group group' c.mask_of.result v (view_of c.part-own.new.seat) (view_of c.part-own.result) x y w team'.threads =
+    met course course lead.rounds lead'.rounds lead.control lead'.control team.threads gs team'.groups.items group group' c.mask_of.result v (view_of c.part-own.new.seat) (view_of c.part-own.result) x y w
+    team'.threads rest.3.threads named kept c.part-own.ensures.kept c.part-own.ensures.given c.meet.ensures.view rest.1.kept.groups rest.1.held rest.2
+    (subst (λ (n : ℕ). IsWorker course lead.rounds (record { threads = team.threads; first = n }) group' y) len one.1)
+    (subst (λ (n : ℕ). GoesOn (worker_view course lead.rounds (record { threads = team.threads; first = n }) group) (view_of c.part-own.result) (worker_view course lead.rounds (record { threads = team.threads; first = n }) group') y) len one.2)
+    rest.3.count in
+    subst (λ (xs : List Group). GoesOn (crew_view course lead (first_of team.threads gs group) xs) v (crew_view course lead' (record { threads = team'.threads; first = 0 }) c.push_reserved.new.self.items) w) (sym c.in-Some.ensures.items)
+    (subst (λ (xs : List Group). GoesOn (crew_view course lead (first_of team.threads gs group) (gs ++ group ∷ [])) v (crew_view course lead' (record { threads = team'.threads; first = 0 }) xs) w) (sym c.push_reserved.ensures.items) all.2)
+
+pub returns-in-Some-clause-shape : goal.returns-in-Some-clause-shape
+returns-in-Some-clause-shape g t c =
+    let shape = c.join-own.ensures.second.3 in record {
+      count = omega (arith, ap length c.push_reserved.ensures.items, length_push c.join-own.result.1.1.groups.items c.join-own.result.0.1, shape.count, ap length c.in-Some.ensures.items, length_push c.pop.new.self.items c.in-Some.group);
+      threads = shape.threads;
+      room = c.push_reserved.ensures.capacity ∙ (shape.room ∙ c.in-Some.ensures.capacity);
+    }

@@ -1,0 +1,13 @@
+use Rattle.std.proofs.Common.{◌≡◌, ◌<◌, ◌≤◌, ℕ}
+use Rattle.std.specs.Prelude.{slice_index}
+use Rattle.core_workers.specs.Inside.Clocks.{IsLeast}
+use Rattle.core_workers.proofs.clocks.find_least.Given as goal
+
+abbrev pub invariant-loop-core : goal.invariant-loop-core
+invariant-loop-core l = record {
+  within : l.least.core < l.core;
+  few : l.core ≤ l.fn.cores;
+  low : l.low ≡ slice_index l.fn.clocks.ticks l.least.core;
+  least : IsLeast l.fn.clocks l.least.core l.core;
+  next : l.low ≤ l.least.next;
+}

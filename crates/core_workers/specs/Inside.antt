@@ -1,0 +1,4 @@
+pub mod Clocks
+pub mod Making
+pub mod Teams
+pub mod Turns

@@ -1,0 +1,92 @@
+-- What a team keeps.
+use Rattle.std.specs.Prelude.{◌≡◌, ℕ, ◌+◌, ◌*◌, ◌<◌, ◌≤◌, true, false, List, [], ◌∷◌, Some, length, vec_capacity}
+use Rattle.table_form.specs.Running.Courses.{CourseView, FitsRounds, IsCourse}
+use Rattle.round_words.specs.declared.view.View.{View}
+use Rattle.round_words.specs.Views.{controller, holds, names}
+use Rattle.slice_table.specs.CoreSlices.{AreSlicesOf}
+use Rattle.dispatch_core.specs.States.{StateView}
+use Rattle.core_workers.specs.declared.team.Deal.{Deal}
+use Rattle.core_workers.specs.declared.team.Group.{Group}
+use Rattle.core_workers.specs.declared.team.Lead.{Lead}
+use Rattle.core_workers.specs.declared.team.Member.{Member}
+use Rattle.core_workers.specs.declared.team.Team.{Team}
+use Rattle.core_workers.specs.Crews.{AllAgree, IsSameCrew, IsWhole, SameActors}
+use Rattle.core_workers.specs.Groups.{CrewView, actor_of, deal_of, member_of, team_view, worker_view}
+
+-- the member is that of core c, in a run of the course
+pub record IsMemberOf (course : CourseView) (rounds c : ℕ) (m : Member) : Type 0 where
+  pub slices : AreSlicesOf course m.state.core m.slices
+  pub core : m.state.core ≡ c
+  pub within : c < course.cores
+  pub rounds_is : m.state.rounds ≡ rounds
+
+-- the groups are those of some threads, of a run that has all events of its course
+pub record IsTeam (course : CourseView) (rounds : ℕ) (deal : Deal) (groups : List Group) : Type 0 where
+  pub course_kept : IsCourse course
+  pub fits : FitsRounds course rounds
+  pub few : deal.first + length groups ≤ deal.threads
+  pub some : 0 < deal.threads
+  pub each : (c : ℕ) (m : Member) → member_of deal groups c ≡ Some m → IsMemberOf course rounds c m
+
+-- the core is in the crew
+abbrev pub IsPresent : CrewView → ℕ → Type 0
+IsPresent crew c = (a : StateView) × (actor_of crew c ≡ Some a)
+
+-- each core whose part the view holds is in the crew
+abbrev pub IsManned : CrewView → View → Type 0
+IsManned crew v = (c : ℕ) → c < crew.course.cores → holds v c ≡ true → IsPresent crew c
+
+-- some steps were taken: the same actors, parts of the same actors, and those that are held agree
+pub record GoesOn (crew : CrewView) (v : View) (crew' : CrewView) (w : View) : Type 0 where
+  pub same : IsSameCrew crew crew'
+  pub actors : SameActors v w
+  pub agree : AllAgree crew' w
+
+-- the view holds the parts of the crew's cores
+abbrev pub HoldsEach : CrewView → View → Type 0
+HoldsEach crew v = (c : ℕ) → IsPresent crew c → holds v c ≡ true
+
+-- what each team keeps: it has the groups of the first threads, and the controller of the course
+pub record IsTeamKept (course : CourseView) (team : Team) : Type 0 where
+  pub groups : IsTeam course team.lead.rounds (deal_of team) team.groups.items
+
+-- what each crew keeps: its team has all cores
+pub record IsWholeTeam (course : CourseView) (team : Team) : Type 0 where
+  pub kept : IsTeamKept course team
+  pub whole : IsWhole (team_view course team)
+
+-- the group is that of a thread, whose seat has this view: it holds the parts of the group's cores alone.
+pub record IsWorker (course : CourseView) (rounds : ℕ) (deal : Deal) (group : Group) (v : View) : Type 0 where
+  pub team : IsTeam course rounds deal (group ∷ [])
+  pub agree : AllAgree (worker_view course rounds deal group) v
+  pub holds_each : HoldsEach (worker_view course rounds deal group) v
+  pub manned : IsManned (worker_view course rounds deal group) v
+  pub alone : holds v controller ≡ false
+
+-- the view holds the parts of the crew's cores alone, and the controller's
+pub record IsHeld (crew : CrewView) (v : View) : Type 0 where
+  pub agree : AllAgree crew v
+  pub holds_each : HoldsEach crew v
+  pub manned : IsManned crew v
+  pub control : holds v controller ≡ true
+
+-- the team works with the seat of this view
+pub record IsWorking (course : CourseView) (team : Team) (v : View) : Type 0 where
+  pub kept : IsTeamKept course team
+  pub held : IsHeld (team_view course team) v
+
+-- the bits of the mask are the group's cores
+pub record Names (deal : Deal) (group : Group) (mask : ℕ) : Type 0 where
+  pub there : (c : ℕ) → names mask c ≡ true → (m : Member) × (member_of deal (group ∷ []) c ≡ Some m)
+  pub all : (c : ℕ) (m : Member) → member_of deal (group ∷ []) c ≡ Some m → names mask c ≡ true
+
+-- the bits of the mask are the cores of the group's first members
+pub record NamesFirst (deal : Deal) (n mask : ℕ) : Type 0 where
+  pub there : (c : ℕ) → names mask c ≡ true → (i : ℕ) × (i < n) × (c ≡ deal.first + i * deal.threads)
+  pub all : (i : ℕ) → i < n → names mask (deal.first + i * deal.threads) ≡ true
+
+-- as many groups, for as many threads, in as much room
+pub record IsSameShape (team team' : Team) : Type 0 where
+  pub count : length team'.groups.items ≡ length team.groups.items
+  pub threads : team'.threads ≡ team.threads
+  pub room : vec_capacity team'.groups ≡ vec_capacity team.groups
