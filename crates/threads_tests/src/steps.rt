@@ -45,13 +45,23 @@ fn book_of<R: Threads + Sync>(rt: &R, alloc: Global, text: &[u8]) -> Result<Plan
     }
 }
 
-fn ran(from: u32, end: u32, seen: u32, ran: Option<VcpuNo>) -> CoreAnswer {
+fn ran_a(from: u32, end: u32, seen: u32) -> CoreAnswer {
     CoreAnswer::Ran(Stint {
         from,
         end,
         seen,
         used: 0,
-        ran,
+        ran: Some(VcpuNo(0)),
+    })
+}
+
+fn idled(from: u32, end: u32, seen: u32) -> CoreAnswer {
+    CoreAnswer::Ran(Stint {
+        from,
+        end,
+        seen,
+        used: 0,
+        ran: None,
     })
 }
 
@@ -76,22 +86,58 @@ fn two_cores_run_a_round(rt: HostRuntime) -> Result<(), Fail> {
     let slices = CoreSlices::make(rt.alloc(), course, CoreNo(1))?;
     let mut state = CoreState::make(rt.alloc(), course.outline(), CoreNo(1), 1, 1)?;
     let mut controller = Controller::make(course);
-    let a = Some(VcpuNo(0));
-    assert_eq!(rt; core_step(&board, &mut first, &mut actor), ran(0, 51_300, 0, a));
-    assert_eq!(rt; core_step(&board, &mut first, &mut actor), waits_for(Actor::Controller, 0));
-    assert_eq!(rt; control_step(&board, &mut third, &mut controller), ControlAnswer::Posted { count: 1 });
-    assert_eq!(rt; control_step(&board, &mut third, &mut controller), ControlAnswer::Finished);
+    assert_eq!(rt;
+        core_step(&board, &mut first, &mut actor),
+        ran_a(0, 51_300, 0)
+    );
+    assert_eq!(rt;
+        core_step(&board, &mut first, &mut actor),
+        waits_for(Actor::Controller, 0)
+    );
+    assert_eq!(rt;
+        control_step(&board, &mut third, &mut controller),
+        ControlAnswer::Posted { count: 1 }
+    );
+    assert_eq!(rt;
+        control_step(&board, &mut third, &mut controller),
+        ControlAnswer::Finished
+    );
     assert_eq!(rt; controller.posted(), 1);
-    assert_eq!(rt; core_step(&board, &mut first, &mut actor), waits_for(Actor::Core(CoreNo(1)), 0));
-    assert_eq!(rt; step_state(&board, &mut second, course, &slices, &mut state), ran(0, 51_300, 1, None));
-    assert_eq!(rt; core_step(&board, &mut first, &mut actor), ran(51_300, 102_600, 1, a));
-    assert_eq!(rt; core_step(&board, &mut first, &mut actor), CoreAnswer::Finished);
-    assert_eq!(rt; step_state(&board, &mut second, course, &slices, &mut state), ran(51_300, 102_600, 1, None));
+    assert_eq!(rt;
+        core_step(&board, &mut first, &mut actor),
+        waits_for(Actor::Core(CoreNo(1)), 0)
+    );
+    assert_eq!(rt;
+        step_state(&board, &mut second, course, &slices, &mut state),
+        idled(0, 51_300, 1)
+    );
+    assert_eq!(rt;
+        core_step(&board, &mut first, &mut actor),
+        ran_a(51_300, 102_600, 1)
+    );
+    assert_eq!(rt;
+        core_step(&board, &mut first, &mut actor),
+        CoreAnswer::Finished
+    );
+    assert_eq!(rt;
+        step_state(&board, &mut second, course, &slices, &mut state),
+        idled(51_300, 102_600, 1)
+    );
     assert_eq!(rt; state.clock(), 102_600);
     let account = actor.account();
-    assert_eq!(rt; (account.slots[0], account.shared[0], account.idle), (51_300, 51_300, 0));
+    assert_eq!(rt;
+        (account.slots[0], account.shared[0], account.idle),
+        (51_300, 51_300, 0)
+    );
     assert_eq!(rt; (actor.used().len(), actor.stints().len()), (1, 2));
-    assert_eq!(rt; (state.account().idle, state.used().len(), state.stints().len()), (102_600, 1, 1));
+    assert_eq!(rt;
+        (
+            state.account().idle,
+            state.used().len(),
+            state.stints().len()
+        ),
+        (102_600, 1, 1)
+    );
     Ok(())
 }
 
@@ -108,7 +154,10 @@ fn an_event_waits_for_the_lowest_core(rt: HostRuntime) -> Result<(), Fail> {
     let mut controller = Controller::make(course);
     assert_eq!(rt;
         control_step(&board, &mut seat, &mut controller),
-        ControlAnswer::Behind { core: CoreNo(0), tick: 0 }
+        ControlAnswer::Behind {
+            core: CoreNo(0),
+            tick: 0
+        }
     );
     Ok(())
 }
