@@ -2,4 +2,3 @@
 pub mod Adding
 pub mod Finishing
 pub mod Logs
-pub mod Making

@@ -7,8 +7,8 @@ ghost use Rattle.dispatch_core.specs.Parts.{IsNewPart, IsOfOutline};
 ghost use Rattle.dispatch_core.specs.States.{AgreesWith};
 
 use crate::account::CoreAccount;
-use crate::slices::CoreSlices;
 use crate::state::CoreState;
+use slice_table::CoreSlices;
 use std::alloc::Global;
 use std::marker::Model;
 use tab_core::{CoreNo, NoMemory, Stint};
@@ -23,7 +23,7 @@ pub struct CoreActor<'a> {
 }
 
 impl<'a> Model for CoreActor<'a> {
-    ghost use Rattle.dispatch_core.specs.Slices.{AreSlicesOf};
+    ghost use Rattle.slice_table.specs.CoreSlices.{AreSlicesOf};
     ghost use Rattle.dispatch_core.specs.States.{ActorView, actor_view};
 
     ghost Value = { ActorView };

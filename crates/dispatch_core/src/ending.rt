@@ -15,7 +15,6 @@ ghost use Rattle.dispatch_core.specs.Told.{BeginsNext, EndTold};
 
 use crate::answer::Ended;
 use crate::log::{CoreLog, note};
-use crate::slices::span_of;
 use round_words::{RoundBoard, RoundSeat, hear_cores};
 use second_level::{Begin, next_stint};
 use slice_table::SliceTable;
@@ -51,7 +50,7 @@ pub(crate) fn end(
     seat.shown();
     // the clock's round is the last one that was entered
     let start = (log.used.len() as u32 - 1) * ROUND;
-    let span = span_of(table, log.clock - start);
+    let span = table.span(log.clock - start);
     run_at(board, seat, outline, log, seen, used, &span)
 }
 

@@ -86,7 +86,8 @@ owner_here row ss place number x s are cells rises lt is after past low less =
       at_most = omega arith;
       passed = ends_past row ss place number are past;
       ahead = λ j d from below.
-          (let rise : (get_or ss number d).end ≤ (get_or ss j d).end = ends_rise 0 ss ROUND rises number j d from below in
+          (let rise : (get_or ss number d).end ≤ (get_or ss j d).end = ends_rise 0 ss ROUND rises number j d
+          from below in
           let end : s.end ≡ (get_or ss number d).end =
           ap (λ (u : Segment). u.end) (is ∙ get_or_default ss number s d lt) in
           omega arith);

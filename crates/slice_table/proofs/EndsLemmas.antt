@@ -27,7 +27,8 @@ slice_there size slices ends tick sliced in_round =
     (div-lt_iff_lt-mul {k = size} {x = tick} {y = length slices} sliced.some).1 (omega (arith, sliced.whole))
 
 -- a tick before the end of the span of its slice is held by that span
-pub held_first : (size : ℕ) (slices ends : List ℕ) (tick number : ℕ) → IsSliced size slices ends → tick < ROUND
+pub held_first : (size : ℕ) (slices ends : List ℕ) (tick number : ℕ) → IsSliced size slices ends
+    → tick < ROUND
     → number ≡ slice_index slices (tick / size) → tick < slice_index ends number → HoldsTick ends number tick
 held_first size slices ends tick number sliced in_round is before =
     let first : HoldsTick ends number (tick / size * size) = rw is

@@ -1,3 +1,4 @@
+pub mod CoreTableLemmas
 pub mod CursorLemmas
 pub mod EndsLemmas
 pub mod ScopeLemmas

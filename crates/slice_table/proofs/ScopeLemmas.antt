@@ -27,7 +27,8 @@ others_skip plan c count others are none = record {
 }
 
 -- another row is listed
-pub others_push : (plan : PlanView) (c count : ℕ) (others : List ℕ) → AreOthers plan c count others → count ≢ c
+pub others_push : (plan : PlanView) (c count : ℕ) (others : List ℕ) → AreOthers plan c count others
+    → count ≢ c
     → AreOthers plan c (count + 1) (others ++ count ∷ [])
 others_push plan c count others are ne =
     let size = length-append others (count ∷ []) in

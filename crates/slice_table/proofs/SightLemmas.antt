@@ -18,7 +18,8 @@ use Rattle.slice_table.specs.Inside.Sweeps.{ArePast, IsPast, IsScope, IsSightOf}
 use Rattle.slice_table.proofs.CursorLemmas.{past_later}
 
 -- the number at which the sweep stands in a row
-pub past_at : (rows : List Row) (place : ℕ) (numbers : List ℕ) (d : ℕ) (row : Row) → ArePast rows place numbers
+pub past_at : (rows : List Row) (place : ℕ) (numbers : List ℕ) (d : ℕ) (row : Row)
+    → ArePast rows place numbers
     → d < length rows → row ≡ get_or rows d row → IsPast row place (slice_index numbers d)
 past_at rows place numbers d row past lt is = past d row (slice_get_read rows (length rows) d row refl lt is)
 
@@ -47,7 +48,8 @@ all_later rows place later numbers le past d row at =
 -- the segment of one more row is taken into account
 pub sight_more : (plan : PlanView) (scope : Scope) (place count end : ℕ) (o : Option ℕ) (old new : Spot)
     → IsScope plan scope → count < length scope.others.items → IsSightOf plan scope place count old
-    → place < end → ((x : ℕ) → place ≤ x → x < end → owner_at plan.rows (slice_index scope.others.items count) x ≡ o)
+    → place < end → ((x : ℕ) → place ≤ x → x < end → owner_at plan.rows
+    (slice_index scope.others.items count) x ≡ o)
     → new.end ≡ min old.end end → new.owner ≡ old.owner → length new.away ≡ MAX_VCPUS
     → ((v : ℕ) → v < MAX_VCPUS → (IsTrue (has_vcpu new.away v)
     ↔ (IsTrue (has_vcpu old.away v) ⊎ (IsTrue (has_vcpu scope.home v) × (o ≡ Some v)))))
@@ -71,7 +73,8 @@ sight_more plan scope place count end o old new is lt was after cells end_is own
         (away v small).1 (inr (
           home,
           sym (cells place (omega arith) after)
-              ∙ (ap (λ (n : ℕ). owner_at plan.rows (slice_index scope.others.items n) place) (sym here) ∙ stands),
+              ∙ (ap (λ (n : ℕ). owner_at plan.rows (slice_index scope.others.items n) place) (sym here)
+              ∙ stands),
         ))
   ];
   after = (let least = was.after in omega arith);
@@ -98,7 +101,8 @@ away_listed plan scope place x v spot is sight away =
     (at.0, at.1, ap (λ (d : ℕ). owner_at plan.rows d x) at.2 ∙ away.stands)
 
 -- so an owner there at one place of the span is owner at another
-away_moves : (plan : PlanView) (scope : Scope) (place x v k : ℕ) → IsScope plan scope → k < length scope.others.items
+away_moves : (plan : PlanView) (scope : Scope) (place x v k : ℕ) → IsScope plan scope
+    → k < length scope.others.items
     → owner_at plan.rows (slice_index scope.others.items k) x ≡ Some v → IsAway plan scope.core place v
     → IsAway plan scope.core x v
 away_moves plan scope place x v k is lt stands away = record {

@@ -17,7 +17,8 @@ entry_end pairs (x ∷ xs) zero e lt is = ap (λ (y : SpanEntry). y.end) is
 entry_end pairs (x ∷ xs) (suc k) e lt is = entry_end pairs xs k e (omega arith) is
 
 -- so, where the entries are seen as these spans
-pub end_read : (pairs : List SetPair) (entries : List SpanEntry) (spans : List FullSpan) (k : ℕ) (e : SpanEntry)
+pub end_read : (pairs : List SetPair) (entries : List SpanEntry) (spans : List FullSpan) (k : ℕ)
+    (e : SpanEntry)
     → map (span_of pairs) entries ≡ spans → k < length spans → e ≡ get_or entries k e
     → e.end ≡ slice_index (ends_of spans) k
 end_read pairs entries spans k e view lt is =

@@ -61,7 +61,8 @@ part_last plan c from spot was last = record {
 }
 
 -- a spot with its sharers shows the place
-pub part_shown : (plan : PlanView) (scope : Scope) (place : ℕ) (spot : Spot) (span : FullSpan) → IsScope plan scope
+pub part_shown : (plan : PlanView) (scope : Scope) (place : ℕ) (spot : Spot) (span : FullSpan)
+    → IsScope plan scope
     → IsPart plan scope.core place spot → span.owner ≡ spot.owner → span.away ≡ spot.away
     → ((v : ℕ) → (IsTrue (has_vcpu span.sharers v)
     ↔ (IsTrue (has_vcpu scope.home v) × (IsTrue (has_vcpu spot.away v) → ⊥) × (spot.owner ≢ Some v))))
@@ -93,7 +94,8 @@ part_shown plan scope place spot span is part owner away sharers = record {
 }
 
 -- so it is the next span
-pub span_added : (plan : PlanView) (scope : Scope) (from : ℕ) (spans : List FullSpan) (spot : Spot) (span : FullSpan)
+pub span_added : (plan : PlanView) (scope : Scope) (from : ℕ) (spans : List FullSpan) (spot : Spot)
+    (span : FullSpan)
     → IsScope plan scope → AreSpansOf plan scope.core 0 spans from → IsPart plan scope.core from spot
     → IsSpanEnd plan scope.core from spot.end → span.owner ≡ spot.owner → span.away ≡ spot.away
     → span.end ≡ spot.end

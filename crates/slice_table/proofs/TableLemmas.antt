@@ -19,7 +19,8 @@ same_back : (plan : PlanView) (c x y : ℕ) → SameSpot plan c x y → SameSpot
 same_back plan c x y same = record { owner = sym same.owner; away = same.back; back = same.away }
 
 -- and the same vCPUs share there
-sharer_moves : (plan : PlanView) (c x y v : ℕ) → SameSpot plan c x y → IsSharer plan c x v → IsSharer plan c y v
+sharer_moves : (plan : PlanView) (c x y v : ℕ) → SameSpot plan c x y → IsSharer plan c x v
+    → IsSharer plan c y v
 sharer_moves plan c x y v same sharer = record {
   home = sharer.home;
   no_owner = λ owns. sharer.no_owner (same.owner ∙ owns);
@@ -73,7 +74,8 @@ pub shown_at : (plan : PlanView) (c from to : ℕ) (spans : List FullSpan) (k x 
 shown_at plan c from to [] k x span are at low less = absurd cc
 shown_at plan c from to (s ∷ ss) zero x span are at low less =
     let is : s ≡ span = same_Some {A = FullSpan} s span at in
-    let here : ShowsAt plan c from span = subst (ShowsAt plan c from) is (record { shown = are.0; end = are.1 }) in
+    let here : ShowsAt plan c from span = subst (ShowsAt plan c from) is
+    (record { shown = are.0; end = are.1 }) in
     record {
       shown = shown_moves plan c from x span (here.end.alike x low less) here.shown;
       end = span_moves plan c from x span.end low less here.end;
@@ -188,7 +190,8 @@ pub spot_of : (plan : PlanView) (c tick : ℕ) (span : FullSpan) (spot : Spot) �
     → spot.owner ≡ span.owner → spot.away ≡ span.away → spot.end ≡ span.end → IsSpot plan c tick spot
 spot_of plan c tick span spot shows owner away end = record {
   owner = owner ∙ shows.shown.owner;
-  away = λ v lt. subst (λ set. IsTrue (has_vcpu set v) ↔ IsAway plan c tick v) (sym away) (shows.shown.away v lt);
+  away = λ v lt. subst (λ set. IsTrue (has_vcpu set v) ↔ IsAway plan c tick v) (sym away)
+      (shows.shown.away v lt);
   span = subst (IsSpanEnd plan c tick) (sym end) shows.end;
 }
 
@@ -199,6 +202,7 @@ pub span_of_table : (plan : PlanView) (c tick : ℕ) (span : FullSpan) (owner : 
 span_of_table plan c tick span owner sharers end shows owner_is sharers_are end_is = record {
   owner_is = owner_is ∙ shows.shown.owner;
   sharers_are = λ v lt.
-      subst (λ set. IsTrue (has_vcpu set v) ↔ IsSharer plan c tick v) (sym sharers_are) (shows.shown.sharers v lt);
+      subst (λ set. IsTrue (has_vcpu set v) ↔ IsSharer plan c tick v) (sym sharers_are)
+      (shows.shown.sharers v lt);
   span = subst (IsSpanEnd plan c tick) (sym end_is) shows.end;
 }

@@ -2,3 +2,4 @@
 pub mod SpanLists
 pub mod Spans
 pub mod Sweeps
+pub mod Tables

@@ -1,2 +1,3 @@
+pub mod CoreSlices
 pub mod Inside
 pub mod Slices

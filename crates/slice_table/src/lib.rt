@@ -5,6 +5,7 @@
 //! comparison, each told to a counter of steps.
 #![tactic(auto)]
 
+mod core_slices;
 mod cursor;
 mod full_span;
 mod scope;
@@ -15,6 +16,7 @@ mod span_list;
 mod steps;
 mod sweep;
 
+pub use core_slices::CoreSlices;
 pub use full_span::FullSpan;
 pub use slice_table::SliceTable;
 pub use steps::Steps;

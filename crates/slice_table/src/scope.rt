@@ -5,7 +5,7 @@ ghost use Rattle.table_form.specs.Tables.Views.{plan_view};
 ghost use Rattle.slice_table.specs.Inside.Sweeps.{IsScope};
 
 use std::alloc::{AllocError, Global};
-use tab_core::{CoreNo, VcpuNo, VcpuSet};
+use tab_core::{CoreNo, MAX_VCPUS, VcpuNo, VcpuSet};
 use table_form::{CoreTable, Plan};
 
 /// What a core's spans depend on beside its own row.
@@ -26,18 +26,30 @@ pub(crate) fn scope_of(alloc: Global, plan: &Plan, core: CoreNo) -> Result<Scope
 {
     let home = plan.homes_of(core);
     prove!(plan.tables.homes.items().len() <= 256);
+    let flags = flags_of(&home);
     let rows = plan.tables.rows.items();
     let mut others = Vec::new(alloc);
     for number in 0..rows.len() {
-        if matters(&rows[number], number, core, &home) {
+        if matters(&rows[number], number, core, &flags) {
             others.push(number)?;
         }
     }
     Ok(Scope { core, home, others })
 }
 
+// The members as truth values, so that the pass over all segments needs one reading for each.
+fn flags_of(vcpus: &VcpuSet) -> [bool; 256]
+    ensures { (v : ℕ) → v < MAX_VCPUS → has_vcpu result v ≡ has_vcpu vcpus.now v }
+{
+    let mut flags = [false; 256];
+    for number in 0..MAX_VCPUS {
+        flags[number as usize] = vcpus.has(VcpuNo(number));
+    }
+    flags
+}
+
 // Whether the row of the number is another one than the core's, and has one of the vCPUs.
-fn matters(row: &CoreTable, number: usize, core: CoreNo, home: &VcpuSet) -> bool
+fn matters(row: &CoreTable, number: usize, core: CoreNo, home: &[bool; 256]) -> bool
     ensures other { result ≡ true → number ≢ core }
     ensures none { result ≡ false → number ≢ core → (x v : ℕ) → v < MAX_VCPUS
         → slice_get row.now x ≡ Some (Some v) → has_vcpu home.now v ≡ false }
@@ -46,7 +58,7 @@ fn matters(row: &CoreTable, number: usize, core: CoreNo, home: &VcpuSet) -> bool
 }
 
 // Whether some segment of the row has one of the vCPUs.
-fn has_one_of(row: &CoreTable, vcpus: &VcpuSet) -> bool
+fn has_one_of(row: &CoreTable, vcpus: &[bool; 256]) -> bool
     ensures { result ≡ false → (x v : ℕ) → v < MAX_VCPUS → slice_get row.now x ≡ Some (Some v)
         → has_vcpu vcpus.now v ≡ false }
 {
@@ -59,11 +71,11 @@ fn has_one_of(row: &CoreTable, vcpus: &VcpuSet) -> bool
     false
 }
 
-fn is_one_of(owner: Option<VcpuNo>, vcpus: &VcpuSet) -> bool
+fn is_one_of(owner: Option<VcpuNo>, vcpus: &[bool; 256]) -> bool
     ensures { result ≡ false → (v : ℕ) → owner ≡ Some v → has_vcpu vcpus.now v ≡ false }
 {
     match owner {
         None => false,
-        Some(vcpu) => vcpus.has(vcpu),
+        Some(vcpu) => vcpus[vcpu.index()],
     }
 }

@@ -56,7 +56,8 @@ fn take_other(spot: &mut Spot, home: &VcpuSet, segment: &Segment)
     ensures owner { spot.new.owner ≡ spot.old.owner }
     ensures size { length spot.new.away ≡ MAX_VCPUS }
     ensures away { (v : ℕ) → v < MAX_VCPUS → (IsTrue (has_vcpu spot.new.away v)
-        ↔ (IsTrue (has_vcpu spot.old.away v) ⊎ (IsTrue (has_vcpu home.now v) × (segment.now.owner ≡ Some v)))) }
+        ↔ (IsTrue (has_vcpu spot.old.away v) ⊎ (IsTrue (has_vcpu home.now v)
+        × (segment.now.owner ≡ Some v)))) }
 {
     spot.end = min(spot.end, segment.end);
     if let Some(vcpu) = segment.owner {

@@ -12,3 +12,4 @@ pub mod RunLemmas
 pub mod ShownLemmas
 pub mod StintLemmas
 pub mod TraceLemmas
+pub mod WorldLemmas

@@ -8,6 +8,7 @@ ghost use Rattle.table_form.specs.Running.Phases.{to_decide, phase_of, round_of}
 ghost use Rattle.step_machine.specs.Answers.{Answers};
 ghost use Rattle.step_machine.specs.Inside.Logs.{cores_of, KnowLast};
 ghost use Rattle.step_machine.specs.Inside.MachineStates.{state_of, HasSpare};
+ghost use Rattle.step_machine.specs.Inside.Worlds.{HaveSlices};
 
 use crate::answer::{Answer, Phase};
 use crate::machine_state::MachineState;
@@ -15,6 +16,7 @@ use crate::premises::{has_up_to, lowest_behind, phase_at};
 use crate::stints::{seen_by, stint_now};
 use crate::updates::{push_entry, push_stint, take_count};
 use script_doc::Step;
+use slice_table::CoreSlices;
 use tab_core::{Actor, Entry, ROUND};
 use table_form::Course;
 
@@ -132,9 +134,16 @@ fn enter(course: &Course, rounds: u32, machine: &mut MachineState, c: usize, rou
 }
 
 // The core runs its next stint, if no other clock is too low.
-pub(crate) fn run(course: &Course, rounds: u32, machine: &mut MachineState, c: usize) -> Answer
+pub(crate) fn run(
+    course: &Course,
+    slices: &[CoreSlices],
+    rounds: u32,
+    machine: &mut MachineState,
+    c: usize,
+) -> Answer
     requires few { rounds ≤ MAX_ROUNDS }
     requires core { c < course.now.cores }
+    requires sliced { HaveSlices course.now slices.now }
     requires kept { StateInvariant course.now rounds (state_of machine.old) }
     requires spare { HasSpare rounds 1 machine.old }
     requires known { KnowLast course.now machine.old.logs.items }
@@ -148,7 +157,7 @@ pub(crate) fn run(course: &Course, rounds: u32, machine: &mut MachineState, c: u
     let Phase::Run = phase else {
         return Answer::NotNow { phase };
     };
-    let next = stint_now(course, rounds, machine, c);
+    let next = stint_now(course, slices, rounds, machine, c);
     match lowest_behind(&machine.logs, course.lag(), Some(c as u32), next.stint.end) {
         Some(low) => Answer::Behind {
             who: Actor::Core(low.core),

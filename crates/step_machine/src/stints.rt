@@ -9,17 +9,26 @@ ghost use Rattle.table_form.specs.Running.Stints.{IsNextStint};
 ghost use Rattle.step_machine.specs.declared.core_log.CoreLog.{CoreLog as LogValue};
 ghost use Rattle.step_machine.specs.Inside.Logs.{core_of, cores_of, KnowLast};
 ghost use Rattle.step_machine.specs.Inside.MachineStates.{state_of};
+ghost use Rattle.step_machine.specs.Inside.Worlds.{HaveSlices};
 
 use crate::core_log::CoreLog;
 use crate::machine_state::MachineState;
-use second_level::{Begin, Next, sharers_of};
+use second_level::{Begin, Next};
+use slice_table::CoreSlices;
 use tab_core::{CoreNo, ROUND};
-use table_form::{Course, Span};
+use table_form::Course;
 
 // The stint that the core would run now.
-pub(crate) fn stint_now(course: &Course, rounds: u32, machine: &MachineState, c: usize) -> Next
+pub(crate) fn stint_now(
+    course: &Course,
+    slices: &[CoreSlices],
+    rounds: u32,
+    machine: &MachineState,
+    c: usize,
+) -> Next
     requires few { rounds ≤ MAX_ROUNDS }
     requires core { c < course.now.cores }
+    requires sliced { HaveSlices course.now slices.now }
     requires kept { StateInvariant course.now rounds (state_of machine.now) }
     requires known { KnowLast course.now machine.now.logs.items }
     requires due { (core : CoreState) → slice_get (cores_of machine.now.logs.items) c ≡ Some core
@@ -34,14 +43,8 @@ pub(crate) fn stint_now(course: &Course, rounds: u32, machine: &MachineState, c:
     let (from, seen) = (log.clock, seen_by(log, rounds));
     let used = used_in(log, from / ROUND);
     let core = CoreNo(c as u32);
-    let plan = course.plan_after(used);
-    let spot = plan.spot(core, from % ROUND);
-    let sharers = sharers_of(&plan.homes_of(core), &spot);
-    let span = Span {
-        owner: spot.owner,
-        sharers: &sharers,
-        end: spot.end,
-    };
+    let table = slices[c].table_after(course, used);
+    let span = table.span(from % ROUND);
     let begin = Begin {
         from,
         seen,

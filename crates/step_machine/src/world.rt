@@ -8,6 +8,7 @@ ghost use Rattle.step_machine.specs.Answers.{Answers, NamesCore};
 ghost use Rattle.step_machine.specs.Inside.Logs.{KnowLast, IsNew, AreNew};
 ghost use Rattle.step_machine.specs.Next.{IsNextStep};
 ghost use Rattle.step_machine.specs.Inside.MachineStates.{state_of, HasSpare};
+ghost use Rattle.step_machine.specs.Inside.Worlds.{HaveSlices};
 ghost use Rattle.step_machine.specs.Traces.{AddsMade, AreMadeBy};
 ghost use Rattle.step_machine.specs.declared.answer.Answer.TheVariants.{Done};
 ghost use Rattle.step_machine.specs.declared.trace.Made.{Made as MadeValue};
@@ -19,6 +20,7 @@ use crate::next::next_step;
 use crate::steps::{decide, post, run, see};
 use crate::trace::{Made, Trace};
 use script_doc::Step;
+use slice_table::CoreSlices;
 use std::alloc::Global;
 use std::cmp::min;
 use std::marker::Model;
@@ -30,6 +32,7 @@ use table_form::Course;
 #[derive(Debug, Drop)]
 pub struct World<'a> {
     course: &'a Course,
+    slices: Vec<CoreSlices>,
     rounds: u32,
     spare: u32,
     machine: MachineState,
@@ -51,7 +54,7 @@ impl<'a> Model for World<'a> {
       made = w.made.items;
     } };
 
-    ghost invariant = { λ w. IsWorld w.course.now w.rounds w.spare w.machine w.made };
+    ghost invariant = { λ w. IsWorld w.course.now w.slices.items w.rounds w.spare w.machine w.made };
 }
 
 impl World<'_> {
@@ -78,6 +81,7 @@ impl World<'_> {
     {
         let decided = Vec::with_capacity(alloc, lesser(turns, rounds) as usize)?;
         let logs = new_logs(alloc, course.cores(), rounds, turns)?;
+        let slices = new_slices(alloc, course)?;
         let made = Vec::with_capacity(alloc, turns as usize)?;
         let machine = MachineState {
             posted: 0,
@@ -86,6 +90,7 @@ impl World<'_> {
         };
         Ok(World {
             course,
+            slices,
             rounds,
             spare: turns,
             machine,
@@ -109,7 +114,13 @@ impl World<'_> {
         ensures same { (self.new.course ≡ self.old.course) × (self.new.rounds ≡ self.old.rounds) }
         ensures kept { StateInvariant self.new.course self.new.rounds self.new.state }
     {
-        let answer = take_step(self.course, self.rounds, &mut self.machine, &step);
+        let answer = take_step(
+            self.course,
+            &self.slices,
+            self.rounds,
+            &mut self.machine,
+            &step,
+        );
         note(&mut self.made, &self.machine, &step, &answer);
         self.spare -= 1;
         answer
@@ -182,8 +193,15 @@ impl World<'_> {
     }
 }
 
-fn take_step(course: &Course, rounds: u32, machine: &mut MachineState, step: &Step) -> Answer
+fn take_step(
+    course: &Course,
+    slices: &[CoreSlices],
+    rounds: u32,
+    machine: &mut MachineState,
+    step: &Step,
+) -> Answer
     requires few { rounds ≤ MAX_ROUNDS }
+    requires sliced { HaveSlices course.now slices.now }
     requires core { NamesCore course.now step.now }
     requires kept { StateInvariant course.now rounds (state_of machine.old) }
     requires spare { HasSpare rounds 1 machine.old }
@@ -196,7 +214,7 @@ fn take_step(course: &Course, rounds: u32, machine: &mut MachineState, step: &St
         Step::Post => post(course, rounds, machine),
         Step::See(c) => see(course, rounds, machine, c.index()),
         Step::Decide(c) => decide(course, rounds, machine, c.index()),
-        Step::Run(c) => run(course, rounds, machine, c.index()),
+        Step::Run(c) => run(course, slices, rounds, machine, c.index()),
     }
 }
 
@@ -230,6 +248,17 @@ fn lesser(a: u32, b: u32) -> u32
     ensures { result ≡ min a b }
 {
     min(a, b)
+}
+
+// The tables of each core's spans, in which a stint is looked up.
+fn new_slices(alloc: Global, course: &Course) -> Result<Vec<CoreSlices>, NoMemory>
+    ensures { IfOk result (λ slices. HaveSlices course.now slices.items) }
+{
+    let mut slices = Vec::new(alloc);
+    for core in 0..course.cores() {
+        slices.push(CoreSlices::make(alloc, course, CoreNo(core))?)?;
+    }
+    Ok(slices)
 }
 
 fn new_logs(alloc: Global, cores: u32, rounds: u32, turns: u32) -> Result<Vec<CoreLog>, NoMemory>

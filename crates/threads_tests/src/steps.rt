@@ -2,11 +2,12 @@
 ghost use Rattle.std.specs.Prelude.{◌≡◌, ◌<◌, IfOk, length};
 ghost use Rattle.table_form.specs.Running.Courses.{FitsRounds};
 
-use dispatch_core::{CoreActor, CoreAnswer, CoreSlices, CoreState, core_step, step_state};
+use dispatch_core::{CoreActor, CoreAnswer, CoreState, core_step, step_state};
 use plan_book::{PlanBook, make_book};
 use plan_switch::{ControlAnswer, Controller, control_step};
 use round_words::RoundBoard;
 use script_doc::read_script;
+use slice_table::CoreSlices;
 use std::alloc::Global;
 use std::test::Fail;
 use std::thread::Threads;

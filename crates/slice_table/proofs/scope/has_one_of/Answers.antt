@@ -34,12 +34,15 @@ loop-at-preserved c =
           (let rise : (get_or ss i d).end ≤ (get_or ss k d).end =
           ends_rise 0 ss ROUND c.segments-segments.ensures.rises i k d (omega arith) less in
           let same = ap (λ (u : Segment). u.end) (get_or_default ss i s d lt) in omega arith);
-      ahead = λ x le. ahead_more ss x i s c.loop-at-test.true c.index-segments-at.is (was.ahead x (omega arith)) le;
+      ahead = λ x le. ahead_more ss x i s c.loop-at-test.true c.index-segments-at.is
+          (was.ahead x (omega arith)) le;
       none = λ x v less at. elim (cases_lt x was.begin) [
         | inl before ↦ was.none x v before at
         | inr later ↦ c.is_one_of.ensures c.if-is_one_of.false v
-            (ap (λ (u : Segment). u.owner) (sym c.index-segments-at.is) ∙ same_Some {A = Option ℕ} s.owner (Some v)
-            (sym (ahead_here ss x i s c.loop-at-test.true c.index-segments-at.is (was.ahead x later) less) ∙ at))
+            (ap (λ (u : Segment). u.owner) (sym c.index-segments-at.is)
+            ∙ same_Some {A = Option ℕ} s.owner (Some v)
+            (sym (ahead_here ss x i s c.loop-at-test.true c.index-segments-at.is (was.ahead x later) less)
+            ∙ at))
       ];
     }
 

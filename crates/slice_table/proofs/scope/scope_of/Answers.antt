@@ -28,9 +28,10 @@ loop-number-preserved c = elim c.if-matters.branch [
       (let same = ap length c.items-rows.ensures.same in omega (arith, c.loop-number-test.true)) in
       let isnt = c.matters.ensures.none w.if-matters.false ne x v small
       (cell_read c.args.plan.now.tables.rows c.loop-number.number x v c.index-rows-number.result lt
-      (c.index-rows-number.is ∙ ap (λ (rows : List Row). get_or rows c.loop-number.number c.index-rows-number.result)
+      (c.index-rows-number.is ∙ ap (λ (rows : List Row). get_or rows c.loop-number.number
+      c.index-rows-number.result)
       c.items-rows.ensures.same) stands) in
-      false≢true (sym isnt ∙ (c.homes_of-home.ensures v small).1 home)))
+      false≢true (sym isnt ∙ (c.flags_of-flags.ensures v small ∙ (c.homes_of-home.ensures v small).1 home))))
 ]
 
 pub returns-clause-scope : goal.returns-clause-scope
@@ -39,6 +40,7 @@ returns-clause-scope c = record {
   home = c.homes_of-home.ensures;
   few = c.items.ensures.few;
   others = subst (λ (n : ℕ). AreOthers (plan_view c.args.plan.now) c.args.core n c.loop-number.others.items)
-      (let same = ap length c.items-rows.ensures.same in omega (arith, c.loop-number-test.false, c.loop-number.auto.number-end))
+      (let same = ap length c.items-rows.ensures.same in omega
+      (arith, c.loop-number-test.false, c.loop-number.auto.number-end))
       c.loop-number.invariant;
 }

@@ -14,7 +14,12 @@ loop-at-preserved c =
     let plan = plan_view c.args.plan.now in
     let scope = c.args.scope.now in
     let at = c.loop-at.at in
-    let lt : at < length scope.others.items = omega (arith, c.loop-at-test.true, c.len-at-end.ensures, scope.others.ok.0) in
+    let lt : at < length scope.others.items = omega (
+      arith,
+      c.loop-at-test.true,
+      c.len-at-end.ensures,
+      scope.others.ok.0,
+    ) in
     let other = c.index-other.result.now in
     let is : other ≡ slice_index scope.others.items at =
     c.index-other.ensures ∙ get_or_default_zero scope.others.items at other lt in
@@ -28,9 +33,11 @@ loop-at-preserved c =
       sight = sight_more plan scope c.args.place at found.result.1.end found.result.1.owner c.loop-at.spot
           c.take_other.new.spot c.requires.scope lt c.loop-at.invariant.sight found.ensures.after
           (λ x low less. ap (λ (d : ℕ). owner_at plan.rows d x) (sym is)
-          ∙ owner_read plan.rows other x row found.result.1.owner there row_is (found.ensures.cells x low less))
+          ∙ owner_read plan.rows other x row found.result.1.owner there row_is
+          (found.ensures.cells x low less))
           taken.end taken.owner taken.size taken.away;
-      past = past_set plan.rows c.args.place c.loop-at.numbers other found.result.0 row c.loop-at.invariant.past there
+      past = past_set plan.rows c.args.place c.loop-at.numbers other found.result.0 row
+          c.loop-at.invariant.past there
           row_is (omega (arith, c.items-rows.ensures.few)) found.ensures.past;
     }
 
@@ -41,4 +48,5 @@ returns-clause-part c =
     let all : c.loop-at.at ≡ length scope.others.items =
     omega (arith, c.loop-at-test.false, c.loop-at.auto.at-end, c.len-at-end.ensures, scope.others.ok.0) in
     sight_whole plan scope c.args.place c.loop-at.spot c.requires.scope
-    (subst (λ (count : ℕ). IsSightOf plan scope c.args.place count c.loop-at.spot) all c.loop-at.invariant.sight)
+    (subst (λ (count : ℕ). IsSightOf plan scope c.args.place count c.loop-at.spot) all
+    c.loop-at.invariant.sight)

@@ -1,4 +1,4 @@
-use Rattle.std.proofs.Common.{◌≡◌, ◌+◌, ◌-◌, ◌<◌, ◌≤◌, ℕ, inl, inr, ap, refl, sym, ◌∙◌, arith, length}
+use Rattle.std.proofs.Common.{◌≡◌, ◌+◌, ◌-◌, ◌<◌, ◌≤◌, ℕ, inl, inr, ap, sym, ◌∙◌, arith, length}
 use Rattle.std.specs.Prelude.{min, slice_index}
 use Rattle.std.proofs.lemmas.Bool.{cases_lt}
 use Rattle.std.proofs.lemmas.List.{length-map}
@@ -15,8 +15,10 @@ loop-number-preserved c =
     let size = length-map c.args.spans.now (λ (span : FullSpan). span.end) in
     let there : number < length ends = omega (arith, c.loop-number-test.true, c.len-number-end.ensures) in
     let rises : begin_at ends number + 1 ≤ slice_index ends number = c.requires.long number there in
-    let ticks : c.shorter-least.result ≡ min c.loop-number.least (slice_index ends number - begin_at ends number) =
-    c.shorter-least.ensures ∙ ap (λ (end : ℕ). min c.loop-number.least (end - c.loop-number.begin)) c.end-end.ensures
+    let ticks : c.shorter-least.result ≡ min c.loop-number.least
+    (slice_index ends number - begin_at ends number) =
+    c.shorter-least.ensures ∙ ap (λ (end : ℕ). min c.loop-number.least (end - c.loop-number.begin))
+    c.end-end.ensures
     ∙ ap (λ (begin : ℕ). min c.loop-number.least (slice_index ends number - begin)) was.begin in
     record {
       begin = c.end-end.ensures ∙ sym (next_begin ends number);

@@ -17,7 +17,8 @@ look-spot-requires-clause-past c = λ d row at.
 pub growing-init : goal.growing-init
 growing-init c = record {
   from = 0;
-  done = subst (λ (spans : List FullSpan). AreSpansOf (plan_view c.args.plan.now) c.args.scope.now.core 0 spans 0)
+  done = subst (λ (spans : List FullSpan). AreSpansOf (plan_view c.args.plan.now) c.args.scope.now.core 0
+      spans 0)
       (sym c.new-spans.ensures) refl;
   part = c.look-spot.ensures.part;
   past = all_later c.args.plan.now.tables.rows 0 c.look-spot.result.end c.look-spot.new.numbers (omega arith)
@@ -34,14 +35,16 @@ growing-preserved-then-is_alike c =
       done = was.done;
       part = part_grows plan c.args.scope.now.core was.from c.growing.spot c.look-next.result c.requires.few
           was.part c.look-next.ensures.part same.0 same.1;
-      past = all_later c.args.plan.now.tables.rows c.growing.spot.end c.look-next.result.end c.look-next.new.numbers
+      past = all_later c.args.plan.now.tables.rows c.growing.spot.end c.look-next.result.end
+          c.look-next.new.numbers
           (let after = c.look-next.ensures.part.after in omega arith) c.look-next.ensures.past;
     }
 
 pub add-requires : goal.add-requires
 add-requires c =
     let was = c.growing.invariant in
-    let few = spans_few (plan_view c.args.plan.now) c.args.scope.now.core 0 was.from c.growing.spans was.done in
+    let few = spans_few (plan_view c.args.plan.now) c.args.scope.now.core 0 was.from c.growing.spans
+    was.done in
     omega (arith, was.part.after, was.part.within)
 
 pub growing-preserved : goal.growing-preserved
@@ -55,17 +58,20 @@ growing-preserved c =
       from = c.growing.spot.end;
       done = subst (λ (spans : List FullSpan). AreSpansOf plan core 0 spans c.growing.spot.end)
           (sym c.in_ok-add.ensures)
-          (span_added plan c.args.scope.now was.from c.growing.spans c.growing.spot c.of.result c.requires was.done
+          (span_added plan c.args.scope.now was.from c.growing.spans c.growing.spot c.of.result c.requires
+          was.done
           was.part end c.of.ensures.owner c.of.ensures.away c.of.ensures.end c.of.ensures.sharers);
       part = c.look-next.ensures.part;
-      past = all_later c.args.plan.now.tables.rows c.growing.spot.end c.look-next.result.end c.look-next.new.numbers
+      past = all_later c.args.plan.now.tables.rows c.growing.spot.end c.look-next.result.end
+          c.look-next.new.numbers
           (let after = c.look-next.ensures.part.after in omega arith) c.look-next.ensures.past;
     }
 
 pub add-requires-2 : goal.add-requires-2
 add-requires-2 c =
     let was = c.growing.invariant in
-    let few = spans_few (plan_view c.args.plan.now) c.args.scope.now.core 0 was.from c.growing.spans was.done in
+    let few = spans_few (plan_view c.args.plan.now) c.args.scope.now.core 0 was.from c.growing.spans
+    was.done in
     omega (arith, was.part.after, was.part.within)
 
 pub returns : goal.returns
@@ -79,5 +85,6 @@ returns c =
     subst (λ (to : ℕ). AreSpansOf plan core 0 c.add-2.new.spans to) last
     (subst (λ (spans : List FullSpan). AreSpansOf plan core 0 spans c.growing.spot.end)
     (sym c.in_ok-add-2.ensures)
-    (span_added plan c.args.scope.now was.from c.growing.spans c.growing.spot c.of-2.result c.requires was.done was.part
+    (span_added plan c.args.scope.now was.from c.growing.spans c.growing.spot c.of-2.result c.requires
+    was.done was.part
     end c.of-2.ensures.owner c.of-2.ensures.away c.of-2.ensures.end c.of-2.ensures.sharers))

@@ -1,9 +1,11 @@
-use Rattle.std.proofs.Common.{◌≡◌, ◌/◌, ◌%◌, inr, length, Some, ap, sym, ◌∙◌, arith}
-use Rattle.std.specs.Prelude.{slice_get}
+use Rattle.std.proofs.Common.{◌≡◌, ◌/◌, inr, length, Some, refl, ap, sym, ◌∙◌, arith}
+use Rattle.std.specs.Prelude.{◌<◌, slice_get}
+use Rattle.std.proofs.lemmas.Option.{slice_get-get_or}
 use Rattle.tab_core.specs.declared.TheConstants.{ROUND}
-use Rattle.table_form.specs.Tables.Views.{plan_view}
+use Rattle.table_form.specs.Tables.Plans.{PlanView}
+use Rattle.slice_table.specs.Slices.{IsTableOf}
 use Rattle.table_form.specs.Running.Choice.{IsDispatch, last_after, last_shared}
-use Rattle.table_form.specs.Running.Courses.{CourseView}
+use Rattle.table_form.specs.Running.Courses.{CourseView, plan_after, plan_number_after}
 use Rattle.table_form.specs.Running.Outlines.{OutlineView}
 use Rattle.table_form.proofs.CourseLemmas.{in_course}
 use Rattle.step_machine.specs.Inside.Logs.{core_of, cores_of}
@@ -11,7 +13,6 @@ use Rattle.run_promises.proofs.Lists.{same, element_at}
 use Rattle.step_machine.proofs.LogLemmas.{core_at}
 use Rattle.step_machine.proofs.PhaseLemmas.{entered_to_run}
 use Rattle.step_machine.proofs.MachineStateLemmas.{log_found, log_kept}
-use Rattle.step_machine.proofs.StintLemmas.{span_of_spot}
 use Rattle.step_machine.proofs.stints.stint_now.Goals as goal
 
 pub seen_by-seen-requires : goal.seen_by-seen-requires
@@ -32,8 +33,8 @@ used_in-used-requires c =
     entered_to_run c.args.rounds (core_of log) k.timeline.numbered
     (c.requires.due (core_of log) (core_at p.logs.items c.args.c log at))
 
-pub plan_after-plan-requires : goal.plan_after-plan-requires
-plan_after-plan-requires c =
+pub table_after-table-requires-clause-used : goal.table_after-table-requires-clause-used
+table_after-table-requires-clause-used c =
     let p = c.args.machine.now in
     let log = c.index-log.result.now in
     let at = log_found c.args.course.now c.args.rounds p c.args.c log c.requires.kept
@@ -68,6 +69,18 @@ next_stint-requires-clause-from c =
     let k = log_kept c.args.course.now c.args.rounds p c.args.c log c.requires.kept at in
     omega (arith, k.clock.in_run)
 
+-- the table is the core's of the plan that its round uses
+table_of : (c : goal.After-next_stint) → IsTableOf (plan_after c.args.course.now c.used_in-used.result) c.args.c
+    c.table_after-table.result.now
+table_of c =
+    let tables = c.index-slices-c.result in
+    let small : c.args.c < length c.args.slices.now = omega (arith, c.requires.sliced.count, c.requires.core) in
+    let at : slice_get c.args.slices.now c.args.c ≡ Some tables =
+    slice_get-get_or c.args.slices.now c.args.c tables small ∙ ap Some (sym c.index-slices-c.is) in
+    (c.requires.sliced.each c.args.c tables at).each
+    (plan_number_after c.args.course.now c.used_in-used.result) c.table_after-table.result.now
+    c.table_after-table.ensures
+
 pub returns-clause-next : goal.returns-clause-next
 returns-clause-next c = λ core h.
     let p = c.args.machine.now in
@@ -81,17 +94,15 @@ returns-clause-next c = λ core h.
     (entered_to_run c.args.rounds (core_of log) k.timeline.numbered due) in
     let is = same (slice_get (cores_of p.logs.items) c.args.c) (core_of log) core
     (core_at p.logs.items c.args.c log at) h in
-    let span = span_of_spot (plan_view c.plan_after-plan.result.now) c.args.c (log.clock % ROUND)
-    c.spot-spot.result c.homes_of.result c.sharers_of-sharers.result c.spot-spot.ensures
-    c.homes_of.ensures c.sharers_of-sharers.ensures in
     let stint = c.next_stint.result.stint in
+    let plan : PlanView = plan_after course c.used_in-used.result in
     let follows : IsDispatch course c.args.c log.stints.items stint =
-    in_course course c.outline-outline.result.now c.used_in-used.result (plan_view c.plan_after-plan.result.now)
+    in_course course c.outline-outline.result.now c.used_in-used.result plan
     (λ (of : CourseView). log.last ≡ last_shared of c.args.c log.stints.items
     → IsDispatch of c.args.c log.stints.items stint)
-    c.outline-outline.ensures.outline c.plan_after-plan.ensures.plan
-    (λ plans numbers is. c.next_stint.ensures.follows (plan_view c.plan_after-plan.result.now) span
-    plans numbers is log.stints.items)
+    c.outline-outline.ensures.outline refl
+    (λ plans numbers is. c.next_stint.ensures.follows plan
+    (c.span-span.ensures.span plan c.args.c (table_of c)) plans numbers is log.stints.items)
     (c.requires.known c.args.c log at) in
     rw (← is) (record {
       due = due;
@@ -111,11 +122,8 @@ returns-clause-last c = λ log' h.
     let at = log_found course c.args.rounds p c.args.c log c.requires.kept c.requires.core
     c.index-log.ensures in
     let is = same (slice_get p.logs.items c.args.c) log log' at h in
-    let span = span_of_spot (plan_view c.plan_after-plan.result.now) c.args.c (log.clock % ROUND)
-    c.spot-spot.result c.homes_of.result c.sharers_of-sharers.result c.spot-spot.ensures
-    c.homes_of.ensures c.sharers_of-sharers.ensures in
-    rw (← is) (in_course course c.outline-outline.result.now c.used_in-used.result
-    (plan_view c.plan_after-plan.result.now)
+    let plan : PlanView = plan_after course c.used_in-used.result in
+    rw (← is) (in_course course c.outline-outline.result.now c.used_in-used.result plan
     (λ (of : CourseView). c.next_stint.result.last ≡ last_after of c.args.c log.last c.next_stint.result.stint)
-    c.outline-outline.ensures.outline c.plan_after-plan.ensures.plan
-    (c.next_stint.ensures.last (plan_view c.plan_after-plan.result.now) span))
+    c.outline-outline.ensures.outline refl
+    (c.next_stint.ensures.last plan (c.span-span.ensures.span plan c.args.c (table_of c))))

@@ -7,7 +7,8 @@ use Rattle.slice_table.proofs.slice_table.SliceTable.span_at.Goals as goal
 
 pub returns-clause-after : goal.returns-clause-after
 returns-clause-after g c =
-    let held = held_of c.args.self.now c.number_at-number.result c.args.tick c.number_at-number.ensures.holds in
+    let held = held_of c.args.self.now c.number_at-number.result c.args.tick
+    c.number_at-number.ensures.holds in
     let read = c.span.ensures held.span
     (ap (λ (spans : List FullSpan). slice_get spans c.number_at-number.result) c.self.view_is ∙ held.at) in
     let end = read.2 in
@@ -28,8 +29,10 @@ returns-clause-within g c =
 
 pub returns-clause-span : goal.returns-clause-span
 returns-clause-span g c = λ plan core is.
-    let held = held_of c.args.self.now c.number_at-number.result c.args.tick c.number_at-number.ensures.holds in
+    let held = held_of c.args.self.now c.number_at-number.result c.args.tick
+    c.number_at-number.ensures.holds in
     let read = c.span.ensures held.span
     (ap (λ (spans : List FullSpan). slice_get spans c.number_at-number.result) c.self.view_is ∙ held.at) in
-    span_of_table plan core c.args.tick held.span c.span.result.owner c.span.result.sharers.now c.span.result.end
+    span_of_table plan core c.args.tick held.span c.span.result.owner c.span.result.sharers.now
+    c.span.result.end
     (held.shows plan core is) read.0 read.1 read.2

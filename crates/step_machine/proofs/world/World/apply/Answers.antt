@@ -20,6 +20,7 @@ invariant_of-self c =
     let spare = ap (λ (w : WorldView). w.spare) c.self.view_is in
     let back : was.spare ≡ (was.spare - 1) + 1 = (let some = c.requires.spare in omega arith) in
     record {
+      sliced = kept.sliced;
       course_kept = kept.course_kept;
       fits = kept.fits;
       kept = answers_keep was.course.now was.rounds

@@ -12,6 +12,7 @@ invariant_of-result c =
     let new : AreNew course.cores c.args.rounds c.args.turns logs.items =
     rw c.cores.ensures.cores at c.in_ok-logs.ensures in
     record {
+      sliced = c.in_ok-slices.ensures;
       course_kept = c.cores.ensures.kept;
       fits = c.requires;
       kept = subst (λ (s : State). StateInvariant course c.args.rounds s)

@@ -1,0 +1,136 @@
+ghost use Rattle.host_gen.specs.HostText.{AreAdmitted};
+
+use host_doc::read_host;
+use host_gen::{generate, write_host};
+use std::alloc::{AllocError, Global};
+use std::test::Fail;
+use tab_core::{Host, Vcpu};
+use tab_io::{MemSink, WriteFault};
+
+// What seed 1234567 makes for one core and one vCPU. Its words are 6457827717110365317 and
+// 3203168211198807973, so the vCPU gets 18 percent, with a latency of the period 300.
+const TEXT: &[u8] = b"format = 1
+cores = 1
+lag = 1000
+sliver = 30
+quantum = 1000
+
+[[vcpu]]
+name = \"v0\"
+share_ppm = 180000
+latency_ns = 492492
+runnable = true
+";
+
+#[test]
+fn the_text_of_a_seed(rt: HostRuntime) -> Result<(), Fail> {
+    let host = generate(rt.alloc(), 1_234_567, 1, 1)?;
+    let mut sink = MemSink::with_room(rt.alloc(), 200)?;
+    assert_eq!(rt; write_host(&mut sink, &host), Ok(()));
+    assert_eq!(rt; sink.bytes(), TEXT);
+    Ok(())
+}
+
+#[test]
+fn a_fault_leaves_a_front_of_the_host(rt: HostRuntime) -> Result<(), Fail> {
+    let host = generate(rt.alloc(), 1_234_567, 1, 1)?;
+    for room in 0..TEXT.len() {
+        let mut sink = MemSink::with_room(rt.alloc(), room)?;
+        assert_eq!(rt;
+            write_host(&mut sink, &host),
+            Err(WriteFault),
+            "with room for {room}"
+        );
+        assert_eq!(rt; sink.bytes(), &TEXT[..room]);
+    }
+    Ok(())
+}
+
+// A vCPU's share, latency and whether it is runnable.
+fn numbers_of(alloc: Global, vcpu: &Vcpu) -> Result<String, AllocError> {
+    match &vcpu.reservation {
+        None => format!(in alloc; "none {}", vcpu.runnable),
+        Some(r) => format!(in alloc; "{} {} {}", r.share_ppm, r.latency_ns, vcpu.runnable),
+    }
+}
+
+// The host's numbers, and each vCPU.
+fn describe_host(alloc: Global, host: &Host) -> Result<String, AllocError> {
+    let mut text = format!(in alloc;
+        "{} {} {} {}",
+        host.cores, host.lag, host.sliver, host.quantum
+    )?;
+    for vcpu in host.vcpus.items() {
+        let numbers = numbers_of(alloc, vcpu)?;
+        let part = format!(in alloc; "; {:?} {numbers}", vcpu.name.bytes())?;
+        text.push_str(&part)?;
+    }
+    Ok(text)
+}
+
+// Whether the host's text is read as the same host.
+fn is_read_back(alloc: Global, host: &Host) -> Result<bool, AllocError>
+    requires { AreAdmitted host.now.vcpus }
+{
+    let mut sink = MemSink::with_room(alloc, 100_000)?;
+    if write_host(&mut sink, host).is_err() {
+        return Ok(false);
+    }
+    match read_host(alloc, sink.bytes()) {
+        Err(_) => Ok(false),
+        Ok(read) => {
+            let described = describe_host(alloc, &read)?;
+            let expected = describe_host(alloc, host)?;
+            Ok(described.as_str() == expected.as_str())
+        }
+    }
+}
+
+#[test]
+fn written_hosts_are_read_back(rt: HostRuntime) -> Result<(), Fail> {
+    let one = generate(rt.alloc(), 1_234_567, 1, 1)?;
+    let none = generate(rt.alloc(), 5, 32, 0)?;
+    let many = generate(rt.alloc(), 42, 32, 256)?;
+    let read_back = [
+        is_read_back(rt.alloc(), &one)?,
+        is_read_back(rt.alloc(), &none)?,
+        is_read_back(rt.alloc(), &many)?,
+    ];
+    assert_eq!(rt; read_back, [true; 3]);
+    Ok(())
+}
+
+// The numbers of these seeds were made by another program.
+#[test]
+fn the_vcpus_of_seeds(rt: HostRuntime) -> Result<(), Fail> {
+    let low = generate(rt.alloc(), 0, 2, 3)?;
+    let high = generate(rt.alloc(), u64::MAX, 1, 2)?;
+    let wide = generate(rt.alloc(), 7, 32, 3)?;
+    let cases: [(&Host, &[&str]); 3] = [
+        (
+            &low,
+            &[
+                "360000 128128 true",
+                "300000 7987980 false",
+                "480000 104104 true",
+            ],
+        ),
+        (&high, &["370000 3405402 true", "20000 196196 true"]),
+        (
+            &wide,
+            &[
+                "300000 140140 true",
+                "910000 486486 false",
+                "110000 4810806 true",
+            ],
+        ),
+    ];
+    for (host, expected) in cases {
+        assert_eq!(rt; host.vcpus.items().len(), expected.len());
+        for (vcpu, line) in host.vcpus.items().iter().zip(expected) {
+            let numbers = numbers_of(rt.alloc(), vcpu)?;
+            assert_eq!(rt; numbers.as_str(), *line);
+        }
+    }
+    Ok(())
+}

@@ -1,0 +1,74 @@
+-- The host text in the parts in which it is written.
+use Rattle.std.proofs.Common.{◌≡◌, ℕ, List, [], ◌∷◌, ◌++◌, codes, decimal, Some, None, refl, ap, ◌∙◌, append_assoc}
+use Rattle.tab_core.specs.declared.host.Host.{Host}
+use Rattle.tab_core.specs.declared.reservation.Reservation.{Reservation}
+use Rattle.tab_core.specs.declared.vcpu.Vcpu.{Vcpu}
+use Rattle.tab_words.specs.Texts.{line_of, text_of}
+use Rattle.host_gen.specs.HostText.{Line, head_lines, key_words, quoted, truth_word, vcpu_text}
+
+-- the line of a key and its value, and what follows it
+key_line : (key value rest : List ℕ)
+    → line_of (key_words key value) ++ rest ≡ key ++ (codes " = " ++ (value ++ 10 ∷ rest))
+unfolding line_of
+key_line key value rest = simp append_assoc
+
+-- the same where more lines follow
+key_first : (key value : List ℕ) (lines : List Line) (rest : List ℕ) → text_of lines ≡ rest
+    → text_of (key_words key value ∷ lines) ≡ key ++ (codes " = " ++ (value ++ 10 ∷ rest))
+key_first key value lines rest is =
+    key_line key value (text_of lines) ∙ ap (λ r. key ++ (codes " = " ++ (value ++ 10 ∷ r))) is
+
+-- the host's own lines, piece by piece
+pub head_pieces : (host : Host)
+    → text_of (head_lines host)
+    ≡ codes "format = 1\ncores = "
+    ++ (decimal host.cores
+    ++ (codes "\nlag = " ++ (decimal host.lag
+    ++ (codes "\nsliver = " ++ (decimal host.sliver
+    ++ (codes "\nquantum = " ++ (decimal host.quantum ++ codes "\n")))))))
+head_pieces host =
+    let quantum : List Line = key_words (codes "quantum") (decimal host.quantum) ∷ [] in
+    let sliver : List Line = key_words (codes "sliver") (decimal host.sliver) ∷ quantum in
+    let lag : List Line = key_words (codes "lag") (decimal host.lag) ∷ sliver in
+    let cores : List Line = key_words (codes "cores") (decimal host.cores) ∷ lag in
+    key_first (codes "format") (codes "1") cores _
+    (key_first (codes "cores") (decimal host.cores) lag _
+    (key_first (codes "lag") (decimal host.lag) sliver _
+    (key_first (codes "sliver") (decimal host.sliver) quantum _
+    (key_first (codes "quantum") (decimal host.quantum) [] [] refl))))
+
+-- a vCPU's lines, piece by piece
+admitted_pieces : (name : List ℕ) (r : Reservation) (truth : List ℕ)
+    → text_of (key_words (codes "name") (quoted name) ∷ key_words (codes "share_ppm") (decimal r.share_ppm)
+    ∷ key_words (codes "latency_ns") (decimal r.latency_ns) ∷ key_words (codes "runnable") truth ∷ [])
+    ≡ codes "name = \""
+    ++ (name
+    ++ (codes "\"\nshare_ppm = " ++ (decimal r.share_ppm
+    ++ (codes "\nlatency_ns = " ++ (decimal r.latency_ns
+    ++ (codes "\nrunnable = " ++ (truth ++ codes "\n")))))))
+admitted_pieces name r truth =
+    let runnable : List Line = key_words (codes "runnable") truth ∷ [] in
+    let latency : List Line = key_words (codes "latency_ns") (decimal r.latency_ns) ∷ runnable in
+    let share : List Line = key_words (codes "share_ppm") (decimal r.share_ppm) ∷ latency in
+    key_first (codes "name") (quoted name) share _
+    (key_first (codes "share_ppm") (decimal r.share_ppm) latency _
+    (key_first (codes "latency_ns") (decimal r.latency_ns) runnable _
+    (key_first (codes "runnable") truth [] [] refl)))
+    ∙ ap (λ rest. codes "name = \"" ++ rest) (append_assoc name (34 ∷ []) _)
+
+-- those of an admitted vCPU
+pub vcpu_pieces : (vcpu : Vcpu) (r : Reservation) → vcpu.reservation ≡ Some r
+    → vcpu_text vcpu
+    ≡ codes "\n[[vcpu]]\nname = \""
+    ++ (vcpu.name
+    ++ (codes "\"\nshare_ppm = " ++ (decimal r.share_ppm
+    ++ (codes "\nlatency_ns = " ++ (decimal r.latency_ns
+    ++ (codes "\nrunnable = " ++ (truth_word vcpu.runnable ++ codes "\n")))))))
+unfolding vcpu_text line_of
+vcpu_pieces vcpu r is = rw is
+    (ap (λ rest. codes "\n[[vcpu]]\n" ++ rest) (admitted_pieces vcpu.name r (truth_word vcpu.runnable)))
+
+-- one that isn't admitted has none
+pub vcpu_without : (vcpu : Vcpu) → vcpu.reservation ≡ None → vcpu_text vcpu ≡ []
+unfolding vcpu_text
+vcpu_without vcpu is = rw is

@@ -1,0 +1,62 @@
+-- The text of a host, as lines of words. It is a host document in a form of this project's own.
+-- Source of what a document is: TOML v1.1.
+use Rattle.std.specs.Prelude.{ℕ, Bool, true, false, List, [], ◌∷◌, ◌++◌, All, IsSome, codes, decimal, flat_map, Option, Some, None}
+use Rattle.tab_core.specs.declared.host.Host.{Host}
+use Rattle.tab_core.specs.declared.reservation.Reservation.{Reservation}
+use Rattle.tab_core.specs.declared.vcpu.Vcpu.{Vcpu}
+use Rattle.tab_words.specs.Texts.{text_of}
+
+-- a line, as its words
+abbrev pub Line : Type 0
+Line = List (List ℕ)
+
+-- the line of a key and its value
+abbrev pub key_words : List ℕ → List ℕ → Line
+key_words key value = key ∷ codes "=" ∷ value ∷ []
+
+-- between quotation marks
+abbrev pub quoted : List ℕ → List ℕ
+quoted text = 34 ∷ (text ++ 34 ∷ [])
+
+-- a truth value as the word that TOML has for it
+abbrev pub truth_word : Bool → List ℕ
+truth_word true = codes "true"
+truth_word false = codes "false"
+
+-- the lines of the host's own numbers
+abbrev pub head_lines : Host → List Line
+head_lines host =
+    key_words (codes "format") (codes "1")
+    ∷ key_words (codes "cores") (decimal host.cores)
+    ∷ key_words (codes "lag") (decimal host.lag)
+    ∷ key_words (codes "sliver") (decimal host.sliver)
+    ∷ key_words (codes "quantum") (decimal host.quantum)
+    ∷ []
+
+-- the lines of an admitted vCPU, behind an empty one
+abbrev pub admitted_lines : List ℕ → Reservation → Bool → List Line
+admitted_lines name r runnable =
+    []
+    ∷ (codes "[[vcpu]]" ∷ [])
+    ∷ key_words (codes "name") (quoted name)
+    ∷ key_words (codes "share_ppm") (decimal r.share_ppm)
+    ∷ key_words (codes "latency_ns") (decimal r.latency_ns)
+    ∷ key_words (codes "runnable") (truth_word runnable)
+    ∷ []
+
+-- a vCPU that isn't admitted has no lines
+abbrev pub vcpu_lines : List ℕ → Option Reservation → Bool → List Line
+vcpu_lines name None runnable = []
+vcpu_lines name (Some r) runnable = admitted_lines name r runnable
+
+-- a vCPU's lines as they are written
+unfoldable pub vcpu_text : Vcpu → List ℕ
+vcpu_text vcpu = text_of (vcpu_lines vcpu.name vcpu.reservation vcpu.runnable)
+
+-- the text of a host whose vCPUs are all admitted
+unfoldable pub host_text : Host → List ℕ
+host_text host = text_of (head_lines host) ++ flat_map vcpu_text host.vcpus
+
+-- each vCPU has a reservation
+abbrev pub AreAdmitted : List Vcpu → Type 0
+AreAdmitted vcpus = All (λ vcpu. IsSome vcpu.reservation) vcpus

@@ -1,0 +1,4 @@
+pub mod GeneratorWords
+pub mod Generated
+pub mod HostText
+pub mod Planning
