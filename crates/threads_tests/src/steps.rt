@@ -46,13 +46,23 @@ fn book_of<R: Threads + Sync>(rt: &R, alloc: Global, text: &[u8]) -> Result<Plan
     }
 }
 
-fn ran(from: u32, end: u32, seen: u32, ran: Option<VcpuNo>) -> CoreAnswer {
+fn ran_a(from: u32, end: u32, seen: u32) -> CoreAnswer {
     CoreAnswer::Ran(Stint {
         from,
         end,
         seen,
         used: 0,
-        ran,
+        ran: Some(VcpuNo(0)),
+    })
+}
+
+fn idled(from: u32, end: u32, seen: u32) -> CoreAnswer {
+    CoreAnswer::Ran(Stint {
+        from,
+        end,
+        seen,
+        used: 0,
+        ran: None,
     })
 }
 
@@ -77,10 +87,9 @@ fn two_cores_run_a_round(rt: HostRuntime) -> Result<(), Fail> {
     let slices = CoreSlices::make(rt.alloc(), course, CoreNo(1))?;
     let mut state = CoreState::make(rt.alloc(), course.outline(), CoreNo(1), 1, 1)?;
     let mut controller = Controller::make(course);
-    let a = Some(VcpuNo(0));
     assert_eq!(rt;
         core_step(&board, &mut first, &mut actor),
-        ran(0, 51_300, 0, a)
+        ran_a(0, 51_300, 0)
     );
     assert_eq!(rt;
         core_step(&board, &mut first, &mut actor),
@@ -101,11 +110,11 @@ fn two_cores_run_a_round(rt: HostRuntime) -> Result<(), Fail> {
     );
     assert_eq!(rt;
         step_state(&board, &mut second, course, &slices, &mut state),
-        ran(0, 51_300, 1, None)
+        idled(0, 51_300, 1)
     );
     assert_eq!(rt;
         core_step(&board, &mut first, &mut actor),
-        ran(51_300, 102_600, 1, a)
+        ran_a(51_300, 102_600, 1)
     );
     assert_eq!(rt;
         core_step(&board, &mut first, &mut actor),
@@ -113,7 +122,7 @@ fn two_cores_run_a_round(rt: HostRuntime) -> Result<(), Fail> {
     );
     assert_eq!(rt;
         step_state(&board, &mut second, course, &slices, &mut state),
-        ran(51_300, 102_600, 1, None)
+        idled(51_300, 102_600, 1)
     );
     assert_eq!(rt; state.clock(), 102_600);
     let account = actor.account();
