@@ -1,48 +1,47 @@
-ghost use Rattle.std.specs.Prelude.{List, ◌≡◌, ◌<◌, ◌↔◌, ℕ, true, length};
+ghost use Rattle.std.specs.Prelude.{◌≡◌, ◌<◌, ◌↔◌, ℕ, List, Some, length, true};
 ghost use Rattle.table_form.specs.Running.Courses.{CourseView, IsCourse};
 ghost use Rattle.table_form.specs.Running.Invariant.{IsComplete, StateInvariant};
+ghost use Rattle.table_form.specs.Running.Promises.{KeepsPromises};
 ghost use Rattle.table_form.specs.Running.Waiting.{HasUpTo};
-ghost use Rattle.round_words.specs.Views.{part};
-ghost use Rattle.round_words.specs.declared.view.View.{View as ViewValue};
-ghost use Rattle.round_words.specs.Lessons.{Learned};
-ghost use Rattle.core_workers.specs.declared.team.Lead.{Lead as LeadValue};
-ghost use Rattle.core_workers.specs.declared.team.Member.{Member as MemberValue};
-ghost use Rattle.core_workers.specs.Teams.{AllAgree, HeldFinished, HoldsAll, IsTeam, course_of};
-ghost use Rattle.board_state.specs.Agreement.{IsFinished, IsRunView};
-ghost use Rattle.board_state.specs.Readings.{has_up_to, state_of, used_counts};
+ghost use Rattle.round_words.specs.Views.{last_of, part};
+ghost use Rattle.round_words.specs.declared.view.View.{View};
+ghost use Rattle.dispatch_core.specs.Parts.{used_counts};
+ghost use Rattle.board_state.specs.Readings.{has_up_to, seen_by, state_of};
+ghost use Rattle.board_state.specs.RunViews.{IsFinished, IsRunView};
 
-/// A view that holds all parts, and with whose parts the actors agree, is one of a state that the
-/// machine's steps keep.
-pub fn a_board_is_kept()
-    ensures { (course : CourseView) (rounds : ℕ) (v : ViewValue) → IsCourse course
-        → IsRunView course rounds v → StateInvariant course rounds (state_of course v) }
+/// A view of all parts of a run, read as a state, keeps what every step of a run keeps.
+pub fn a_run_view_is_kept()
+    ensures { (course : CourseView) (rounds : ℕ) (v : View) → IsRunView course rounds v
+        → StateInvariant course rounds (state_of course v) }
 {}
 
-/// Where in such a view every clock is at the run's end and every event is posted, the state is
-/// whole.
-pub fn a_whole_board_is_whole()
-    ensures { (course : CourseView) (rounds : ℕ) (v : ViewValue) → IsRunView course rounds v
+/// So it keeps all promises of a run, wherever the actors stopped.
+pub fn a_run_view_keeps_its_promises()
+    ensures { (course : CourseView) (rounds : ℕ) (v : View) → IsCourse course → IsRunView course rounds v
+        → KeepsPromises course rounds (state_of course v) }
+{}
+
+/// Where all clocks are at the run's end and all events are posted, the run is complete.
+pub fn a_finished_run_view_is_complete()
+    ensures { (course : CourseView) (rounds : ℕ) (v : View) → IsRunView course rounds v
         → IsFinished rounds v → IsComplete course rounds (state_of course v) }
 {}
 
-/// And there each core has used each round's count, one for each round.
-pub fn every_core_uses_the_counts()
-    ensures { (course : CourseView) (rounds c : ℕ) (v : ViewValue) → IsRunView course rounds v
+/// And there each core has used the count of each round, one for each round of the run.
+pub fn every_core_used_the_decided_counts()
+    ensures counts { (course : CourseView) (rounds c : ℕ) (v : View) → IsRunView course rounds v
         → IsFinished rounds v → c < v.cores
-        → (used_counts (part v c).entries ≡ (state_of course v).decided)
-        × (length (state_of course v).decided ≡ rounds) }
+        → used_counts (part v c).entries ≡ (state_of course v).decided }
+    ensures each_round { (course : CourseView) (rounds c : ℕ) (v : View) → IsRunView course rounds v
+        → IsFinished rounds v → c < v.cores → length (state_of course v).decided ≡ rounds }
 {}
 
-/// The test by which a sight is read is exact.
+/// A core is read as having seen a count where that is its last sight since its last stint, and has each
+/// event of tick at most its clock less the lag.
 pub fn a_recent_sight_is_seen()
-    ensures { (course : CourseView) (count x : ℕ) → (has_up_to course count x ≡ true)
+    ensures seen { (course : CourseView) (clock n : ℕ) (sights : List ℕ)
+        → (seen_by course clock sights ≡ Some n)
+        ↔ ((0 < length sights) × (last_of sights ≡ n) × HasUpTo course n clock) }
+    ensures test { (course : CourseView) (count x : ℕ) → (has_up_to course count x ≡ true)
         ↔ HasUpTo course count x }
-{}
-
-/// A team that agrees with a view of all its parts, and has finished, has made a whole run.
-pub fn a_finished_team_made_a_whole_run()
-    ensures { (lead : LeadValue) (members : List MemberValue) (v : ViewValue) → IsTeam lead members
-        → AllAgree lead members v → HoldsAll lead members v → HeldFinished lead members v → Learned v
-        → StateInvariant (course_of lead) lead.rounds (state_of (course_of lead) v)
-        × IsComplete (course_of lead) lead.rounds (state_of (course_of lead) v) }
 {}

@@ -1,5 +1,5 @@
 -- A core that enters its clock's round, and the used counts of its entries.
-use Rattle.std.proofs.Common.{◌≡◌, ℕ, zero, suc, ◌+◌, ◌*◌, ◌/◌, ◌<◌, ◌≤◌, Bool, true, List, [], ◌∷◌, ◌++◌, length, Some, refl, ap, arith}
+use Rattle.std.proofs.Common.{◌≡◌, ℕ, zero, suc, ◌*◌, ◌/◌, ◌≤◌, Bool, true, List, [], ◌∷◌, ◌++◌, length, Some, refl, ap, arith}
 use Rattle.std.specs.Prelude.{All, slice_get}
 use Rattle.std.proofs.lemmas.List.Elements.{All-head, All-tail}
 use Rattle.std.proofs.lemmas.List.{length-map}
@@ -9,7 +9,7 @@ use Rattle.round_words.specs.declared.view.Part.{Part}
 use Rattle.round_words.specs.Rule.{IsCorePart}
 use Rattle.round_words.specs.Views.{entry, enters, last_of}
 use Rattle.dispatch_core.specs.Parts.{used_counts}
-use Rattle.dispatch_core.specs.Told.{MakesEntry, round_at}
+use Rattle.dispatch_core.specs.Told.{MakesEntry}
 
 -- there is a used count for each entry
 pub count_used : (entries : List Entry) → length (used_counts entries) ≡ length entries

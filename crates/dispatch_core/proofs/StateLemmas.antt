@@ -1,11 +1,11 @@
 -- What a core's actor keeps, along a step.
-use Rattle.std.proofs.Common.{◌≡◌, ℕ, zero, suc, ◌*◌, ◌<◌, ◌≤◌, Bool, true, List, [], ◌∷◌, ◌++◌, None, length, take, replicate, refl, sym, ap, ◌∙◌, subst, arith}
-use Rattle.std.specs.Prelude.{All, slice_get, slice_index}
+use Rattle.std.proofs.Common.{◌≡◌, ℕ, zero, suc, ◌*◌, ◌<◌, ◌≤◌, List, [], ◌∷◌, length, take, refl, sym, ap, ◌∙◌, subst, arith}
+use Rattle.std.specs.Prelude.{All, slice_get}
 use Rattle.tab_core.specs.declared.TheConstants.{ROUND}
 use Rattle.tab_core.specs.declared.entry.Entry.{Entry}
 use Rattle.tab_core.specs.declared.stint.Stint.{Stint}
 use Rattle.table_form.specs.Running.Choice.{last_shared}
-use Rattle.table_form.specs.Running.Courses.{CourseView, outline_of}
+use Rattle.table_form.specs.Running.Courses.{CourseView}
 use Rattle.table_form.specs.Running.Outlines.{OutlineView}
 use Rattle.round_words.specs.declared.view.Part.{Part}
 use Rattle.round_words.specs.declared.view.View.{View}
@@ -15,7 +15,7 @@ use Rattle.round_words.specs.Changes.{ChangesOnly}
 use Rattle.round_words.specs.Views.{last_of, part}
 use Rattle.round_words.proofs.ChangesLemmas.{core_still, started_still}
 use Rattle.dispatch_core.specs.declared.log.CoreLog.{CoreLog}
-use Rattle.dispatch_core.specs.Accounts.{IsAccountOf, idle_ticks, shared_ticks, slot_ticks}
+use Rattle.dispatch_core.specs.Accounts.{IsAccountOf}
 use Rattle.dispatch_core.specs.Inside.Logs.{IsNewLog, log_view}
 use Rattle.dispatch_core.specs.Parts.{HasSeen, IsNewPart, IsOfOutline, IsPartOf, IsTimely, used_counts}
 use Rattle.dispatch_core.specs.States.{AgreesWith, FollowsPlans, Stands, StateView}

@@ -1,14 +1,15 @@
 -- The stint that a core runs next, and what its actor keeps then.
-use Rattle.std.proofs.Common.{◌≡◌, ◌≢◌, ℕ, zero, suc, ◌+◌, ◌-◌, ◌*◌, ◌/◌, ◌<◌, ◌≤◌, Bool, true, false, List, [], ◌∷◌, ◌++◌, Option, None, Some, inl, inr, length, take, refl, sym, ap, ◌∙◌, subst, arith}
+use Rattle.std.proofs.Common.{◌≡◌, ℕ, zero, suc, ◌+◌, ◌*◌, ◌/◌, ◌<◌, ◌≤◌, Bool, true, false, List, [], ◌∷◌, ◌++◌, Option, None, Some, inl, inr, length, take, refl, sym, ap, ◌∙◌, subst, arith}
 use Rattle.std.specs.Option.{ForSome}
-use Rattle.std.specs.Prelude.{nat_lt, slice_get, slice_index, sum_by, not, ◌&&◌, if◌then◌else◌}
+use Rattle.std.specs.Prelude.{nat_lt, slice_get, sum_by, not, ◌&&◌, if◌then◌else◌}
 use Rattle.std.proofs.lemmas.Bool.{cases_lt, le-ltb, lt-ltb}
 use Rattle.std.proofs.lemmas.List.Sums.{fold_push, sum_by_push}
 use denote.Struct.Props.{props}
 use Rattle.tab_core.specs.declared.TheConstants.{MAX_VCPUS, ROUND}
 use Rattle.tab_core.proofs.Lists.{push_split}
 use Rattle.tab_core.specs.declared.stint.Stint.{Stint}
-use Rattle.table_form.specs.Running.Choice.{IsDispatch, is_shared, is_vcpu, last_after, last_shared}
+use Rattle.table_form.specs.Tables.Serves.{is_cell_of}
+use Rattle.table_form.specs.Running.Choice.{IsDispatch, is_shared, last_after, last_shared}
 use Rattle.table_form.specs.Running.Courses.{CourseView}
 use Rattle.round_words.specs.declared.view.Part.{Part}
 use Rattle.table_form.specs.Running.Outlines.{OutlineView}
@@ -18,12 +19,11 @@ use Rattle.round_words.specs.Views.{last_of, part, runs}
 use Rattle.round_words.proofs.ChangesLemmas.{core_still, started_still}
 use Rattle.round_words.proofs.HearingLemmas.{SamePart}
 use Rattle.dispatch_core.specs.declared.account.CoreAccount.{CoreAccount}
-use Rattle.dispatch_core.specs.declared.log.CoreLog.{CoreLog}
 use Rattle.dispatch_core.specs.Accounts.{IsAccountOf, IsWithin, idle_ticks, length_of, shared_ticks, slot_ticks}
 use Rattle.dispatch_core.specs.Inside.Adding.{Adds}
 use Rattle.dispatch_core.specs.Parts.{AreDispatched, HasSeen, used_counts}
 use Rattle.dispatch_core.specs.States.{FollowsPlans, Stands, StateView}
-use Rattle.dispatch_core.specs.Told.{BeginsNext, ComesNext}
+use Rattle.dispatch_core.specs.Told.{BeginsNext}
 use Rattle.dispatch_core.proofs.EntryLemmas.{used_at}
 use Rattle.dispatch_core.proofs.PartLemmas.{ran_timely}
 use Rattle.dispatch_core.proofs.StateLemmas.{none_taken}
@@ -98,8 +98,8 @@ idle_part s = by s.ran s refl
 pub within_more : (old new : CoreAccount) (s : Stint) (shared : Bool) → IsWithin old s.from → s.from ≤ s.end
     → Adds old new s shared → IsWithin new s.end
 within_more old new s shared within le adds = record {
-  slots = λ v lt. omega (arith, adds.slots v lt, within.slots v lt, part_of (is_vcpu v s.ran && not shared) (length_of s), le);
-  shared = λ v lt. omega (arith, adds.picked v lt, within.shared v lt, part_of (is_vcpu v s.ran && shared) (length_of s), le);
+  slots = λ v lt. omega (arith, adds.slots v lt, within.slots v lt, part_of (is_cell_of v s.ran && not shared) (length_of s), le);
+  shared = λ v lt. omega (arith, adds.picked v lt, within.shared v lt, part_of (is_cell_of v s.ran && shared) (length_of s), le);
   idle = omega (arith, adds.idle, within.idle, idle_part s, le);
 }
 
@@ -107,10 +107,10 @@ within_more old new s shared within le adds = record {
 account_more : (course : CourseView) (c : ℕ) (ss : List Stint) (s : Stint) (shared : Bool) (old new : CoreAccount)
     → IsAccountOf course c ss old → shared ≡ is_shared course c s → Adds old new s shared → IsAccountOf course c (ss ++ s ∷ []) new
 account_more course c ss s shared old new is shared_is adds = record {
-  slots = λ v lt. adds.slots v lt ∙ (ap (λ (x : ℕ). x + (if is_vcpu v s.ran && not shared then length_of s else 0)) (is.slots v lt)
-      ∙ (ap (λ (b : Bool). sum_by (slot_ticks course c v) ss + (if is_vcpu v s.ran && not b then length_of s else 0)) shared_is ∙ sym (sum_by_push (slot_ticks course c v) ss s)));
-  shared = λ v lt. adds.picked v lt ∙ (ap (λ (x : ℕ). x + (if is_vcpu v s.ran && shared then length_of s else 0)) (is.shared v lt)
-      ∙ (ap (λ (b : Bool). sum_by (shared_ticks course c v) ss + (if is_vcpu v s.ran && b then length_of s else 0)) shared_is ∙ sym (sum_by_push (shared_ticks course c v) ss s)));
+  slots = λ v lt. adds.slots v lt ∙ (ap (λ (x : ℕ). x + (if is_cell_of v s.ran && not shared then length_of s else 0)) (is.slots v lt)
+      ∙ (ap (λ (b : Bool). sum_by (slot_ticks course c v) ss + (if is_cell_of v s.ran && not b then length_of s else 0)) shared_is ∙ sym (sum_by_push (slot_ticks course c v) ss s)));
+  shared = λ v lt. adds.picked v lt ∙ (ap (λ (x : ℕ). x + (if is_cell_of v s.ran && shared then length_of s else 0)) (is.shared v lt)
+      ∙ (ap (λ (b : Bool). sum_by (shared_ticks course c v) ss + (if is_cell_of v s.ran && b then length_of s else 0)) shared_is ∙ sym (sum_by_push (shared_ticks course c v) ss s)));
   idle = adds.idle ∙ (ap (λ (x : ℕ). x + idle_ticks s) is.idle ∙ sym (sum_by_push idle_ticks ss s));
 }
 

@@ -3,7 +3,8 @@
 use Rattle.std.specs.Prelude.{◌≡◌, ℕ, ◌-◌, ◌<◌, ◌≤◌, ◌&&◌, not, List, Option, None, Some, sum_by, slice_index, if◌then◌else◌}
 use Rattle.tab_core.specs.declared.TheConstants.{MAX_VCPUS}
 use Rattle.tab_core.specs.declared.stint.Stint.{Stint}
-use Rattle.table_form.specs.Running.Choice.{is_shared, is_vcpu}
+use Rattle.table_form.specs.Tables.Serves.{is_cell_of}
+use Rattle.table_form.specs.Running.Choice.{is_shared}
 use Rattle.table_form.specs.Running.Courses.{CourseView}
 use Rattle.dispatch_core.specs.declared.account.CoreAccount.{CoreAccount}
 
@@ -12,11 +13,11 @@ length_of s = s.end - s.from
 
 -- the ticks of the stint in which the vCPU ran in its slot
 abbrev pub slot_ticks : CourseView → ℕ → ℕ → Stint → ℕ
-slot_ticks course c v s = if is_vcpu v s.ran && not (is_shared course c s) then length_of s else 0
+slot_ticks course c v s = if is_cell_of v s.ran && not (is_shared course c s) then length_of s else 0
 
 -- the ticks of the stint in which the vCPU ran as the second level's pick
 abbrev pub shared_ticks : CourseView → ℕ → ℕ → Stint → ℕ
-shared_ticks course c v s = if is_vcpu v s.ran && is_shared course c s then length_of s else 0
+shared_ticks course c v s = if is_cell_of v s.ran && is_shared course c s then length_of s else 0
 
 -- the ticks of the stint in which the core idled
 abbrev pub idle_ticks : Stint → ℕ

@@ -118,11 +118,3 @@ abbrev pub EndTold : CourseView → ℕ → View → Ended → View → Type 0
 EndTold course c v (RanOn s) w = RunsStint course c (part v c) (part w c) s
 EndTold course c v (TooEarly d tick) w = FindsLow course c (part v c) (part w c) d tick
     × (holds v d ≡ true → tick ≡ (part v d).clock)
-
--- the same, as a step's answer
-abbrev pub FinishTold : CourseView → ℕ → View → CoreAnswer → View → Type 0
-FinishTold course c v (Ran s) w = RunsStint course c (part v c) (part w c) s
-FinishTold course c v (Behind Controller tick) w = ⊥
-FinishTold course c v (Behind (Core d) tick) w = FindsLow course c (part v c) (part w c) d tick
-    × (holds v d ≡ true → tick ≡ (part v d).clock)
-FinishTold course c v Finished w = ⊥

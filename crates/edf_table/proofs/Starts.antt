@@ -223,7 +223,7 @@ some_begin ps i p q k tick lt is = record {
   begins = λ d. (
     k,
     is ∙ (ap (λ (x : Piece). k * x.period + (get_or ps i q).from) (get_or_default ps i p d lt)
-    ∙ ap (λ (x : Piece). k * (get_or ps i d).period + x.from) (get_or_default ps i q d lt)),
+        ∙ ap (λ (x : Piece). k * (get_or ps i d).period + x.from) (get_or_default ps i q d lt)),
   );
 }
 
@@ -247,9 +247,9 @@ no_begin_next ps i a b m tick p q lt is none last = λ j d low k after. elim (ca
       let of_p : get_or ps j d ≡ get_or ps i p = ap (λ n. get_or ps n d) same ∙ get_or_default ps i d p lt in
       let of_q : get_or ps j d ≡ get_or ps i q = ap (λ n. get_or ps n d) same ∙ get_or_default ps i d q lt in
       let begin : k * (get_or ps j d).period + (get_or ps j d).from
-          ≡ k * (get_or ps i p).period + (get_or ps i q).from =
-          ap (λ (x : Piece). k * x.period + (get_or ps j d).from) of_p
-          ∙ ap (λ (x : Piece). k * (get_or ps i p).period + x.from) of_q in
+      ≡ k * (get_or ps i p).period + (get_or ps i q).from =
+      ap (λ (x : Piece). k * x.period + (get_or ps j d).from) of_p
+      ∙ ap (λ (x : Piece). k * (get_or ps i p).period + x.from) of_q in
       let later : m < k * (get_or ps i p).period + (get_or ps i q).from = rw begin at after in
       rw begin (last k (omega (arith, is, later)))
 ]

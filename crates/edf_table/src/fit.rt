@@ -1,4 +1,4 @@
-ghost use Rattle.std.specs.Prelude.{◌≡◌, IfNone, IfSome, true, false};
+ghost use Rattle.std.specs.Prelude.{IfNone, IfSome};
 ghost use Rattle.table_form.specs.Planning.Demand.{Fits};
 ghost use Rattle.table_form.specs.Planning.Jobs.{jobs_of};
 ghost use Rattle.edf_table.specs.Overloads.{IsReportedOf};
@@ -51,13 +51,4 @@ pub fn find_overload(pieces: &[Piece]) -> Option<Over>
         None => None,
         Some(end) => Some(last_overload(pieces, end)),
     }
-}
-
-/// Whether the pieces fit on one core: `find_overload` without the search for the interval.
-pub fn fits(pieces: &[Piece]) -> bool
-    requires distinct { DistinctVcpus pieces.now }
-    ensures yes { result ≡ true → Fits (jobs_of pieces.now) }
-    ensures no { result ≡ false → Fits (jobs_of pieces.now) → ⊥ }
-{
-    first_miss(pieces).is_none()
 }

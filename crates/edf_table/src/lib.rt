@@ -15,6 +15,6 @@ mod simulation;
 mod turn;
 
 pub use fault::EdfFault;
-pub use fit::{find_overload, fits};
+pub use fit::find_overload;
 pub use laws::{shorter_piece_fits, unsplit_pieces_fit};
 pub use simulation::{build_row, simulate};

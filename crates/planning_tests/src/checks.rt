@@ -12,13 +12,13 @@ use table_check::check;
 use table_form::{Homes, RawRows, RawTables, Segment, Segments};
 
 // A segment: its end, and the number of its owner.
-type Part = (u32, Option<u32>);
+pub(crate) type Part = (u32, Option<u32>);
 
-const A: Option<u32> = Some(0);
+pub(crate) const A: Option<u32> = Some(0);
 
-const B: Option<u32> = Some(1);
+pub(crate) const B: Option<u32> = Some(1);
 
-const IDLE: Option<u32> = None;
+pub(crate) const IDLE: Option<u32> = None;
 
 // The owner, if it has a task.
 fn owner_of(tasks: &[Option<Periodic>], owner: Option<u32>) -> Option<VcpuNo>
@@ -54,7 +54,11 @@ fn segments_of(
     Ok(Segments::of(segments))
 }
 
-fn rows_of(alloc: Global, tasks: &[Option<Periodic>], rows: &[&[Part]]) -> Result<RawRows, Fail>
+pub(crate) fn rows_of(
+    alloc: Global,
+    tasks: &[Option<Periodic>],
+    rows: &[&[Part]],
+) -> Result<RawRows, Fail>
     requires { length tasks.now ≤ MAX_VCPUS }
     ensures count { IfOk result (λ raw. length raw ≡ length rows.now) }
     ensures owned { IfOk result (AreOwnedByTasks tasks.now) }

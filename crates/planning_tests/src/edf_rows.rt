@@ -3,7 +3,7 @@ ghost use Rattle.tab_core.specs.Period.{IsPeriod};
 ghost use Rattle.table_form.specs.Planning.Windows.{DistinctVcpus};
 
 use crate::samples::begins_with;
-use edf_table::{EdfFault, find_overload, fits, simulate};
+use edf_table::{EdfFault, find_overload, simulate};
 use std::test::Fail;
 use tab_core::{CoreNo, Over, Piece, VcpuNo};
 
@@ -44,7 +44,6 @@ fn an_overload(rt: HostRuntime) {
         demand: 110,
     };
     assert_eq!(rt; find_overload(&pieces), Some(overload));
-    assert!(rt; !fits(&pieces));
     let miss = EdfFault::Miss {
         from: 0,
         to: 100,
@@ -56,7 +55,7 @@ fn an_overload(rt: HostRuntime) {
 #[test]
 fn a_full_core(rt: HostRuntime) -> Result<(), Fail> {
     let pieces = around(70);
-    assert!(rt; fits(&pieces));
+    assert_eq!(rt; find_overload(&pieces), None);
     let row = simulate(rt.alloc(), &pieces)?;
     let begin = [(Some(0), 50), (Some(1), 80), (Some(0), 150), (Some(1), 180)];
     assert!(rt; begins_with(&row, &begin));

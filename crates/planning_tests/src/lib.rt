@@ -9,6 +9,8 @@ mod checks;
 #[cfg(test)]
 mod edf_rows;
 #[cfg(test)]
+mod look_ups;
+#[cfg(test)]
 mod names;
 #[cfg(test)]
 mod placement;

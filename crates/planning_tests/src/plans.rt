@@ -22,7 +22,7 @@ fn three_vcpus(alloc: Global, reservations: [Option<Reservation>; 3]) -> Result<
     Ok(Vcpus::of(vcpus))
 }
 
-fn host_with(
+pub(crate) fn host_with(
     alloc: Global,
     cores: u32,
     sliver: u32,
@@ -36,7 +36,7 @@ fn host_with(
 }
 
 // A share in ppm that may wait a tenth of a second.
-fn patient(share_ppm: u32) -> Option<Reservation>
+pub(crate) fn patient(share_ppm: u32) -> Option<Reservation>
     requires some { 1 ≤ share_ppm }
     requires whole { share_ppm ≤ WHOLE_PPM }
 {

@@ -1,11 +1,9 @@
 -- `advance`: a core's next stint.
-use Rattle.std.proofs.Common.{◌≡◌, ◌≢◌, ℕ, suc, ◌+◌, ◌*◌, ◌/◌, ◌%◌, ◌^◌, ◌<◌, ◌≤◌, true, List, [], ◌∷◌, ◌++◌, length, set, Option, Some, refl, sym, ap, ◌∙◌, subst, ⊎_elim, arith, le_trans, le_refl}
+use Rattle.std.proofs.Common.{◌≡◌, ◌≢◌, ℕ, suc, ◌+◌, ◌*◌, ◌/◌, ◌%◌, ◌^◌, ◌<◌, ◌≤◌, true, [], ◌∷◌, ◌++◌, length, set, Option, Some, refl, sym, ap, ◌∙◌, subst, ⊎_elim, arith, le_trans, le_refl}
 use Rattle.tab_core.specs.declared.TheConstants.{ROUND}
-use Rattle.std.specs.Prelude.{All, slice_index, slice_get}
+use Rattle.std.specs.Prelude.{slice_index, slice_get}
 use Rattle.std.proofs.lemmas.List.Elements.{All-nil, All-push, All-weaker}
 use Rattle.std.proofs.lemmas.Option.{slice_get_within}
-use mathlib.Core.Option.{some}
-use lib.ListN.{get_elem?}
 use Rattle.tab_core.proofs.Lists.{push_split}
 use Rattle.tab_core.proofs.TimelineLemmas.{contiguous_push}
 use Rattle.tab_core.specs.Timelines.{HasTimeline, IsStintOf}
@@ -13,12 +11,15 @@ use Rattle.tab_core.specs.declared.entry.Entry.{Entry}
 use Rattle.tab_core.specs.declared.stint.Stint.{Stint}
 use Rattle.round_words.specs.declared.view.Part.{Part}
 use Rattle.round_words.specs.declared.view.View.{View}
-use Rattle.round_words.specs.Views.{holds, part, with_part, heard_of, last_of, last_heard, runs, IsStintAfter}
+use Rattle.round_words.specs.Views.{part, with_part, heard_of, runs, IsStintAfter}
 use Rattle.round_words.specs.Rule.{FloorsUpTo, Board, BoardInvariant, CoversEarlier, EntryFits, CoreFits, HeardFits}
-use Rattle.round_words.specs.Inside.Claims.{AppendsStint, StepKeepsRule}
+use Rattle.round_words.specs.Hearing.{HasHeardTo}
+use Rattle.round_words.specs.Shown.{HoldsCore}
+use Rattle.round_words.specs.Inside.Claims.{AdvanceClaim, StepKeepsRule}
 use Rattle.round_words.proofs.PlaceLemmas.{put, put_here, put_else, put_all}
 use Rattle.round_words.proofs.PlaceLemmas as places
-use Rattle.round_words.proofs.ListLemmas.{word_here, word_else, length_words, last_below, at_get}
+use Rattle.std.proofs.lemmas.List.{length-set}
+use Rattle.round_words.proofs.ListLemmas.{word_here, word_else, last_below, at_get}
 use Rattle.round_words.proofs.LoadLemmas.{parts_put, mine}
 use Rattle.round_words.proofs.PostLemmas.{writes}
 
@@ -27,7 +28,8 @@ abbrev with_clock : Board → ℕ → ℕ → Board
 with_clock g c end = record g { clocks = put g.clocks c end }
 
 -- another core's part
-advanced_else : (g : Board) (c end b : ℕ) (p : Part) → b ≢ c → CoreFits g b p → CoreFits (with_clock g c end) b p
+advanced_else : (g : Board) (c end b : ℕ) (p : Part) → b ≢ c → CoreFits g b p
+    → CoreFits (with_clock g c end) b p
 advanced_else g c end b p away f = record {
   clock = f.clock ∙ sym (put_else g.clocks c b end away);
   own = f.own;
@@ -55,7 +57,8 @@ timeline_stint : (p : Part) (end : ℕ) (ran : Option ℕ) (s : Stint) → IsSti
     → end ≤ p.clock / ROUND * ROUND + ROUND → HasTimeline p.clock p.entries p.stints
     → HasTimeline s.end p.entries (p.stints ++ s ∷ [])
 timeline_stint p end ran s next later within t =
-    let lt : p.clock / ROUND < length p.entries = slice_get_within p.entries (p.clock / ROUND) next.entry next.entered in
+    let lt : p.clock / ROUND < length p.entries =
+    slice_get_within p.entries (p.clock / ROUND) next.entry next.entered in
     let e = next.end in
     let ahead = t.ahead in record {
       contiguous = contiguous_push 0 p.clock p.stints s t.contiguous next.from;
@@ -77,7 +80,8 @@ advanced g c end ran p s f sound core next later within =
     let k : ℕ = p.clock / ROUND in
     let used = at_get (λ (e : Entry). (e.seen ≤ n) × (e.used ≤ n)) p.entries k next.entry next.entered
     f.floors.counts.entries in
-    let seen : s.seen ≤ n = subst (λ (y : ℕ). y ≤ n) (sym next.seen) (last_below p.sights n f.floors.counts.sights) in record {
+    let seen : s.seen ≤ n =
+    subst (λ (y : ℕ). y ≤ n) (sym next.seen) (last_below p.sights n f.floors.counts.sights) in record {
       clock = next.end ∙ sym (put_here g.clocks c c end refl);
       own = record {
         timeline = timeline_stint p end ran s next later within f.own.timeline;
@@ -108,7 +112,8 @@ near_put : (g : Board) (c end : ℕ) → BoardInvariant g → g.clocks c ≤ end
     → (a b : ℕ) → a < g.cores → b < g.cores → put g.clocks c end a ≤ put g.clocks c end b + g.lag
 near_put g c end sound later room core a b ha hb =
     put_all (λ i x. i < g.cores → x ≤ put g.clocks c end b + g.lag) g.clocks c end a
-    (λ is _. put_all (λ j y. j < g.cores → end ≤ y + g.lag) g.clocks c end b (λ _ _. omega arith) (λ away h. room b h away) hb)
+    (λ is _. put_all (λ j y. j < g.cores → end ≤ y + g.lag) g.clocks c end b (λ _ _. omega arith)
+    (λ away h. room b h away) hb)
     (λ away _. put_all (λ j y. j < g.cores → g.clocks a ≤ y + g.lag) g.clocks c end b
     (λ _ _. let n = sound.near a c ha core in omega arith) (λ _ h. sound.near a b ha h) hb)
     ha
@@ -119,7 +124,8 @@ rises g c end d later = put_all (λ i x. g.clocks i ≤ x) g.clocks c end d
     (λ is. subst (λ (i : ℕ). g.clocks i ≤ end) (sym is) later) (λ _. le_refl (g.clocks d))
 
 -- so what was heard isn't above it
-heard_rises : (g : Board) (c end : ℕ) (p : Part) → g.clocks c ≤ end → HeardFits g p → HeardFits (with_clock g c end) p
+heard_rises : (g : Board) (c end : ℕ) (p : Part) → g.clocks c ≤ end → HeardFits g p
+    → HeardFits (with_clock g c end) p
 heard_rises g c end p later heard = record {
   lists = heard.lists;
   rises = heard.rises;
@@ -127,19 +133,30 @@ heard_rises g c end p later heard = record {
       (λ y le. le_trans le (rises g c end d later)) (heard_of p d) (heard.low d h);
 }
 
+-- what a core that may run up to a tick shows
+pub record MayAdvance (v : View) (c end : ℕ) : Type 0 where
+  pub started : v.started ≡ true
+  pub core : HoldsCore v c
+  pub entry : Entry
+  pub entered : slice_get (part v c).entries ((part v c).clock / ROUND) ≡ Some entry
+  pub later : (part v c).clock < end
+  pub within : end ≤ (part v c).clock / ROUND * ROUND + ROUND
+  pub heard : HasHeardTo v c v.cores end
+
 -- `advance` keeps the rule
-pub advance_keeps : (id c end : ℕ) (ran : Option ℕ) (v : View) (s : Stint) → IsStintAfter (part v c) end ran s
-    → end < 2 ^ 32 → v.started ≡ true → 0 < v.lag → holds v c ≡ true → c < v.cores → (part v c).clock < end
-    → end ≤ (part v c).clock / ROUND * ROUND + ROUND
-    → ((d : ℕ) → d < v.cores → d ≢ c → end ≤ last_heard (part v c) d + v.lag)
-    → StepKeepsRule id v (suc c) (λ _. end) (λ n w. AppendsStint (c, end, ran) v n w)
-advance_keeps id c end ran v s next fit on live has core later within room words views ruled at small =
-    let r = places.runs words views id v on ruled at in
+pub advance_keeps : (id c end : ℕ) (ran : Option ℕ) (v : View) (s : Stint) → MayAdvance v c end
+    → IsStintAfter (part v c) end ran s → end < 2 ^ 32 → 0 < v.lag
+    → StepKeepsRule id v (suc c) (λ _. end) (λ n w. AdvanceClaim (c, end, ran) v n w)
+advance_keeps id c end ran v s may next fit live words views ruled at small =
+    let has = may.core.1 in
+    let later = may.later in
+    let within = may.within in
+    let r = places.runs words views id v may.started ruled at in
     let g = r.board in
     let m = mine words views id c v live r at has in
     let p : Part = part v c in
     let q : Part = runs p s in
-    let f = m.core core in
+    let f = m.core may.core.0 in
     let cl : p.clock ≡ g.clocks c = f.1.clock in
     let up : g.clocks c ≤ end = omega arith in
     let g' : Board = with_clock g c end in
@@ -154,7 +171,7 @@ advance_keeps id c end ran v s next fit on live has core later within room words
             small = λ d h. put_all (λ i y. i < g.cores → y < 2 ^ 32) g.clocks c end d (λ _ _. fit)
                 (λ _ h'. r.sound.small d h') h;
             near = near_put g c end r.sound up
-                (λ d h away. let a = room d (subst (λ (y : ℕ). d < y) (sym set'.1) h) away in
+                (λ d h away. let a = may.heard d (subst (λ (y : ℕ). d < y) (sym set'.1) h) away in
                 let b = last_below (heard_of p d) (g.clocks d) (m.heard.low d h) in
                 omega arith) f.0;
             low = λ d h. All-weaker (λ y. y ≤ g.clocks d) (λ y. y ≤ put g.clocks c end d)
@@ -162,7 +179,7 @@ advance_keeps id c end ran v s next fit on live has core later within room words
             made = r.sound.made;
           })
           (record {
-            count = length_words words (suc c) end ∙ cnt;
+            count = length-set words (suc c) end ∙ cnt;
             posted = word_else words (suc c) 0 end (λ e. omega arith) ∙ r.shows.posted;
             clocks = λ d h. put_all (λ i y. slice_index (set words (suc c) end) (suc i) ≡ y) g.clocks c end d
                 (λ is. ap (λ (i : ℕ). slice_index (set words (suc c) end) (suc i)) is
@@ -170,14 +187,16 @@ advance_keeps id c end ran v s next fit on live has core later within room words
                 (λ away. word_else words (suc c) (suc d) end (λ e. away (omega arith)) ∙ r.shows.clocks d h);
             rounds = λ q d e o. word_else words (suc c) (33 + q % 4) end (λ x. let y = f.0 in omega arith)
                 ∙ r.shows.rounds q d e o;
-            none = λ k h e. word_else words (suc c) (33 + k) end (λ x. let y = f.0 in omega arith) ∙ r.shows.none k h e;
+            none = λ k h e. word_else words (suc c) (33 + k) end (λ x. let y = f.0 in omega arith)
+                ∙ r.shows.none k h e;
           })
           (parts_put g' r.parts c q
           (λ d h away. advanced_else g c end d (r.parts d) away (r.fits.cores d h))
           (λ b. heard_rises g c end (r.parts b) up (r.fits.heard b))
           (λ away. r.fits.floors)
           (λ h. advanced g c end ran p s f.1 r.sound f.0 next later within)
-          (let h = heard_rises g c end p up m.heard in record { lists = h.lists; rises = h.rises; low = h.low })
+          (let h = heard_rises g c end p up m.heard in
+          record { lists = h.lists; rises = h.rises; low = h.low })
           m.floors),
       (s, next, refl),
     )

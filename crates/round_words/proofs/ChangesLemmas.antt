@@ -1,5 +1,5 @@
 -- What a change of one part leaves, step after step.
-use Rattle.std.proofs.Common.{◌≡◌, ◌≢◌, ℕ, true, ◌<◌, sym, ap, ◌∙◌, subst, refl}
+use Rattle.std.proofs.Common.{◌≡◌, ℕ, true, ◌<◌, sym, ap, ◌∙◌, subst, refl}
 use mathlib.Core.Logic.{dite}
 use native.Mathlib.Decide.{ℕ_discrete}
 use Rattle.round_words.specs.declared.view.Part.{Part}
@@ -10,14 +10,16 @@ use Rattle.round_words.specs.Views.{holds, part, with_part, IsStarted}
 use Rattle.round_words.proofs.ViewsLemmas.{with_here, with_else}
 
 -- a new part in place of one that the view holds
-pub changes_with : (v w : View) (c : ℕ) (p : Part) → holds v c ≡ true → w ≡ with_part v c p → ChangesOnly v w c
+pub changes_with : (v w : View) (c : ℕ) (p : Part) → holds v c ≡ true → w ≡ with_part v c p
+    → ChangesOnly v w c
 changes_with v w c p has is = subst (λ (x : View). ChangesOnly v x c) (sym is) (record {
   started = refl;
   lag = refl;
   cores = refl;
   events = refl;
   actors = λ a. dite (ℕ_discrete a c)
-      (λ e. subst (λ (b : ℕ). holds (with_part v c p) b ≡ holds v b) (sym e) ((with_here v c p has).0 ∙ sym has))
+      (λ e. subst (λ (b : ℕ). holds (with_part v c p) b ≡ holds v b) (sym e)
+      ((with_here v c p has).0 ∙ sym has))
       (λ away. (with_else v c a p away).0);
   parts = λ a away. (with_else v c a p away).1;
 })

@@ -12,18 +12,18 @@ use lib.ListN.{get_elem?}
 use Rattle.tab_core.proofs.Lists.{push_new, push_old, push_split}
 use Rattle.tab_core.specs.Timelines.{HasTimeline}
 use Rattle.tab_core.specs.declared.entry.Entry.{Entry}
-use Rattle.tab_core.specs.declared.stint.Stint.{Stint}
 use Rattle.round_words.specs.declared.numbers.Numbers.{Numbers}
 use Rattle.round_words.specs.declared.view.Part.{Part}
 use Rattle.round_words.specs.declared.view.View.{View}
 use Rattle.round_words.specs.Views.{controller, holds, part, with_part, last_of, enters, entry}
-use Rattle.round_words.specs.Rule.{FloorsUpTo, CoversEarlier, EntryFits, FitsFloors, HasCountsUpTo, IsCorePart, decision_word, Board, BoardInvariant, CoreFits, HeardFits, IsRunning, KeepsRule}
-use Rattle.round_words.specs.Inside.Claims.{IsExpected, EntersRound, StepKeepsRule}
+use Rattle.round_words.specs.Rule.{FloorsUpTo, CoversEarlier, EntryFits, FitsFloors, IsCorePart, decision_word, Board, BoardInvariant, CoreFits, HeardFits, IsRunning, KeepsRule}
+use Rattle.round_words.specs.Inside.Claims.{IsExpected, DecideClaim, StepKeepsRule}
 use Rattle.round_words.specs.Inside.Numbers.{KeepsUsed, NumbersAgree}
 use Rattle.round_words.specs.Shown.{HoldsCore, ViewInvariant}
 use Rattle.round_words.proofs.PlaceLemmas.{put, put_here, put_else, put_all}
 use Rattle.round_words.proofs.PlaceLemmas as places
-use Rattle.round_words.proofs.ListLemmas.{set_same, word_here, word_else, length_words, last_below, length_push, at_get, some_same}
+use Rattle.std.proofs.lemmas.List.{length-set, set-get_or}
+use Rattle.round_words.proofs.ListLemmas.{word_here, word_else, last_below, length_push, at_get, some_same}
 use Rattle.round_words.proofs.LoadLemmas.{parts_put, loads, mine}
 use Rattle.round_words.proofs.PostLemmas.{writes}
 
@@ -51,9 +51,11 @@ counted_else g k d c b p none away f = record {
   clock = f.clock;
   own = f.own;
   floors = f.floors;
-  entries = All-weaker (EntryFits g b) (EntryFits (with_count g k d c) b) (entry_still g k d c b none) p.entries f.entries;
+  entries = All-weaker (EntryFits g b) (EntryFits (with_count g k d c) b)
+      (entry_still g k d c b none) p.entries f.entries;
   won = λ q u. put_all
-      (λ j o. o ≡ Some u → put g.winner k c j ≡ b → (e : Entry) × (slice_get p.entries j ≡ Some e) × (e.won ≡ true))
+      (λ j o. o ≡ Some u → put g.winner k c j ≡ b
+      → (e : Entry) × (slice_get p.entries j ≡ Some e) × (e.won ≡ true))
       g.decided k (Some d) q
       (λ is e w. absurd (away (sym w ∙ put_here g.winner k q c is)))
       (λ other e w. f.won q u e (sym (put_else g.winner k q c other) ∙ w));
@@ -90,7 +92,8 @@ own_entry k p e at long is own = record {
   sights = All-weaker (CoversEarlier p) (CoversEarlier (enters p e))
       (λ j h. record {
         stints = h.stints;
-        entries = All-push (λ (x : Entry). x.round * ROUND < p.clock → (x.seen ≤ j) × (x.used ≤ j)) p.entries e
+        entries = All-push (λ (x : Entry). x.round * ROUND < p.clock
+            → (x.seen ≤ j) × (x.used ≤ j)) p.entries e
             h.entries (λ late. absurd (omega arith));
       })
       p.sights own.sights;
@@ -104,10 +107,12 @@ floors_entry g c k p e f sound core at is seen used =
     let n : ℕ = length g.floors in record {
       counts = record {
         sights = f.floors.counts.sights;
-        entries = All-push (λ (x : Entry). (x.seen ≤ n) × (x.used ≤ n)) p.entries e f.floors.counts.entries (seen, used);
+        entries = All-push (λ (x : Entry). (x.seen ≤ n) × (x.used ≤ n)) p.entries e f.floors.counts.entries
+            (seen, used);
         stints = f.floors.counts.stints;
       };
-      entered = All-push (λ (x : Entry). FloorsUpTo g.floors x.seen (x.round * ROUND)) p.entries e f.floors.entered
+      entered = All-push (λ (x : Entry). FloorsUpTo g.floors x.seen
+          (x.round * ROUND)) p.entries e f.floors.entered
           (λ i lt. let low : slice_index g.floors i ≤ g.clocks c = sound.low c core i 0 (omega arith) in
           let cl = f.clock in
           omega arith);
@@ -152,7 +157,8 @@ own_count g c p j f lt =
     (e.used, ap g.decided (sym (f.own.timeline.numbered j e is)) ∙ a.count)
 
 -- each round before one with a count has one
-closed : {words : List ℕ} {views : List View} (r : IsRunning words views) (q k u : ℕ) → r.board.decided q ≡ Some u
+closed : {words : List ℕ} {views : List View} (r : IsRunning words views) (q k u : ℕ)
+    → r.board.decided q ≡ Some u
     → k ≤ q → (o : ℕ) × (r.board.decided k ≡ Some o)
 closed r q k u eq le =
     let g = r.board in
@@ -197,7 +203,8 @@ won_keeps words views id c k d v r at has core le heard floors f clock long none
     let g' : Board = with_count g k d c in
     let x : ℕ = decision_word k d in
     let w : ℕ = 33 + k % 4 in
-    let older : (j : ℕ) → suc j ≤ k → (u : ℕ) × (g.decided j ≡ Some u) = λ j h. own_count g c p j f (omega arith) in
+    let older : (j : ℕ) → suc j ≤ k
+    → (u : ℕ) × (g.decided j ≡ Some u) = λ j h. own_count g c p j f (omega arith) in
     let cnt = r.shows.count in
     let lim = r.sound.limits in
     writes words views id c w x v (enters p e) r g' (refl, refl, refl) at has
@@ -207,7 +214,8 @@ won_keeps words views id c k d v r at has core le heard floors f clock long none
       small = r.sound.small;
       near = r.sound.near;
       low = r.sound.low;
-      made = λ q u. put_all (λ j o. o ≡ Some u → (put g.winner k c j < g.cores) × (u ≤ length g.floors)) g.decided k (Some d) q
+      made = λ q u. put_all
+          (λ j o. o ≡ Some u → (put g.winner k c j < g.cores) × (u ≤ length g.floors)) g.decided k (Some d) q
           (λ is eq. (
             subst (λ (y : ℕ). y < g.cores) (sym (put_here g.winner k q c is)) core,
             subst (λ (y : ℕ). y ≤ length g.floors) (some_same d u eq) le,
@@ -216,25 +224,30 @@ won_keeps words views id c k d v r at has core le heard floors f clock long none
           (subst (λ (y : ℕ). y < g.cores) (sym (put_else g.winner k q c away)) o.0, o.1));
     })
     (record {
-      count = length_words words w x ∙ cnt;
+      count = length-set words w x ∙ cnt;
       posted = word_else words w 0 x (λ eq. omega arith) ∙ r.shows.posted;
       clocks = λ b h. word_else words w (suc b) x (λ eq. omega arith) ∙ r.shows.clocks b h;
       rounds = λ q u. put_all
-          (λ j o. o ≡ Some u → put g.decided k (Some d) (j + 4) ≡ None → slice_index (set words w x) (33 + j % 4) ≡ decision_word j u)
+          (λ j o. o ≡ Some u → put g.decided k (Some d) (j + 4) ≡ None
+          → slice_index (set words w x) (33 + j % 4) ≡ decision_word j u)
           g.decided k (Some d) q
           (λ is eq open'. let same : 33 + q % 4 ≡ w = ap (λ (j : ℕ). 33 + j % 4) is in
-          ap (slice_index (set words w x)) same ∙ (word_here words w x (omega arith) ∙ ap₂ decision_word (sym is) (some_same d u eq)))
+          ap (slice_index (set words w x)) same
+          ∙ (word_here words w x (omega arith) ∙ ap₂ decision_word (sym is) (some_same d u eq)))
           (λ away eq open'.
-          let next : (q + 4) ≢ k = λ e. absurd (some_none d (sym (put_here g.decided k (q + 4) (Some d) e) ∙ open')) in
+          let next : (q + 4) ≢ k =
+          λ e. absurd (some_none d (sym (put_here g.decided k (q + 4) (Some d) e) ∙ open')) in
           let last : g.decided (q + 4) ≡ None = sym (put_else g.decided k (q + 4) (Some d) next) ∙ open' in
           let early : q < k = dite (dec_le k q)
-          (λ over. absurd (let o = closed r q k u eq over in some_none o.0 (sym o.1 ∙ none))) (λ under. omega arith) in
+          (λ over. absurd (let o = closed r q k u eq over in some_none o.0 (sym o.1 ∙ none)))
+          (λ under. omega arith) in
           word_else words w (33 + q % 4) x (λ e. let m : q % 4 ≡ k % 4 = omega arith in
           let gap : q + 4 ≤ k = four_apart q k early m in
           let o = older (q + 4) (omega arith) in
           absurd (some_none o.0 (sym o.1 ∙ last)))
           ∙ r.shows.rounds q u eq last);
-      none = λ m h. put_all (λ j o. o ≡ None → slice_index (set words w x) (33 + j) ≡ 0) g.decided k (Some d) m
+      none = λ m h. put_all (λ j o. o ≡ None → slice_index (set words w x) (33 + j) ≡ 0) g.decided k
+          (Some d) m
           (λ is eq. absurd (some_none d eq))
           (λ away eq. word_else words w (33 + m) x (λ e. let same : m ≡ k % 4 = omega arith in
           let early : m < k = below_self m k away same in
@@ -252,12 +265,21 @@ won_keeps words views id c k d v r at has core le heard floors f clock long none
       floors = floors_entry g c k p e f r.sound core clock refl le le;
       entries = All-push (EntryFits g' c) p.entries e
           (All-weaker (EntryFits g c) (EntryFits g' c) (entry_still g k d c c none) p.entries f.entries)
-          (record { count = put_here g.decided k k (Some d) refl; winner = λ _. (put_here g.winner k k c refl, refl) });
+          (record {
+            count = put_here g.decided k k (Some d) refl;
+            winner = λ _.
+                (put_here g.winner k k c refl, refl);
+          });
       won = λ q u. put_all
           (λ j o. o ≡ Some u → put g.winner k c j ≡ c
           → (y : Entry) × (slice_get (p.entries ++ e ∷ []) j ≡ Some y) × (y.won ≡ true))
           g.decided k (Some d) q
-          (λ is eq w. (e, subst (λ (j : ℕ). slice_get (p.entries ++ e ∷ []) j ≡ Some e) (long ∙ sym is) (push_new p.entries e), refl))
+          (λ is eq w. (
+            e,
+            subst (λ (j : ℕ). slice_get (p.entries ++ e ∷ []) j ≡ Some e) (long ∙ sym is)
+                (push_new p.entries e),
+            refl,
+          ))
           (λ away eq w. let o = f.won q u eq (sym (put_else g.winner k q c away) ∙ w) in
           (o.0, push_old p.entries q e o.0 o.1, o.2));
     })
@@ -275,7 +297,7 @@ lost_keeps words views id c k d u v r at has core le heard floors f clock long i
     let g = r.board in
     let p : Part = part v c in
     let e : Entry = entry k u d false in
-    subst (λ (ws : List ℕ). KeepsRule ws (set views id (with_part v c (enters p e)))) (set_same words 0)
+    subst (λ (ws : List ℕ). KeepsRule ws (set views id (with_part v c (enters p e)))) (set-get_or words 0 0)
     (loads words views id c 0 v (enters p e) r at has
     (λ h. record {
       clock = f.clock;
@@ -304,12 +326,15 @@ finds {words} r c k old p f long exp none = dite (dec_le 4 k)
     (λ late.
     let j : ℕ = k - 4 in
     let e : Entry = get_or p.entries j (entry 0 0 0 false) in
-    let is : slice_get p.entries j ≡ Some e = slice_get-get_or p.entries j (entry 0 0 0 false) (omega arith) in
+    let is : slice_get p.entries j ≡ Some e =
+    slice_get-get_or p.entries j (entry 0 0 0 false) (omega arith) in
     let a = at_get (EntryFits r.board c) p.entries j e is f.entries in
-    let count : r.board.decided j ≡ Some e.used = ap r.board.decided (sym (f.own.timeline.numbered j e is)) ∙ a.count in
+    let count : r.board.decided j ≡ Some e.used = ap r.board.decided (sym (f.own.timeline.numbered j e is))
+    ∙ a.count in
     let sum : j + 4 ≡ k = omega arith in
     let rem : 33 + k % 4 ≡ 33 + j % 4 = omega arith in
-    ap (slice_index words) rem ∙ (r.shows.rounds j e.used count (ap r.board.decided sum ∙ none) ∙ sym (exp.1 e late is)))
+    ap (slice_index words) rem
+    ∙ (r.shows.rounds j e.used count (ap r.board.decided sum ∙ none) ∙ sym (exp.1 e late is)))
     (λ early. let small : k < 4 = omega arith in
     let rem : 33 + k % 4 ≡ 33 + k = omega arith in
     ap (slice_index words) rem ∙ (r.shows.none k small none ∙ sym (exp.0 small)))
@@ -321,7 +346,8 @@ expects_less r c k old p f long exp = dite (dec_le 4 k)
     (λ late.
     let j : ℕ = k - 4 in
     let e : Entry = get_or p.entries j (entry 0 0 0 false) in
-    let is : slice_get p.entries j ≡ Some e = slice_get-get_or p.entries j (entry 0 0 0 false) (omega arith) in
+    let is : slice_get p.entries j ≡ Some e =
+    slice_get-get_or p.entries j (entry 0 0 0 false) (omega arith) in
     let n : ℕ = length r.board.floors in
     let b = at_get (λ (y : Entry). (y.seen ≤ n) × (y.used ≤ n)) p.entries j e is f.floors.counts.entries in
     let o = exp.1 e late is in
@@ -331,10 +357,11 @@ expects_less r c k old p f long exp = dite (dec_le 4 k)
     (λ early. let o = exp.0 (omega arith) in omega arith)
 
 -- `decide` keeps the rule
-pub decide_keeps : (id c k d old x : ℕ) (v : View) → v.started ≡ true → 0 < v.lag → holds v c ≡ true → c < v.cores
+pub decide_keeps : (id c k d old x : ℕ) (v : View) → v.started ≡ true → 0 < v.lag → holds v c ≡ true
+    → c < v.cores
     → (part v c).clock ≡ k * ROUND → All (λ (e : Entry). e.round ≢ k) (part v c).entries
     → d ≡ last_of (part v c).sights → x ≡ decision_word k d → IsExpected (part v c) k old
-    → StepKeepsRule id v (33 + k % 4) (λ n. either (eqb n old) x n) (EntersRound (c, k, d, old) v)
+    → StepKeepsRule id v (33 + k % 4) (λ n. either (eqb n old) x n) (DecideClaim (c, k, d, old) v)
 decide_keeps id c k d old x v on live has core clock new d_is x_is exp words views ruled at small =
     let r = places.runs words views id v on ruled at in
     let g = r.board in
@@ -344,14 +371,17 @@ decide_keeps id c k d old x v on live has core clock new d_is x_is exp words vie
     let in' = (m.core core).0 in
     let long = entries_own k p f.own.timeline clock new in
     let le : d ≤ length g.floors =
-    subst (λ (y : ℕ). y ≤ length g.floors) (sym d_is) (last_below p.sights (length g.floors) f.floors.counts.sights) in
+    subst (λ (y : ℕ). y ≤ length g.floors) (sym d_is)
+    (last_below p.sights (length g.floors) f.floors.counts.sights) in
     let n : ℕ = slice_index words (33 + k % 4) in
     let s = m.settings in
     ⊎_elim
     (λ none. let z : n ≡ old = finds r c k old p f long exp none in (
       with_part v c (enters p (entry k d d true)),
-      subst (λ (y : ℕ). KeepsRule (set words (33 + k % 4) y) (set views id (with_part v c (enters p (entry k d d true)))))
-          (sym (hit n old x z ∙ x_is)) (won_keeps words views id c k d v r at has in' le m.heard m.floors f clock long none),
+      subst (λ (y : ℕ). KeepsRule (set words (33 + k % 4) y)
+          (set views id (with_part v c (enters p (entry k d d true)))))
+          (sym (hit n old x z ∙ x_is))
+          (won_keeps words views id c k d v r at has in' le m.heard m.floors f clock long none),
       inl (z, (let b = r.sound.posted in omega arith), refl),
     ))
     (λ (o : (u : ℕ) × (g.decided k ≡ Some u)). let u : ℕ = o.0 in
@@ -362,7 +392,7 @@ decide_keeps id c k d old x v on live has core clock new d_is x_is exp words vie
     let b = r.sound.posted in (
       with_part v c (enters p (entry k u d false)),
       subst (λ (ws : List ℕ). KeepsRule ws (set views id (with_part v c (enters p (entry k u d false)))))
-          (sym (ap (set words (33 + k % 4)) (miss n old x away) ∙ set_same words (33 + k % 4)))
+          (sym (ap (set words (33 + k % 4)) (miss n old x away) ∙ set-get_or words (33 + k % 4) 0))
           (lost_keeps words views id c k d u v r at has in' le m.heard m.floors f clock long o.1),
       inr (u, away, z, omega arith, refl),
     ))
@@ -417,5 +447,6 @@ expects useds c k old p keeps long first later = (
   (λ e late get.
       let same : (k - 4) % 4 ≡ k % 4 = omega arith in
       let used = keeps (k - 4) e get (omega arith) in
-      later late ∙ ap (decision_word (k - 4)) (ap (λ (r : ℕ). slice_index useds (4 * c + r)) (sym same) ∙ used)),
+      later late ∙ ap (decision_word (k - 4))
+      (ap (λ (r : ℕ). slice_index useds (4 * c + r)) (sym same) ∙ used)),
 )

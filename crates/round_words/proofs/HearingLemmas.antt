@@ -11,7 +11,8 @@ use Rattle.round_words.specs.Shown.{IsHeardClock}
 use Rattle.round_words.specs.Hearing.{KnowsClocks, HasHeardTo, HearsCore, HearsCores, MeetsLow}
 use Rattle.round_words.specs.Hearing.HearsCore.{itself, well_known, asked}
 use Rattle.round_words.proofs.ChangesLemmas.{part_with, changes_with, changes_more}
-use Rattle.round_words.proofs.ListLemmas.{row_else, word_here, word_else}
+use Rattle.std.proofs.lemmas.List.{get_or-set_other}
+use Rattle.round_words.proofs.ListLemmas.{word_here, word_else}
 
 -- the parts are the same but for what was heard
 pub record SamePart (p q : Part) : Type 0 where
@@ -50,7 +51,8 @@ pub record HasSeenTo (v u : View) (c lag tick n : ℕ) (known : List ℕ) : Type
   pub near : HasHeardTo u c n tick
 
 -- no core yet
-pub seen_to_none : (v : View) (c lag tick : ℕ) (known : List ℕ) → ChangesOnly v v c → KnowsClocks known (part v c)
+pub seen_to_none : (v : View) (c lag tick : ℕ) (known : List ℕ) → ChangesOnly v v c
+    → KnowsClocks known (part v c)
     → HasSeenTo v v c lag tick 0 known
 seen_to_none v c lag tick known same knows =
     record { changes = same; knows = knows; heard = refl; near = λ d lt. absurd (omega arith) }
@@ -83,11 +85,11 @@ knows_heard known p d clock lt knows keeps k = dite (ℕ_discrete k d)
     (λ is. ap (slice_index (set known d clock)) is
     ∙ (word_here known d clock lt ∙ (sym keeps ∙ ap (last_heard (hears p d clock)) (sym is))))
     (λ away. word_else known d k clock away
-    ∙ (knows k ∙ sym (ap last_of (row_else p.heard d k (heard_of p d ++ clock ∷ []) [] away))))
+    ∙ (knows k ∙ sym (ap last_of (get_or-set_other p.heard d k (heard_of p d ++ clock ∷ []) [] away))))
 
 -- what the actor heard of other cores stays
 heard_else : (p : Part) (d k clock : ℕ) → k ≢ d → last_heard (hears p d clock) k ≡ last_heard p k
-heard_else p d k clock away = ap last_of (row_else p.heard d k (heard_of p d ++ clock ∷ []) [] away)
+heard_else p d k clock away = ap last_of (get_or-set_other p.heard d k (heard_of p d ++ clock ∷ []) [] away)
 
 -- the next core is asked, and its clock is enough
 pub seen_to_asked : (v u w : View) (c lag tick n clock : ℕ) (known : List ℕ) → u.lag ≡ lag → holds u c ≡ true
@@ -100,9 +102,11 @@ seen_to_asked v u w c lag tick n clock known lag_is has away lt low enough is ke
     let q : Part = hears p n clock in
     let now : part w c ≡ q = part_with u w c q has is in
     let more : ChangesOnly u w c = changes_with u w c q has is in
-    let unknown : last_heard p n + lag < tick = subst (λ (k : ℕ). k + lag < tick) (seen.knows n) low in record {
+    let unknown : last_heard p n + lag < tick = subst (λ (k : ℕ). k + lag < tick) (seen.knows n) low in
+    record {
       changes = changes_more v u w c seen.changes more;
-      knows = subst (KnowsClocks (set known n clock)) (sym now) (knows_heard known p n clock lt seen.knows keeps);
+      knows = subst (KnowsClocks (set known n clock)) (sym now)
+          (knows_heard known p n clock lt seen.knows keeps);
       heard = subst (λ (k : ℕ). HearsCores c lag tick k (part v c) (part w c)) e
           (p, seen.heard, asked away unknown clock enough now);
       near = λ d few apart. subst (λ (r : Part). tick ≤ last_heard r d + w.lag) (sym now)
@@ -125,6 +129,7 @@ meets_low v u w c cores lag tick n clock known lt away has seen is low heard = r
   near = seen.heard;
   rises = heard.rises;
   low = low;
-  exact = λ held. heard.exact (seen.changes.actors n ∙ held) ∙ ap (λ (p : Part). p.clock) (seen.changes.parts n away);
+  exact = λ held. heard.exact (seen.changes.actors n ∙ held)
+      ∙ ap (λ (p : Part). p.clock) (seen.changes.parts n away);
   becomes = part_with u w c (hears (part u c) n clock) has is;
 }

@@ -11,11 +11,12 @@ use Rattle.round_words.specs.declared.view.Part.{Part}
 use Rattle.round_words.specs.declared.view.View.{View}
 use Rattle.round_words.specs.Views.{controller, holds, part, with_part, heard_of, last_of, sees, hears}
 use Rattle.round_words.specs.Rule.{Board, AreWordsOf, HasCountsUpTo, CoversEarlier, EntryFits, CoreFits, NeverFalls, HeardFits, PartsFit, IsRunning, KeepsRule}
-use Rattle.round_words.specs.Inside.Claims.{SeesCount, HearsClock, ChangesNothing, StepKeepsRule}
-use Rattle.round_words.specs.Shown.{IsSight, IsHeardClock, HasOneCount, KeepsFloors, ViewInvariant}
+use Rattle.round_words.specs.Inside.Claims.{SeeClaim, HearClaim, MeetClaim, StepKeepsRule}
+use Rattle.round_words.specs.Shown.{HasOneCount, KeepsFloors, ViewInvariant}
 use Rattle.atomic_table.proofs.Lists.{set_again}
 use Rattle.round_words.proofs.PlaceLemmas.{runs, put, put_all, moves, placed_with}
-use Rattle.round_words.proofs.ListLemmas.{set_same, last_below, each_set, rises_push, at_get, some_same, length_row, row_here, last_of-push}
+use Rattle.std.proofs.lemmas.List.{get_or-set_same, length-set, set-get_or}
+use Rattle.round_words.proofs.ListLemmas.{last_below, each_set, rises_push, at_get, some_same, last_of-push}
 
 -- the parts fit where one actor's part becomes p
 pub parts_put : (g : Board) (ps : ℕ → Part) (a : ℕ) (p : Part)
@@ -32,7 +33,8 @@ parts_put g ps a p cores heards others core heard floors = record {
 }
 
 -- a load, at which the part of an actor becomes p
-pub loads : (words : List ℕ) (views : List View) (id a i : ℕ) (v : View) (p : Part) (r : IsRunning words views)
+pub loads : (words : List ℕ) (views : List View) (id a i : ℕ) (v : View) (p : Part)
+    (r : IsRunning words views)
     → get_elem? views id ≡ some v → holds v a ≡ true → (a < r.board.cores → CoreFits r.board a p)
     → HeardFits r.board p → (a ≡ controller → p.floors ≡ r.board.floors)
     → KeepsRule (set words i (slice_index words i)) (set views id (with_part v a p))
@@ -41,7 +43,7 @@ loads words views id a i v p r at has core heard floors = inr (record {
   parts = put r.parts a p;
   owner = r.owner;
   sound = r.sound;
-  shows = subst (AreWordsOf r.board) (sym (set_same words i)) r.shows;
+  shows = subst (AreWordsOf r.board) (sym (set-get_or words i 0)) r.shows;
   fits = parts_put r.board r.parts a p (λ c h away. r.fits.cores c h) r.fits.heard (λ away. r.fits.floors)
       core heard floors;
   known = moves r.board r.board r.parts r.owner views id a v p (refl, refl, refl) at has r.known;
@@ -49,7 +51,8 @@ loads words views id a i v p r at has core heard floors = inr (record {
 })
 
 -- what the rule says of a part that a seat's view holds
-pub record Mine (words : List ℕ) (views : List View) (v : View) (a : ℕ) (r : IsRunning words views) : Type 0 where
+pub record Mine (words : List ℕ) (views : List View) (v : View) (a : ℕ)
+    (r : IsRunning words views) : Type 0 where
   pub settings : (v.lag ≡ r.board.lag) × (v.cores ≡ r.board.cores) × (v.events ≡ r.board.events)
   pub is : part v a ≡ r.parts a
   pub core : a < v.cores → (a < r.board.cores) × CoreFits r.board a (part v a)
@@ -57,7 +60,8 @@ pub record Mine (words : List ℕ) (views : List View) (v : View) (a : ℕ) (r :
   pub floors : a ≡ controller → (part v a).floors ≡ r.board.floors
 
 -- and that it does
-pub mine : (words : List ℕ) (views : List View) (id a : ℕ) (v : View) → 0 < v.lag → (r : IsRunning words views)
+pub mine : (words : List ℕ) (views : List View) (id a : ℕ) (v : View) → 0 < v.lag
+    → (r : IsRunning words views)
     → get_elem? views id ≡ some v → holds v a ≡ true → Mine words views v a r
 mine words views id a v live r at has =
     let k = r.known id v at in
@@ -108,7 +112,7 @@ saw g c n p is f =
 
 -- `see` keeps the rule
 pub see_keeps : (id c : ℕ) (v : View) → v.started ≡ true → 0 < v.lag → holds v c ≡ true → c < v.cores
-    → StepKeepsRule id v 0 (λ n. n) (SeesCount c v)
+    → StepKeepsRule id v 0 (λ n. n) (SeeClaim c v)
 see_keeps id c v on live has core words views ruled at small =
     let r = runs words views id v on ruled at in
     let g = r.board in
@@ -153,7 +157,7 @@ hearing g a c n p f = record {
 
 -- `clock_of` keeps the rule
 pub hear_keeps : (id a c : ℕ) (v : View) → v.started ≡ true → 0 < v.lag → holds v a ≡ true → c < v.cores
-    → StepKeepsRule id v (suc c) (λ n. n) (HearsClock (a, c) v)
+    → StepKeepsRule id v (suc c) (λ n. n) (HearClaim (a, c) v)
 hear_keeps id a c v on live has core words views ruled at small =
     let r = runs words views id v on ruled at in
     let g = r.board in
@@ -168,14 +172,15 @@ hear_keeps id a c v on live has core words views ruled at small =
       loads words views id a (suc c) v (hears p c n) r at has
           (λ h. hearing g a c n p (m.core (subst (λ (k : ℕ). a < k) (sym m.settings.1) h)).1)
           (record {
-            lists = length_row p.heard c (heard_of p c ++ n ∷ []) ∙ m.heard.lists;
+            lists = length-set p.heard c (heard_of p c ++ n ∷ []) ∙ m.heard.lists;
             rises = λ d h. each_set NeverFalls p.heard c d (heard_of p c ++ n ∷ []) []
                 (λ e. rises_push (heard_of p c) n (m.heard.rises c within) (last_below (heard_of p c) n old))
                 (m.heard.rises d h);
             low = λ d h. each_set (All (λ y. y ≤ g.clocks d)) p.heard c d (heard_of p c ++ n ∷ []) []
                 (λ e. let near : n ≤ g.clocks d = subst (λ (k : ℕ). n ≤ g.clocks k) (sym e) (omega arith) in
                 All-push (λ y. y ≤ g.clocks d) (heard_of p c) n
-                (subst (λ (k : ℕ). All (λ y. y ≤ g.clocks k) (heard_of p c)) (sym e) (m.heard.low c within)) near)
+                (subst (λ (k : ℕ). All (λ y. y ≤ g.clocks k) (heard_of p c)) (sym e)
+                (m.heard.low c within)) near)
                 (m.heard.low d h);
           })
           m.floors,
@@ -184,7 +189,7 @@ hear_keeps id a c v on live has core words views ruled at small =
         record {
           small = subst (λ (k : ℕ). k < 2 ^ 32) (sym is) (r.sound.small c within);
           keeps = let l = m.heard.lists in let lim = r.sound.limits.1 in
-              ap last_of (row_here p.heard c (heard_of p c ++ n ∷ []) [] (omega arith))
+              ap last_of (get_or-set_same p.heard c (heard_of p c ++ n ∷ []) [] (omega arith))
               ∙ last_of-push (heard_of p c) n;
           rises = last_below (heard_of p c) n old;
           near = λ h.
@@ -213,7 +218,8 @@ one_count words views id v live r at c d k e f hc hd ec fd =
 pub shown : (words : List ℕ) (views : List View) (id : ℕ) (v : View) → 0 < v.lag → (r : IsRunning words views)
     → get_elem? views id ≡ some v → ViewInvariant v
 shown words views id v live r at =
-    let own : (a : ℕ) → holds v a ≡ true → Mine words views v a r = λ a h. mine words views id a v live r at h in
+    let own : (a : ℕ) → holds v a ≡ true
+    → Mine words views v a r = λ a h. mine words views id a v live r at h in
     let g = r.board in record {
       lists = λ a h. (own a h).heard.lists;
       cores = λ c hc. ((own c hc.1).core hc.0).1.own;
@@ -262,10 +268,10 @@ shown words views id v live r at =
     }
 
 -- the load of `meet` keeps the rule
-pub load_keeps : (id : ℕ) (v : View) → StepKeepsRule id v 0 (λ n. n) (ChangesNothing v)
+pub load_keeps : (id : ℕ) (v : View) → StepKeepsRule id v 0 (λ n. n) (MeetClaim v)
 load_keeps id v words views ruled at small = (
   v,
-  subst (λ (ws : List ℕ). KeepsRule ws (set views id v)) (sym (set_same words 0))
+  subst (λ (ws : List ℕ). KeepsRule ws (set views id v)) (sym (set-get_or words 0 0))
       (subst (KeepsRule words) (sym (set_again views id v at)) ruled),
   refl,
 )

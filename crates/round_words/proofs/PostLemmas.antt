@@ -1,7 +1,5 @@
 -- The steps that write a word, and `post`.
-use Rattle.std.proofs.Common.{◌≡◌, ◌≢◌, ℕ, suc, ◌+◌, ◌*◌, ◌%◌, ◌<◌, ◌≤◌, true, List, [], ◌∷◌, ◌++◌, length, set, refl, sym, ap, ◌∙◌, subst, inr, arith}
-use Rattle.tab_core.specs.declared.TheConstants.{ROUND}
-use Rattle.std.specs.Prelude.{All, slice_index}
+use Rattle.std.proofs.Common.{◌≡◌, ℕ, suc, ◌+◌, ◌%◌, ◌<◌, ◌≤◌, true, List, [], ◌∷◌, ◌++◌, length, set, refl, sym, ap, ◌∙◌, subst, inr, arith}
 use Rattle.std.proofs.lemmas.List.Elements.{All-push, All-weaker}
 use mathlib.Core.Option.{some}
 use lib.ListN.{get_elem?}
@@ -10,14 +8,16 @@ use Rattle.tab_core.specs.declared.stint.Stint.{Stint}
 use Rattle.round_words.specs.declared.view.Part.{Part}
 use Rattle.round_words.specs.declared.view.View.{View}
 use Rattle.round_words.specs.Views.{controller, holds, part, with_part, heard_of, last_heard, posts}
-use Rattle.round_words.specs.Rule.{FloorsUpTo, Board, BoardInvariant, AreWordsOf, HasCountsUpTo, FitsFloors, EntryFits, CoreFits, HeardFits, PartsFit, IsRunning, KeepsRule}
-use Rattle.round_words.specs.Inside.Claims.{PostsFloor, StepKeepsRule}
+use Rattle.round_words.specs.Rule.{FloorsUpTo, Board, BoardInvariant, AreWordsOf, HasCountsUpTo, EntryFits, CoreFits, HeardFits, PartsFit, IsRunning, KeepsRule}
+use Rattle.round_words.specs.Inside.Claims.{PostClaim, StepKeepsRule}
 use Rattle.round_words.proofs.PlaceLemmas.{runs, put, moves, placed_with}
-use Rattle.round_words.proofs.ListLemmas.{word_here, word_else, length_words, last_below, index_append, length_push}
+use Rattle.std.proofs.lemmas.List.{length-set}
+use Rattle.round_words.proofs.ListLemmas.{word_here, word_else, last_below, index_append, length_push}
 use Rattle.round_words.proofs.LoadLemmas.{parts_put, mine}
 
 -- a write of the word i, after which the board is g' and the part of an actor p
-pub writes : (words : List ℕ) (views : List View) (id a i n : ℕ) (v : View) (p : Part) (r : IsRunning words views)
+pub writes : (words : List ℕ) (views : List View) (id a i n : ℕ) (v : View) (p : Part)
+    (r : IsRunning words views)
     (g' : Board) → (g'.lag ≡ r.board.lag) × (g'.cores ≡ r.board.cores) × (g'.events ≡ r.board.events)
     → get_elem? views id ≡ some v → holds v a ≡ true → BoardInvariant g' → AreWordsOf g' (set words i n)
     → PartsFit g' (put r.parts a p) → KeepsRule (set words i n) (set views id (with_part v a p))
@@ -55,13 +55,17 @@ up_to_push floors floor count tick le before i lt =
 -- a core's part, where the controller posts
 floored : (g : Board) (floor c : ℕ) (p : Part) → CoreFits g c p → CoreFits (with_floor g floor) c p
 floored g floor c p f =
-    let long : length (g.floors ++ floor ∷ []) ≡ suc (length g.floors) = length_push g.floors floor in record {
+    let long : length (g.floors ++ floor ∷ []) ≡ suc (length g.floors) = length_push g.floors floor in
+    record {
       clock = f.clock;
       own = f.own;
       floors = record {
-        counts = counts_more (length g.floors) (length (g.floors ++ floor ∷ [])) p (omega arith) f.floors.counts;
-        entered = λ k d h. up_to_push g.floors floor _ _ (f.floors.counts.entries k d h).0 (f.floors.entered k d h);
-        began = λ k d h. up_to_push g.floors floor _ _ (f.floors.counts.stints k d h).0 (f.floors.began k d h);
+        counts = counts_more (length g.floors) (length (g.floors ++ floor ∷ [])) p
+            (omega arith) f.floors.counts;
+        entered = λ k d h. up_to_push g.floors floor _ _ (f.floors.counts.entries k d h).0
+            (f.floors.entered k d h);
+        began = λ k d h. up_to_push g.floors floor _ _ (f.floors.counts.stints k d h).0
+            (f.floors.began k d h);
       };
       entries = All-weaker (EntryFits g c) (EntryFits (with_floor g floor) c)
           (λ e h. record { count = h.count; winner = h.winner }) p.entries f.entries;
@@ -72,13 +76,20 @@ floored g floor c p f =
 heard_floored : (g : Board) (floor : ℕ) (p : Part) → HeardFits g p → HeardFits (with_floor g floor) p
 heard_floored g floor p h = record { lists = h.lists; rises = h.rises; low = h.low }
 
+-- what a controller that may post with a floor shows
+pub record MayPost (v : View) (floor : ℕ) : Type 0 where
+  pub started : v.started ≡ true
+  pub held : holds v controller ≡ true
+  pub events : length (part v controller).floors < v.events
+  pub heard : (c : ℕ) → c < v.cores → floor ≤ last_heard (part v controller) c
+
 -- `post` keeps the rule
-pub post_keeps : (id floor n : ℕ) (v : View) → v.started ≡ true → 0 < v.lag → holds v controller ≡ true
-    → n ≡ suc (length (part v controller).floors) → n ≤ v.events
-    → ((c : ℕ) → c < v.cores → floor ≤ last_heard (part v controller) c)
-    → StepKeepsRule id v 0 (λ _. n) (λ m w. PostsFloor floor v n w)
-post_keeps id floor n v on live has next few low words views ruled at small =
-    let r = runs words views id v on ruled at in
+pub post_keeps : (id floor n : ℕ) (v : View) → MayPost v floor → 0 < v.lag
+    → n ≡ suc (length (part v controller).floors) → StepKeepsRule id v 0 (λ _. n) (λ m w. PostClaim floor v n w)
+post_keeps id floor n v may live next words views ruled at small =
+    let has = may.held in
+    let few = may.events in
+    let r = runs words views id v may.started ruled at in
     let g = r.board in
     let m = mine words views id controller v live r at has in
     let p : Part = part v controller in
@@ -97,13 +108,13 @@ post_keeps id floor n v on live has next few low words views ruled at small =
             small = r.sound.small;
             near = r.sound.near;
             low = λ c h. All-push (λ f. f ≤ g.clocks c) g.floors floor (r.sound.low c h)
-                (let a = low c (subst (λ (k : ℕ). c < k) (sym s.1) h) in
+                (let a = may.heard c (subst (λ (k : ℕ). c < k) (sym s.1) h) in
                 let b = last_below (heard_of p c) (g.clocks c) (m.heard.low c h) in
                 omega arith);
             made = λ q d e. let o = r.sound.made q d e in (o.0, omega arith);
           })
           (record {
-            count = length_words words 0 n ∙ cnt;
+            count = length-set words 0 n ∙ cnt;
             posted = word_here words 0 n (omega arith) ∙ n_is;
             clocks = λ c h. word_else words 0 (suc c) n (λ e. omega arith) ∙ r.shows.clocks c h;
             rounds = λ q d e o. word_else words 0 (33 + q % 4) n (λ f. omega arith) ∙ r.shows.rounds q d e o;

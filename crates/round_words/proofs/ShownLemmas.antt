@@ -21,7 +21,8 @@ within_shown u v sub l =
     let core : (c : ℕ) → HoldsCore u c → HoldsCore v c =
     λ c h. (subst (λ (n : ℕ). c < n) sub.cores h.0, (sub.parts c h.1).0) in
     let entered : (c r : ℕ) (e : Entry) → HoldsCore u c → HasEntry u c r e → HasEntry v c r e =
-    λ c r e h x. (subst (λ (p : Part). slice_get p.entries r ≡ Some e) (sub.parts c h.1).1 x.0, x.1) in record {
+    λ c r e h x. (subst (λ (p : Part). slice_get p.entries r ≡ Some e) (sub.parts c h.1).1 x.0, x.1) in
+    record {
       lists = λ a h. let k = sub.parts a h in ap (λ (p : Part). length p.heard) k.1 ∙ l.lists a k.0;
       cores = λ c h. subst IsCorePart (sym (sub.parts c h.1).1) (l.cores c (core c h));
       one_count = λ c d r e f hc hd ec fd.
@@ -35,7 +36,8 @@ within_shown u v sub l =
       floors = λ h c hc.
           let k = sub.parts controller h in
           subst (λ (p : Part). KeepsFloors p.floors (part u c)) (sym k.1)
-          (subst (KeepsFloors (part v controller).floors) (sym (sub.parts c hc.1).1) (l.floors k.0 c (core c hc)));
+          (subst (KeepsFloors (part v controller).floors) (sym (sub.parts c hc.1).1)
+          (l.floors k.0 c (core c hc)));
       one_winner = λ all c r e hc ec.
           let all' : (d : ℕ) → d < v.cores → holds v d ≡ true =
           λ d h. (sub.parts d (all d (subst (λ (n : ℕ). d < n) (sym sub.cores) h))).0 in
@@ -47,7 +49,8 @@ within_shown u v sub l =
               core = below;
               entry = w.1.entry;
               entered = (
-                subst (λ (p : Part). slice_get p.entries r ≡ Some w.1.entry) (sym (sub.parts w.0 there).1) w.1.entered.0,
+                subst (λ (p : Part). slice_get p.entries r ≡ Some w.1.entry)
+                    (sym (sub.parts w.0 there).1) w.1.entered.0,
                 w.1.entered.1,
               );
               won = w.1.won;

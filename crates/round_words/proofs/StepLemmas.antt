@@ -35,7 +35,8 @@ allows slots id me i f claim keeps_rule lag s ruled long at small =
     let n : ℕ = slice_index s.words i in
     let r = keeps_rule s.words s.views ruled at small in
     let w : View = r.0 in
-    let at' : get_elem? (set s.views id w) id ≡ some w = set_here s.views id w (below_length s.views id me.0 at) in (
+    let at' : get_elem? (set s.views id w) id ≡ some w =
+    set_here s.views id w (below_length s.views id me.0 at) in (
       w,
       keeps,
       tt,

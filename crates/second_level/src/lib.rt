@@ -10,5 +10,5 @@
 mod round_robin;
 mod stints;
 
-pub use round_robin::pick;
+pub use round_robin::{pick, sharers_of};
 pub use stints::{Begin, Next, next_stint};

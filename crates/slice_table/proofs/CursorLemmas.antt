@@ -1,5 +1,5 @@
 -- A sweep's place in a row: the segments before it are past.
-use Rattle.std.proofs.Common.{◌≡◌, ℕ, ◌+◌, ◌<◌, ◌≤◌, List, length, map, get_or, Some, inl, inr, refl, ap, sym, ◌∙◌, arith}
+use Rattle.std.proofs.Common.{◌≡◌, ℕ, ◌+◌, ◌<◌, ◌≤◌, List, length, map, get_or, Some, inl, inr, ap, sym, ◌∙◌, arith}
 use Rattle.std.specs.Prelude.{slice_get}
 use Rattle.std.specs.Option.{option_map}
 use Rattle.std.proofs.lemmas.Bool.{cases_lt}
@@ -9,7 +9,7 @@ use Rattle.tab_core.specs.declared.TheConstants.{ROUND}
 use Rattle.table_form.specs.declared.segment.Segment.{Segment}
 use Rattle.table_form.specs.Tables.Rows.{Row, RisesTo, cells_from}
 use Rattle.table_form.specs.Tables.Segments.{SegmentView, segment_view, segments_from}
-use Rattle.table_form.proofs.Search.{Parts, ends_rise, owner_from, some_segment}
+use Rattle.table_form.proofs.Search.{ends_rise, owner_from, some_segment}
 use Rattle.slice_table.specs.Inside.Sweeps.{IsPast}
 
 -- before the first segment nothing has to be past

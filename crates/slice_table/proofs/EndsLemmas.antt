@@ -1,10 +1,10 @@
 -- The ends of spans, and which span holds a tick.
-use Rattle.std.proofs.Common.{◌≡◌, ℕ, ◌+◌, ◌*◌, ◌/◌, ◌-◌, ◌<◌, ◌≤◌, List, ◌∷◌, length, inl, inr, refl, arith, add-one}
+use Rattle.std.proofs.Common.{◌≡◌, ℕ, ◌+◌, ◌*◌, ◌/◌, ◌<◌, ◌≤◌, List, length, inl, inr, refl, arith, add-one}
 use Rattle.std.specs.Prelude.{slice_index}
 use Rattle.std.proofs.lemmas.Bool.{cases_lt}
 use Rattle.std.proofs.Math.Nat.{div-lt_iff_lt-mul, div-mul-le_self, lt-div-mul-add}
 use Rattle.tab_core.specs.declared.TheConstants.{ROUND}
-use Rattle.slice_table.specs.Inside.Spans.{AreEnds, AreLong, HoldsTick, IsSliced, begin_at}
+use Rattle.slice_table.specs.Inside.Spans.{AreEnds, AreLong, HoldsTick, IsShortest, IsSliced, begin_at}
 
 -- a span begins where the one before ends
 pub next_begin : (ends : List ℕ) (k : ℕ) → begin_at ends (k + 1) ≡ slice_index ends k
@@ -65,3 +65,8 @@ ends_longer least longer ends are long = record {
   last = are.last;
   within = are.within;
 }
+
+-- the shortest span has a tick
+pub shortest_some : (ticks : ℕ) (ends : List ℕ) → AreEnds 1 ends → IsShortest ticks ends → 0 < ticks
+shortest_some ticks ends are shortest =
+    (let long = are.long shortest.number shortest.there in omega (arith, shortest.met))

@@ -1,5 +1,5 @@
 -- The other rows that matter to a core, row by row.
-use Rattle.std.proofs.Common.{◌≡◌, ◌≢◌, ℕ, zero, suc, Option, None, get_or, ◌+◌, ◌<◌, List, [], ◌∷◌, ◌++◌, length, length-append, Some, inl, inr, ap, subst, sym, ◌∙◌, arith}
+use Rattle.std.proofs.Common.{◌≡◌, ◌≢◌, ℕ, zero, suc, Option, None, get_or, ◌+◌, ◌<◌, List, [], ◌∷◌, ◌++◌, length, length-append, Some, inl, inr, ap, sym, ◌∙◌, arith}
 use Rattle.std.specs.Prelude.{slice_get, slice_index}
 use Rattle.std.proofs.Math.Seq.{get_or-append_seam}
 use Rattle.std.proofs.lemmas.Bool.{cases_lt}

@@ -1,19 +1,20 @@
 -- What a place shows, from the segments that hold it in the core's row and in the rows that matter.
-use Rattle.std.proofs.Common.{◌≡◌, ◌≢◌, ◌↔◌, ◌⊎◌, ℕ, ◌+◌, ◌<◌, ◌≤◌, List, length, get_or, set, Some, Option, None, inl, inr, refl, ap, subst, sym, ◌∙◌, arith}
+use Rattle.std.proofs.Common.{◌≡◌, ◌↔◌, ◌⊎◌, ℕ, ◌+◌, ◌<◌, ◌≤◌, List, length, get_or, set, Some, Option, inl, inr, refl, ap, subst, sym, ◌∙◌, arith}
 use Rattle.std.specs.Prelude.{IsTrue, min, slice_get, slice_index}
 use Rattle.std.proofs.lemmas.Bool.{cases_eq, cases_lt}
 use Rattle.std.proofs.lemmas.List.{get_or-set_other, get_or-set_same}
 use Rattle.std.proofs.lemmas.Option.{same_Some, slice_get_read}
 use Rattle.tab_core.specs.VcpuSets.{has_vcpu}
-use Rattle.tab_core.specs.declared.TheConstants.{MAX_VCPUS, ROUND}
+use Rattle.tab_core.specs.declared.TheConstants.{MAX_VCPUS}
+use Rattle.table_form.specs.declared.spot.Spot.{Spot}
+use Rattle.table_form.specs.Inside.Looks.{IsPart}
 use Rattle.table_form.specs.Tables.Plans.{PlanView}
 use Rattle.table_form.specs.Tables.Rows.{Row}
 use Rattle.table_form.specs.Tables.Serves.{owner_at}
-use Rattle.table_form.specs.Tables.Spots.{IsAway, SameSpot}
+use Rattle.table_form.specs.Tables.Spots.{IsAway}
 use Rattle.table_form.proofs.SpotLemmas.{owner_within}
-use Rattle.slice_table.specs.declared.full_span.FullSpan.{FullSpan}
 use Rattle.slice_table.specs.declared.scope.Scope.{Scope}
-use Rattle.slice_table.specs.Inside.Sweeps.{ArePast, IsPart, IsPast, IsScope, IsSightOf}
+use Rattle.slice_table.specs.Inside.Sweeps.{ArePast, IsPast, IsScope, IsSightOf}
 use Rattle.slice_table.proofs.CursorLemmas.{past_later}
 
 -- the number at which the sweep stands in a row
@@ -44,16 +45,14 @@ all_later rows place later numbers le past d row at =
     past_later row place later (slice_index numbers d) le (past d row at)
 
 -- the segment of one more row is taken into account
-pub sight_more : (plan : PlanView) (scope : Scope) (place count end : ℕ) (o : Option ℕ) (old new : FullSpan)
+pub sight_more : (plan : PlanView) (scope : Scope) (place count end : ℕ) (o : Option ℕ) (old new : Spot)
     → IsScope plan scope → count < length scope.others.items → IsSightOf plan scope place count old
     → place < end → ((x : ℕ) → place ≤ x → x < end → owner_at plan.rows (slice_index scope.others.items count) x ≡ o)
     → new.end ≡ min old.end end → new.owner ≡ old.owner → length new.away ≡ MAX_VCPUS
     → ((v : ℕ) → v < MAX_VCPUS → (IsTrue (has_vcpu new.away v)
     ↔ (IsTrue (has_vcpu old.away v) ⊎ (IsTrue (has_vcpu scope.home v) × (o ≡ Some v)))))
-    → ((v : ℕ) → v < MAX_VCPUS → (IsTrue (has_vcpu new.sharers v)
-    ↔ (IsTrue (has_vcpu old.sharers v) × (IsTrue (has_vcpu scope.home v) → o ≢ Some v))))
     → IsSightOf plan scope place (count + 1) new
-sight_more plan scope place count end o old new is lt was after cells end_is owner_is size away sharers = record {
+sight_more plan scope place count end o old new is lt was after cells end_is owner_is size away = record {
   owner = owner_is ∙ was.owner;
   size = size;
   found = λ v small has. elim ((away v small).0 has) [
@@ -75,21 +74,6 @@ sight_more plan scope place count end o old new is lt was after cells end_is own
               ∙ (ap (λ (n : ℕ). owner_at plan.rows (slice_index scope.others.items n) place) (sym here) ∙ stands),
         ))
   ];
-  rest = λ v small. (
-    λ has.
-        let old_has = (sharers v small).0 has in
-        let before = (was.rest v small).0 old_has.0 in (
-          before.0,
-          λ gone. elim ((away v small).0 gone) [
-            | inl earlier ↦ before.1 earlier
-            | inr now ↦ old_has.1 now.0 now.1
-          ],
-        ),
-    λ stays. (sharers v small).1 (
-      (was.rest v small).1 (stays.0, λ earlier. stays.1 ((away v small).1 (inl earlier))),
-      λ home now. stays.1 ((away v small).1 (inr (home, now))),
-    ),
-  );
   after = (let least = was.after in omega arith);
   within = (let most = was.within in omega arith);
   own = λ x low less. was.own x low (omega arith);
@@ -104,11 +88,11 @@ sight_more plan scope place count end o old new is lt was after cells end_is own
 }
 
 -- a row that has a vCPU of this core is one of those that were looked at
-away_listed : (plan : PlanView) (scope : Scope) (place x v : ℕ) (span : FullSpan) → IsScope plan scope
-    → IsSightOf plan scope place (length scope.others.items) span → IsAway plan scope.core x v
+away_listed : (plan : PlanView) (scope : Scope) (place x v : ℕ) (spot : Spot) → IsScope plan scope
+    → IsSightOf plan scope place (length scope.others.items) spot → IsAway plan scope.core x v
     → (k : ℕ) × (k < length scope.others.items)
     × (owner_at plan.rows (slice_index scope.others.items k) x ≡ Some v)
-away_listed plan scope place x v span is sight away =
+away_listed plan scope place x v spot is sight away =
     let at = is.others.listed away.other v x (owner_within plan.rows away.other x v away.stands)
     away.elsewhere away.home away.stands in
     (at.0, at.1, ap (λ (d : ℕ). owner_at plan.rows d x) at.2 ∙ away.stands)
@@ -124,68 +108,29 @@ away_moves plan scope place x v k is lt stands away = record {
   stands = stands;
 }
 
--- all rows that matter were looked at, and the owner is left out of the sharers
-pub sight_whole : (plan : PlanView) (scope : Scope) (place : ℕ) (old new : FullSpan) → IsScope plan scope
-    → IsSightOf plan scope place (length scope.others.items) old → new.end ≡ old.end → new.owner ≡ old.owner
-    → new.away ≡ old.away
-    → ((v : ℕ) → v < MAX_VCPUS → (IsTrue (has_vcpu new.sharers v)
-    ↔ (IsTrue (has_vcpu old.sharers v) × (old.owner ≢ Some v))))
-    → IsPart plan scope.core place new
-sight_whole plan scope place old new is sight end_is owner_is away_is sharers =
-    let all : (v : ℕ) → v < MAX_VCPUS → IsAway plan scope.core place v → IsTrue (has_vcpu old.away v) =
-    λ v small away.
-    (let at = away_listed plan scope place place v old is sight away in
-    sight.all at.0 v at.1 small ((is.home v small).1 away.home) at.2) in
-    record {
-      shown = record {
-        owner = owner_is ∙ sight.owner;
-        away = λ v small. (
-          λ has.
-              (let at = sight.found v small (subst (λ set. IsTrue (has_vcpu set v)) away_is has) in
-              record {
-                home = (is.home v small).0 at.0;
-                other = at.1;
-                elsewhere = at.2;
-                stands = at.3;
-              }),
-          λ away. subst (λ set. IsTrue (has_vcpu set v)) (sym away_is) (all v small away),
-        );
-        sharers = λ v small. (
-          λ has.
-              (let both = (sharers v small).0 has in
-              let stays = (sight.rest v small).0 both.0 in
-              let home = (is.home v small).0 stays.0 in
-              record {
-                home = home;
-                no_owner = λ owns. both.1 (sight.owner ∙ owns);
-                here = λ d other stands. stays.1 (all v small (record {
-                  home = home;
-                  other = d;
-                  elsewhere = other;
-                  stands = stands;
-                }));
-              }),
-          λ sharer. (sharers v small).1 (
-            (sight.rest v small).1 (
-              (is.home v small).1 sharer.home,
-              λ gone. (let at = sight.found v small gone in sharer.here at.1 at.2 at.3),
-            ),
-            λ owns. sharer.no_owner (sym sight.owner ∙ owns),
-          ),
-        );
-      };
-      size = ap length away_is ∙ sight.size;
-      after = (let least = sight.after in omega arith);
-      within = (let most = sight.within in omega arith);
-      alike = λ x low less. record {
-        owner = sight.own x low (omega arith);
-        away = λ v away.
-            (let at = away_listed plan scope place place v old is sight away in
-            away_moves plan scope place x v at.0 is at.1
-            (sym (sight.steady at.0 x at.1 low (omega arith)) ∙ at.2) away);
-        back = λ v away.
-            (let at = away_listed plan scope place x v old is sight away in
-            away_moves plan scope x place v at.0 is at.1
-            (sight.steady at.0 x at.1 low (omega arith) ∙ at.2) away);
-      };
-    }
+-- all rows that matter were looked at
+pub sight_whole : (plan : PlanView) (scope : Scope) (place : ℕ) (spot : Spot) → IsScope plan scope
+    → IsSightOf plan scope place (length scope.others.items) spot → IsPart plan scope.core place spot
+sight_whole plan scope place spot is sight = record {
+  owner = sight.owner;
+  size = sight.size;
+  away = λ v small. (
+    λ has.
+        (let at = sight.found v small has in
+        record { home = (is.home v small).0 at.0; other = at.1; elsewhere = at.2; stands = at.3 }),
+    λ away.
+        (let at = away_listed plan scope place place v spot is sight away in
+        sight.all at.0 v at.1 small ((is.home v small).1 away.home) at.2),
+  );
+  after = sight.after;
+  within = sight.within;
+  alike = λ x low less. record {
+    owner = sight.own x low less;
+    away = λ v away.
+        (let at = away_listed plan scope place place v spot is sight away in
+        away_moves plan scope place x v at.0 is at.1 (sym (sight.steady at.0 x at.1 low less) ∙ at.2) away);
+    back = λ v away.
+        (let at = away_listed plan scope place x v spot is sight away in
+        away_moves plan scope x place v at.0 is at.1 (sight.steady at.0 x at.1 low less ∙ at.2) away);
+  };
+}

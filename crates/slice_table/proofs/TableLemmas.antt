@@ -1,9 +1,9 @@
 -- What a table shows at each place, from what it shows where its spans begin.
-use Rattle.std.proofs.Common.{◌≡◌, ◌↔◌, ℕ, Bool, Option, zero, suc, ◌+◌, ◌<◌, ◌≤◌, List, [], ◌∷◌, ◌++◌, length, map, Some, inl, inr, refl, ap, subst, sym, ◌∙◌, arith}
+use Rattle.std.proofs.Common.{◌≡◌, ◌↔◌, ℕ, Bool, Option, zero, suc, ◌+◌, ◌<◌, ◌≤◌, List, [], ◌∷◌, ◌++◌, length, Some, inl, inr, refl, subst, sym, ◌∙◌, arith}
 use Rattle.std.specs.Prelude.{IsTrue, slice_get, slice_index}
 use Rattle.std.proofs.lemmas.List.{length-map}
 use Rattle.std.proofs.lemmas.Option.{same_Some}
-use Rattle.tab_core.specs.declared.TheConstants.{MAX_VCPUS, ROUND}
+use Rattle.tab_core.specs.declared.TheConstants.{ROUND}
 use Rattle.tab_core.specs.VcpuSets.{has_vcpu}
 use Rattle.table_form.specs.declared.spot.Spot.{Spot}
 use Rattle.table_form.specs.Tables.Plans.{PlanView}
@@ -11,7 +11,7 @@ use Rattle.table_form.specs.Tables.Spans.{IsSharer, IsSpan}
 use Rattle.table_form.specs.Tables.Spots.{AreSpans, HasSpans, IsAway, IsSpanEnd, IsSpot, SameSpot}
 use Rattle.table_form.proofs.SpotLemmas.{spot_through}
 use Rattle.slice_table.specs.declared.full_span.FullSpan.{FullSpan}
-use Rattle.slice_table.specs.Inside.Spans.{AreEnds, AreLong, HoldsTick, ends_of}
+use Rattle.slice_table.specs.Inside.Spans.{AreEnds, HoldsTick, ends_of}
 use Rattle.slice_table.specs.Slices.{AreSpansOf, IsShown, IsTableOf}
 
 -- places that are alike are so both ways

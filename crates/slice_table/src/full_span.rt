@@ -1,4 +1,9 @@
+ghost use Rattle.std.specs.Prelude.{◌≡◌, ◌≢◌, ◌<◌, ◌↔◌, ℕ, IsTrue, Some};
+ghost use Rattle.tab_core.specs.VcpuSets.{has_vcpu};
+ghost use Rattle.tab_core.specs.declared.TheConstants.{MAX_VCPUS};
+
 use tab_core::{VcpuNo, VcpuSet};
+use table_form::Spot;
 
 /// A span of a core's row, with both its sets.
 #[derive(Debug, Drop)]
@@ -11,4 +16,35 @@ pub struct FullSpan {
     pub sharers: VcpuSet,
     /// Its end, in ticks of the round.
     pub end: u32,
+}
+
+impl FullSpan {
+    /// The spot with its sharers: of those at home on the core who are neither away nor the owner.
+    pub(crate) fn of(spot: Spot, home: &VcpuSet) -> FullSpan
+        ensures owner { result.owner ≡ spot.owner }
+        ensures away { result.away ≡ spot.away }
+        ensures end { result.end ≡ spot.end }
+        ensures sharers { (v : ℕ) → (IsTrue (has_vcpu result.sharers v)
+            ↔ (IsTrue (has_vcpu home.now v) × (IsTrue (has_vcpu spot.away v) → ⊥) × (spot.owner ≢ Some v))) }
+    {
+        let sharers = sharers_of(home, &spot.away, spot.owner);
+        FullSpan {
+            owner: spot.owner,
+            away: spot.away,
+            sharers,
+            end: spot.end,
+        }
+    }
+}
+
+// The vCPUs at home who are neither away nor the owner.
+fn sharers_of(home: &VcpuSet, away: &VcpuSet, owner: Option<VcpuNo>) -> VcpuSet
+    ensures { (v : ℕ) → (IsTrue (has_vcpu result v)
+        ↔ (IsTrue (has_vcpu home.now v) × (IsTrue (has_vcpu away.now v) → ⊥) × (owner ≢ Some v))) }
+{
+    let mut sharers = home.without(away);
+    if let Some(vcpu) = owner {
+        sharers.take(vcpu);
+    }
+    sharers
 }

@@ -2,14 +2,14 @@ ghost use Rattle.std.specs.Prelude.{◌≡◌, ◌<◌, ◌≤◌, ◌↔◌, �
 ghost use Rattle.tab_core.specs.VcpuSets.{has_vcpu};
 ghost use Rattle.tab_core.specs.declared.TheConstants.{MAX_CORES, MAX_VCPUS, ROUND};
 ghost use Rattle.table_form.specs.Tables.Views.{plan_view};
-ghost use Rattle.slice_table.specs.Inside.Sweeps.{ArePast, IsPart, IsScope};
+ghost use Rattle.table_form.specs.Inside.Looks.{IsPart};
+ghost use Rattle.slice_table.specs.Inside.Sweeps.{ArePast, IsScope};
 
 use crate::cursor::segment_from;
-use crate::full_span::FullSpan;
 use crate::scope::Scope;
 use std::cmp::min;
 use tab_core::{ROUND, VcpuSet};
-use table_form::{Plan, Segment};
+use table_form::{Plan, Segment, Spot};
 
 /// Places for numbers of segments, one for each row.
 pub(crate) const ROWS: usize = 32;
@@ -24,7 +24,7 @@ pub(crate) fn first_numbers() -> [usize; ROWS]
 /// What the place shows, up to the first end of a segment behind it in the rows that matter.
 ///
 /// `numbers` has for each row the number of a segment from which the one of the place is sought.
-pub(crate) fn look(plan: &Plan, scope: &Scope, numbers: &mut [usize; ROWS], place: u32) -> FullSpan
+pub(crate) fn look(plan: &Plan, scope: &Scope, numbers: &mut [usize; ROWS], place: u32) -> Spot
     requires in_round { place < ROUND }
     requires scope { IsScope (plan_view plan.now) scope.now }
     requires past { ArePast plan.now.tables.rows place numbers.old }
@@ -35,52 +35,34 @@ pub(crate) fn look(plan: &Plan, scope: &Scope, numbers: &mut [usize; ROWS], plac
     let core = scope.core.index();
     let (number, segment) = segment_from(&rows[core], numbers[core], place);
     numbers[core] = number;
-    let mut span = FullSpan {
+    let mut spot = Spot {
         owner: segment.owner,
         away: nobody(),
-        sharers: scope.home.copy(),
         end: segment.end,
     };
     for at in 0..scope.others.len() {
         let other = scope.others[at];
         let (number, segment) = segment_from(&rows[other], numbers[other], place);
         numbers[other] = number;
-        take_other(&mut span, &scope.home, &segment);
+        take_other(&mut spot, &scope.home, &segment);
     }
-    take_owner(&mut span);
-    span
+    spot
 }
 
 // Takes into account the segment that another row has at the place.
-fn take_other(span: &mut FullSpan, home: &VcpuSet, segment: &Segment)
-    requires { length span.old.away ≡ MAX_VCPUS }
-    ensures end { span.new.end ≡ min span.old.end segment.now.end }
-    ensures owner { span.new.owner ≡ span.old.owner }
-    ensures size { length span.new.away ≡ MAX_VCPUS }
-    ensures away { (v : ℕ) → v < MAX_VCPUS → (IsTrue (has_vcpu span.new.away v)
-        ↔ (IsTrue (has_vcpu span.old.away v) ⊎ (IsTrue (has_vcpu home.now v) × (segment.now.owner ≡ Some v)))) }
-    ensures sharers { (v : ℕ) → v < MAX_VCPUS → (IsTrue (has_vcpu span.new.sharers v)
-        ↔ (IsTrue (has_vcpu span.old.sharers v) × (IsTrue (has_vcpu home.now v) → segment.now.owner ≢ Some v))) }
+fn take_other(spot: &mut Spot, home: &VcpuSet, segment: &Segment)
+    requires { length spot.old.away ≡ MAX_VCPUS }
+    ensures end { spot.new.end ≡ min spot.old.end segment.now.end }
+    ensures owner { spot.new.owner ≡ spot.old.owner }
+    ensures size { length spot.new.away ≡ MAX_VCPUS }
+    ensures away { (v : ℕ) → v < MAX_VCPUS → (IsTrue (has_vcpu spot.new.away v)
+        ↔ (IsTrue (has_vcpu spot.old.away v) ⊎ (IsTrue (has_vcpu home.now v) × (segment.now.owner ≡ Some v)))) }
 {
-    span.end = min(span.end, segment.end);
+    spot.end = min(spot.end, segment.end);
     if let Some(vcpu) = segment.owner {
         if home.has(vcpu) {
-            span.away.put(vcpu);
-            span.sharers.take(vcpu);
+            spot.away.put(vcpu);
         }
-    }
-}
-
-// Leaves the owner out of those who may share its unused time.
-fn take_owner(span: &mut FullSpan)
-    ensures end { span.new.end ≡ span.old.end }
-    ensures owner { span.new.owner ≡ span.old.owner }
-    ensures away { span.new.away ≡ span.old.away }
-    ensures sharers { (v : ℕ) → v < MAX_VCPUS → (IsTrue (has_vcpu span.new.sharers v)
-        ↔ (IsTrue (has_vcpu span.old.sharers v) × (span.old.owner ≢ Some v))) }
-{
-    if let Some(vcpu) = span.owner {
-        span.sharers.take(vcpu);
     }
 }
 

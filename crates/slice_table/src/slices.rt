@@ -1,6 +1,6 @@
-ghost use Rattle.std.specs.Prelude.{◌<◌, ◌≤◌, ◌+◌, IfOk, length, slice_index};
+ghost use Rattle.std.specs.Prelude.{◌≡◌, ◌<◌, ◌≤◌, ◌+◌, ◌-◌, IfOk, length, min, slice_index};
 ghost use Rattle.tab_core.specs.declared.TheConstants.{ROUND};
-ghost use Rattle.slice_table.specs.Inside.Spans.{AreEnds, AreLong, HoldsTick, IsSliced, begin_at, ends_of};
+ghost use Rattle.slice_table.specs.Inside.Spans.{AreEnds, HoldsTick, IsShortest, IsSliced, begin_at, ends_of};
 
 use crate::span_list::SpanList;
 use std::alloc::{AllocError, Global};
@@ -10,12 +10,11 @@ use tab_core::ROUND;
 /// The ticks of the shortest of the spans.
 pub(crate) fn shortest(spans: &SpanList) -> u32
     requires { AreEnds 1 (ends_of spans.now) }
-    ensures some { 0 < result }
-    ensures long { AreLong result (ends_of spans.now) }
+    ensures { IsShortest result (ends_of spans.now) }
 {
-    let mut least = ROUND;
-    let mut begin = 0;
-    for number in 0..spans.len() {
+    let mut begin = spans.end(0);
+    let mut least = begin;
+    for number in 1..spans.len() {
         let end = spans.end(number);
         least = shorter(least, begin, end);
         begin = end;
@@ -23,13 +22,10 @@ pub(crate) fn shortest(spans: &SpanList) -> u32
     least
 }
 
-// The ticks from the begin to the end, if they are fewer than the least so far.
+// The least so far, or the ticks from the begin to the end if these are fewer.
 fn shorter(least: u32, begin: u32, end: u32) -> u32
-    requires some { 0 < least }
-    requires rises { begin < end }
-    ensures some { 0 < result }
-    ensures least { result ≤ least }
-    ensures span { begin + result ≤ end }
+    requires { begin ≤ end }
+    ensures { result ≡ min least (end - begin) }
 {
     min(least, end - begin)
 }

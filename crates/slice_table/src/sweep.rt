@@ -10,7 +10,7 @@ use crate::sight::{first_numbers, look};
 use crate::span_list::SpanList;
 use std::alloc::{AllocError, Global};
 use tab_core::{CoreNo, MAX_VCPUS, ROUND, VcpuSet};
-use table_form::Plan;
+use table_form::{Plan, Spot};
 
 /// The spans of the core's row in the plan, by one sweep over the segments of the rows that matter.
 pub(crate) fn spans_of(alloc: Global, plan: &Plan, core: CoreNo) -> Result<SpanList, AllocError>
@@ -28,17 +28,17 @@ fn sweep(alloc: Global, plan: &Plan, scope: &Scope) -> Result<SpanList, AllocErr
     let mut numbers = first_numbers();
     let mut pairs = [0; PAIR_PLACES];
     let mut spans = SpanList::new(alloc);
-    let mut span = look(plan, scope, &mut numbers, 0);
-    'growing: while span.end < ROUND {
-        let next = look(plan, scope, &mut numbers, span.end);
-        if is_alike(&span, &next) {
-            span.end = next.end;
+    let mut spot = look(plan, scope, &mut numbers, 0);
+    'growing: while spot.end < ROUND {
+        let next = look(plan, scope, &mut numbers, spot.end);
+        if is_alike(&spot, &next) {
+            spot.end = next.end;
         } else {
-            add(&mut spans, &mut pairs, span)?;
-            span = next;
+            add(&mut spans, &mut pairs, FullSpan::of(spot, &scope.home))?;
+            spot = next;
         }
     }
-    add(&mut spans, &mut pairs, span)?;
+    add(&mut spans, &mut pairs, FullSpan::of(spot, &scope.home))?;
     Ok(spans)
 }
 
@@ -77,7 +77,7 @@ fn pair_place(span: &FullSpan) -> usize
 }
 
 // Whether the two have one owner and one set of vCPUs away.
-fn is_alike(a: &FullSpan, b: &FullSpan) -> bool
+fn is_alike(a: &Spot, b: &Spot) -> bool
     ensures { IsTrue result ↔ (a.now.owner ≡ b.now.owner) × (a.now.away ≡ b.now.away) }
 {
     a.owner == b.owner && a.away.same(&b.away)

@@ -1,6 +1,6 @@
 -- A core's next stint is determined: the end of its span, its pick, and so all of it.
-use Rattle.std.proofs.Common.{◌≡◌, ℕ, ◌%◌, ◌<◌, inl, inr, Bool, true, false, List, Option, Some, None, refl, ap, subst, sym, ◌∙◌, arith}
-use Rattle.std.specs.Prelude.{slice_get}
+use Rattle.std.proofs.Common.{◌≡◌, ◌≢◌, ◌↔◌, ℕ, ◌%◌, ◌<◌, inl, inr, Bool, true, false, List, Option, Some, None, refl, ap, subst, sym, ◌∙◌, arith}
+use Rattle.std.specs.Prelude.{IsTrue, slice_get}
 use Rattle.std.specs.Option.{ForSome}
 use denote.Struct.Props.{props}
 use Rattle.tab_core.specs.declared.TheConstants.{MAX_VCPUS, ROUND}
@@ -10,7 +10,11 @@ use Rattle.tab_core.specs.declared.stint.Stint.{Stint}
 use Rattle.tab_core.specs.Least.{IsLeast}
 use Rattle.tab_core.specs.declared.entry.Entry.{Entry}
 use Rattle.table_form.specs.Tables.Plans.{PlanView}
-use Rattle.table_form.specs.Tables.Spots.{IsSpanEnd}
+use Rattle.table_form.specs.Tables.Homes.{IsHome}
+use Rattle.table_form.specs.Tables.Spans.{IsSharer, IsSpan}
+use Rattle.table_form.specs.Tables.Spots.{IsSpanEnd, IsSpot}
+use Rattle.table_form.specs.declared.spot.Spot.{Spot}
+use Rattle.tab_core.specs.VcpuSets.{has_vcpu}
 use Rattle.table_form.specs.Running.Courses.{CourseView, plan_after, runnable_after}
 use Rattle.table_form.specs.Running.State.{CoreState}
 use Rattle.table_form.specs.Running.Choice.{IsDispatch, IsEligible, IsPick, IsChoice, owner_runs, last_shared, after_last}
@@ -112,3 +116,48 @@ one_next course rounds c core s t a b =
     let from : s.from ≡ t.from = a.from ∙ sym b.from in
     let rest = one_follows course c core.stints s t from seen used a.follows b.follows in
     same_stint s t from rest.1 seen used rest.0
+
+-- the sharers of a spot, by the vCPUs at home, are those of its place in the plan
+sharer_of_sets : (plan : PlanView) (c place : ℕ) (spot : Spot) (homes sharers : List Bool)
+    → IsSpot plan c place spot
+    → ((v : ℕ) → v < MAX_VCPUS → (IsTrue (has_vcpu homes v) ↔ IsHome plan.homes c v))
+    → ((v : ℕ) → v < MAX_VCPUS → (IsTrue (has_vcpu sharers v)
+    ↔ (IsTrue (has_vcpu homes v) × (has_vcpu spot.away v ≡ false) × (spot.owner ≢ Some v))))
+    → (v : ℕ) → v < MAX_VCPUS → (IsTrue (has_vcpu sharers v) ↔ IsSharer plan c place v)
+sharer_of_sets plan c place spot homes sharers is home share v lt = (
+  λ m.
+      let may = (share v lt).0 m in
+      let at_home : IsHome plan.homes c v = (home v lt).0 may.0 in
+      record {
+        home = at_home;
+        no_owner = λ e. may.2 (is.owner ∙ e);
+        here = λ d ne e.
+            let away = (is.away v lt).1
+            (record { home = at_home; other = d; elsewhere = ne; stands = e }) in
+            let isnt = may.1 in
+            absurd (cc);
+      },
+  λ s. (share v lt).1 (
+    (home v lt).1 s.home,
+    not_true (has_vcpu spot.away v)
+        (λ h. (let away = (is.away v lt).0 h in s.here away.other away.elsewhere away.stands)),
+    λ e. s.no_owner (sym is.owner ∙ e),
+  ),
+)
+  where
+    not_true : (b : Bool) → (b ≡ true → ⊥) → b ≡ false
+    not_true true h = absurd (h cc)
+    not_true false h = cc
+
+-- so the spot and they are the span there
+pub span_of_spot : (plan : PlanView) (c place : ℕ) (spot : Spot) (homes sharers : List Bool)
+    → IsSpot plan c place spot
+    → ((v : ℕ) → v < MAX_VCPUS → (IsTrue (has_vcpu homes v) ↔ IsHome plan.homes c v))
+    → ((v : ℕ) → v < MAX_VCPUS → (IsTrue (has_vcpu sharers v)
+    ↔ (IsTrue (has_vcpu homes v) × (has_vcpu spot.away v ≡ false) × (spot.owner ≢ Some v))))
+    → IsSpan plan c place spot.owner sharers spot.end
+span_of_spot plan c place spot homes sharers is home share = record {
+  owner_is = is.owner;
+  sharers_are = sharer_of_sets plan c place spot homes sharers is home share;
+  span = is.span;
+}

@@ -12,9 +12,9 @@ ghost use Rattle.step_machine.specs.Inside.MachineStates.{state_of};
 
 use crate::core_log::CoreLog;
 use crate::machine_state::MachineState;
-use second_level::{Begin, Next};
+use second_level::{Begin, Next, sharers_of};
 use tab_core::{CoreNo, ROUND};
-use table_form::Course;
+use table_form::{Course, Span};
 
 // The stint that the core would run now.
 pub(crate) fn stint_now(course: &Course, rounds: u32, machine: &MachineState, c: usize) -> Next
@@ -36,13 +36,19 @@ pub(crate) fn stint_now(course: &Course, rounds: u32, machine: &MachineState, c:
     let core = CoreNo(c as u32);
     let plan = course.plan_after(used);
     let spot = plan.spot(core, from % ROUND);
+    let sharers = sharers_of(&plan.homes_of(core), &spot);
+    let span = Span {
+        owner: spot.owner,
+        sharers: &sharers,
+        end: spot.end,
+    };
     let begin = Begin {
         from,
         seen,
         used,
         last: log.last,
     };
-    second_level::next_stint(outline, plan, core, &begin, &spot)
+    second_level::next_stint(outline, core, &begin, &span)
 }
 
 // What a core has seen that is to enter a round or to run.

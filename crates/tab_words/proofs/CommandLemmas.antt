@@ -5,7 +5,8 @@ use Rattle.std.proofs.lemmas.Slice.Eq.{bytes_eq-Decides}
 use Rattle.std.proofs.lemmas.List.{take-append-drop, take-take}
 use Rattle.std.proofs.lemmas.Fmt.{decimal_injective}
 use Rattle.std.specs.declared.alloc.Global.{Global}
-use Rattle.tab_words.specs.Commands.{IsBegun, IsCommand, IsFaultAt, IsNoCommand, IsReading, IsRounds, texts}
+use Rattle.tab_words.specs.Commands.{IsBegun, IsCommand, IsFaultAt, IsNoCommand, texts}
+use Rattle.tab_words.specs.Inside.Readings.{IsReading, IsRounds}
 use Rattle.tab_words.specs.Numbers.{Spells}
 use Rattle.tab_words.specs.declared.command.Command.{Command}
 use Rattle.tab_words.specs.declared.command.Command.TheVariants.{Plan, Check, Replay, Help, Version}

@@ -1,20 +1,13 @@
 -- The grammar of the command line's words.
-use Rattle.std.specs.Prelude.{◌≡◌, ℕ, ◌+◌, ◌<◌, ◌≤◌, ◌⊎◌, List, [], ◌∷◌, ◌++◌, length, take, map, codes, decimal, String, string_bytes, Result, MatchResult}
+use Rattle.std.specs.Prelude.{◌≡◌, ℕ, ◌+◌, ◌<◌, ◌≤◌, ◌⊎◌, List, [], ◌∷◌, ◌++◌, length, take, map, codes, decimal, String, string_bytes}
 use Rattle.std.specs.declared.alloc.Global.{Global}
 use Rattle.tab_words.specs.declared.command.Command.{Command}
 use Rattle.tab_words.specs.declared.command.Command.TheVariants.{Plan, Check, Replay, Help, Version}
 use Rattle.tab_words.specs.declared.command.TheConstants.{MOST_ROUNDS}
-use Rattle.tab_words.specs.declared.command.Usage.{Usage}
 
 -- the words as bytes
 abbrev pub texts : List (String Global) → List (List ℕ)
 texts words = map string_bytes words
-
--- the word spells a count of rounds that a command takes
-pub record IsRounds (word : List ℕ) (rounds : ℕ) : Type 0 where
-  pub digits : word ≡ decimal rounds
-  pub some : 1 ≤ rounds
-  pub few : rounds ≤ MOST_ROUNDS
 
 -- the words are this command
 abbrev pub IsCommand : List (List ℕ) → Command → Type 0
@@ -41,7 +34,3 @@ pub record IsFaultAt (words : List (List ℕ)) (place : ℕ) : Type 0 where
   pub before : IsBegun (take place words)
   pub fault : ((place < length words) × (IsBegun (take (place + 1) words) → ⊥))
       ⊎ ((place ≡ length words) × IsNoCommand words)
-
--- the answer is the command that the words are, or the place of their fault
-abbrev pub IsReading : List (List ℕ) → Result Command Usage → Type 0
-IsReading words result = MatchResult result (IsCommand words) (λ usage. IsFaultAt words usage.place)

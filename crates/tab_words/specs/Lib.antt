@@ -1,4 +1,5 @@
 pub mod Commands
+pub mod Inside
 pub mod Lines
 pub mod Numbers
 pub mod Pieces

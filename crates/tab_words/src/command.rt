@@ -1,5 +1,6 @@
 ghost use Rattle.std.specs.Prelude.{◌≡◌, ℕ, ◌<◌, [], ◌∷◌, ◌++◌, length, codes, decimal, Some, Ok, Err, IfNone, IfOk, IfSome, IsErrOf, MatchResult};
-ghost use Rattle.tab_words.specs.Commands.{IsCommand, IsFaultAt, IsReading, IsRounds, texts};
+ghost use Rattle.tab_words.specs.Commands.{IsCommand, IsFaultAt, texts};
+ghost use Rattle.tab_words.specs.Inside.Readings.{IsReading, IsRounds};
 
 use crate::number::read_number;
 use std::error::Error;

@@ -1,8 +1,7 @@
 -- Which tables are good, and the first fault of those that aren't: shapes come first, then clashes,
 -- then shortages.
-use Rattle.std.specs.Prelude.{◌≡◌, ℕ, List, Option, Some}
+use Rattle.std.specs.Prelude.{ℕ, List, Option}
 use Rattle.tab_core.specs.declared.periodic.Periodic.{Periodic}
-use Rattle.table_form.specs.Tables.Rows.{bad_place}
 use Rattle.table_form.specs.Tables.Serves.{Apart, Serves}
 use Rattle.table_form.specs.declared.segment.Segment.{Segment}
 use Rattle.table_check.specs.Clashes.{IsFirstClash}
@@ -26,12 +25,3 @@ HasCheckFault tasks raw (Twice v tick core other) = HaveGoodShapes raw
 HasCheckFault tasks raw (Short v period_no got cost) =
     HaveGoodShapes raw × Apart (rows_of raw) × IsFirstShort tasks (rows_of raw) v period_no got cost
 HasCheckFault tasks raw NoMemory = ⊥
-
--- the fault is that the core's segments make no row
-abbrev pub IsRowFault : ℕ → List Segment → CheckFault → Type 0
-IsRowFault core segments fault = (place : ℕ) × (fault ≡ BadShape core place)
-    × (bad_place 0 segments ≡ Some place)
-
--- the fault is that the segments of some core make no row, and tells the lowest such core
-abbrev pub IsShapeFault : List (List Segment) → CheckFault → Type 0
-IsShapeFault raw fault = (core : ℕ) × (place : ℕ) × (fault ≡ BadShape core place) × IsFirstBad raw core place

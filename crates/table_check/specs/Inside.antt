@@ -2,3 +2,4 @@
 pub mod Counters
 pub mod Meetings
 pub mod Pairs
+pub mod Parts

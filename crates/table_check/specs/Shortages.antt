@@ -1,10 +1,9 @@
 -- Where a vCPU gets less than its cost in one of its periods.
-use Rattle.std.specs.Prelude.{◌≡◌, ℕ, ◌+◌, ◌*◌, ◌/◌, ◌<◌, ◌≤◌, List, Option, Some, None, slice_get}
+use Rattle.std.specs.Prelude.{◌≡◌, ℕ, ◌+◌, ◌*◌, ◌/◌, ◌<◌, ◌≤◌, List, Option, Some, slice_get}
 use Rattle.tab_core.specs.declared.TheConstants.{ROUND}
 use Rattle.tab_core.specs.declared.periodic.Periodic.{Periodic}
 use Rattle.table_form.specs.Tables.Rows.{Row}
-use Rattle.table_form.specs.Tables.Serves.{Serves, supply}
-use Rattle.table_check.specs.declared.shortage.Shortage.{Shortage}
+use Rattle.table_form.specs.Tables.Serves.{supply}
 
 -- in its period of this number the rows give the vCPU `got` ticks, less than the `cost` of its task
 pub record IsShort (tasks : List (Option Periodic)) (rows : List Row)
@@ -22,8 +21,3 @@ pub record IsFirstShort (tasks : List (Option Periodic)) (rows : List Row)
   pub short : IsShort tasks rows v period_no got cost
   pub least_vcpu : (w k g c : ℕ) → IsShort tasks rows w k g c → v ≤ w
   pub least_period : (k g c : ℕ) → IsShort tasks rows v k g c → period_no ≤ k
-
--- the first shortage of the rows, or that they serve each task
-abbrev pub IsShortageOf : List (Option Periodic) → List Row → Option Shortage → Type 0
-IsShortageOf tasks rows None = Serves tasks rows
-IsShortageOf tasks rows (Some short) = IsFirstShort tasks rows short.vcpu short.period_no short.got short.cost

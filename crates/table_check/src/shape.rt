@@ -1,6 +1,6 @@
 ghost use Rattle.std.specs.Prelude.{◌≡◌, ◌≤◌, IfNone, IfOk, IfSome, length};
 ghost use Rattle.tab_core.specs.declared.TheConstants.{MAX_CORES};
-ghost use Rattle.table_check.specs.Faults.{IsShapeFault};
+ghost use Rattle.table_check.specs.Inside.Parts.{IsShapeFault};
 ghost use Rattle.table_check.specs.Shapes.{HaveGoodShapes, rows_of};
 
 use crate::fault::CheckFault;

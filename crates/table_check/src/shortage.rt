@@ -3,7 +3,7 @@ ghost use Rattle.tab_core.specs.declared.TheConstants.{MAX_CORES, MAX_VCPUS};
 ghost use Rattle.table_form.specs.Tables.Rows.{Row};
 ghost use Rattle.table_check.specs.Inside.Counters.{CountSupply, IsFirstLow};
 ghost use Rattle.table_check.specs.Shapes.{HaveGoodShapes, rows_of};
-ghost use Rattle.table_check.specs.Shortages.{IsShortageOf};
+ghost use Rattle.table_check.specs.Inside.Parts.{IsShortageOf};
 ghost use Rattle.table_check.specs.declared.counters.TheConstants.{MAX_PERIODS};
 
 use crate::counters::{MAX_PERIODS, count_supply};

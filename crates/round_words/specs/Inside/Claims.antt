@@ -1,36 +1,36 @@
 -- What each kind of step claims of the view before, the number found or stored, and the view after, and
 -- that a step keeps the rule.
 -- Source: the rules of this project.
-use Rattle.std.specs.Prelude.{◌≡◌, ◌≢◌, ℕ, suc, ◌-◌, ◌*◌, ◌+◌, ◌^◌, ◌<◌, ◌≤◌, ◌⊎◌, true, false, List, Option, Some, slice_get, slice_index, slice_set}
+use Rattle.std.specs.Prelude.{◌≡◌, ◌≢◌, ℕ, ◌-◌, ◌^◌, ◌<◌, ◌≤◌, ◌⊎◌, true, false, List, Option, Some, slice_get, slice_index, slice_set}
 use mathlib.Core.Option.{some}
 use lib.ListN.{get_elem?}
 use Rattle.tab_core.specs.declared.entry.Entry.{Entry}
-use Rattle.tab_core.specs.declared.stint.Stint.{Stint}
 use Rattle.round_words.specs.declared.view.Part.{Part}
 use Rattle.round_words.specs.declared.view.View.{View}
-use Rattle.round_words.specs.Views.{controller, just_started, part, with_part, entry, posts, sees, hears, enters, runs, IsStintAfter}
+use Rattle.round_words.specs.Views.{just_started, part, with_part, entry, enters}
+use Rattle.round_words.specs.Changes.{PostsFloor, SeesCount, HearsClock, AppendsStint}
 use Rattle.round_words.specs.Rule.{decision_word, KeepsRule}
 use Rattle.round_words.specs.Shown.{IsSight, IsHeardClock}
 
 -- `start`, of the lag, the cores and the events
-abbrev pub StartsBoard : ℕ × ℕ × ℕ → View → ℕ → View → Type 0
-StartsBoard x v n w = w ≡ just_started x.0 x.1 x.2
+abbrev pub StartClaim : ℕ × ℕ × ℕ → View → ℕ → View → Type 0
+StartClaim x v n w = w ≡ just_started x.0 x.1 x.2
 
 -- the load of `meet`
-abbrev pub ChangesNothing : View → ℕ → View → Type 0
-ChangesNothing v n w = w ≡ v
+abbrev pub MeetClaim : View → ℕ → View → Type 0
+MeetClaim v n w = w ≡ v
 
 -- `post`, of the floor
-abbrev pub PostsFloor : ℕ → View → ℕ → View → Type 0
-PostsFloor floor v n w = w ≡ with_part v controller (posts (part v controller) floor)
+abbrev pub PostClaim : ℕ → View → ℕ → View → Type 0
+PostClaim floor v n w = PostsFloor v w floor
 
 -- `see`, of the core
-abbrev pub SeesCount : ℕ → View → ℕ → View → Type 0
-SeesCount c v n w = (w ≡ with_part v c (sees (part v c) n)) × IsSight v c n
+abbrev pub SeeClaim : ℕ → View → ℕ → View → Type 0
+SeeClaim c v n w = SeesCount v w c n × IsSight v c n
 
 -- `clock_of`, of the actor and the other core
-abbrev pub HearsClock : ℕ × ℕ → View → ℕ → View → Type 0
-HearsClock x v n w = (w ≡ with_part v x.0 (hears (part v x.0) x.1 n)) × IsHeardClock v x.0 x.1 n
+abbrev pub HearClaim : ℕ × ℕ → View → ℕ → View → Type 0
+HearClaim x v n w = HearsClock v w x.0 x.1 n × IsHeardClock v x.0 x.1 n
 
 -- what a core expects of the word of round k: 0, or its own entry of four rounds before
 abbrev pub IsExpected : Part → ℕ → ℕ → Type 0
@@ -39,17 +39,16 @@ IsExpected p k old = (k < 4 → old ≡ 0)
 
 -- `decide`, of the core, the round, the seen count and the word expected. The word found was that one, and
 -- the core won; or it was that of the round, with the count u
-abbrev pub EntersRound : ℕ × ℕ × ℕ × ℕ → View → ℕ → View → Type 0
-EntersRound x v n w =
+abbrev pub DecideClaim : ℕ × ℕ × ℕ × ℕ → View → ℕ → View → Type 0
+DecideClaim x v n w =
     ((n ≡ x.3) × (x.2 ≤ v.events)
     × (w ≡ with_part v x.0 (enters (part v x.0) (entry x.1 x.2 x.2 true))))
     ⊎ ((u : ℕ) × (n ≢ x.3) × (n ≡ decision_word x.1 u) × (u ≤ v.events)
     × (w ≡ with_part v x.0 (enters (part v x.0) (entry x.1 u x.2 false))))
 
 -- `advance`, of the core, the end and who ran
-abbrev pub AppendsStint : ℕ × ℕ × Option ℕ → View → ℕ → View → Type 0
-AppendsStint x v n w = (s : Stint) × IsStintAfter (part v x.0) x.1 x.2 s
-    × (w ≡ with_part v x.0 (runs (part v x.0) s))
+abbrev pub AdvanceClaim : ℕ × ℕ × Option ℕ → View → ℕ → View → Type 0
+AdvanceClaim x v n w = AppendsStint v w x.0 x.1 x.2
 
 -- where the view is started, it has a lag
 abbrev pub HasLag : View → Type 0

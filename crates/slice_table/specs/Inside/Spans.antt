@@ -15,6 +15,13 @@ begin_at ends number = slice_index (0 ∷ ends) number
 abbrev pub AreLong : ℕ → List ℕ → Type 0
 AreLong least ends = (k : ℕ) → k < length ends → begin_at ends k + least ≤ slice_index ends k
 
+-- the shortest of the spans has so many ticks
+pub record IsShortest (ticks : ℕ) (ends : List ℕ) : Type 0 where
+  pub long : AreLong ticks ends
+  pub number : ℕ
+  pub there : number < length ends
+  pub met : begin_at ends number + ticks ≡ slice_index ends number
+
 -- the spans have at least so many ticks each, and the last one ends with the round
 pub record AreEnds (least : ℕ) (ends : List ℕ) : Type 0 where
   pub some : 0 < length ends

@@ -3,15 +3,13 @@
 use Rattle.std.specs.Prelude.{◌≡◌, ◌≢◌, ◌↔◌, ℕ, ◌<◌, ◌≤◌, IsTrue, List, Some, length, slice_get, slice_index}
 use Rattle.tab_core.specs.declared.TheConstants.{MAX_VCPUS, ROUND}
 use Rattle.tab_core.specs.VcpuSets.{has_vcpu}
+use Rattle.table_form.specs.declared.spot.Spot.{Spot}
 use Rattle.table_form.specs.Tables.Homes.{IsHome}
 use Rattle.table_form.specs.Tables.Plans.{PlanView}
 use Rattle.table_form.specs.Tables.Rows.{Row}
 use Rattle.table_form.specs.Tables.Segments.{SegmentView, segments_from}
 use Rattle.table_form.specs.Tables.Serves.{owner_at}
-use Rattle.table_form.specs.Tables.Spots.{SameSpot}
-use Rattle.slice_table.specs.declared.full_span.FullSpan.{FullSpan}
 use Rattle.slice_table.specs.declared.scope.Scope.{Scope}
-use Rattle.slice_table.specs.Slices.{IsShown}
 
 -- the row's segments before the number end at or before the place
 pub record IsPast (row : Row) (place number : ℕ) : Type 0 where
@@ -38,29 +36,19 @@ pub record IsScope (plan : PlanView) (scope : Scope) : Type 0 where
   pub few : length plan.homes ≤ MAX_VCPUS
   pub others : AreOthers plan scope.core (length plan.rows) scope.others.items
 
--- what the core's row and so many of the other rows show: the owner, the vCPUs away, and those at
--- home who aren't; up to the span's end none of these rows changes its owner
-pub record IsSightOf (plan : PlanView) (scope : Scope) (place count : ℕ) (span : FullSpan) : Type 0 where
-  pub owner : span.owner ≡ owner_at plan.rows scope.core place
-  pub size : length span.away ≡ MAX_VCPUS
-  pub found : (v : ℕ) → v < MAX_VCPUS → IsTrue (has_vcpu span.away v)
+-- what the core's row and so many of the other rows show: the owner and the vCPUs away; up to the
+-- spot's end none of these rows changes its owner
+pub record IsSightOf (plan : PlanView) (scope : Scope) (place count : ℕ) (spot : Spot) : Type 0 where
+  pub owner : spot.owner ≡ owner_at plan.rows scope.core place
+  pub size : length spot.away ≡ MAX_VCPUS
+  pub found : (v : ℕ) → v < MAX_VCPUS → IsTrue (has_vcpu spot.away v)
       → IsTrue (has_vcpu scope.home v) × (d : ℕ) × (d ≢ scope.core) × (owner_at plan.rows d place ≡ Some v)
   pub all : (k v : ℕ) → k < count → v < MAX_VCPUS → IsTrue (has_vcpu scope.home v)
-      → owner_at plan.rows (slice_index scope.others.items k) place ≡ Some v → IsTrue (has_vcpu span.away v)
-  pub rest : (v : ℕ) → v < MAX_VCPUS
-      → (IsTrue (has_vcpu span.sharers v) ↔ (IsTrue (has_vcpu scope.home v) × (IsTrue (has_vcpu span.away v) → ⊥)))
-  pub after : place < span.end
-  pub within : span.end ≤ ROUND
-  pub own : (x : ℕ) → place ≤ x → x < span.end
+      → owner_at plan.rows (slice_index scope.others.items k) place ≡ Some v → IsTrue (has_vcpu spot.away v)
+  pub after : place < spot.end
+  pub within : spot.end ≤ ROUND
+  pub own : (x : ℕ) → place ≤ x → x < spot.end
       → owner_at plan.rows scope.core place ≡ owner_at plan.rows scope.core x
-  pub steady : (k x : ℕ) → k < count → place ≤ x → x < span.end
+  pub steady : (k x : ℕ) → k < count → place ≤ x → x < spot.end
       → owner_at plan.rows (slice_index scope.others.items k) place
       ≡ owner_at plan.rows (slice_index scope.others.items k) x
-
--- the span has what the place shows, and the places up to its end are alike
-pub record IsPart (plan : PlanView) (c place : ℕ) (span : FullSpan) : Type 0 where
-  pub shown : IsShown plan c place span
-  pub size : length span.away ≡ MAX_VCPUS
-  pub after : place < span.end
-  pub within : span.end ≤ ROUND
-  pub alike : (x : ℕ) → place ≤ x → x < span.end → SameSpot plan c place x

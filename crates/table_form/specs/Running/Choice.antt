@@ -2,13 +2,13 @@
 -- Source: the second level of the Tableau scheduler (M. Vanga, A. Gujarati, B. B. Brandenburg,
 -- EuroSys 2018), which gives a core's unused time to the vCPUs at home there; the round robin by
 -- number, the lag and the quantum are this project's.
-use Rattle.std.specs.Prelude.{◌≡◌, ◌⊎◌, ℕ, ◌+◌, ◌-◌, ◌%◌, ◌<◌, ◌≤◌, ◌==◌, Bool, true, false, not, min, List, Option, Some, None, IsTrue, fold, if◌then◌else◌}
+use Rattle.std.specs.Prelude.{◌≡◌, ◌⊎◌, ℕ, ◌+◌, ◌-◌, ◌%◌, ◌<◌, ◌≤◌, Bool, true, false, not, min, List, Option, Some, None, IsTrue, fold, if◌then◌else◌}
 use Rattle.tab_core.specs.declared.TheConstants.{MAX_VCPUS, ROUND}
 use Rattle.tab_core.specs.declared.stint.Stint.{Stint}
 use Rattle.tab_core.specs.Least.{IsLeast}
 use Rattle.tab_core.specs.VcpuSets.{has_vcpu}
 use Rattle.table_form.specs.Tables.Plans.{PlanView}
-use Rattle.table_form.specs.Tables.Serves.{owner_at}
+use Rattle.table_form.specs.Tables.Serves.{is_cell_of, owner_at}
 use Rattle.table_form.specs.Tables.Spans.{IsSharer}
 use Rattle.table_form.specs.Tables.Spots.{IsSpanEnd}
 use Rattle.table_form.specs.Running.Courses.{CourseView, plan_after, runnable_after}
@@ -42,14 +42,10 @@ pub record IsChoice (plan : PlanView) (c place : ℕ) (runnable : List Bool)
   pub shared : owner_runs (owner_at plan.rows c place) runnable ≡ false
       → IsPick (IsEligible plan c place runnable) last ran
 
-abbrev pub is_vcpu : ℕ → Option ℕ → Bool
-is_vcpu v None = false
-is_vcpu v (Some w) = v == w
-
 -- somebody ran who isn't the owner
 abbrev pub runs_other : Option ℕ → Option ℕ → Bool
 runs_other owner None = false
-runs_other owner (Some v) = not (is_vcpu v owner)
+runs_other owner (Some v) = not (is_cell_of v owner)
 
 -- the stint is shared: it ran a vCPU other than the owner of its first tick, by the plan that it used
 abbrev pub is_shared : CourseView → ℕ → Stint → Bool

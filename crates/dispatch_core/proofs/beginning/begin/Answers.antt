@@ -1,20 +1,17 @@
-use Rattle.std.proofs.Common.{◌≡◌, ◌<◌, ◌≤◌, ◌*◌, ℕ, refl, sym, ap, ◌∙◌, subst, arith}
+use Rattle.std.proofs.Common.{◌≡◌, ◌≤◌, ℕ, refl, sym, ap, ◌∙◌, subst, arith}
 use Rattle.std.specs.Prelude.{All}
-use Rattle.tab_core.specs.declared.TheConstants.{ROUND}
 use Rattle.tab_core.specs.declared.entry.Entry.{Entry}
 use Rattle.table_form.specs.Running.Outlines.{OutlineView}
 use Rattle.round_words.specs.declared.view.Part.{Part}
 use Rattle.round_words.specs.declared.view.View.{View}
-use Rattle.round_words.specs.Changes.{ChangesOnly}
 use Rattle.round_words.specs.Seats.{view_of}
-use Rattle.round_words.specs.Views.{part, sees}
-use Rattle.round_words.proofs.ChangesLemmas.{changes_more, changes_with, part_with}
+use Rattle.round_words.specs.Views.{part}
+use Rattle.round_words.proofs.ChangesLemmas.{changes_with, part_with}
 use Rattle.dispatch_core.specs.declared.log.CoreLog.{CoreLog}
 use Rattle.dispatch_core.specs.Inside.Logs.{log_view}
-use Rattle.dispatch_core.specs.Parts.{HasEvents, HasSeen}
-use Rattle.dispatch_core.specs.States.{Stands}
+use Rattle.dispatch_core.specs.Parts.{HasEvents}
 use Rattle.dispatch_core.specs.Told.{ComesToEnter}
-use Rattle.dispatch_core.proofs.PartLemmas.{SameRun, entered_same, entered_seen}
+use Rattle.dispatch_core.proofs.PartLemmas.{entered_same, entered_seen}
 use Rattle.dispatch_core.proofs.StateLemmas.{knows_same, plans_same, stands_entered, stands_same}
 use Rattle.dispatch_core.proofs.ToldLemmas.{has_seen, lacks_event, sees_same}
 use Rattle.dispatch_core.proofs.beginning.begin.Goals as goal

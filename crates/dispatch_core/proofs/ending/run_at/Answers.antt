@@ -1,17 +1,15 @@
-use Rattle.std.proofs.Common.{◌≡◌, ◌<◌, ◌≤◌, ◌+◌, ◌*◌, ◌/◌, ℕ, List, length, refl, sym, ap, ◌∙◌, subst, arith}
-use Rattle.tab_core.specs.declared.stint.Stint.{Stint}
+use Rattle.std.proofs.Common.{ℕ, length, refl, sym, ap, ◌∙◌, subst, arith}
 use Rattle.table_form.specs.Running.Courses.{CourseView, with_plans}
 use Rattle.table_form.specs.Running.Outlines.{OutlineView}
 use Rattle.round_words.specs.declared.view.Part.{Part}
 use Rattle.round_words.specs.declared.view.View.{View}
 use Rattle.round_words.specs.Hearing.{HearsCores}
 use Rattle.round_words.specs.Seats.{view_of}
-use Rattle.round_words.specs.Views.{part, runs}
-use Rattle.round_words.proofs.HearingLemmas.{SamePart, heard_same}
+use Rattle.round_words.specs.Views.{part}
+use Rattle.round_words.proofs.HearingLemmas.{heard_same}
 use Rattle.dispatch_core.specs.declared.log.CoreLog.{CoreLog}
 use Rattle.dispatch_core.specs.Inside.Logs.{log_view}
-use Rattle.dispatch_core.specs.States.{FollowsPlans, Stands}
-use Rattle.dispatch_core.specs.Told.{BeginsNext}
+use Rattle.dispatch_core.specs.States.{FollowsPlans}
 use Rattle.dispatch_core.proofs.PartLemmas.{SameRun}
 use Rattle.dispatch_core.proofs.StateLemmas.{plans_same, stands_same}
 use Rattle.dispatch_core.proofs.StintLemmas.{begins_next, begins_same, plans_ran, stands_ran}

@@ -1,4 +1,4 @@
-use Rattle.std.proofs.Common.{◌≡◌, ℕ, refl, sym, subst}
+use Rattle.std.proofs.Common.{ℕ, refl, sym, subst}
 use Rattle.table_form.specs.Running.Courses.{CourseView, plan_after, plan_number_after}
 use Rattle.table_form.specs.Running.Outlines.{OutlineView}
 use Rattle.table_form.proofs.CourseLemmas.{in_course}

@@ -1,4 +1,4 @@
-use Rattle.std.proofs.Common.{◌≡◌, ◌⊎◌, inl, inr, rules, arith}
+use Rattle.std.proofs.Common.{◌≡◌, ◌⊎◌, inl, inr, rules}
 use Rattle.edf_table.specs.Inside.Progress.{SomeBegin}
 use Rattle.edf_table.proofs.Starts.{later_begin, no_begin_next, some_begin}
 use Rattle.edf_table.proofs.overload.last_begin.Goals as goal

@@ -1,4 +1,4 @@
-use Rattle.std.proofs.Common.{◌≡◌, ◌<◌, ℕ, Some, Option, inl, inr, sym, ◌∙◌, ap, arith, length, get_or, ◌≤◌}
+use Rattle.std.proofs.Common.{◌≡◌, ℕ, Some, Option, inl, inr, sym, ◌∙◌, ap, arith, get_or, ◌≤◌}
 use Rattle.std.specs.Prelude.{slice_get}
 use Rattle.std.proofs.lemmas.Bool.{cases_lt}
 use Rattle.std.proofs.lemmas.List.{get_or_default}

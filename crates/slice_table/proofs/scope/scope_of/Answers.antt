@@ -1,10 +1,8 @@
-use Rattle.std.proofs.Common.{◌≡◌, ◌∷◌, ◌++◌, [], ℕ, ◌<◌, ◌+◌, length, get_or, Vec, Global, List, Some, Option, IsTrue, ap, subst, sym, ◌∙◌, arith}
-use Rattle.std.specs.Prelude.{slice_get}
+use Rattle.std.proofs.Common.{ℕ, ◌<◌, ◌+◌, length, get_or, Vec, Global, List, Some, ap, subst, sym, ◌∙◌, arith}
 use Rattle.std.proofs.lemmas.Bool.{false≢true}
 use Rattle.std.proofs.lemmas.Option.{slice_get_within}
 use Rattle.tab_core.specs.declared.TheConstants.{MAX_VCPUS}
 use Rattle.table_form.specs.Tables.Rows.{Row}
-use Rattle.table_form.specs.Tables.Serves.{owner_at}
 use Rattle.table_form.specs.Tables.Views.{plan_view}
 use Rattle.slice_table.specs.Inside.Sweeps.{AreOthers}
 use Rattle.slice_table.proofs.ScopeLemmas.{cell_read, others_push, others_skip}

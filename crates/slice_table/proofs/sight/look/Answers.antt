@@ -1,12 +1,12 @@
-use Rattle.std.proofs.Common.{◌≡◌, ℕ, ◌<◌, ◌≤◌, Some, List, Option, length, get_or, ap, subst, sym, ◌∙◌, arith}
-use Rattle.std.specs.Prelude.{slice_get, slice_index}
+use Rattle.std.proofs.Common.{◌≡◌, ℕ, ◌<◌, List, length, get_or, ap, subst, sym, ◌∙◌, arith}
+use Rattle.std.specs.Prelude.{slice_index}
 use Rattle.std.proofs.lemmas.Grind.{get_or_default_zero}
 use Rattle.table_form.specs.Tables.Rows.{Row}
 use Rattle.table_form.specs.Tables.Serves.{owner_at}
 use Rattle.table_form.specs.Tables.Views.{plan_view}
 use Rattle.table_form.proofs.SpotLemmas.{owner_read}
 use Rattle.slice_table.specs.Inside.Sweeps.{IsSightOf}
-use Rattle.slice_table.proofs.SightLemmas.{past_at, past_set, sight_more, sight_whole}
+use Rattle.slice_table.proofs.SightLemmas.{past_set, sight_more, sight_whole}
 use Rattle.slice_table.proofs.sight.look.Goals as goal
 
 pub loop-at-preserved : goal.loop-at-preserved
@@ -25,11 +25,11 @@ loop-at-preserved c =
     let found = c.segment_from-number-in-loop-at in
     let taken = c.take_other.ensures in
     record {
-      sight = sight_more plan scope c.args.place at found.result.1.end found.result.1.owner c.loop-at.span
-          c.take_other.new.span c.requires.scope lt c.loop-at.invariant.sight found.ensures.after
+      sight = sight_more plan scope c.args.place at found.result.1.end found.result.1.owner c.loop-at.spot
+          c.take_other.new.spot c.requires.scope lt c.loop-at.invariant.sight found.ensures.after
           (λ x low less. ap (λ (d : ℕ). owner_at plan.rows d x) (sym is)
           ∙ owner_read plan.rows other x row found.result.1.owner there row_is (found.ensures.cells x low less))
-          taken.end taken.owner taken.size taken.away taken.sharers;
+          taken.end taken.owner taken.size taken.away;
       past = past_set plan.rows c.args.place c.loop-at.numbers other found.result.0 row c.loop-at.invariant.past there
           row_is (omega (arith, c.items-rows.ensures.few)) found.ensures.past;
     }
@@ -40,6 +40,5 @@ returns-clause-part c =
     let scope = c.args.scope.now in
     let all : c.loop-at.at ≡ length scope.others.items =
     omega (arith, c.loop-at-test.false, c.loop-at.auto.at-end, c.len-at-end.ensures, scope.others.ok.0) in
-    sight_whole plan scope c.args.place c.loop-at.span c.take_owner.new.span c.requires.scope
-    (subst (λ (count : ℕ). IsSightOf plan scope c.args.place count c.loop-at.span) all c.loop-at.invariant.sight)
-    c.take_owner.ensures.end c.take_owner.ensures.owner c.take_owner.ensures.away c.take_owner.ensures.sharers
+    sight_whole plan scope c.args.place c.loop-at.spot c.requires.scope
+    (subst (λ (count : ℕ). IsSightOf plan scope c.args.place count c.loop-at.spot) all c.loop-at.invariant.sight)

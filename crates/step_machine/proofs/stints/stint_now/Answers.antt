@@ -1,4 +1,4 @@
-use Rattle.std.proofs.Common.{◌≡◌, ◌/◌, inr, length, Some, ap, sym, ◌∙◌, arith}
+use Rattle.std.proofs.Common.{◌≡◌, ◌/◌, ◌%◌, inr, length, Some, ap, sym, ◌∙◌, arith}
 use Rattle.std.specs.Prelude.{slice_get}
 use Rattle.tab_core.specs.declared.TheConstants.{ROUND}
 use Rattle.table_form.specs.Tables.Views.{plan_view}
@@ -11,6 +11,7 @@ use Rattle.run_promises.proofs.Lists.{same, element_at}
 use Rattle.step_machine.proofs.LogLemmas.{core_at}
 use Rattle.step_machine.proofs.PhaseLemmas.{entered_to_run}
 use Rattle.step_machine.proofs.MachineStateLemmas.{log_found, log_kept}
+use Rattle.step_machine.proofs.StintLemmas.{span_of_spot}
 use Rattle.step_machine.proofs.stints.stint_now.Goals as goal
 
 pub seen_by-seen-requires : goal.seen_by-seen-requires
@@ -80,13 +81,17 @@ returns-clause-next c = λ core h.
     (entered_to_run c.args.rounds (core_of log) k.timeline.numbered due) in
     let is = same (slice_get (cores_of p.logs.items) c.args.c) (core_of log) core
     (core_at p.logs.items c.args.c log at) h in
+    let span = span_of_spot (plan_view c.plan_after-plan.result.now) c.args.c (log.clock % ROUND)
+    c.spot-spot.result c.homes_of.result c.sharers_of-sharers.result c.spot-spot.ensures
+    c.homes_of.ensures c.sharers_of-sharers.ensures in
     let stint = c.next_stint.result.stint in
     let follows : IsDispatch course c.args.c log.stints.items stint =
     in_course course c.outline-outline.result.now c.used_in-used.result (plan_view c.plan_after-plan.result.now)
     (λ (of : CourseView). log.last ≡ last_shared of c.args.c log.stints.items
     → IsDispatch of c.args.c log.stints.items stint)
     c.outline-outline.ensures.outline c.plan_after-plan.ensures.plan
-    (λ plans numbers is. c.next_stint.ensures.follows plans numbers is log.stints.items)
+    (λ plans numbers is. c.next_stint.ensures.follows (plan_view c.plan_after-plan.result.now) span
+    plans numbers is log.stints.items)
     (c.requires.known c.args.c log at) in
     rw (← is) (record {
       due = due;
@@ -106,7 +111,11 @@ returns-clause-last c = λ log' h.
     let at = log_found course c.args.rounds p c.args.c log c.requires.kept c.requires.core
     c.index-log.ensures in
     let is = same (slice_get p.logs.items c.args.c) log log' at h in
+    let span = span_of_spot (plan_view c.plan_after-plan.result.now) c.args.c (log.clock % ROUND)
+    c.spot-spot.result c.homes_of.result c.sharers_of-sharers.result c.spot-spot.ensures
+    c.homes_of.ensures c.sharers_of-sharers.ensures in
     rw (← is) (in_course course c.outline-outline.result.now c.used_in-used.result
     (plan_view c.plan_after-plan.result.now)
     (λ (of : CourseView). c.next_stint.result.last ≡ last_after of c.args.c log.last c.next_stint.result.stint)
-    c.outline-outline.ensures.outline c.plan_after-plan.ensures.plan c.next_stint.ensures.last)
+    c.outline-outline.ensures.outline c.plan_after-plan.ensures.plan
+    (c.next_stint.ensures.last (plan_view c.plan_after-plan.result.now) span))

@@ -1,5 +1,4 @@
-use Rattle.std.proofs.Common.{◌≡◌, ◌+◌, sym, subst, ℕ, List, arith}
-use Rattle.slice_table.specs.declared.full_span.FullSpan.{FullSpan}
+use Rattle.std.proofs.Common.{◌+◌, sym, subst, arith}
 use Rattle.table_form.specs.Tables.Views.{plan_view}
 use Rattle.dispatch_core.specs.Inside.Making.{AreFirstSlices}
 use Rattle.dispatch_core.proofs.SliceLemmas.{slices_none, slices_more}

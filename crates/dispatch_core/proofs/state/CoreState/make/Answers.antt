@@ -1,10 +1,7 @@
-use Rattle.std.proofs.Common.{◌≡◌, ℕ, sym, ◌∙◌, subst}
-use Rattle.table_form.specs.Running.Outlines.{OutlineView}
+use Rattle.std.proofs.Common.{ℕ, sym, ◌∙◌, subst}
 use Rattle.round_words.specs.Shown.{HoldsCore}
 use Rattle.round_words.specs.Views.{part}
-use Rattle.dispatch_core.specs.Inside.Logs.{log_view}
-use Rattle.dispatch_core.specs.Parts.{IsNewPart, IsOfOutline}
-use Rattle.dispatch_core.specs.States.{Stands}
+use Rattle.dispatch_core.specs.Parts.{IsNewPart}
 use Rattle.dispatch_core.proofs.StateLemmas.{plans_new, stands_new}
 use Rattle.dispatch_core.proofs.state.CoreState.make.Goals as goal
 

@@ -1,4 +1,4 @@
-use Rattle.std.proofs.Common.{ap, sym, refl, arith, ℕ, set, ◌+◌, ◌*◌, ◌%◌, List}
+use Rattle.std.proofs.Common.{ap, sym, refl, arith, set, ◌+◌, ◌*◌, ◌%◌}
 use Rattle.round_words.proofs.NumbersLemmas.{agree_enters}
 use Rattle.round_words.proofs.numbers.Numbers.note_entry.Goals as goal
 

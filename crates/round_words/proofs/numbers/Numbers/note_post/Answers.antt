@@ -1,4 +1,4 @@
-use Rattle.std.proofs.Common.{◌∙◌, ◌≡◌, suc, sym, refl, arith, length, ◌++◌, [], ◌∷◌}
+use Rattle.std.proofs.Common.{◌∙◌, sym, refl, arith}
 use Rattle.round_words.specs.Views.{controller, part, posts}
 use Rattle.round_words.proofs.ListLemmas.{length_push}
 use Rattle.round_words.proofs.NumbersLemmas.{agree_same}

@@ -7,7 +7,8 @@ use Rattle.round_words.proofs.numbers.Numbers.note_sight.Goals as goal
 pub returns : goal.returns
 returns c = λ v has agrees. let at = c.args.core in
     agree_same c.args.self.now _ v at (sees (part v at) c.args.count) agrees has refl
-    (λ e. absurd (omega (arith, c.requires.core))) (λ away. refl) (λ lt. agrees.clocks_are at lt has) (λ k away. refl)
+    (λ e. absurd (omega (arith, c.requires.core))) (λ away. refl) (λ lt. agrees.clocks_are at lt has)
+    (λ k away. refl)
     (λ lt. word_here c.args.self.now.sights at c.args.count (omega arith)
     ∙ sym (last_of-push (part v at).sights c.args.count))
     (λ k away. word_else c.args.self.now.sights at k c.args.count away) refl refl

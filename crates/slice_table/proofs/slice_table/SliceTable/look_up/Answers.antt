@@ -1,4 +1,4 @@
-use Rattle.std.proofs.Common.{List, Some, ◌≡◌, ap, subst, sym, ◌∙◌}
+use Rattle.std.proofs.Common.{List, ap, ◌∙◌}
 use Rattle.std.specs.Prelude.{slice_get}
 use Rattle.slice_table.specs.declared.full_span.FullSpan.{FullSpan}
 use Rattle.slice_table.proofs.TableLemmas.{held_of, spot_of}

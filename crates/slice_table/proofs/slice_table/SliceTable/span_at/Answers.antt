@@ -1,4 +1,4 @@
-use Rattle.std.proofs.Common.{List, Some, ◌≡◌, ap, subst, sym, ◌∙◌, arith}
+use Rattle.std.proofs.Common.{List, ap, subst, sym, ◌∙◌, arith}
 use Rattle.std.specs.Prelude.{slice_get}
 use Rattle.slice_table.specs.declared.full_span.FullSpan.{FullSpan}
 use Rattle.slice_table.specs.Inside.Spans.{HoldsTick, ends_of}

@@ -1,0 +1,6 @@
+pub mod JoinLemmas
+pub mod OneReport
+pub mod ReportLemmas
+pub mod RunLemmas
+pub mod StretchLemmas
+pub mod SweepLemmas

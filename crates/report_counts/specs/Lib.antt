@@ -1,0 +1,4 @@
+pub mod Inside
+pub mod Reports
+pub mod RoundPlans
+pub mod Stretches

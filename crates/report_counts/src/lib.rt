@@ -1,0 +1,18 @@
+//! What a report counts of a run: the ticks that it offers to each vCPU, each vCPU's greatest gap, and the
+//! rounds that begin with another plan.
+//!
+//! A plan is swept once over its rows' segments, for all vCPUs at the same time, and only where its number
+//! isn't that of the round before. Each round costs one join of stretches for each vCPU.
+#![tactic(auto)]
+
+mod counting;
+mod describing;
+mod laws;
+mod round_plan;
+mod stretch;
+mod sweep;
+
+pub use counting::count_waits;
+pub use laws::a_report_is_determined;
+pub use round_plan::{RoundPlan, round_plans};
+pub use stretch::Stretch;

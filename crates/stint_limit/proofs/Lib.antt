@@ -1,0 +1,6 @@
+pub mod EndLemmas
+pub mod LargestLemmas
+pub mod OneBound
+pub mod RaisedLemmas
+pub mod SpanLemmas
+pub mod StintBoundLemmas

@@ -1,0 +1,8 @@
+//! The tests of the crates by which threads share the work of a run, which stand apart since a crate
+//! with tests is proved twice, with them and without.
+#![tactic(auto)]
+
+#[cfg(test)]
+mod board;
+#[cfg(test)]
+mod steps;
