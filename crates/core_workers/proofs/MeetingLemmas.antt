@@ -17,7 +17,7 @@ use Rattle.core_workers.specs.declared.team.Deal.{Deal}
 use Rattle.core_workers.specs.declared.team.Group.{Group}
 use Rattle.core_workers.specs.declared.team.Member.{Member}
 use Rattle.core_workers.specs.Groups.{CrewView, actor_in, actor_of, crew_of, member_of, worker_view}
-use Rattle.core_workers.specs.Crews.{AllAgree, IsSameAt, IsSameCrew, SameActors}
+use Rattle.core_workers.specs.Crews.{AllAgree, HoldsAll, IsCrew, IsSameAt, IsSameCrew, IsWhole, SameActors}
 use Rattle.core_workers.specs.Inside.Teams.{GoesOn, HoldsEach, IsHeld, IsManned, IsTeam, IsWorker, Names}
 use Rattle.core_workers.proofs.CrewLemmas.{SameBoard, agrees_part, at_some, at_was, lead_part, member}
 use Rattle.core_workers.proofs.PartingLemmas.{first_of, in_first, in_last, last_of}
@@ -324,3 +324,37 @@ module _ (k k' : CourseView) (r r' : ℕ) (control control' : ControlState) (thr
       (subst (λ (t : ℕ). IsHeld (crew_of k' r' control' (record { threads = t; first = 0 }) groups') x) same held)
       (subst (λ (t : ℕ). GoesOn (crew_of k r control (first_of threads groups group) groups) left (crew_of k' r' control' (record { threads = t; first = 0 }) groups') x) same on)
       worker on1 count)
+
+-- a whole crew
+
+pub whole_on : (x y : CrewView) → IsSameCrew x y → IsWhole x → IsWhole y
+whole_on x y same whole c lt =
+    let a = whole c (subst (λ (k : CourseView). c < k.cores) same.course lt) in
+    let b = at_some (actor_of x c) (actor_of y c) a.0 (same.each c) a.1 in (b.0, b.1)
+
+pub all_on : (x y : CrewView) (v w : View) → IsSameCrew x y → SameActors v w → HoldsAll x v → HoldsAll y w
+all_on x y v w same actors all = record {
+  cores = λ c lt. actors.actors c ∙ all.cores c (subst (λ (k : CourseView). c < k.cores) same.course lt);
+  control = actors.actors controller ∙ all.control;
+}
+
+pub held_all : (x : CrewView) (v : View) → IsCrew x → IsWhole x → AllAgree x v → HoldsAll x v → IsHeld x v
+held_all x v is whole agree all = record {
+  agree = agree;
+  holds_each = λ c there. all.cores c (is.each c there.0 there.1).within;
+  manned = λ c lt has. whole c lt;
+  control = all.control;
+}
+
+pub crew_on : (x y : CrewView) → IsSameCrew x y → IsCrew x → IsCrew y
+crew_on x y same is = record {
+  course_kept = subst IsCourse (sym same.course) is.course_kept;
+  fits = subst (λ (r : ℕ). FitsRounds y.course r) (sym same.rounds) (subst (λ (k : CourseView). FitsRounds k x.rounds) (sym same.course) is.fits);
+  each = λ c b at. (let a = at_was (actor_of x c) (actor_of y c) b (same.each c) at in
+      let was = is.each c a.0 a.1 in
+      record {
+        core = a.2.core ∙ was.core;
+        within = subst (λ (k : CourseView). c < k.cores) (sym same.course) was.within;
+        rounds_is = a.2.rounds ∙ (was.rounds_is ∙ sym same.rounds);
+      });
+}
