@@ -5,4 +5,4 @@
 #[cfg(test)]
 mod board;
 #[cfg(test)]
-mod steps;
+mod workers;
