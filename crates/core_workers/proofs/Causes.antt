@@ -1,11 +1,10 @@
 -- What a step brings, by what its actor keeps.
-use Rattle.std.proofs.Common.{◌≡◌, ◌⊎◌, ℕ, suc, ◌+◌, ◌*◌, ◌<◌, ◌≤◌, true, length, inl, inr, refl, sym, ap, ◌∙◌, subst, arith}
-use Rattle.tab_core.specs.declared.TheConstants.{ROUND}
+use Rattle.std.proofs.Common.{◌≡◌, ℕ, length, inl, inr, sym, ap, ◌∙◌, subst, arith}
 use Rattle.tab_core.specs.declared.actor.Actor.TheVariants.{Core, Controller}
 use Rattle.table_form.specs.Running.Courses.{CourseView, IsCourse, outline_of}
 use Rattle.round_words.specs.declared.view.Part.{Part}
 use Rattle.round_words.specs.declared.view.View.{View}
-use Rattle.round_words.specs.Views.{controller, holds, part, sees}
+use Rattle.round_words.specs.Views.{controller, part, sees}
 use Rattle.round_words.proofs.HearingLemmas.{heard_same}
 use Rattle.round_words.proofs.ListLemmas.{length_push}
 use Rattle.run_promises.proofs.ChoiceLemmas.{stint_bounds}

@@ -1,10 +1,9 @@
 -- A crew of which some actors step.
-use Rattle.std.proofs.Common.{◌≡◌, ◌≢◌, ◌⊎◌, ℕ, zero, suc, ◌+◌, ◌-◌, ◌*◌, ◌/◌, ◌%◌, ◌<◌, ◌≤◌, Bool, true, false, inl, inr, List, [], ◌∷◌, length, Option, Some, None, refl, sym, ap, ◌∙◌, subst, arith}
+use Rattle.std.proofs.Common.{◌≡◌, ◌≢◌, ℕ, ◌+◌, ◌-◌, ◌/◌, ◌%◌, ◌<◌, ◌≤◌, true, List, length, Option, Some, None, refl, sym, ap, ◌∙◌, subst, arith}
 use Rattle.std.specs.Prelude.{slice_get, take}
 use Rattle.std.proofs.lemmas.List.{length-set}
 use mathlib.Core.Logic.{dite}
 use native.Mathlib.Decide.{ℕ_discrete}
-use Rattle.tab_core.specs.declared.TheConstants.{ROUND}
 use Rattle.table_form.specs.Running.Courses.{CourseView, outline_of}
 use Rattle.round_words.specs.declared.view.Part.{Part}
 use Rattle.round_words.specs.declared.view.View.{View}
@@ -23,7 +22,7 @@ use Rattle.core_workers.specs.declared.team.Lead.{Lead}
 use Rattle.core_workers.specs.declared.team.Member.{Member}
 use Rattle.core_workers.specs.declared.team.Team.{Team}
 use Rattle.core_workers.specs.Groups.{CrewView, actor_in, actor_of, crew_of, crew_view, deal_of, member_of, team_view}
-use Rattle.core_workers.specs.Crews.{AllAgree, HoldsAll, IsActorOf, IsCrew, IsSameAt, IsSameCrew, SameActors}
+use Rattle.core_workers.specs.Crews.{AllAgree, IsActorOf, IsCrew, IsSameAt, IsSameCrew, SameActors}
 use Rattle.core_workers.specs.Inside.Teams.{GoesOn, IsMemberOf, IsTeam, IsWholeTeam}
 use Rattle.core_workers.specs.Inside.Turns.{CoreStep, Steps}
 use Rattle.core_workers.proofs.GroupLemmas.{changed, changed_here, changed_other, found}

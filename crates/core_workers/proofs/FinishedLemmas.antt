@@ -1,6 +1,5 @@
 -- A crew that has finished, whose view reads as a whole run.
-use Rattle.std.proofs.Common.{◌≡◌, ℕ, ◌<◌, length, Some, refl, sym, ap, ◌∙◌, subst, arith}
-use Rattle.table_form.specs.Running.Courses.{CourseView}
+use Rattle.std.proofs.Common.{◌≡◌, ℕ, ◌<◌, Some, sym, ◌∙◌, subst}
 use Rattle.table_form.specs.Running.Invariant.{IsComplete, StateInvariant}
 use Rattle.table_form.specs.Running.Promises.{KeepsPromises}
 use Rattle.run_promises.proofs.PromiseLemmas.{promised}

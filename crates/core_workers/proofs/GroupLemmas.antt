@@ -1,5 +1,5 @@
 -- The member of a core, after one is changed.
-use Rattle.std.proofs.Common.{◌≡◌, ◌≢◌, ◌⊎◌, ℕ, zero, suc, ◌+◌, ◌-◌, ◌*◌, ◌/◌, ◌%◌, ◌<◌, ◌≤◌, Bool, true, false, inl, inr, List, [], ◌∷◌, ◌++◌, length, Option, Some, None, refl, sym, ap, ap₂, ◌∙◌, subst, arith, get_or}
+use Rattle.std.proofs.Common.{◌≡◌, ◌≢◌, ℕ, ◌+◌, ◌-◌, ◌*◌, ◌/◌, ◌%◌, ◌<◌, ◌≤◌, Bool, true, false, inl, inr, List, Option, Some, None, refl, sym, ap, ap₂, ◌∙◌, subst, arith, get_or}
 use Rattle.std.proofs.Math.Nat.{div-add-mod}
 use Rattle.std.specs.Prelude.{slice_get, slice_set, nat_le, if◌then◌else◌, vec_len}
 use Rattle.std.specs.Vec.{with_item}

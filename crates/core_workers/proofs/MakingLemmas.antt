@@ -1,7 +1,5 @@
 -- A crew that is made.
-use Rattle.std.proofs.Common.{◌≡◌, ℕ, ◌+◌, ◌-◌, ◌*◌, ◌/◌, ◌%◌, ◌<◌, ◌≤◌, inl, inr, List, [], ◌∷◌, ◌++◌, length, Some, true, refl, sym, ap, ◌∙◌, subst, arith}
-use Rattle.std.specs.Prelude.{slice_get}
-use Rattle.std.proofs.lemmas.Option.{slice_get_within}
+use Rattle.std.proofs.Common.{◌≡◌, ℕ, ◌+◌, ◌-◌, ◌*◌, ◌/◌, ◌%◌, ◌<◌, inl, inr, List, [], ◌∷◌, ◌++◌, length, Some, true, sym, ap, subst, arith}
 use Rattle.std.proofs.Math.Nat.{mod-add-div', mod-lt}
 use Rattle.tab_core.proofs.Lists.{push_split}
 use Rattle.run_promises.proofs.Lists.{element_at}
@@ -15,7 +13,7 @@ use Rattle.plan_switch.specs.declared.state.ControlState.{ControlState}
 use Rattle.core_workers.specs.declared.team.Deal.{Deal}
 use Rattle.core_workers.specs.declared.team.Group.{Group}
 use Rattle.core_workers.specs.declared.team.Member.{Member}
-use Rattle.core_workers.specs.Groups.{actor_in, actor_of, crew_of, member_of}
+use Rattle.core_workers.specs.Groups.{actor_in, crew_of, member_of}
 use Rattle.core_workers.specs.Crews.{AllAgree, IsFresh, IsWhole}
 use Rattle.core_workers.specs.Inside.Making.{AreGroups, AreMembers, AreNew, IsNewMember}
 use Rattle.core_workers.specs.Inside.Teams.{IsTeam}

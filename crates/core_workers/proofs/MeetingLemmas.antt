@@ -1,17 +1,14 @@
 -- A team whose last group gets a seat of its own, and what comes of it when the seats meet again.
-use Rattle.std.proofs.Common.{◌≡◌, ◌≢◌, ◌⊎◌, ℕ, zero, suc, ◌+◌, ◌-◌, ◌*◌, ◌/◌, ◌%◌, ◌<◌, ◌≤◌, Bool, true, false, ◌||◌, true≢false, inl, inr, List, [], ◌∷◌, ◌++◌, length, Option, Some, None, refl, sym, ap, ap₂, ◌∙◌, subst, arith, get_or}
-use Rattle.std.specs.Prelude.{slice_get}
+use Rattle.std.proofs.Common.{◌≡◌, ◌⊎◌, ℕ, ◌%◌, ◌<◌, Bool, true, false, ◌||◌, true≢false, inl, inr, List, [], ◌∷◌, ◌++◌, length, Option, Some, None, refl, sym, ap, ap₂, ◌∙◌, subst, arith, get_or}
 use mathlib.Core.Logic.{dite}
 use native.Mathlib.Decide.{ℕ_discrete}
 use Rattle.round_words.proofs.ListLemmas.{length_push}
 use Rattle.table_form.specs.Running.Courses.{CourseView, FitsRounds, IsCourse}
-use Rattle.round_words.specs.declared.view.Part.{Part}
 use Rattle.round_words.specs.declared.view.View.{View}
 use Rattle.round_words.specs.Views.{both, controller, holds, names, only, part, without}
 use Rattle.round_words.proofs.MaskLemmas.{holds_both}
 use Rattle.round_words.proofs.ViewsLemmas.{both_mine, both_theirs, of_only, of_without, only_named, only_others, without_named, without_others}
-use Rattle.dispatch_core.specs.States.{AgreesWith, StateView}
-use Rattle.plan_switch.specs.Controllers as controllers
+use Rattle.dispatch_core.specs.States.{StateView}
 use Rattle.plan_switch.specs.declared.state.ControlState.{ControlState}
 use Rattle.core_workers.specs.declared.team.Deal.{Deal}
 use Rattle.core_workers.specs.declared.team.Group.{Group}

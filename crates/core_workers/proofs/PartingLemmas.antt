@@ -1,5 +1,5 @@
 -- A seat that is parted for one thread's worker, and met again.
-use Rattle.std.proofs.Common.{◌≡◌, ◌≢◌, ◌⊎◌, ℕ, zero, suc, ◌+◌, ◌-◌, ◌*◌, ◌/◌, ◌%◌, ◌^◌, ◌<◌, ◌≤◌, Bool, true, false, ◌||◌, true≢false, inl, inr, List, [], ◌∷◌, ◌++◌, length, Option, Some, None, refl, sym, ap, ap₂, ◌∙◌, subst, arith, mod-eq_of_lt, w64}
+use Rattle.std.proofs.Common.{◌≡◌, ◌≢◌, ℕ, zero, suc, ◌+◌, ◌-◌, ◌*◌, ◌/◌, ◌%◌, ◌^◌, ◌<◌, ◌≤◌, true, false, true≢false, inl, inr, List, [], ◌∷◌, ◌++◌, length, Option, Some, None, refl, sym, ap, ◌∙◌, subst, arith, mod-eq_of_lt, w64}
 use Rattle.std.specs.Prelude.{slice_get, bit_or}
 use Rattle.std.proofs.lemmas.Bool.Decides.{leb_tells}
 use Rattle.std.proofs.lemmas.Nat.Bits.{bit_at-zero, bit_at_set_same, bit_at_set_other}
@@ -9,12 +9,7 @@ use mathlib.Core.Logic.{dite}
 use native.Mathlib.Decide.{ℕ_discrete}
 use Rattle.tab_core.proofs.Lists.{push_new, push_old}
 use Rattle.round_words.proofs.ListLemmas.{length_push}
-use Rattle.table_form.specs.Running.Courses.{CourseView}
-use Rattle.round_words.specs.declared.view.Part.{Part}
-use Rattle.round_words.specs.declared.view.View.{View}
-use Rattle.round_words.specs.Views.{both, controller, holds, names, only, part, without}
-use Rattle.round_words.proofs.MaskLemmas.{holds_both}
-use Rattle.round_words.proofs.ViewsLemmas.{both_mine, both_theirs, of_only, of_without, only_named, only_others, without_named, without_others}
+use Rattle.round_words.specs.Views.{names}
 use Rattle.core_workers.specs.declared.team.Deal.{Deal}
 use Rattle.core_workers.specs.declared.team.Group.{Group}
 use Rattle.core_workers.specs.declared.team.Member.{Member}

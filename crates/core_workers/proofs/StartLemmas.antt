@@ -3,7 +3,7 @@ use Rattle.std.proofs.Common.{◌≡◌, ℕ, zero, suc, ◌+◌, ◌-◌, ◌<�
 use Rattle.table_form.specs.Running.Courses.{CourseView}
 use Rattle.round_words.specs.declared.view.Part.{Part}
 use Rattle.round_words.specs.declared.view.View.{View}
-use Rattle.round_words.specs.Views.{all_new, controller, heard_of, holds, just_started, new_part, part, part_at}
+use Rattle.round_words.specs.Views.{all_new, controller, heard_of, just_started, new_part, part, part_at}
 use Rattle.round_words.proofs.StartLemmas.{all_are_new}
 use Rattle.dispatch_core.specs.Parts.{IsNewPart}
 use Rattle.plan_switch.specs.Controllers as controllers

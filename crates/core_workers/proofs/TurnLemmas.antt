@@ -1,6 +1,6 @@
 -- A turn: a core of least clock runs on, then the controller makes a step.
-use Rattle.std.proofs.Common.{◌≡◌, ◌≢◌, ◌⊎◌, ℕ, zero, suc, ◌+◌, ◌-◌, ◌*◌, ◌<◌, ◌≤◌, Bool, true, false, true≢false, inl, inr, List, [], ◌∷◌, length, Option, Some, None, refl, sym, ap, ◌∙◌, subst, arith, set}
-use Rattle.std.specs.Prelude.{slice_get, slice_set, slice_index, sum_by, if◌then◌else◌}
+use Rattle.std.proofs.Common.{◌≡◌, ◌≢◌, ◌⊎◌, ℕ, suc, ◌+◌, ◌-◌, ◌*◌, ◌<◌, ◌≤◌, Bool, true, false, inl, inr, List, length, Some, refl, sym, ap, ◌∙◌, subst, arith}
+use Rattle.std.specs.Prelude.{slice_set, slice_index, sum_by, if◌then◌else◌}
 use Rattle.std.proofs.lemmas.List.{get_or-set_same, get_or-set_other, length-set, set-get_or}
 use mathlib.Core.Logic.{dite}
 use native.Mathlib.Decide.{ℕ_discrete}
@@ -8,11 +8,10 @@ use Rattle.tab_core.specs.declared.TheConstants.{ROUND}
 use Rattle.tab_core.specs.declared.stint.Stint.{Stint}
 use Rattle.tab_core.specs.declared.actor.Actor.{Actor}
 use Rattle.table_form.specs.Running.Courses.{CourseView, tick_at}
-use Rattle.round_words.specs.declared.view.Part.{Part}
 use Rattle.round_words.specs.declared.view.View.{View}
 use Rattle.round_words.specs.Changes.{ChangesOnly}
 use Rattle.round_words.specs.Views.{controller, holds, part}
-use Rattle.dispatch_core.specs.States.{AgreesWith, StateView}
+use Rattle.dispatch_core.specs.States.{StateView}
 use Rattle.dispatch_core.specs.declared.answer.CoreAnswer.TheVariants.{Ran, Behind, Finished}
 use Rattle.plan_switch.specs.Controllers as controllers
 use Rattle.plan_switch.specs.declared.state.ControlState.{ControlState}
@@ -24,11 +23,11 @@ use Rattle.core_workers.specs.declared.team.Deal.{Deal}
 use Rattle.core_workers.specs.declared.team.Group.{Group}
 use Rattle.core_workers.specs.declared.team.Lead.{Lead}
 use Rattle.core_workers.specs.Groups.{CrewView, actor_of, crew_view}
-use Rattle.core_workers.specs.Crews.{AllAgree, HasFinished, HasPosted, HeldFinished, HoldsAll, IsCrew, IsSameAt, IsSameCrew, SameActors}
+use Rattle.core_workers.specs.Crews.{AllAgree, HasFinished, HasPosted, HeldFinished, HoldsAll, IsCrew}
 use Rattle.core_workers.specs.Inside.Clocks.{AreClocks, IsClockOf, IsLeast, left_of}
 use Rattle.core_workers.specs.Inside.Teams.{GoesOn}
-use Rattle.core_workers.specs.Inside.Turns.{CoresTold, IsStuck, LacksNext, LeadWaits, LeastIsStuck, RanTo, RunsOn, Steps, TurnTold, WaitsFor, unless_moved}
-use Rattle.core_workers.proofs.CrewLemmas.{agrees_others, at_same, crew_same, same_as}
+use Rattle.core_workers.specs.Inside.Turns.{CoresTold, IsStuck, LacksNext, LeadWaits, LeastIsStuck, RanTo, RunsOn, Steps, TurnTold, unless_moved}
+use Rattle.core_workers.proofs.CrewLemmas.{agrees_others, at_same, same_as}
 
 -- a core runs on
 

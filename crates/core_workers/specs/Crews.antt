@@ -1,6 +1,6 @@
 -- The actors of a run, and when they agree with a view.
 -- Source: the rules of this project.
-use Rattle.std.specs.Prelude.{◌≡◌, ℕ, ◌*◌, ◌<◌, true, List, [], Option, None, Some, length}
+use Rattle.std.specs.Prelude.{◌≡◌, ℕ, ◌*◌, ◌<◌, true, Option, None, Some, length}
 use Rattle.tab_core.specs.declared.TheConstants.{ROUND}
 use Rattle.table_form.specs.Running.Courses.{CourseView, FitsRounds, IsCourse, outline_of}
 use Rattle.round_words.specs.declared.view.View.{View}

@@ -1,5 +1,5 @@
 -- A crew that is being made.
-use Rattle.std.specs.Prelude.{◌≡◌, ℕ, ◌+◌, ◌*◌, ◌<◌, List, [], Some, length, slice_get}
+use Rattle.std.specs.Prelude.{◌≡◌, ℕ, ◌+◌, ◌*◌, ◌<◌, List, Some, length, slice_get}
 use Rattle.table_form.specs.Running.Courses.{CourseView, outline_of}
 use Rattle.round_words.specs.declared.view.View.{View}
 use Rattle.round_words.specs.Shown.{HoldsCore}

@@ -7,7 +7,6 @@ use Rattle.slice_table.specs.CoreSlices.{AreSlicesOf}
 use Rattle.dispatch_core.specs.States.{StateView}
 use Rattle.core_workers.specs.declared.team.Deal.{Deal}
 use Rattle.core_workers.specs.declared.team.Group.{Group}
-use Rattle.core_workers.specs.declared.team.Lead.{Lead}
 use Rattle.core_workers.specs.declared.team.Member.{Member}
 use Rattle.core_workers.specs.declared.team.Team.{Team}
 use Rattle.core_workers.specs.Crews.{AllAgree, IsSameCrew, IsWhole, SameActors}

@@ -1,13 +1,11 @@
-use Rattle.std.proofs.Common.{◌≡◌, ◌<◌, ◌%◌, ◌/◌, ◌-◌, ℕ, true, true≢false, get_or, inl, inr, length, refl, sym, ap, ◌∙◌, subst, arith}
+use Rattle.std.proofs.Common.{◌≡◌, ◌%◌, ◌-◌, true, inr, sym, ap, ◌∙◌, arith}
 use Rattle.std.proofs.lemmas.Option.{slice_get_within}
 use Rattle.round_words.specs.declared.view.View.{View}
 use Rattle.round_words.specs.Seats.{view_of}
 use Rattle.round_words.specs.Views.{holds}
 use Rattle.dispatch_core.specs.States.{StateView}
-use Rattle.core_workers.specs.declared.team.Group.{Group}
 use Rattle.core_workers.specs.declared.team.Member.{Member}
 use Rattle.core_workers.specs.Groups.{CrewView, crew_view}
-use Rattle.core_workers.specs.Inside.Clocks.{IsClockOf}
 use Rattle.core_workers.proofs.CrewLemmas.{crew_is, member}
 use Rattle.core_workers.proofs.GroupLemmas.{found, member_inside, read_member}
 use Rattle.core_workers.proofs.TurnLemmas.{in_run}

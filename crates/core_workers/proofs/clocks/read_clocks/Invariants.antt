@@ -1,8 +1,7 @@
-use Rattle.std.proofs.Common.{◌≡◌, ◌<◌, ◌≤◌, ℕ, length}
+use Rattle.std.proofs.Common.{◌≡◌, ◌<◌, ℕ, length}
 use Rattle.std.specs.Prelude.{slice_index}
 use Rattle.round_words.specs.Seats.{view_of}
 use Rattle.round_words.specs.Views.{controller, holds}
-use Rattle.core_workers.specs.declared.clocks.TheConstants.{OUT}
 use Rattle.core_workers.specs.Groups.{crew_view}
 use Rattle.core_workers.specs.Inside.Clocks.{IsClockOf}
 use Rattle.core_workers.proofs.clocks.read_clocks.Given as goal

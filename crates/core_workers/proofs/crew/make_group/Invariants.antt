@@ -1,4 +1,4 @@
-use Rattle.std.proofs.Common.{◌≡◌, ◌≤◌, ◌+◌, ◌*◌, ◌-◌, length}
+use Rattle.std.proofs.Common.{◌≡◌, ◌+◌, ◌*◌, ◌-◌, length}
 use Rattle.core_workers.specs.Inside.Making.{AreNew}
 use Rattle.core_workers.proofs.crew.make_group.Given as goal
 

@@ -1,4 +1,4 @@
-use Rattle.std.proofs.Common.{◌≡◌, ℕ, sym, ap, ◌∙◌, subst}
+use Rattle.std.proofs.Common.{◌≡◌, sym, ap, ◌∙◌, subst}
 use Rattle.round_words.specs.declared.view.View.{View}
 use Rattle.round_words.specs.Changes.{ChangesOnly}
 use Rattle.round_words.specs.Seats.{view_of}

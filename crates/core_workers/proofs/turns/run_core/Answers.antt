@@ -1,8 +1,8 @@
-use Rattle.std.proofs.Common.{◌≡◌, ℕ, refl, sym, ap, ◌∙◌, subst, arith}
+use Rattle.std.proofs.Common.{refl, arith}
 use Rattle.round_words.specs.Seats.{view_of}
 use Rattle.core_workers.specs.Groups.{CrewView, crew_view}
-use Rattle.core_workers.proofs.CrewLemmas.{crew_is, on_none, on_step, on_twice}
-use Rattle.core_workers.proofs.TurnLemmas.{ran_done, ran_more, ran_none, ran_stuck}
+use Rattle.core_workers.proofs.CrewLemmas.{crew_is, on_step, on_twice}
+use Rattle.core_workers.proofs.TurnLemmas.{ran_more, ran_stuck}
 use Rattle.core_workers.proofs.turns.run_core.Goals as goal
 
 pub running-preserved : goal.running-preserved

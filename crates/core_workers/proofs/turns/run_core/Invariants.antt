@@ -1,8 +1,6 @@
-use Rattle.std.proofs.Common.{◌≡◌, ◌⊎◌, ◌<◌, ◌≤◌, ◌-◌, ℕ, true}
-use Rattle.std.specs.Prelude.{Some}
+use Rattle.std.proofs.Common.{◌≡◌, ◌≤◌, ◌-◌}
 use Rattle.round_words.specs.Seats.{view_of, IsSeatOf}
-use Rattle.round_words.specs.Views.{holds}
-use Rattle.core_workers.specs.Groups.{actor_of, crew_view}
+use Rattle.core_workers.specs.Groups.{crew_view}
 use Rattle.core_workers.specs.Inside.Teams.{GoesOn, IsTeam}
 use Rattle.core_workers.specs.Inside.Turns.{RanTo}
 use Rattle.core_workers.proofs.turns.run_core.Given as goal

@@ -1,11 +1,9 @@
-use Rattle.std.proofs.Common.{◌≡◌, ◌<◌, ◌≤◌, ℕ, true, refl, sym, ap, ◌∙◌, subst, arith, length}
-use Rattle.std.specs.Prelude.{slice_index, slice_set}
+use Rattle.std.proofs.Common.{◌<◌, ℕ, refl, subst, arith, length}
+use Rattle.std.specs.Prelude.{slice_index}
 use Rattle.round_words.specs.declared.view.View.{View}
 use Rattle.round_words.specs.Seats.{view_of}
-use Rattle.round_words.specs.Views.{holds}
-use Rattle.core_workers.specs.declared.clocks.TheConstants.{OUT}
 use Rattle.core_workers.specs.Groups.{CrewView, crew_view}
-use Rattle.core_workers.specs.Inside.Clocks.{IsLeast, left_of}
+use Rattle.core_workers.specs.Inside.Clocks.{IsLeast}
 use Rattle.core_workers.proofs.CrewLemmas.{crew_is}
 use Rattle.core_workers.proofs.TurnLemmas.{clocks_ran, going_on, least_stuck, left_same}
 use Rattle.core_workers.proofs.turns.turn_cores.Goals as goal

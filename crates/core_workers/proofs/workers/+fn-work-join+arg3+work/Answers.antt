@@ -1,14 +1,13 @@
-use Rattle.std.proofs.Common.{rules, ◌≡◌, ◌<◌, ◌≤◌, ◌+◌, ◌*◌, suc, true, ◌++◌, ◌∷◌, [], ℕ, List, length, Some, refl, sym, ap, ◌∙◌, subst, arith}
+use Rattle.std.proofs.Common.{rules, ◌≡◌, ◌<◌, ◌+◌, ◌*◌, suc, ◌++◌, ◌∷◌, [], ℕ, List, length, sym, ap, ◌∙◌, subst, arith}
 use Rattle.std.proofs.lemmas.List.{append-nil}
 use Rattle.round_words.proofs.ListLemmas.{length_push}
 use Rattle.round_words.specs.declared.view.View.{View}
 use Rattle.round_words.specs.Seats.{view_of}
-use Rattle.round_words.specs.Views.{holds, names}
 use Rattle.core_workers.specs.declared.team.Group.{Group}
 use Rattle.core_workers.specs.declared.team.Lead.{Lead}
 use Rattle.core_workers.specs.declared.team.Team.{Team}
 use Rattle.core_workers.specs.Groups.{crew_view, deal_of, team_view, worker_view}
-use Rattle.core_workers.specs.Inside.Teams.{GoesOn, IsHeld, IsSameShape, IsTeam, IsWorker, IsWorking, Names, NamesFirst}
+use Rattle.core_workers.specs.Inside.Teams.{GoesOn, IsHeld, IsTeam, IsWorker, IsWorking, Names, NamesFirst}
 use Rattle.core_workers.proofs.PartingLemmas.{first_of, last_of, names_all, place_small}
 use Rattle.core_workers.proofs.MeetingLemmas.{Met, held_on, held_rest, mask_held, met, team_one, team_rest, worker_one}
 use Rattle.core_workers.proofs.workers.+fn-work-join+arg3+work.Goals as goal

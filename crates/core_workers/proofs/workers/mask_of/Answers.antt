@@ -1,4 +1,4 @@
-use Rattle.std.proofs.Common.{◌≡◌, ◌+◌, ◌*◌, ◌<◌, ◌≤◌, ℕ, length, refl, arith}
+use Rattle.std.proofs.Common.{◌+◌, ◌*◌, ◌<◌, ℕ, length, refl, arith}
 use Rattle.core_workers.proofs.PartingLemmas.{named_more, named_none, times_more}
 use Rattle.core_workers.proofs.workers.mask_of.Goals as goal
 

@@ -1,4 +1,3 @@
-use Rattle.std.proofs.Common.{◌≤◌, length}
 use Rattle.core_workers.specs.Inside.Teams.{NamesFirst}
 use Rattle.core_workers.proofs.workers.mask_of.Given as goal
 

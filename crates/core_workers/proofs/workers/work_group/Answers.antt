@@ -1,8 +1,6 @@
-use Rattle.std.proofs.Common.{◌≡◌, ℕ, List, [], ◌∷◌, length, refl, sym, ap, ◌∙◌, subst, arith}
-use Rattle.round_words.specs.declared.view.View.{View}
+use Rattle.std.proofs.Common.{List, sym, ◌∙◌, subst}
 use Rattle.round_words.specs.Seats.{view_of}
 use Rattle.core_workers.specs.declared.team.Group.{Group}
-use Rattle.core_workers.specs.declared.team.Lead.{Lead}
 use Rattle.core_workers.specs.Groups.{crew_of, crew_view}
 use Rattle.core_workers.specs.Crews.{AllAgree}
 use Rattle.core_workers.specs.Inside.Teams.{GoesOn}
