@@ -1,0 +1,26 @@
+pub mod Totals
+pub mod Cut
+pub mod Stuck
+pub mod Wrapped
+pub mod Spans
+pub mod Beyond
+pub mod Fluid
+pub mod Moves
+pub mod Ends
+pub mod Cells
+pub mod Nets
+pub mod Pushes
+pub mod Links
+pub mod Reading
+pub mod Back
+pub mod Found
+pub mod Along
+pub mod Beginning
+pub mod Searched
+pub mod Loads
+pub mod Marking
+pub mod Opened
+pub mod Allots
+pub mod FlowSum
+pub mod CutBelow
+mod EdgeLemmas

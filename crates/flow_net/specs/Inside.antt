@@ -1,0 +1,7 @@
+-- What the code keeps on its way: its structs as plain lists, and loop states.
+pub mod Demanded
+pub mod Edges
+pub mod Filling
+pub mod Marking
+pub mod Reach
+pub mod Reaching

@@ -1,0 +1,152 @@
+-- What allotments and tasks give a whole-host plan.
+use Rattle.std.proofs.Common.{◌≡◌, ℕ, ◌+◌, ◌-◌, ◌*◌, ◌/◌, ◌<◌, ◌≤◌, List, [], Option, Some, None, is_some, length, get_or, slice_get, ap, refl, sym, subst, ◌∙◌, arith, inl, inr}
+use Rattle.std.proofs.lemmas.Bool.{cases_lt}
+use Rattle.std.proofs.lemmas.Option.{slice_get-get_or, slice_get_cases, slice_get_past, slice_get_within}
+use Rattle.tab_core.specs.declared.TheConstants.{MAX_VCPUS, ROUND}
+use Rattle.tab_core.specs.declared.host.Host.{Host}
+use Rattle.tab_core.specs.declared.periodic.Periodic.{Periodic}
+use Rattle.tab_core.specs.declared.reservation.Reservation.{Reservation}
+use Rattle.tab_core.specs.declared.vcpu.Vcpu.{Vcpu}
+use Rattle.tab_core.proofs.Periods.{period_facts}
+use Rattle.table_form.specs.Tables.Plans.{IsPlanFor, PlanView, is_reserved}
+use Rattle.table_form.specs.Tables.Serves.{has_task, supply}
+use Rattle.period_choice.specs.Tasks.{AreTasksOf, IsFirstWithoutPeriod, IsTaskOf, LacksPeriod}
+use Rattle.period_choice.specs.declared.fault.TaskFault.{TaskFault}
+use Rattle.period_choice.specs.declared.fault.TaskFault.TheVariants.{NoMemory, NoPeriod}
+use Rattle.period_choice.proofs.Unique.{tasks_unique}
+use Rattle.flow_net.specs.Allotments.{AllotmentView, IsAllotment, demands}
+use Rattle.wrap_table.specs.Faults.{fault_of_tasks}
+use Rattle.wrap_table.specs.Inside.Laying.{HasIntervals}
+use Rattle.wrap_table.specs.Whole.{IsBeyondRoom, IsWholePlan}
+use Rattle.wrap_table.specs.Wrapping.{AreWrapped, IsWrapped}
+use Rattle.wrap_table.specs.declared.fault.WholeFault.TheVariants as whole
+use Rattle.wrap_table.proofs.Serving.{wrapped_serves}
+
+-- an allotment's marks rise from 0 to the round, and each interval has its ticks
+pub intervals_of : (tasks : List (Option Periodic)) (cores : ℕ) (a : AllotmentView)
+    → IsAllotment tasks cores a
+    → length tasks ≤ MAX_VCPUS → HasIntervals a
+intervals_of tasks cores a is few = record {
+  marks = omega (arith, is.rows, is.marks.some);
+  first = is.marks.first;
+  last = (let e : length a.ticks ≡ length a.marks - 1 = is.rows in ap (λ i. get_or a.marks i 0) e)
+      ∙ is.marks.last;
+  rise = λ i lt. is.marks.rise i (omega (arith, lt, is.rows));
+  few = λ i lt. omega (arith, is.widths i lt, few);
+}
+
+-- a task has a first period
+some_period : (task : Periodic) → 0 < ROUND / task.period
+some_period task = elim (cases_lt 0 (ROUND / task.period)) [
+  | inl some ↦ some
+  | inr none ↦
+      (let zero_is : ROUND / task.period ≡ 0 = omega arith in
+      let product : task.period * (ROUND / task.period)
+      ≡ task.period * 0 = ap (λ n. task.period * n) zero_is in
+      absurd (omega (arith, (period_facts task.period task.listed).whole, product)))
+]
+
+-- without rows nothing is supplied
+no_supply : (v from to : ℕ) → supply v [] from to ≡ 0
+unfolding supply
+no_supply v from to = refl
+
+-- an allotment of a task is to some core
+pub some_core : (tasks : List (Option Periodic)) (cores : ℕ) (a : AllotmentView) → IsAllotment tasks cores a
+    → (v : ℕ) (task : Periodic) → slice_get tasks v ≡ Some (Some task) → 0 < cores
+some_core tasks cores a is v task at = elim (cases_lt 0 cores) [
+  | inl some ↦ some
+  | inr none ↦
+      (let zero_is : cores ≡ 0 = omega arith in
+      let wrapped : AreWrapped a cores [] = record {
+        count = sym zero_is;
+        lengths = λ c row bad. absurd (omega (arith, slice_get_within [] c row bad));
+        cells = λ c i t lt in_round within. absurd (omega arith);
+      } in
+      let due = wrapped_serves tasks cores a [] is wrapped v task at 0 (some_period task) in
+      absurd (omega (arith, task.costs, due, no_supply v (0 * task.period) ((0 + 1) * task.period))))
+]
+
+-- a vCPU has a task exactly where it has a reservation
+reserved_where : (reservation : Option Reservation) (task : Option Periodic) → IsTaskOf reservation task
+    → is_some task ≡ is_some reservation
+reserved_where None None is = refl
+reserved_where None (Some task) is = absurd (cc)
+reserved_where (Some r) None is = absurd is
+reserved_where (Some r) (Some task) is = refl
+
+-- the test of a task, by the task at the place
+has_task_is : (tasks : List (Option Periodic)) (v : ℕ) (task : Option Periodic)
+    → slice_get tasks v ≡ Some task
+    → has_task tasks v ≡ is_some task
+has_task_is tasks v None at = rw at refl
+has_task_is tasks v (Some task) at = rw at refl
+
+-- so there is a task exactly for each admitted vCPU
+pub tasks_admit : (vcpus : List Vcpu) (tasks : List (Option Periodic)) → AreTasksOf vcpus tasks → (v : ℕ)
+    → has_task tasks v ≡ is_reserved (slice_get vcpus v)
+tasks_admit vcpus tasks are v = elim (slice_get_cases vcpus v).1 [
+  | inl found ↦
+      (let lt : v < length tasks = (let within = found.1 in let size = are.as_many in omega arith) in
+      let at = slice_get-get_or tasks v None lt in
+      rw (found.2) (has_task_is tasks v (get_or tasks v None) at
+      ∙ reserved_where (found.0).reservation (get_or tasks v None)
+      (are.each v found.0 (get_or tasks v None) found.2 at)))
+  | inr past ↦
+      rw (
+        slice_get_past tasks v (let beyond = past.0 in let size = are.as_many in omega arith),
+        past.1,
+      ) refl
+]
+
+-- a whole-host plan is one for its host
+pub fits_host : (host : Host) (plan : PlanView) → IsWholePlan host plan → IsPlanFor host plan
+fits_host host plan is = record {
+  rows = is.wrapped.rows_are.count;
+  vcpus = is.tasks.as_many;
+  admitted = tasks_admit host.vcpus plan.tasks is.tasks;
+}
+
+-- where each vCPU has its task none is without a period
+pub none_without_period : (vcpus : List Vcpu) (tasks : List (Option Periodic)) (vcpu : ℕ)
+    → AreTasksOf vcpus tasks
+    → IsFirstWithoutPeriod vcpus vcpu → ⊥
+none_without_period vcpus tasks vcpu are first =
+    let lt : vcpu < length tasks =
+    (let within = slice_get_within vcpus vcpu first.vcpu first.at in let size = are.as_many in omega arith) in
+    lacks_none first.vcpu.reservation (get_or tasks vcpu None)
+    (are.each vcpu first.vcpu (get_or tasks vcpu None) first.at
+    (slice_get-get_or tasks vcpu None lt)) first.lacks
+  where
+    lacks_none : (reservation : Option Reservation) (task : Option Periodic) → IsTaskOf reservation task
+        → LacksPeriod reservation → ⊥
+    lacks_none None task is lacks = lacks
+    lacks_none (Some r) None is lacks = is
+    lacks_none (Some r) (Some task) chosen lacks = lacks (task.period, chosen.admissible)
+
+-- so of the two refusals of the choice of periods only want of memory is left
+pub no_memory_for_tasks : (vcpus : List Vcpu) (tasks : List (Option Periodic)) (fault : TaskFault)
+    → AreTasksOf vcpus tasks → ((vcpu : ℕ) → fault ≡ NoPeriod vcpu → IsFirstWithoutPeriod vcpus vcpu)
+    → fault_of_tasks fault ≡ whole.NoMemory
+no_memory_for_tasks vcpus tasks (NoPeriod vcpu) are told =
+    absurd (none_without_period vcpus tasks vcpu are (told vcpu refl))
+no_memory_for_tasks vcpus tasks NoMemory are told = refl
+
+-- a host whose tasks fit isn't beyond its room
+pub not_beyond : (host : Host) (tasks : List (Option Periodic)) (demand room : ℕ)
+    → AreTasksOf host.vcpus tasks
+    → demands tasks ≤ host.cores * ROUND → IsBeyondRoom host demand room → ⊥
+not_beyond host tasks demand room are fit beyond =
+    let same = ap demands (tasks_unique host.vcpus beyond.tasks tasks beyond.tasks_are are) in
+    omega (arith, beyond.demand_is, beyond.room_is, beyond.beyond, same, fit)
+
+-- what the three parts of planning make is a whole-host plan
+pub whole_plan : (host : Host) (tasks : List (Option Periodic)) (a : AllotmentView) (plan : PlanView)
+    → AreTasksOf host.vcpus tasks → IsAllotment tasks host.cores a → IsWrapped tasks a host.cores plan
+    → IsWholePlan host plan
+whole_plan host tasks a plan are is wrapped = record {
+  allotment = a;
+  tasks = subst (λ (ts : List (Option Periodic)). AreTasksOf host.vcpus ts) (sym wrapped.tasks_are) are;
+  is_allotment = subst (λ (ts : List (Option Periodic)). IsAllotment ts host.cores a) (sym wrapped.tasks_are) is;
+  wrapped = subst (λ (ts : List (Option Periodic)). IsWrapped ts a host.cores plan) (sym wrapped.tasks_are) wrapped;
+}

@@ -1,0 +1,4 @@
+pub mod Faults
+pub mod Inside
+pub mod Whole
+pub mod Wrapping
