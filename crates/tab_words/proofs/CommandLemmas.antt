@@ -1,16 +1,19 @@
 -- Commands and faults exclude each other, and each list of words has one of them.
-use Rattle.std.proofs.Common.{arith, ◌+◌, ◌≡◌, ◌≢◌, ℕ, ◌<◌, ◌≤◌, lit≤, inl, inr, List, [], ◌∷◌, ◌++◌, length, take, drop, codes, decimal, ap, subst, sym, ◌∙◌, refl, false, append_assoc, String, string_bytes, Result, Ok, Err, MatchResult}
+use Rattle.std.proofs.Common.{arith, ◌+◌, ◌*◌, ◌-◌, ◌^◌, ◌≡◌, ◌≢◌, ℕ, ◌<◌, ◌≤◌, ◌⊎◌, min, lit<, lit≤, inl, inr, List, [], ◌∷◌, ◌++◌, length, take, drop, codes, decimal, ap, subst, sym, ◌∙◌, refl, false, append_assoc, String, string_bytes, Result, Ok, Err, MatchResult}
 use Rattle.std.specs.Str.{bytes_eq}
 use Rattle.std.proofs.lemmas.Slice.Eq.{bytes_eq-Decides}
-use Rattle.std.proofs.lemmas.List.{take-append-drop, take-take}
+use Rattle.std.proofs.lemmas.List.{take-append-drop, take-take, take_all, length-append, append-nil}
+use Rattle.std.proofs.Math.Seq.{take-append_seam, take-append-add}
 use Rattle.std.proofs.lemmas.Fmt.{decimal_injective}
 use Rattle.std.specs.declared.alloc.Global.{Global}
-use Rattle.tab_words.specs.Commands.{IsBegun, IsCommand, IsFaultAt, IsNoCommand, texts}
-use Rattle.tab_words.specs.Inside.Readings.{IsReading, IsRounds}
+use Rattle.tab_core.specs.declared.TheConstants.{MAX_CORES, MAX_ROUNDS, MAX_VCPUS}
+use Rattle.tab_words.specs.Commands.{IsBegun, IsCommand, IsFaultAt, IsGenerable, IsNoCommand, IsRoundCount, mode_words, texts}
+use Rattle.tab_words.specs.Inside.Readings.{BeginsWithNumber, IsReading}
 use Rattle.tab_words.specs.Numbers.{Spells}
 use Rattle.tab_words.specs.declared.command.Command.{Command}
-use Rattle.tab_words.specs.declared.command.Command.TheVariants.{Plan, Check, Replay, Help, Version}
-use Rattle.tab_words.specs.declared.command.TheConstants.{MOST_ROUNDS}
+use Rattle.tab_words.specs.declared.command.Command.TheVariants.{Plan, PlanWhole, Check, Replay, Run, Gen, Selftest, Help, Version}
+use Rattle.tab_words.specs.declared.command.RunMode.{RunMode}
+use Rattle.tab_words.specs.declared.command.RunMode.TheVariants.{Report, Trace}
 use Rattle.tab_words.specs.declared.command.Usage.{Usage}
 use Rattle.tab_words.proofs.NumberLemmas.{spelled_once}
 
@@ -70,21 +73,123 @@ one_place words a b fault other =
     let no_more = not_before words b a other fault in
     grind arith
 
+-- no command goes on with this word behind these
+abbrev GoesNotOn : List (List ℕ) → List ℕ → Type 0
+GoesNotOn front word = (command : Command) (rest : List (List ℕ)) → IsCommand (front ++ word ∷ rest) command → ⊥
+
+-- a word with which no command goes on is the fault of words that begin one before it
+fault_at_word : (front : List (List ℕ)) (word : List ℕ) (rest : List (List ℕ)) → IsBegun front
+    → GoesNotOn front word → IsFaultAt (front ++ word ∷ rest) (length front)
+fault_at_word front word rest begun none =
+    let up_to : take (length front + 1) (front ++ word ∷ rest) ≡ front ++ word ∷ [] =
+    take-append-add front (word ∷ rest) 1 in
+    record {
+      before = subst IsBegun (sym (take-append_seam front (word ∷ rest))) begun;
+      fault = inl (
+        omega (arith, length-append front (word ∷ rest)),
+        λ on. none on.command on.rest (subst (λ ws. IsCommand ws on.command)
+            (ap (λ ws. ws ++ on.rest) up_to ∙ append_assoc front (word ∷ []) on.rest) on.whole),
+      );
+    }
+
+-- words that begin a command and are none want another word
+fault_at_end : (front : List (List ℕ)) → IsBegun front → IsNoCommand front → IsFaultAt front (length front)
+fault_at_end front begun none = record {
+  before = subst IsBegun (sym (take_all (length front) front (omega arith))) begun;
+  fault = inr (refl, none);
+}
+
+-- each command that begins with these words goes on with a number in this range
+abbrev GoesOnWithNumber : List (List ℕ) → ℕ → ℕ → Type 0
+GoesOnWithNumber front least most = (command : Command) (rest : List (List ℕ))
+    → IsCommand (front ++ rest) command → BeginsWithNumber least most rest
+
+-- so where no such number follows, the fault is there
+fault_at_number : (front words : List (List ℕ)) (least most : ℕ) → IsBegun front
+    → GoesOnWithNumber front least most → (BeginsWithNumber least most words → ⊥)
+    → IsFaultAt (front ++ words) (length front)
+fault_at_number front [] least most begun shape none =
+    subst (λ ws. IsFaultAt ws (length front)) (sym (append-nil front)) (fault_at_end front begun
+    (λ command is. none (shape command [] (subst (λ ws. IsCommand ws command) (sym (append-nil front)) is))))
+fault_at_number front (word ∷ rest) least most begun shape none =
+    fault_at_word front word rest begun (λ command more is.
+    let on = shape command (word ∷ more) is in
+    let spelled : word ≡ decimal on.number = cc on.digits in
+    none (record {
+      number = on.number;
+      rest = rest;
+      digits = ap (λ w. w ∷ rest) spelled;
+      enough = on.enough;
+      few = on.few;
+    }))
+
+-- no words begin with no number
+pub begins_nothing : (least most : ℕ) (words : List (List ℕ)) → words ≡ []
+    → BeginsWithNumber least most words → ⊥
+begins_nothing least most words none begins = omega (arith, ap length (sym begins.digits ∙ none))
+
+-- nor do words of which the first spells none
+pub begins_none : (least most : ℕ) (words : List (List ℕ)) (word : List ℕ) (rest : List (List ℕ))
+    → words ≡ word ∷ rest → most < 2 ^ 64 → ((n : ℕ) → Spells word n → ⊥) → BeginsWithNumber least most words → ⊥
+begins_none least most words word rest is fits none begins =
+    let spelled : word ≡ decimal begins.number = cc (is, begins.digits) in
+    none begins.number (record { fits = omega (arith, begins.few); digits = spelled })
+
+-- the number with which words begin is the one that the first spells
+pub begins_once : (least most : ℕ) (words : List (List ℕ)) (word : List ℕ) (rest : List (List ℕ)) (n : ℕ)
+    → words ≡ word ∷ rest → most < 2 ^ 64 → Spells word n → (begins : BeginsWithNumber least most words)
+    → n ≡ begins.number
+begins_once least most words word rest n is fits spells begins =
+    let spelled : word ≡ decimal begins.number = cc (is, begins.digits) in
+    spelled_once word n begins.number spells (omega (arith, begins.few)) spelled
+
+-- what the reader of a command's end answers
+abbrev pub ReadsEnd : Command → ℕ → List (String Global) → Result Command Usage → Type 0
+ReadsEnd command place rest r =
+    MatchResult r (λ read. (read ≡ command) × (rest ≡ [])) (λ usage. (usage.place ≡ place) × (0 < length rest))
+
+-- where no command goes on, the reader looks only whether a word follows: that is enough
+reading_end : (front : List (List ℕ)) (command : Command) (rest : List (String Global))
+    (r : Result Command Usage) → IsCommand front command → ((word : List ℕ) → GoesNotOn front word)
+    → ReadsEnd command (length front) rest r → IsReading (front ++ texts rest) r
+reading_end front command [] (Ok read) is none reads =
+    subst (IsCommand (front ++ [])) (sym reads.0)
+    (subst (λ ws. IsCommand ws command) (sym (append-nil front)) is)
+reading_end front command (word ∷ rest) (Ok read) is none reads = absurd cc
+reading_end front command [] (Err usage) is none reads = absurd (omega arith)
+reading_end front command (word ∷ rest) (Err usage) is none reads =
+    let begun : IsBegun front = record {
+      command = command;
+      rest = [];
+      whole = subst (λ ws. IsCommand ws command)
+          (sym (append-nil front)) is;
+    } in
+    subst (IsFaultAt (front ++ texts (word ∷ rest))) (sym reads.0)
+    (fault_at_word front (string_bytes word) (texts rest) begun (none (string_bytes word)))
+
 -- ---- the commands, by their names
 
 -- the first word of a command
 abbrev name_of : Command → List ℕ
 name_of Plan = codes "plan"
+name_of PlanWhole = codes "plan"
 name_of Check = codes "check"
 name_of (Replay rounds) = codes "replay"
+name_of (Run rounds mode) = codes "run"
+name_of (Gen seed cores vcpus) = codes "gen"
+name_of (Selftest seed) = codes "selftest"
 name_of Help = codes "--help"
 name_of Version = codes "--version"
 
 -- and those behind it
 abbrev arguments_of : Command → List (List ℕ)
 arguments_of Plan = []
+arguments_of PlanWhole = codes "whole" ∷ []
 arguments_of Check = []
 arguments_of (Replay rounds) = decimal rounds ∷ []
+arguments_of (Run rounds mode) = decimal rounds ∷ mode_words mode
+arguments_of (Gen seed cores vcpus) = decimal seed ∷ decimal cores ∷ decimal vcpus ∷ []
+arguments_of (Selftest seed) = decimal seed ∷ []
 arguments_of Help = []
 arguments_of Version = []
 
@@ -92,8 +197,12 @@ arguments_of Version = []
 named : (words : List (List ℕ)) (command : Command) → IsCommand words command
     → words ≡ name_of command ∷ arguments_of command
 named words Plan is = is
+named words PlanWhole is = is
 named words Check is = is
 named words (Replay rounds) is = is.0
+named words (Run rounds mode) is = is.0
+named words (Gen seed cores vcpus) is = is.0
+named words (Selftest seed) is = is.0
 named words Help is = is
 named words Version is = is
 
@@ -103,17 +212,42 @@ other_name {a} {b} more others other same =
     let name : a ≡ b = cc in
     absurd (cc (other, (bytes_eq-Decides a b).1 name))
 
--- a count of rounds has one spelling
-same_rounds : (m n : ℕ) → m ≤ MOST_ROUNDS → n ≤ MOST_ROUNDS → decimal m ≡ decimal n → m ≡ n
-same_rounds m n few other same = decimal_injective m n (omega arith) (omega arith) same
+-- a number of a command has one spelling
+same_number : (m n : ℕ) → m < 2 ^ 64 → n < 2 ^ 64 → decimal m ≡ decimal n → m ≡ n
+same_number m n few other same = decimal_injective m n (omega arith) (omega arith) same
+
+-- what a run writes has one spelling
+same_mode : (a b : RunMode) → mode_words a ≡ mode_words b → a ≡ b
+same_mode Report Report same = refl
+same_mode Report Trace same = absurd (omega (arith, ap length same))
+same_mode Trace Report same = absurd (omega (arith, ap length same))
+same_mode Trace Trace same = refl
 
 -- words are one command at most
 same_command : (words : List (List ℕ)) (a b : Command) → IsCommand words a → IsCommand words b → a ≡ b
 same_command words Plan Plan p q = refl
+same_command words Plan PlanWhole p q = absurd (omega (arith, ap length (sym p ∙ q)))
+same_command words PlanWhole Plan p q = absurd (omega (arith, ap length (sym p ∙ q)))
+same_command words PlanWhole PlanWhole p q = refl
 same_command words Check Check p q = refl
 same_command words (Replay m) (Replay n) p q =
     let spelling : decimal m ≡ decimal n = cc (p.0, q.0) in
-    ap Replay (same_rounds m n p.2 q.2 spelling)
+    ap Replay (same_number m n (omega (arith, p.1.1)) (omega (arith, q.1.1)) spelling)
+same_command words (Run m mode) (Run n other) p q =
+    let spelling : decimal m ≡ decimal n = cc (p.0, q.0) in
+    let modes : mode_words mode ≡ mode_words other = cc (p.0, q.0) in
+    let count = same_number m n (omega (arith, p.1.1)) (omega (arith, q.1.1)) spelling in
+    ap (λ r. Run r mode) count ∙ ap (Run n) (same_mode mode other modes)
+same_command words (Gen s c v) (Gen t d w) p q =
+    let seeds : decimal s ≡ decimal t = cc (p.0, q.0) in
+    let cores : decimal c ≡ decimal d = cc (p.0, q.0) in
+    let vcpus : decimal v ≡ decimal w = cc (p.0, q.0) in
+    ap (λ n. Gen n c v) (same_number s t p.1.seed_fits q.1.seed_fits seeds)
+    ∙ ap (λ n. Gen t n v) (same_number c d (omega (arith, p.1.few)) (omega (arith, q.1.few)) cores)
+    ∙ ap (Gen t d) (same_number v w (omega (arith, p.1.few_vcpus)) (omega (arith, q.1.few_vcpus)) vcpus)
+same_command words (Selftest s) (Selftest t) p q =
+    let spelling : decimal s ≡ decimal t = cc (p.0, q.0) in
+    ap Selftest (same_number s t p.1 q.1 spelling)
 same_command words Help Help p q = refl
 same_command words Version Version p q = refl
 same_command words a b p q =
@@ -132,7 +266,7 @@ fault_due words (Ok read) reading place fault = absurd (no_fault words read plac
 fault_due words (Err usage) reading place fault =
     ap (λ p. Err (record { place = p })) (one_place words usage.place place reading fault)
 
--- ---- faults
+-- ---- names
 
 -- no words are no command
 nothing : IsNoCommand []
@@ -150,14 +284,21 @@ pub record IsUnknown (name : List ℕ) : Type 0 where
   pub no_plan : name ≢ codes "plan"
   pub no_check : name ≢ codes "check"
   pub no_replay : name ≢ codes "replay"
+  pub no_run : name ≢ codes "run"
+  pub no_gen : name ≢ codes "gen"
+  pub no_selftest : name ≢ codes "selftest"
   pub no_help : name ≢ codes "--help"
   pub no_version : name ≢ codes "--version"
 
 -- a name that no command has begins none
 unknown : (name : List ℕ) (rest : List (List ℕ)) → IsUnknown name → IsNoCommand (name ∷ rest)
 unknown name rest other Plan is = absurd (other.no_plan cc)
+unknown name rest other PlanWhole is = absurd (other.no_plan cc)
 unknown name rest other Check is = absurd (other.no_check cc)
-unknown name rest other (Replay rounds) is = absurd (other.no_replay cc)
+unknown name rest other (Replay rounds) is = absurd (other.no_replay (cc is.0))
+unknown name rest other (Run rounds mode) is = absurd (other.no_run (cc is.0))
+unknown name rest other (Gen seed cores vcpus) is = absurd (other.no_gen (cc is.0))
+unknown name rest other (Selftest seed) is = absurd (other.no_selftest (cc is.0))
 unknown name rest other Help is = absurd (other.no_help cc)
 unknown name rest other Version is = absurd (other.no_version cc)
 
@@ -173,135 +314,302 @@ fault_of_name name rest other = record {
 
 -- ---- commands of one word: nothing may follow it
 
--- `plan` is the only word of its command
-after_plan : (word : List ℕ) (rest : List (List ℕ)) → IsNoCommand (codes "plan" ∷ word ∷ rest)
-after_plan word rest Plan is = omega (arith, ap length is)
-after_plan word rest command is = other_name (word ∷ rest) (arguments_of command) refl (named _ command is)
-
--- so is `check`
-after_check : (word : List ℕ) (rest : List (List ℕ)) → IsNoCommand (codes "check" ∷ word ∷ rest)
-after_check word rest Check is = omega (arith, ap length is)
-after_check word rest command is = other_name (word ∷ rest) (arguments_of command) refl (named _ command is)
-
--- so is `--help`
-after_help : (word : List ℕ) (rest : List (List ℕ)) → IsNoCommand (codes "--help" ∷ word ∷ rest)
-after_help word rest Help is = omega (arith, ap length is)
-after_help word rest command is = other_name (word ∷ rest) (arguments_of command) refl (named _ command is)
-
--- so is `--version`
-after_version : (word : List ℕ) (rest : List (List ℕ)) → IsNoCommand (codes "--version" ∷ word ∷ rest)
-after_version word rest Version is = omega (arith, ap length is)
-after_version word rest command is = other_name (word ∷ rest) (arguments_of command) refl (named _ command is)
-
--- what the reader of such a command answers
-abbrev pub ReadsAlone : Command → List (String Global) → Result Command Usage → Type 0
-ReadsAlone command rest r =
-    MatchResult r (λ read. (read ≡ command) × (rest ≡ [])) (λ usage. (usage.place ≡ 1) × (0 < length rest))
-
--- the reader of such a command looks only whether a word follows: that is enough
-reading_alone : (name : List ℕ) (command : Command) (rest : List (String Global)) (r : Result Command Usage)
-    → IsCommand (name ∷ []) command
-    → ((word : List ℕ) (more : List (List ℕ)) → IsNoCommand (name ∷ word ∷ more)) → ReadsAlone command rest r
-    → IsReading (name ∷ texts rest) r
-reading_alone name command [] (Ok read) is after reads = subst (IsCommand (name ∷ [])) (sym reads.0) is
-reading_alone name command (word ∷ rest) (Ok read) is after reads = absurd cc
-reading_alone name command [] (Err usage) is after reads = absurd (omega arith)
-reading_alone name command (word ∷ rest) (Err usage) is after reads =
-    subst (IsFaultAt (name ∷ texts (word ∷ rest))) (sym reads.0) (record {
-      before = record { command = command; rest = []; whole = is };
-      fault = inl (omega arith, λ begun. after (string_bytes word) begun.rest begun.command begun.whole);
-    })
-
--- the reader of `plan` answers by the grammar
-pub reading_plan : (rest : List (String Global)) (r : Result Command Usage) → ReadsAlone Plan rest r
-    → IsReading (codes "plan" ∷ texts rest) r
-reading_plan rest r reads = reading_alone (codes "plan") Plan rest r refl after_plan reads
-
--- so does that of `check`
-pub reading_check : (rest : List (String Global)) (r : Result Command Usage) → ReadsAlone Check rest r
+-- the reader of `check` answers by the grammar
+pub reading_check : (rest : List (String Global)) (r : Result Command Usage) → ReadsEnd Check 1 rest r
     → IsReading (codes "check" ∷ texts rest) r
-reading_check rest r reads = reading_alone (codes "check") Check rest r refl after_check reads
+reading_check rest r reads = reading_end (codes "check" ∷ []) Check rest r refl after reads where
+  after : (word : List ℕ) → GoesNotOn (codes "check" ∷ []) word
+  after word Check more is = omega (arith, ap length is)
+  after word command more is = other_name (word ∷ more) (arguments_of command) refl (named _ command is)
 
 -- so does that of `--help`
-pub reading_help : (rest : List (String Global)) (r : Result Command Usage) → ReadsAlone Help rest r
+pub reading_help : (rest : List (String Global)) (r : Result Command Usage) → ReadsEnd Help 1 rest r
     → IsReading (codes "--help" ∷ texts rest) r
-reading_help rest r reads = reading_alone (codes "--help") Help rest r refl after_help reads
+reading_help rest r reads = reading_end (codes "--help" ∷ []) Help rest r refl after reads where
+  after : (word : List ℕ) → GoesNotOn (codes "--help" ∷ []) word
+  after word Help more is = omega (arith, ap length is)
+  after word command more is = other_name (word ∷ more) (arguments_of command) refl (named _ command is)
 
 -- so does that of `--version`
-pub reading_version : (rest : List (String Global)) (r : Result Command Usage) → ReadsAlone Version rest r
+pub reading_version : (rest : List (String Global)) (r : Result Command Usage) → ReadsEnd Version 1 rest r
     → IsReading (codes "--version" ∷ texts rest) r
-reading_version rest r reads = reading_alone (codes "--version") Version rest r refl after_version reads
+reading_version rest r reads = reading_end (codes "--version" ∷ []) Version rest r refl after reads where
+  after : (word : List ℕ) → GoesNotOn (codes "--version" ∷ []) word
+  after word Version more is = omega (arith, ap length is)
+  after word command more is = other_name (word ∷ more) (arguments_of command) refl (named _ command is)
+
+-- ---- `plan` and `plan whole`
+
+-- a plan of any kind has these words behind its name
+only_plan : (rest : List (List ℕ)) (command : Command) → IsCommand (codes "plan" ∷ rest) command
+    → (rest ≡ []) ⊎ (rest ≡ codes "whole" ∷ [])
+only_plan rest Plan is = inl cc
+only_plan rest PlanWhole is = inr cc
+only_plan rest command is = absurd (other_name rest (arguments_of command) refl (named _ command is))
+
+-- another word behind `plan`
+pub fault_of_plan : (word : List ℕ) (rest : List (List ℕ)) → word ≢ codes "whole"
+    → IsFaultAt (codes "plan" ∷ word ∷ rest) 1
+fault_of_plan word rest other =
+    fault_at_word (codes "plan" ∷ []) word rest (record { command = Plan; rest = []; whole = refl })
+    (λ command more is. elim (only_plan (word ∷ more) command is) [
+      | inl ends ↦ omega (arith, ap length ends)
+      | inr whole ↦ other cc
+    ])
+
+-- the reader of `plan whole` answers by the grammar
+pub reading_whole : (rest : List (String Global)) (r : Result Command Usage) → ReadsEnd PlanWhole 2 rest r
+    → IsReading (codes "plan" ∷ codes "whole" ∷ texts rest) r
+reading_whole rest r reads =
+    reading_end (codes "plan" ∷ codes "whole" ∷ []) PlanWhole rest r refl
+    (λ word command more is. elim (only_plan (codes "whole" ∷ word ∷ more) command is) [
+      | inl ends ↦ omega (arith, ap length ends)
+      | inr whole ↦ omega (arith, ap length whole)
+    ]) reads
 
 -- ---- `replay` and its count of rounds
 
--- a word that spells no number
-pub no_spelling : (word : List ℕ) → ((n : ℕ) → Spells word n → ⊥) → (rounds : ℕ) → IsRounds word rounds → ⊥
-no_spelling word none rounds is = none rounds (record { fits = omega (arith, is.few); digits = is.digits })
-
--- a word that spells a number that is no such count
-pub no_other_rounds : (word : List ℕ) (number : ℕ) → Spells word number
-    → (1 ≤ number → number ≤ MOST_ROUNDS → ⊥) → (rounds : ℕ) → IsRounds word rounds → ⊥
-no_other_rounds word number spelled none rounds is =
-    let same : number ≡ rounds = spelled_once word number rounds spelled (omega (arith, is.few)) is.digits in
-    none (omega (arith, is.some)) (omega (arith, is.few))
-
 -- what follows the name is a count of rounds and no more
-only_rounds : (rest : List (List ℕ)) (command : Command) → IsCommand (codes "replay" ∷ rest) command
-    → (rounds : ℕ) × ((rest ≡ decimal rounds ∷ []) × (1 ≤ rounds) × (rounds ≤ MOST_ROUNDS))
-only_rounds rest (Replay rounds) is = (rounds, (cc is.0, is.1, is.2))
-only_rounds rest command is = absurd (other_name rest (arguments_of command) refl (named _ command is))
+record IsReplay (rest : List (List ℕ)) : Type 0 where
+  rounds : ℕ
+  words : rest ≡ decimal rounds ∷ []
+  count : IsRoundCount rounds
 
--- `replay` alone begins a command
-begun_replay : IsBegun (codes "replay" ∷ [])
-begun_replay = record {
-  command = Replay 1;
-  rest = decimal 1 ∷ [];
-  whole = (refl, lit≤ tt, lit≤ tt);
+only_replay : (rest : List (List ℕ)) (command : Command) → IsCommand (codes "replay" ∷ rest) command
+    → IsReplay rest
+only_replay rest (Replay rounds) is = record { rounds = rounds; words = cc is.0; count = is.1 }
+only_replay rest command is = absurd (other_name rest (arguments_of command) refl (named _ command is))
+
+-- no such count
+pub fault_of_replay : (words : List (List ℕ)) → (BeginsWithNumber 1 MAX_ROUNDS words → ⊥)
+    → IsFaultAt (codes "replay" ∷ words) 1
+fault_of_replay words none =
+    fault_at_number (codes "replay" ∷ []) words 1 MAX_ROUNDS (record {
+      command = Replay 1;
+      rest = decimal 1 ∷ [];
+      whole = (refl, (lit≤ tt, lit≤ tt));
+    }) (λ command rest is.
+    let replay = only_replay rest command is in
+    record {
+      number = replay.rounds;
+      rest = [];
+      digits = replay.words;
+      enough = replay.count.0;
+      few = replay.count.1;
+    }) none
+
+-- the reader of the words behind the count answers by the grammar
+pub reading_replay : (rounds : ℕ) (rest : List (String Global)) (r : Result Command Usage)
+    → IsRoundCount rounds → ReadsEnd (Replay rounds) 2 rest r
+    → IsReading (codes "replay" ∷ decimal rounds ∷ texts rest) r
+reading_replay rounds rest r count reads =
+    reading_end (codes "replay" ∷ decimal rounds ∷ []) (Replay rounds) rest r (refl, count)
+    (λ word command more is.
+    let replay = only_replay (decimal rounds ∷ word ∷ more) command is in
+    omega (arith, ap length replay.words)) reads
+
+-- ---- `run`, its count of rounds and what it writes
+
+-- what follows the name is a count of rounds, and the word for the trace or no more
+record IsRun (rest : List (List ℕ)) : Type 0 where
+  rounds : ℕ
+  mode : RunMode
+  words : rest ≡ decimal rounds ∷ mode_words mode
+  count : IsRoundCount rounds
+
+only_run : (rest : List (List ℕ)) (command : Command) → IsCommand (codes "run" ∷ rest) command → IsRun rest
+only_run rest (Run rounds mode) is = record { rounds = rounds; mode = mode; words = cc is.0; count = is.1 }
+only_run rest command is = absurd (other_name rest (arguments_of command) refl (named _ command is))
+
+-- no such count
+pub fault_of_run : (words : List (List ℕ)) → (BeginsWithNumber 1 MAX_ROUNDS words → ⊥)
+    → IsFaultAt (codes "run" ∷ words) 1
+fault_of_run words none =
+    fault_at_number (codes "run" ∷ []) words 1 MAX_ROUNDS (record {
+      command = Run 1 Report;
+      rest = decimal 1 ∷ [];
+      whole = (refl, (lit≤ tt, lit≤ tt));
+    }) (λ command rest is.
+    let run = only_run rest command is in
+    record {
+      number = run.rounds;
+      rest = mode_words run.mode;
+      digits = run.words;
+      enough = run.count.0;
+      few = run.count.1;
+    }) none
+
+-- a run that writes its report alone
+pub reading_run : (rounds : ℕ) → IsRoundCount rounds
+    → IsCommand (codes "run" ∷ decimal rounds ∷ []) (Run rounds Report)
+reading_run rounds count = (refl, count)
+
+-- the word behind the count is that of the trace
+only_trace : (mode : RunMode) (word : List ℕ) (more : List (List ℕ)) → word ∷ more ≡ mode_words mode
+    → (word ≡ codes "trace") × (more ≡ [])
+only_trace Report word more is = absurd (omega (arith, ap length is))
+only_trace Trace word more is = (cc, cc)
+
+-- another word behind the count
+pub fault_of_mode : (rounds : ℕ) (word : List ℕ) (rest : List (List ℕ)) → IsRoundCount rounds
+    → word ≢ codes "trace" → IsFaultAt (codes "run" ∷ decimal rounds ∷ word ∷ rest) 2
+fault_of_mode rounds word rest count other =
+    fault_at_word (codes "run" ∷ decimal rounds ∷ []) word rest
+    (record { command = Run rounds Report; rest = []; whole = (refl, count) })
+    (λ command more is.
+    let run = only_run (decimal rounds ∷ word ∷ more) command is in
+    other (only_trace run.mode word more (cc run.words)).0)
+
+-- the reader of the words behind that for the trace answers by the grammar
+pub reading_trace : (rounds : ℕ) (rest : List (String Global)) (r : Result Command Usage)
+    → IsRoundCount rounds → ReadsEnd (Run rounds Trace) 3 rest r
+    → IsReading (codes "run" ∷ decimal rounds ∷ codes "trace" ∷ texts rest) r
+reading_trace rounds rest r count reads =
+    reading_end (codes "run" ∷ decimal rounds ∷ codes "trace" ∷ []) (Run rounds Trace) rest r (refl, count)
+    (λ word command more is.
+    let run = only_run (decimal rounds ∷ codes "trace" ∷ word ∷ more) command is in
+    omega (arith, ap length (only_trace run.mode (codes "trace") (word ∷ more) (cc run.words)).1)) reads
+
+-- ---- `gen` and its three numbers
+
+-- what follows the name are three numbers and no more
+record IsGen (rest : List (List ℕ)) : Type 0 where
+  seed : ℕ
+  cores : ℕ
+  vcpus : ℕ
+  words : rest ≡ decimal seed ∷ decimal cores ∷ decimal vcpus ∷ []
+  fits : IsGenerable seed cores vcpus
+
+only_gen : (rest : List (List ℕ)) (command : Command) → IsCommand (codes "gen" ∷ rest) command → IsGen rest
+only_gen rest (Gen s c v) is = record { seed = s; cores = c; vcpus = v; words = cc is.0; fits = is.1 }
+only_gen rest command is = absurd (other_name rest (arguments_of command) refl (named _ command is))
+
+-- a host of one core without vCPUs can be generated of any seed
+small : (seed : ℕ) → seed < 2 ^ 64 → IsGenerable seed 1 0
+small seed fits = record {
+  seed_fits = fits;
+  some = lit≤ tt;
+  few = lit≤ tt;
+  few_vcpus = lit≤ tt;
+  roomy = lit≤ tt;
 }
 
--- and is none
-no_rounds : IsNoCommand (codes "replay" ∷ [])
-no_rounds command is =
-    let (rounds, means) = only_rounds [] command is in
-    omega (arith, ap length means.0)
+-- no seed
+pub fault_of_gen : (words : List (List ℕ)) → (BeginsWithNumber 0 (2 ^ 64 - 1) words → ⊥)
+    → IsFaultAt (codes "gen" ∷ words) 1
+fault_of_gen words none =
+    fault_at_number (codes "gen" ∷ []) words 0 (2 ^ 64 - 1) (record {
+      command = Gen 0 1 0;
+      rest = decimal 0 ∷ decimal 1 ∷ decimal 0 ∷ [];
+      whole = (refl, small 0 (lit< tt));
+    }) (λ command rest is.
+    let gen = only_gen rest command is in
+    record {
+      number = gen.seed;
+      rest = decimal gen.cores ∷ decimal gen.vcpus ∷ [];
+      digits = gen.words;
+      enough = omega arith;
+      few = omega (arith, gen.fits.seed_fits);
+    }) none
 
--- so the fault is at the count that is wanting
-pub fault_without_rounds : IsFaultAt (codes "replay" ∷ []) 1
-fault_without_rounds = record { before = begun_replay; fault = inr (refl, no_rounds) }
+-- no count of cores
+pub fault_of_cores : (seed : ℕ) (words : List (List ℕ)) → seed < 2 ^ 64
+    → (BeginsWithNumber 1 MAX_CORES words → ⊥) → IsFaultAt (codes "gen" ∷ decimal seed ∷ words) 2
+fault_of_cores seed words fits none =
+    fault_at_number (codes "gen" ∷ decimal seed ∷ []) words 1 MAX_CORES (record {
+      command = Gen seed 1 0;
+      rest = decimal 1 ∷ decimal 0 ∷ [];
+      whole = (refl, small seed fits);
+    }) (λ command rest is.
+    let gen = only_gen (decimal seed ∷ rest) command is in
+    record {
+      number = gen.cores;
+      rest = decimal gen.vcpus ∷ [];
+      digits = cc gen.words;
+      enough = gen.fits.some;
+      few = gen.fits.few;
+    }) none
 
--- a word that spells no such count
-pub fault_of_rounds : (word : List ℕ) (rest : List (List ℕ)) → ((rounds : ℕ) → IsRounds word rounds → ⊥)
-    → IsFaultAt (codes "replay" ∷ word ∷ rest) 1
-fault_of_rounds word rest none = record {
-  before = begun_replay;
-  fault = inl (
-    omega arith,
-    λ begun.
-        let (rounds, means) = only_rounds (word ∷ begun.rest) begun.command begun.whole in
-        none rounds (record { digits = cc means.0; some = means.1; few = means.2 }),
-  );
-}
+-- the most vCPUs for so many cores
+abbrev pub most_vcpus : ℕ → ℕ
+most_vcpus cores = min MAX_VCPUS (99 * cores + 1)
 
--- a word behind the count
-pub fault_behind_rounds : (word more : List ℕ) (rest : List (List ℕ)) (rounds : ℕ) → IsRounds word rounds
-    → IsFaultAt (codes "replay" ∷ word ∷ more ∷ rest) 2
-fault_behind_rounds word more rest rounds is = record {
-  before = record {
-    command = Replay rounds;
-    rest = [];
-    whole = (rw is.digits refl, is.some, is.few);
-  };
-  fault = inl (
-    omega arith,
-    λ begun.
-        let (other, means) = only_rounds (word ∷ more ∷ begun.rest) begun.command begun.whole in
-        omega (arith, ap length means.0),
-  );
-}
+-- no count of vCPUs
+pub fault_of_vcpus : (seed cores : ℕ) (words : List (List ℕ)) → seed < 2 ^ 64 → 1 ≤ cores
+    → cores ≤ MAX_CORES → (BeginsWithNumber 0 (most_vcpus cores) words → ⊥)
+    → IsFaultAt (codes "gen" ∷ decimal seed ∷ decimal cores ∷ words) 3
+fault_of_vcpus seed cores words fits some few none =
+    fault_at_number (codes "gen" ∷ decimal seed ∷ decimal cores ∷ []) words 0 (most_vcpus cores) (record {
+      command = Gen seed cores 0;
+      rest = decimal 0 ∷ [];
+      whole = (
+        refl,
+        record {
+          seed_fits = fits;
+          some = some;
+          few = few;
+          few_vcpus = lit≤ tt;
+          roomy = omega arith;
+        },
+      );
+    }) (λ command rest is.
+    let gen = only_gen (decimal seed ∷ decimal cores ∷ rest) command is in
+    let spelling : decimal cores ≡ decimal gen.cores = cc gen.words in
+    let same = same_number cores gen.cores (omega arith) (omega (arith, gen.fits.few)) spelling in
+    record {
+      number = gen.vcpus;
+      rest = [];
+      digits = cc gen.words;
+      enough = omega arith;
+      few = omega (arith, gen.fits.few_vcpus, gen.fits.roomy, same);
+    }) none
 
--- the same where the words behind are the list that the reader has
-pub fault_of_more : (word : List ℕ) (more : List (String Global)) (rounds : ℕ) → IsRounds word rounds
-    → 0 < length more → IsFaultAt (codes "replay" ∷ word ∷ texts more) 2
-fault_of_more word [] rounds is some = absurd (omega arith)
-fault_of_more word (next ∷ more) rounds is some =
-    fault_behind_rounds word (string_bytes next) (texts more) rounds is
+-- the reader of the words behind the three numbers answers by the grammar
+pub reading_gen : (seed cores vcpus : ℕ) (rest : List (String Global)) (r : Result Command Usage)
+    → IsGenerable seed cores vcpus → ReadsEnd (Gen seed cores vcpus) 4 rest r
+    → IsReading (codes "gen" ∷ decimal seed ∷ decimal cores ∷ decimal vcpus ∷ texts rest) r
+reading_gen seed cores vcpus rest r fits reads =
+    reading_end (codes "gen" ∷ decimal seed ∷ decimal cores ∷ decimal vcpus ∷ []) (Gen seed cores vcpus) rest r
+    (refl, fits) (λ word command more is.
+    let gen = only_gen (decimal seed ∷ decimal cores ∷ decimal vcpus ∷ word ∷ more) command is in
+    omega (arith, ap length gen.words)) reads
+
+-- ---- `selftest` and its seed
+
+-- what follows the name is a seed and no more
+record IsSelftest (rest : List (List ℕ)) : Type 0 where
+  seed : ℕ
+  words : rest ≡ decimal seed ∷ []
+  fits : seed < 2 ^ 64
+
+only_selftest : (rest : List (List ℕ)) (command : Command) → IsCommand (codes "selftest" ∷ rest) command
+    → IsSelftest rest
+only_selftest rest (Selftest seed) is = record { seed = seed; words = cc is.0; fits = is.1 }
+only_selftest rest command is = absurd (other_name rest (arguments_of command) refl (named _ command is))
+
+-- no seed
+pub fault_of_selftest : (words : List (List ℕ)) → (BeginsWithNumber 0 (2 ^ 64 - 1) words → ⊥)
+    → IsFaultAt (codes "selftest" ∷ words) 1
+fault_of_selftest words none =
+    fault_at_number (codes "selftest" ∷ []) words 0 (2 ^ 64 - 1) (record {
+      command = Selftest 0;
+      rest = decimal 0 ∷ [];
+      whole = (refl, lit< tt);
+    }) (λ command rest is.
+    let test = only_selftest rest command is in
+    record {
+      number = test.seed;
+      rest = [];
+      digits = test.words;
+      enough = omega arith;
+      few = omega (arith, test.fits);
+    }) none
+
+-- the reader of the words behind the seed answers by the grammar
+pub reading_selftest : (seed : ℕ) (rest : List (String Global)) (r : Result Command Usage) → seed < 2 ^ 64
+    → ReadsEnd (Selftest seed) 2 rest r → IsReading (codes "selftest" ∷ decimal seed ∷ texts rest) r
+reading_selftest seed rest r fits reads =
+    reading_end (codes "selftest" ∷ decimal seed ∷ []) (Selftest seed) rest r (refl, fits)
+    (λ word command more is.
+    let test = only_selftest (decimal seed ∷ word ∷ more) command is in
+    omega (arith, ap length test.words)) reads

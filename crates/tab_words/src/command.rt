@@ -1,23 +1,39 @@
-ghost use Rattle.std.specs.Prelude.{◌≡◌, ℕ, ◌<◌, [], ◌∷◌, ◌++◌, length, codes, decimal, Some, Ok, Err, IfNone, IfOk, IfSome, IsErrOf, MatchResult};
+ghost use Rattle.std.specs.Prelude.{◌≡◌, ℕ, ◌<◌, ◌≤◌, [], ◌∷◌, ◌++◌, List, length, codes, decimal, Some, Ok, Err, IfNone, IfOk, IfSome, IsErrOf, MatchResult};
 ghost use Rattle.tab_words.specs.Commands.{IsCommand, IsFaultAt, texts};
-ghost use Rattle.tab_words.specs.Inside.Readings.{IsReading, IsRounds};
+ghost use Rattle.tab_words.specs.Inside.Readings.{BeginsWithNumber, IsReading};
 
 use crate::number::read_number;
 use std::error::Error;
 use std::fmt;
+use tab_core::{MAX_CORES, MAX_ROUNDS, MAX_VCPUS};
 
-/// The most rounds that a command takes.
-pub const MOST_ROUNDS: u32 = 64;
+/// What a run writes.
+#[derive(Clone, Copy, Debug, PartialEq, Eq)]
+pub enum RunMode {
+    /// The report alone.
+    Report,
+    /// `trace`: every stint, then the report.
+    Trace,
+}
 
 /// What the words of the command line ask for.
 #[derive(Clone, Copy, Debug, PartialEq, Eq)]
 pub enum Command {
     /// `plan`
     Plan,
+    /// `plan whole`
+    PlanWhole,
     /// `check`
     Check,
-    /// `replay ROUNDS`, from 1 to `MOST_ROUNDS` rounds
+    /// `replay ROUNDS`, from 1 to `MAX_ROUNDS` rounds
     Replay { rounds: u32 },
+    /// `run ROUNDS` or `run ROUNDS trace`, with as many rounds
+    Run { rounds: u32, mode: RunMode },
+    /// `gen SEED CORES VCPUS`, from 1 to `MAX_CORES` cores, with at most `MAX_VCPUS` vCPUs and at most
+    /// 99 for each core and one more
+    Gen { seed: u64, cores: u32, vcpus: u32 },
+    /// `selftest SEED`
+    Selftest { seed: u64 },
     /// `--help`
     Help,
     /// `--version`
@@ -64,24 +80,59 @@ fn reading_of(words: &[String]) -> Result<Command, Usage>
         return Err(Usage { place: 0 });
     };
     match name.as_str() {
-        "plan" => read_alone(Command::Plan, rest),
-        "check" => read_alone(Command::Check, rest),
+        "plan" => read_plan(rest),
+        "check" => read_end(Command::Check, rest, 1),
         "replay" => read_replay(rest),
-        "--help" => read_alone(Command::Help, rest),
-        "--version" => read_alone(Command::Version, rest),
+        "run" => read_run(rest),
+        "gen" => read_gen(rest),
+        "selftest" => read_selftest(rest),
+        "--help" => read_end(Command::Help, rest, 1),
+        "--version" => read_end(Command::Version, rest, 1),
         _ => Err(Usage { place: 0 }),
     }
 }
 
-// A command after whose name nothing stands.
-fn read_alone(command: Command, rest: &[String]) -> Result<Command, Usage>
+// A command that ends before these words, of which the first would be at this place.
+fn read_end(command: Command, rest: &[String], place: u32) -> Result<Command, Usage>
     ensures { MatchResult result (λ read. (read ≡ command) × (rest.now ≡ []))
-        (λ usage. (usage.place ≡ 1) × (0 < length rest.now)) }
+        (λ usage. (usage.place ≡ place) × (0 < length rest.now)) }
 {
     if rest.is_empty() {
         Ok(command)
     } else {
-        Err(Usage { place: 1 })
+        Err(Usage { place })
+    }
+}
+
+// The number from `least` to `most` that the first word spells, and the words behind it.
+fn read_first(words: &[String], least: u64, most: u64) -> Option<(u64, &[String])>
+    ensures some { IfSome result (λ read. (texts words.now ≡ decimal read.0 ∷ texts read.1.now)
+        × (least ≤ read.0) × (read.0 ≤ most)) }
+    ensures none { IfNone result (BeginsWithNumber least most (texts words.now) → ⊥) }
+{
+    let Some((word, rest)) = words.split_first() else {
+        return None;
+    };
+    let Some(number) = read_number(word.as_bytes()) else {
+        return None;
+    };
+    if least <= number && number <= most {
+        Some((number, rest))
+    } else {
+        None
+    }
+}
+
+// What stands behind `plan`: nothing or `whole`.
+fn read_plan(rest: &[String]) -> Result<Command, Usage>
+    ensures { IsReading (codes "plan" ∷ texts rest.now) result }
+{
+    let Some((word, more)) = rest.split_first() else {
+        return Ok(Command::Plan);
+    };
+    match word.as_str() {
+        "whole" => read_end(Command::PlanWhole, more, 2),
+        _ => Err(Usage { place: 1 }),
     }
 }
 
@@ -89,30 +140,64 @@ fn read_alone(command: Command, rest: &[String]) -> Result<Command, Usage>
 fn read_replay(rest: &[String]) -> Result<Command, Usage>
     ensures { IsReading (codes "replay" ∷ texts rest.now) result }
 {
-    let Some((word, more)) = rest.split_first() else {
+    let Some((rounds, more)) = read_first(rest, 1, u64::from(MAX_ROUNDS)) else {
         return Err(Usage { place: 1 });
     };
-    let Some(rounds) = rounds_of(word.as_bytes()) else {
+    let rounds = rounds as u32;
+    read_end(Command::Replay { rounds }, more, 2)
+}
+
+// The count of rounds behind `run`, after which nothing or `trace` stands.
+fn read_run(rest: &[String]) -> Result<Command, Usage>
+    ensures { IsReading (codes "run" ∷ texts rest.now) result }
+{
+    let Some((rounds, more)) = read_first(rest, 1, u64::from(MAX_ROUNDS)) else {
         return Err(Usage { place: 1 });
     };
-    if more.is_empty() {
-        Ok(Command::Replay { rounds })
-    } else {
-        Err(Usage { place: 2 })
+    let rounds = rounds as u32;
+    let Some((word, more)) = more.split_first() else {
+        return Ok(Command::Run {
+            rounds,
+            mode: RunMode::Report,
+        });
+    };
+    match word.as_str() {
+        "trace" => read_end(
+            Command::Run {
+                rounds,
+                mode: RunMode::Trace,
+            },
+            more,
+            3,
+        ),
+        _ => Err(Usage { place: 2 }),
     }
 }
 
-// The count of rounds that the word spells, where a command takes so many.
-fn rounds_of(word: &[u8]) -> Option<u32>
-    ensures some { IfSome result (λ rounds. IsRounds word.now rounds) }
-    ensures none { IfNone result ((rounds : ℕ) → IsRounds word.now rounds → ⊥) }
+// The three numbers behind `gen`, after which nothing stands.
+fn read_gen(rest: &[String]) -> Result<Command, Usage>
+    ensures { IsReading (codes "gen" ∷ texts rest.now) result }
 {
-    let Some(number) = read_number(word) else {
-        return None;
+    let Some((seed, more)) = read_first(rest, 0, u64::MAX) else {
+        return Err(Usage { place: 1 });
     };
-    if 0 < number && number <= u64::from(MOST_ROUNDS) {
-        Some(number as u32)
-    } else {
-        None
-    }
+    let Some((cores, more)) = read_first(more, 1, u64::from(MAX_CORES)) else {
+        return Err(Usage { place: 2 });
+    };
+    let most = u64::from(MAX_VCPUS).min(99 * cores + 1);
+    let Some((vcpus, more)) = read_first(more, 0, most) else {
+        return Err(Usage { place: 3 });
+    };
+    let (cores, vcpus) = (cores as u32, vcpus as u32);
+    read_end(Command::Gen { seed, cores, vcpus }, more, 4)
+}
+
+// The seed behind `selftest`, after which nothing stands.
+fn read_selftest(rest: &[String]) -> Result<Command, Usage>
+    ensures { IsReading (codes "selftest" ∷ texts rest.now) result }
+{
+    let Some((seed, more)) = read_first(rest, 0, u64::MAX) else {
+        return Err(Usage { place: 1 });
+    };
+    read_end(Command::Selftest { seed }, more, 2)
 }

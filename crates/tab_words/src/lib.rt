@@ -13,7 +13,7 @@ mod section;
 mod text;
 mod word;
 
-pub use command::{Command, MOST_ROUNDS, Usage, read_words};
+pub use command::{Command, RunMode, Usage, read_words};
 pub use line::Lines;
 pub use line_text::put_line;
 pub use number::read_number;
