@@ -1,6 +1,6 @@
 -- The tables of a core, made plan by plan.
-use Rattle.std.proofs.Common.{◌≡◌, ℕ, suc, ◌+◌, ◌<◌, ◌≤◌, List, [], ◌∷◌, ◌++◌, inl, inr, length, length-append, Some, refl, ap, subst, arith}
-use Rattle.std.specs.Prelude.{slice_get, slice_index_or}
+use Rattle.std.proofs.Common.{◌≡◌, ℕ, ◌+◌, List, [], ◌∷◌, ◌++◌, inl, inr, length-append, refl, subst, arith}
+use Rattle.std.specs.Prelude.{slice_index_or}
 use Rattle.tab_core.proofs.Lists.{push_split}
 use Rattle.table_form.specs.Running.Courses.{no_plan}
 use Rattle.table_form.specs.Tables.Plans.{PlanView}

@@ -1,3 +1,4 @@
 pub mod CoreSlices
 pub mod Inside
+pub mod Owners
 pub mod Slices

@@ -1,17 +1,19 @@
-ghost use Rattle.std.specs.Prelude.{◌≡◌, ◌<◌, ◌≤◌, IfOk, ℕ, Some, length, slice_get};
+ghost use Rattle.std.specs.Prelude.{◌≡◌, ◌^◌, ◌<◌, ◌≤◌, IfOk, ℕ, Some, length, slice_get};
 ghost use Rattle.tab_core.specs.declared.TheConstants.{ROUND};
 ghost use Rattle.table_form.specs.Running.Courses.{plan_after, plan_number_after};
 ghost use Rattle.table_form.specs.Tables.Plans.{PlanView};
 ghost use Rattle.table_form.specs.Tables.Spans.{IsSpan};
 ghost use Rattle.slice_table.specs.CoreSlices.{AreSlicesOf};
+ghost use Rattle.slice_table.specs.Inside.Spans.{HoldsTick, ends_of};
+ghost use Rattle.slice_table.specs.Owners.{AreCourseOwners};
 ghost use Rattle.slice_table.specs.Slices.{IsTableOf};
 
+use crate::owners::{RowOwners, course_owners};
 use crate::slice_table::SliceTable;
-use crate::steps::Steps;
 use std::alloc::Global;
 use std::marker::{Brand, Model};
 use std::sync::ledger::{Blank, Ledger};
-use tab_core::{CoreNo, NoMemory};
+use tab_core::{CoreNo, NoMemory, Steps};
 use table_form::{Course, Span};
 
 /// A core's slice tables, one for each plan of a course. Contracts see each as the list of its spans.
@@ -37,9 +39,26 @@ impl CoreSlices {
         requires { core < course.now.cores }
         ensures { IfOk result (λ slices. AreSlicesOf course.now core slices) }
     {
+        let owners = course_owners(alloc, course)?;
+        CoreSlices::make_with(alloc, course, &owners, core)
+    }
+
+    /// The same, where the owners in the rows of the course's plans are known.
+    pub fn make_with(
+        alloc: Global,
+        course: &Course,
+        owners: &[RowOwners],
+        core: CoreNo,
+    ) -> Result<CoreSlices, NoMemory>
+        requires core { core < course.now.cores }
+        requires owners { AreCourseOwners course.now owners.now }
+        ensures { IfOk result (λ slices. AreSlicesOf course.now core slices) }
+    {
         let mut tables = Vec::new(alloc);
         for number in 0..course.plans() {
-            tables.push(SliceTable::build(alloc, course.plan(number), core)?)?;
+            let plan = course.plan(number);
+            let owners = &owners[number as usize];
+            tables.push(SliceTable::build_with(alloc, plan, owners, core)?)?;
         }
         Ok(CoreSlices { tables })
     }
@@ -64,20 +83,59 @@ impl SliceTable {
         ensures span { (plan : PlanView) (c : ℕ) → IsTableOf plan c self.now
             → IsSpan plan c tick result.owner result.sharers.now result.end }
     {
-        span_by::<Brand>(self, tick, Blank::new(1))
+        let number = self.number_of(tick);
+        self.numbered(number, tick)
+    }
+
+    /// The same, for a caller that goes from span to span: `place` is a guess at the span's number, and is its number
+    /// afterwards. Where it is the guessed span or the one behind that, no division is made.
+    pub fn span_near(&self, tick: u32, place: &mut u32) -> Span<'_>
+        requires { tick < ROUND }
+        ensures after { tick < result.end }
+        ensures within { result.end ≤ ROUND }
+        ensures span { (plan : PlanView) (c : ℕ) → IsTableOf plan c self.now
+            → IsSpan plan c tick result.owner result.sharers.now result.end }
+    {
+        let number = self.number_near(tick, *place as usize);
+        *place = number as u32;
+        self.numbered(number, tick)
+    }
+
+    // The number of the span that holds the tick, sought at a guess and behind it first.
+    fn number_near(&self, tick: u32, guess: usize) -> usize
+        requires tick { tick < ROUND }
+        requires small { guess < 2 ^ 32 }
+        ensures holds { HoldsTick (ends_of self.now) result tick }
+        ensures small { result < 2 ^ 32 }
+    {
+        if self.holds(guess, tick) {
+            return guess;
+        }
+        if self.holds(guess + 1, tick) {
+            return guess + 1;
+        }
+        self.number_of(tick)
+    }
+
+    // The number of the span that holds the tick, where nobody counts the steps.
+    fn number_of(&self, tick: u32) -> usize
+        requires { tick < ROUND }
+        ensures holds { HoldsTick (ends_of self.now) result tick }
+        ensures small { result < 2 ^ 32 }
+    {
+        number_by::<Brand>(self, tick, Blank::new(1))
     }
 }
 
 // The same, told to a counter that is made for this call.
-fn span_by<L: Ledger>(table: &SliceTable, tick: u32, blank: Blank) -> Span<'_>
+fn number_by<L: Ledger>(table: &SliceTable, tick: u32, blank: Blank) -> usize
     requires tick { tick < ROUND }
     requires name { blank.name ≡ L.name }
     requires parts { (blank.parts ≡ L.parts) × (0 < L.parts) }
-    ensures after { tick < result.end }
-    ensures within { result.end ≤ ROUND }
-    ensures span { (plan : PlanView) (c : ℕ) → IsTableOf plan c table.now
-        → IsSpan plan c tick result.owner result.sharers.now result.end }
+    ensures holds { HoldsTick (ends_of table.now) result tick }
+    ensures small { result < 2 ^ 32 }
 {
     let mut steps = Steps::<L>::new(blank);
-    table.span_at(tick, &mut steps)
+    let number = table.number_at(tick, &mut steps);
+    number
 }

@@ -8,15 +8,15 @@
 mod core_slices;
 mod cursor;
 mod full_span;
+mod owners;
 mod scope;
 mod sight;
 mod slice_table;
 mod slices;
 mod span_list;
-mod steps;
 mod sweep;
 
 pub use core_slices::CoreSlices;
 pub use full_span::FullSpan;
+pub use owners::{RowOwners, course_owners};
 pub use slice_table::SliceTable;
-pub use steps::Steps;

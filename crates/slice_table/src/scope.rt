@@ -1,12 +1,13 @@
-ghost use Rattle.std.specs.Prelude.{◌≡◌, ◌≢◌, ◌<◌, ℕ, IfOk, Some, false, true, length, slice_get};
+ghost use Rattle.std.specs.Prelude.{◌≡◌, ◌≢◌, ◌<◌, ℕ, IfOk, IsTrue, false, true, length};
 ghost use Rattle.tab_core.specs.VcpuSets.{has_vcpu};
-ghost use Rattle.tab_core.specs.declared.TheConstants.{MAX_VCPUS};
 ghost use Rattle.table_form.specs.Tables.Views.{plan_view};
 ghost use Rattle.slice_table.specs.Inside.Sweeps.{IsScope};
+ghost use Rattle.slice_table.specs.Owners.{AreRowOwners};
 
+use crate::owners::RowOwners;
 use std::alloc::{AllocError, Global};
-use tab_core::{CoreNo, MAX_VCPUS, VcpuNo, VcpuSet};
-use table_form::{CoreTable, Plan};
+use tab_core::{CoreNo, VcpuSet};
+use table_form::Plan;
 
 /// What a core's spans depend on beside its own row.
 #[derive(Debug, Drop)]
@@ -18,64 +19,34 @@ pub(crate) struct Scope {
     pub others: Vec<usize>,
 }
 
-/// The scope of the core, by one pass over the segments of the plan.
-pub(crate) fn scope_of(alloc: Global, plan: &Plan, core: CoreNo) -> Result<Scope, AllocError>
-    requires { core < length plan.now.tables.rows }
+/// The scope of the core, by one look at the owners in each row.
+pub(crate) fn scope_of(
+    alloc: Global,
+    plan: &Plan,
+    owners: &RowOwners,
+    core: CoreNo,
+) -> Result<Scope, AllocError>
+    requires core { core < length plan.now.tables.rows }
+    requires owners { AreRowOwners (plan_view plan.now) owners.now }
     ensures core { IfOk result (λ scope. scope.core ≡ core) }
     ensures scope { IfOk result (λ scope. IsScope (plan_view plan.now) scope) }
 {
     let home = plan.homes_of(core);
     prove!(plan.tables.homes.items().len() <= 256);
-    let flags = flags_of(&home);
-    let rows = plan.tables.rows.items();
     let mut others = Vec::new(alloc);
-    for number in 0..rows.len() {
-        if matters(&rows[number], number, core, &flags) {
+    for number in 0..owners.rows() {
+        if matters(owners.of_row(number), number, core, &home) {
             others.push(number)?;
         }
     }
     Ok(Scope { core, home, others })
 }
 
-// The members as truth values, so that the pass over all segments needs one reading for each.
-fn flags_of(vcpus: &VcpuSet) -> [bool; 256]
-    ensures { (v : ℕ) → v < MAX_VCPUS → has_vcpu result v ≡ has_vcpu vcpus.now v }
-{
-    let mut flags = [false; 256];
-    for number in 0..MAX_VCPUS {
-        flags[number as usize] = vcpus.has(VcpuNo(number));
-    }
-    flags
-}
-
 // Whether the row of the number is another one than the core's, and has one of the vCPUs.
-fn matters(row: &CoreTable, number: usize, core: CoreNo, home: &[bool; 256]) -> bool
+fn matters(owners: &VcpuSet, number: usize, core: CoreNo, home: &VcpuSet) -> bool
     ensures other { result ≡ true → number ≢ core }
-    ensures none { result ≡ false → number ≢ core → (x v : ℕ) → v < MAX_VCPUS
-        → slice_get row.now x ≡ Some (Some v) → has_vcpu home.now v ≡ false }
+    ensures none { result ≡ false → number ≢ core → (v : ℕ) → IsTrue (has_vcpu owners.now v)
+        → has_vcpu home.now v ≡ false }
 {
-    number != core.index() && has_one_of(row, home)
-}
-
-// Whether some segment of the row has one of the vCPUs.
-fn has_one_of(row: &CoreTable, vcpus: &[bool; 256]) -> bool
-    ensures { result ≡ false → (x v : ℕ) → v < MAX_VCPUS → slice_get row.now x ≡ Some (Some v)
-        → has_vcpu vcpus.now v ≡ false }
-{
-    let segments = row.segments();
-    for at in 0..segments.len() {
-        if is_one_of(segments[at].owner, vcpus) {
-            return true;
-        }
-    }
-    false
-}
-
-fn is_one_of(owner: Option<VcpuNo>, vcpus: &[bool; 256]) -> bool
-    ensures { result ≡ false → (v : ℕ) → owner ≡ Some v → has_vcpu vcpus.now v ≡ false }
-{
-    match owner {
-        None => false,
-        Some(vcpu) => vcpus[vcpu.index()],
-    }
+    number != core.index() && owners.first_common(home, 0).is_some()
 }

@@ -67,7 +67,7 @@ fn take_other(spot: &mut Spot, home: &VcpuSet, segment: &Segment)
     }
 }
 
-fn nobody() -> VcpuSet
+pub(crate) fn nobody() -> VcpuSet
     ensures size { length result ≡ MAX_VCPUS }
     ensures none { (v : ℕ) → has_vcpu result v ≡ false }
 {

@@ -1,20 +1,21 @@
-ghost use Rattle.std.specs.Prelude.{◌≡◌, ◌+◌, ◌<◌, ◌≤◌, ℕ, IfOk, length};
+ghost use Rattle.std.specs.Prelude.{◌≡◌, ◌+◌, ◌^◌, ◌<◌, ◌≤◌, ℕ, IfOk, length, true};
 ghost use Rattle.tab_core.specs.declared.TheConstants.{ROUND};
 ghost use Rattle.table_form.specs.Tables.Plans.{PlanView};
 ghost use Rattle.table_form.specs.Tables.Spans.{IsSpan};
 ghost use Rattle.table_form.specs.Tables.Spots.{HasSpans, IsSpot};
 ghost use Rattle.table_form.specs.Tables.Views.{plan_view};
 ghost use Rattle.slice_table.specs.Inside.Spans.{HoldsTick, ends_of};
+ghost use Rattle.slice_table.specs.Owners.{AreRowOwners};
 ghost use Rattle.slice_table.specs.Slices.{IsTableOf};
 
+use crate::owners::RowOwners;
 use crate::slices::{shortest, slices_of};
 use crate::span_list::SpanList;
-use crate::steps::Steps;
 use crate::sweep::spans_of;
 use std::alloc::Global;
 use std::marker::Model;
 use std::sync::ledger::Ledger;
-use tab_core::{CoreNo, NoMemory};
+use tab_core::{CoreNo, NoMemory, Steps};
 use table_form::{Plan, Span, Spot};
 
 /// A table of a core's spans, in which the one that holds a tick of the round is found at once.
@@ -46,7 +47,22 @@ impl SliceTable {
         requires { core < length plan.now.tables.rows }
         ensures { IfOk result (λ table. IsTableOf (plan_view plan.now) core table) }
     {
-        let spans = spans_of(alloc, plan, core)?;
+        let owners = RowOwners::of(alloc, plan)?;
+        SliceTable::build_with(alloc, plan, &owners, core)
+    }
+
+    /// The same, where the owners in the plan's rows are known.
+    pub fn build_with(
+        alloc: Global,
+        plan: &Plan,
+        owners: &RowOwners,
+        core: CoreNo,
+    ) -> Result<SliceTable, NoMemory>
+        requires core { core < length plan.now.tables.rows }
+        requires owners { AreRowOwners (plan_view plan.now) owners.now }
+        ensures { IfOk result (λ table. IsTableOf (plan_view plan.now) core table) }
+    {
+        let spans = spans_of(alloc, plan, owners, core)?;
         let size = shortest(&spans);
         let slices = slices_of(alloc, &spans, size)?;
         Ok(SliceTable {
@@ -76,7 +92,29 @@ impl SliceTable {
         ensures steps { steps.new ≤ steps.old + 3 }
     {
         let number = self.number_at(tick, steps);
+        self.numbered(number, tick)
+    }
+
+    // The span of the number, which holds the tick. `tick` is for the proof alone.
+    pub(crate) fn numbered(&self, number: usize, tick: u32) -> Span<'_>
+        requires { HoldsTick (ends_of self.now) number tick }
+        ensures after { tick < result.end }
+        ensures within { result.end ≤ ROUND }
+        ensures span { (plan : PlanView) (c : ℕ) → IsTableOf plan c self.now
+            → IsSpan plan c tick result.owner result.sharers.now result.end }
+    {
+        let _ = tick;
         self.spans.span(number)
+    }
+
+    // Whether there is a span of the number, and it holds the tick.
+    pub(crate) fn holds(&self, number: usize, tick: u32) -> bool
+        ensures holds { result ≡ true → HoldsTick (ends_of self.now) number tick }
+        ensures small { result ≡ true → number < 2 ^ 32 }
+    {
+        number < self.spans.len()
+            && tick < self.spans.end(number)
+            && (number == 0 || self.spans.end(number - 1) <= tick)
     }
 
     /// How many spans there are.
@@ -87,9 +125,10 @@ impl SliceTable {
     }
 
     // The number of the span that holds the tick: the first that the tick's slice meets, or the next.
-    fn number_at<L: Ledger>(&self, tick: u32, steps: &mut Steps<L>) -> usize
+    pub(crate) fn number_at<L: Ledger>(&self, tick: u32, steps: &mut Steps<L>) -> usize
         requires { tick < ROUND }
         ensures holds { HoldsTick (ends_of self.now) result tick }
+        ensures small { result < 2 ^ 32 }
         ensures steps { steps.new ≤ steps.old + 3 }
     {
         steps.tell();

@@ -2,9 +2,11 @@ ghost use Rattle.std.specs.Prelude.{◌≡◌, ◌<◌, ◌↔◌, ◌++◌, IsT
 ghost use Rattle.tab_core.specs.declared.TheConstants.{ROUND};
 ghost use Rattle.table_form.specs.Tables.Views.{plan_view};
 ghost use Rattle.slice_table.specs.Inside.Sweeps.{IsScope};
+ghost use Rattle.slice_table.specs.Owners.{AreRowOwners};
 ghost use Rattle.slice_table.specs.Slices.{AreSpansOf};
 
 use crate::full_span::FullSpan;
+use crate::owners::RowOwners;
 use crate::scope::{Scope, scope_of};
 use crate::sight::{first_numbers, look};
 use crate::span_list::SpanList;
@@ -13,11 +15,17 @@ use tab_core::{CoreNo, MAX_VCPUS, ROUND, VcpuSet};
 use table_form::{Plan, Spot};
 
 /// The spans of the core's row in the plan, by one sweep over the segments of the rows that matter.
-pub(crate) fn spans_of(alloc: Global, plan: &Plan, core: CoreNo) -> Result<SpanList, AllocError>
-    requires { core < length plan.now.tables.rows }
+pub(crate) fn spans_of(
+    alloc: Global,
+    plan: &Plan,
+    owners: &RowOwners,
+    core: CoreNo,
+) -> Result<SpanList, AllocError>
+    requires core { core < length plan.now.tables.rows }
+    requires owners { AreRowOwners (plan_view plan.now) owners.now }
     ensures { IfOk result (λ spans. AreSpansOf (plan_view plan.now) core 0 spans ROUND) }
 {
-    let scope = scope_of(alloc, plan, core)?;
+    let scope = scope_of(alloc, plan, owners, core)?;
     sweep(alloc, plan, &scope)
 }
 

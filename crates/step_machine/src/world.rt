@@ -20,7 +20,7 @@ use crate::next::next_step;
 use crate::steps::{decide, post, run, see};
 use crate::trace::{Made, Trace};
 use script_doc::Step;
-use slice_table::CoreSlices;
+use slice_table::{CoreSlices, course_owners};
 use std::alloc::Global;
 use std::cmp::min;
 use std::marker::Model;
@@ -254,9 +254,10 @@ fn lesser(a: u32, b: u32) -> u32
 fn new_slices(alloc: Global, course: &Course) -> Result<Vec<CoreSlices>, NoMemory>
     ensures { IfOk result (λ slices. HaveSlices course.now slices.items) }
 {
+    let owners = course_owners(alloc, course)?;
     let mut slices = Vec::new(alloc);
     for core in 0..course.cores() {
-        slices.push(CoreSlices::make(alloc, course, CoreNo(core))?)?;
+        slices.push(CoreSlices::make_with(alloc, course, &owners, CoreNo(core))?)?;
     }
     Ok(slices)
 }

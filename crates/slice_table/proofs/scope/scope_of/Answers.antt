@@ -1,6 +1,7 @@
-use Rattle.std.proofs.Common.{ℕ, ◌<◌, ◌+◌, length, get_or, Vec, Global, List, Some, ap, subst, sym, ◌∙◌, arith}
+use Rattle.std.proofs.Common.{ℕ, ◌<◌, ◌+◌, length, get_or, Vec, Global, List, [], Some, ap, subst, sym, ◌∙◌, arith}
 use Rattle.std.proofs.lemmas.Bool.{false≢true}
-use Rattle.std.proofs.lemmas.Option.{slice_get_within}
+use Rattle.std.proofs.lemmas.List.{get_or_default}
+use Rattle.std.proofs.lemmas.Option.{slice_get-get_or, slice_get_within}
 use Rattle.tab_core.specs.declared.TheConstants.{MAX_VCPUS}
 use Rattle.table_form.specs.Tables.Rows.{Row}
 use Rattle.table_form.specs.Tables.Views.{plan_view}
@@ -25,22 +26,22 @@ loop-number-preserved c = elim c.if-matters.branch [
       let within = slice_get_within c.args.plan.now.tables.homes v (Some c.args.core) home in
       let small : v < MAX_VCPUS = omega arith in
       let lt : c.loop-number.number < length c.args.plan.now.tables.rows =
-      (let same = ap length c.items-rows.ensures.same in omega (arith, c.loop-number-test.true)) in
-      let isnt = c.matters.ensures.none w.if-matters.false ne x v small
-      (cell_read c.args.plan.now.tables.rows c.loop-number.number x v c.index-rows-number.result lt
-      (c.index-rows-number.is ∙ ap (λ (rows : List Row). get_or rows c.loop-number.number
-      c.index-rows-number.result)
-      c.items-rows.ensures.same) stands) in
-      false≢true (sym isnt ∙ (c.flags_of-flags.ensures v small ∙ (c.homes_of-home.ensures v small).1 home))))
+      omega (arith, c.requires.owners.count, c.rows-number-end.ensures, c.loop-number-test.true) in
+      let rows : List Row = c.args.plan.now.tables.rows in
+      let row : Row = get_or rows c.loop-number.number [] in
+      let owns = (c.requires.owners.each c.loop-number.number row c.of_row.result.now
+      (slice_get-get_or rows c.loop-number.number [] lt) c.of_row.ensures v small).1
+      (x, cell_read rows c.loop-number.number x v row lt (get_or_default rows c.loop-number.number [] row lt) stands) in
+      let isnt = c.matters.ensures.none w.if-matters.false ne v owns in
+      false≢true (sym isnt ∙ (c.homes_of-home.ensures v small).1 home)))
 ]
 
 pub returns-clause-scope : goal.returns-clause-scope
 returns-clause-scope c = record {
-  core = c.requires;
+  core = c.requires.core;
   home = c.homes_of-home.ensures;
   few = c.items.ensures.few;
   others = subst (λ (n : ℕ). AreOthers (plan_view c.args.plan.now) c.args.core n c.loop-number.others.items)
-      (let same = ap length c.items-rows.ensures.same in omega
-      (arith, c.loop-number-test.false, c.loop-number.auto.number-end))
+      (omega (arith, c.requires.owners.count, c.rows-number-end.ensures, c.loop-number-test.false, c.loop-number.auto.number-end))
       c.loop-number.invariant;
 }

@@ -11,8 +11,8 @@ loop-core-init c = subst (HaveFirstSlices c.args.course.now 0) (sym c.new-slices
 pub loop-core-preserved : goal.loop-core-preserved
 loop-core-preserved c =
     subst (HaveFirstSlices c.args.course.now (c.loop-core.core + 1)) (sym c.in_ok-push.ensures.items)
-    (slices_more c.args.course.now c.loop-core.core c.loop-core.slices.items c.in_ok-make.field-0 c.loop-core.invariant
-    c.in_ok-make.ensures)
+    (slices_more c.args.course.now c.loop-core.core c.loop-core.slices.items c.in_ok-make_with.field-0 c.loop-core.invariant
+    c.in_ok-make_with.ensures)
 
 pub returns : goal.returns
 returns c =

@@ -2,7 +2,7 @@ use Rattle.table_form.specs.Tables.Views.{plan_view}
 use Rattle.slice_table.specs.Inside.Spans.{ends_of}
 use Rattle.slice_table.proofs.EndsLemmas.{ends_longer, shortest_some}
 use Rattle.slice_table.proofs.TableLemmas.{ends_of_spans}
-use Rattle.slice_table.proofs.slice_table.SliceTable.build.Goals as goal
+use Rattle.slice_table.proofs.slice_table.SliceTable.build_with.Goals as goal
 
 pub shortest-size-requires : goal.shortest-size-requires
 shortest-size-requires c =

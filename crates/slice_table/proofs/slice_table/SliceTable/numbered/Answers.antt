@@ -3,23 +3,23 @@ use Rattle.std.specs.Prelude.{slice_get}
 use Rattle.slice_table.specs.declared.full_span.FullSpan.{FullSpan}
 use Rattle.slice_table.specs.Inside.Spans.{HoldsTick, ends_of}
 use Rattle.slice_table.proofs.TableLemmas.{held_of, span_of_table}
-use Rattle.slice_table.proofs.slice_table.SliceTable.span_at.Goals as goal
+use Rattle.slice_table.proofs.slice_table.SliceTable.numbered.Goals as goal
 
 pub returns-clause-after : goal.returns-clause-after
-returns-clause-after g c =
-    let held = held_of c.args.self.now c.number_at-number.result c.args.tick
-    c.number_at-number.ensures.holds in
+returns-clause-after c =
+    let held = held_of c.args.self.now c.args.number c.args.tick
+    c.requires in
     let read = c.span.ensures held.span
-    (ap (λ (spans : List FullSpan). slice_get spans c.number_at-number.result) c.self.view_is ∙ held.at) in
+    (ap (λ (spans : List FullSpan). slice_get spans c.args.number) c.self.view_is ∙ held.at) in
     let end = read.2 in
     let after = held.after in
     omega arith
 
 pub returns-clause-within : goal.returns-clause-within
-returns-clause-within g c =
-    let number = c.number_at-number.result in
+returns-clause-within c =
+    let number = c.args.number in
     let holds = subst (λ (spans : List FullSpan). HoldsTick (ends_of spans) number c.args.tick)
-    (sym c.self.view_is) c.number_at-number.ensures.holds in
+    (sym c.self.view_is) c.requires in
     let held = held_of c.self.inside.spans number c.args.tick holds in
     let read = c.span.ensures held.span held.at in
     let within = c.self.invariant.are_ends.within number holds.there in
@@ -28,11 +28,11 @@ returns-clause-within g c =
     omega arith
 
 pub returns-clause-span : goal.returns-clause-span
-returns-clause-span g c = λ plan core is.
-    let held = held_of c.args.self.now c.number_at-number.result c.args.tick
-    c.number_at-number.ensures.holds in
+returns-clause-span c = λ plan core is.
+    let held = held_of c.args.self.now c.args.number c.args.tick
+    c.requires in
     let read = c.span.ensures held.span
-    (ap (λ (spans : List FullSpan). slice_get spans c.number_at-number.result) c.self.view_is ∙ held.at) in
+    (ap (λ (spans : List FullSpan). slice_get spans c.args.number) c.self.view_is ∙ held.at) in
     span_of_table plan core c.args.tick held.span c.span.result.owner c.span.result.sharers.now
     c.span.result.end
     (held.shows plan core is) read.0 read.1 read.2
