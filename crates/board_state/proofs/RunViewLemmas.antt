@@ -42,7 +42,7 @@ core_is course v c core at =
     (place.0, found.2 ∙ ap (core_state course) place.1)
 
 -- and the other way round
-is_core : (course : CourseView) (v : View) (c : ℕ) → c < v.cores
+pub is_core : (course : CourseView) (v : View) (c : ℕ) → c < v.cores
     → IsCore (state_of course v) c (core_state course (part v c))
 is_core course v c lt =
     in_map (core_state course) (core_parts v) c (part v c) (in_numbers (part v) v.cores c lt)

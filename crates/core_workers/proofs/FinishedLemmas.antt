@@ -21,7 +21,7 @@ module _ (crew : CrewView) (v : View) (is : IsCrew crew) (whole : IsWhole crew) 
   agreed c lt = let a = whole c lt in let at = is.each c a.0 a.1 in
       (a.0, record { core_is = at.core; rounds_are = at.rounds_is; agrees = agree.cores c a.0 a.1 (all.cores c lt) })
 
-  run : IsRunView crew.course crew.rounds v
+  pub run : IsRunView crew.course crew.rounds v
   run = run_view crew.course crew.rounds v crew.control agreed (agree.control all.control) shown
 
   pub kept : StateInvariant crew.course crew.rounds (state_of crew.course v)
@@ -31,7 +31,7 @@ module _ (crew : CrewView) (v : View) (is : IsCrew crew) (whole : IsWhole crew) 
   promises = promised crew.course crew.rounds (state_of crew.course v) is.course_kept kept
 
   module _ (done : HeldFinished crew v) where
-    ended : IsFinished crew.rounds v
+    pub ended : IsFinished crew.rounds v
     ended = finished_view crew.course crew.rounds v crew.control
         (λ c lt. let a = whole c lt in let s = agreed c lt in (a.0, s.1, done.cores c a.0 a.1 (all.cores c lt)))
         (agree.control all.control) (done.control all.control)

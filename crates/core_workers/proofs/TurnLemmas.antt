@@ -274,6 +274,12 @@ all_held crew crew' u v on all = record {
   control = on.actors.actors controller ∙ all.control;
 }
 
+-- a turn of cores after a guess that brought nothing
+pub told_after : (x y z : CrewView) (u v : View) (k l m : Clocks) → GoesOn x u y v → left_of y l ≤ left_of x k → (p : Progress) → CoresTold y l v p z m → CoresTold x k u p z m
+told_after x y z u v k l m on less Moved told = omega (arith, less, told)
+told_after x y z u v k l m on less Waits told = (omega (arith, less, told.0), λ all. told.1 (all_held x y u v on all))
+told_after x y z u v k l m on less Done told = (omega (arith, less, told.0), told.1)
+
 module _ (crew crew' : CrewView) (u v : View) (clocks clocks' : Clocks) where
   cores_left : (p : Progress) → CoresTold crew clocks u p crew' clocks' → left_of crew' clocks' ≤ left_of crew clocks
   cores_left Moved told = omega (arith, told)

@@ -1,9 +1,11 @@
-ghost use Rattle.std.specs.Prelude.{◌≡◌, ◌<◌, ◌≤◌, IfOk, Some, length, min, max};
+ghost use Rattle.std.specs.Prelude.{◌≡◌, ◌<◌, ◌≤◌, ℕ, IfOk, Some, length, min, max, slice_index};
 ghost use Rattle.tab_core.specs.declared.TheConstants.{MAX_CORES};
 ghost use Rattle.table_form.specs.Running.Courses.{FitsRounds};
 ghost use Rattle.round_words.specs.declared.view.View.{View as ViewValue};
+ghost use Rattle.dispatch_core.specs.States.{StateView};
 ghost use Rattle.round_words.specs.Seats.{view_of, IsSeatOf};
-ghost use Rattle.core_workers.specs.Crews.{AllAgree, HeldFinished, HoldsAll, IsFresh, IsSameCrew, SameActors};
+ghost use Rattle.slice_table.specs.Owners.{AreCourseOwners};
+ghost use Rattle.core_workers.specs.Crews.{AllAgree, HeldFinished, HoldsAll, IsCrew, IsFresh, IsSameCrew, IsWhole, SameActors};
 ghost use Rattle.core_workers.specs.Groups.{actor_of};
 ghost use Rattle.core_workers.specs.Inside.Making.{AreGroups, AreMembers};
 
@@ -13,7 +15,7 @@ use crate::team::{Deal, Group, Lead, Member, Team};
 use dispatch_core::CoreState;
 use plan_switch::ControlState;
 use round_words::{RoundBoard, RoundSeat};
-use slice_table::CoreSlices;
+use slice_table::{CoreSlices, RowOwners, course_owners};
 use std::alloc::Global;
 use std::marker::Model;
 use std::num::NonZeroUsize;
@@ -57,6 +59,8 @@ impl<'a> Crew<'a> {
         requires count { length keep.now ≡ course.now.cores }
         ensures same { IfOk result (λ c. (c.course ≡ course.now) × (c.rounds ≡ rounds)) }
         ensures agree { IfOk result (λ c. (v : ViewValue) → IsFresh course.now v → AllAgree c v) }
+        ensures keeps { IfOk result (λ c. (core : ℕ) (a : StateView) → actor_of c core ≡ Some a
+            → a.keep ≡ slice_index keep.now core) }
     {
         let processors = processors(rt);
         let threads = threads_for(course.cores(), processors);
@@ -76,6 +80,20 @@ impl<'a> Crew<'a> {
                 lead,
             },
         })
+    }
+
+    /// For proofs: the crew has an actor for each core of its course. It does nothing.
+    pub fn shown(&self)
+        ensures { IsCrew self.now × IsWhole self.now }
+    {
+        let _ = &self.team;
+    }
+
+    /// The course that is run.
+    pub fn course(&self) -> &Course
+        ensures { result.now ≡ self.now.course }
+    {
+        self.course
     }
 
     /// What the core's actor keeps of its run.
@@ -114,12 +132,13 @@ fn make_groups(
     requires fits { FitsRounds course.now rounds }
     requires count { length keep.now ≡ course.now.cores }
     requires threads { (0 < threads) × (threads ≤ MAX_CORES) }
-    ensures { IfOk result (λ groups. AreGroups course.now rounds threads groups.items × (length groups.items ≡ threads)) }
+    ensures { IfOk result (λ groups. AreGroups course.now rounds keep.now threads groups.items × (length groups.items ≡ threads)) }
 {
+    let owners = course_owners(alloc, course)?;
     let mut groups = Vec::with_capacity(alloc, threads as usize)?;
     for first in 0..threads {
         let deal = Deal { threads, first };
-        let group = make_group(alloc, course, deal, rounds, keep)?;
+        let group = make_group(alloc, course, &owners, deal, rounds, keep)?;
         groups.push_reserved(group);
     }
     Ok(groups)
@@ -129,19 +148,21 @@ fn make_groups(
 fn make_group(
     alloc: Global,
     course: &Course,
+    owners: &[RowOwners],
     deal: Deal,
     rounds: u32,
     keep: &[u32],
 ) -> Result<Group, NoMemory>
     requires fits { FitsRounds course.now rounds }
     requires count { length keep.now ≡ course.now.cores }
+    requires owners { AreCourseOwners course.now owners.now }
     requires threads { (deal.first < deal.threads) × (deal.threads ≤ MAX_CORES) }
-    ensures { IfOk result (λ group. AreMembers course.now rounds deal group.members.items course.now.cores) }
+    ensures { IfOk result (λ group. AreMembers course.now rounds keep.now deal group.members.items course.now.cores) }
 {
     let mut members = Vec::new(alloc);
     let mut core = deal.first;
     'making: while core < course.cores() {
-        let slices = CoreSlices::make(alloc, course, CoreNo(core))?;
+        let slices = CoreSlices::make_with(alloc, course, owners, CoreNo(core))?;
         let state = CoreState::make(
             alloc,
             course.outline(),
@@ -162,7 +183,7 @@ fn make_group(
 /// Turns of those actors whose parts the seat holds, until all of them have finished, or none of them gets on in
 /// `PATIENCE` turns in a row.
 ///
-/// In a turn the core of least clock runs on, until it is stuck or more than the lag ahead of the others, and then the
+/// In a turn the core of least clock runs a stint, or on until it is stuck where it is the only one, and then the
 /// controller makes a step, until it has posted all. The gate is passed before each step, also before the one that
 /// finds that its actor has finished.
 ///

@@ -5,6 +5,7 @@ ghost use Rattle.core_workers.specs.Inside.Teams.{GoesOn, IsManned, IsSameShape,
 
 use crate::clocks::read_clocks;
 use crate::gate::Gate;
+use crate::guess::Guess;
 use crate::team::{Deal, Group, Lead, Team};
 use crate::turns::{Progress, turn};
 use round_words::{RoundBoard, RoundSeat};
@@ -37,9 +38,20 @@ pub(crate) fn drive_groups<G: Gate>(
         → HeldFinished (crew_view course.now lead.new deal groups.new) (view_of seat.new) }
 {
     let mut clocks = read_clocks(seat, course, lead, deal, groups);
+    let mut guess = Guess::of(&clocks.ticks);
     let mut left = PATIENCE;
     'driving: while left > 0 {
-        match turn(board, seat, course, lead, deal, groups, &mut clocks, gate) {
+        match turn(
+            board,
+            seat,
+            course,
+            lead,
+            deal,
+            groups,
+            &mut clocks,
+            &mut guess,
+            gate,
+        ) {
             Progress::Moved => left = PATIENCE,
             Progress::Waits => {
                 left -= 1;

@@ -6,10 +6,11 @@ ghost use Rattle.core_workers.specs.Crews.{AllAgree};
 ghost use Rattle.core_workers.specs.Groups.{actor_of, crew_view};
 ghost use Rattle.core_workers.specs.Inside.Clocks.{AreClocks};
 ghost use Rattle.core_workers.specs.Inside.Teams.{GoesOn, IsTeam};
-ghost use Rattle.core_workers.specs.Inside.Turns.{CoresTold, RunsOn, TurnTold, unless_moved};
+ghost use Rattle.core_workers.specs.Inside.Turns.{CoresTold, GuessTold, RunsOn, TurnTold, unless_moved};
 
 use crate::clocks::{Clocks, OUT, find_least};
 use crate::gate::Gate;
+use crate::guess::Guess;
 use crate::steps::{step_core, step_lead};
 use crate::team::{Deal, Group, Lead};
 use dispatch_core::CoreAnswer;
@@ -28,7 +29,7 @@ pub(crate) enum Progress {
     Done,
 }
 
-// A core of least clock runs on until it is stuck, or too far ahead of the others. Then the controller makes a step.
+// A core runs on: the one that is guessed to be least, or else one of least clock. Then the controller makes a step.
 pub(crate) fn turn<G: Gate>(
     board: &RoundBoard,
     seat: &mut RoundSeat,
@@ -37,6 +38,7 @@ pub(crate) fn turn<G: Gate>(
     deal: Deal,
     groups: &mut [Group],
     clocks: &mut Clocks,
+    guess: &mut Guess,
     gate: &G,
 ) -> Progress
     requires board { IsSeatOf board.now seat.old }
@@ -50,7 +52,7 @@ pub(crate) fn turn<G: Gate>(
     ensures told { TurnTold (crew_view course.now lead.old deal groups.old) clocks.old (view_of seat.old) result
         (crew_view course.now lead.new deal groups.new) clocks.new (view_of seat.new) }
 {
-    let cores = turn_cores(board, seat, course, lead, deal, groups, clocks, gate);
+    let cores = turn_cores(board, seat, course, lead, deal, groups, clocks, guess, gate);
     if !clocks.posting {
         return cores;
     }
@@ -73,7 +75,7 @@ fn or_waits(cores: Progress) -> Progress
     }
 }
 
-// A core of least clock runs on until it is stuck, or too far ahead of the others.
+// The core that is guessed runs on, or else one of least clock.
 fn turn_cores<G: Gate>(
     board: &RoundBoard,
     seat: &mut RoundSeat,
@@ -82,6 +84,81 @@ fn turn_cores<G: Gate>(
     deal: Deal,
     groups: &mut [Group],
     clocks: &mut Clocks,
+    guess: &mut Guess,
+    gate: &G,
+) -> Progress
+    requires board { IsSeatOf board.now seat.old }
+    requires team { IsTeam course.now lead.now.rounds deal groups.old }
+    requires agree { AllAgree (crew_view course.now lead.now deal groups.old) (view_of seat.old) }
+    requires clocks { AreClocks (crew_view course.now lead.now deal groups.old) (view_of seat.old) clocks.old }
+    ensures board { IsSeatOf board.now seat.new }
+    ensures team { IsTeam course.now lead.now.rounds deal groups.new }
+    ensures goes { GoesOn (crew_view course.now lead.now deal groups.old) (view_of seat.old) (crew_view course.now lead.now deal groups.new) (view_of seat.new) }
+    ensures clocks { AreClocks (crew_view course.now lead.now deal groups.new) (view_of seat.new) clocks.new }
+    ensures posting { clocks.new.posting ≡ clocks.old.posting }
+    ensures told { CoresTold (crew_view course.now lead.now deal groups.old) clocks.old (view_of seat.old) result
+        (crew_view course.now lead.now deal groups.new) clocks.new }
+{
+    if turn_guessed(board, seat, course, lead, deal, groups, clocks, guess, gate) {
+        return Progress::Moved;
+    }
+    turn_least(board, seat, course, lead, deal, groups, clocks, guess, gate)
+}
+
+// The core that is guessed runs on. The answer is whether it got on.
+fn turn_guessed<G: Gate>(
+    board: &RoundBoard,
+    seat: &mut RoundSeat,
+    course: &Course,
+    lead: &Lead,
+    deal: Deal,
+    groups: &mut [Group],
+    clocks: &mut Clocks,
+    guess: &mut Guess,
+    gate: &G,
+) -> bool
+    requires board { IsSeatOf board.now seat.old }
+    requires team { IsTeam course.now lead.now.rounds deal groups.old }
+    requires agree { AllAgree (crew_view course.now lead.now deal groups.old) (view_of seat.old) }
+    requires clocks { AreClocks (crew_view course.now lead.now deal groups.old) (view_of seat.old) clocks.old }
+    ensures board { IsSeatOf board.now seat.new }
+    ensures team { IsTeam course.now lead.now.rounds deal groups.new }
+    ensures goes { GoesOn (crew_view course.now lead.now deal groups.old) (view_of seat.old) (crew_view course.now lead.now deal groups.new) (view_of seat.new) }
+    ensures clocks { AreClocks (crew_view course.now lead.now deal groups.new) (view_of seat.new) clocks.new }
+    ensures posting { clocks.new.posting ≡ clocks.old.posting }
+    ensures told { GuessTold (crew_view course.now lead.now deal groups.old) clocks.old result
+        (crew_view course.now lead.now deal groups.new) clocks.new }
+{
+    let core = guess.core();
+    if core >= course.cores() {
+        return false;
+    }
+    let clock = clocks.ticks[core as usize];
+    if clock == OUT {
+        return false;
+    }
+    let limit = guess.limit(clock);
+    let reached = run_core(
+        board, seat, course, lead, deal, groups, core, clock, limit, gate,
+    );
+    clocks.ticks[core as usize] = reached;
+    if reached == clock {
+        return false;
+    }
+    guess.note(core, reached);
+    true
+}
+
+// A core of least clock runs on until it is stuck, or too far ahead of the others.
+fn turn_least<G: Gate>(
+    board: &RoundBoard,
+    seat: &mut RoundSeat,
+    course: &Course,
+    lead: &Lead,
+    deal: Deal,
+    groups: &mut [Group],
+    clocks: &mut Clocks,
+    guess: &mut Guess,
     gate: &G,
 ) -> Progress
     requires board { IsSeatOf board.now seat.old }
@@ -109,10 +186,10 @@ fn turn_cores<G: Gate>(
     );
     clocks.ticks[next.core as usize] = reached;
     if reached == clock {
-        Progress::Waits
-    } else {
-        Progress::Moved
+        return Progress::Waits;
     }
+    guess.note(next.core, reached);
+    Progress::Moved
 }
 
 // Steps of a core whose clock is given, while it runs and its clock is at most the limit. The answer is its clock then, or

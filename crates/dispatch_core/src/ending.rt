@@ -21,12 +21,13 @@ use slice_table::SliceTable;
 use tab_core::{CoreNo, ROUND, Stint};
 use table_form::{Outline, Span};
 
-// The end of a step, on what a state keeps inside.
+// The end of a step, on what a state keeps inside. `place` is a guess at the number of the span.
 pub(crate) fn end(
     board: &RoundBoard,
     seat: &mut RoundSeat,
     outline: &Outline,
     log: &mut CoreLog,
+    place: &mut u32,
     seen: u32,
     used: u32,
     table: &SliceTable,
@@ -50,7 +51,7 @@ pub(crate) fn end(
     seat.shown();
     // the clock's round is the last one that was entered
     let start = (log.used.len() as u32 - 1) * ROUND;
-    let span = table.span(log.clock - start);
+    let span = table.span_near(log.clock - start, place);
     run_at(board, seat, outline, log, seen, used, &span)
 }
 

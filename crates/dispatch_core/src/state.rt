@@ -22,6 +22,8 @@ use table_form::Outline;
 #[derive(Debug, Drop)]
 pub struct CoreState {
     pub(crate) log: CoreLog,
+    // a guess at the number of the span that comes next; nothing is claimed of it
+    pub(crate) place: u32,
 }
 
 impl Model for CoreState {
@@ -59,7 +61,7 @@ impl CoreState {
             → AgreesWith course s v) }
     {
         let log = new_log(alloc, core.index() as u32, rounds, keep)?;
-        Ok(CoreState { log })
+        Ok(CoreState { log, place: 0 })
     }
 
     /// The core's clock, in ticks.

@@ -8,8 +8,9 @@ use Rattle.round_words.specs.declared.view.View.{View}
 use Rattle.round_words.specs.Views.{holds, part, with_part, hears, heard_of, last_of, last_heard}
 use Rattle.round_words.specs.Changes.{ChangesOnly}
 use Rattle.round_words.specs.Shown.{IsHeardClock}
-use Rattle.round_words.specs.Hearing.{KnowsClocks, HasHeardTo, HearsCore, HearsCores, MeetsLow}
+use Rattle.round_words.specs.Hearing.{KnowsClocks, HearsCore, HearsCores, MeetsLow}
 use Rattle.round_words.specs.Hearing.HearsCore.{itself, well_known, asked}
+use Rattle.round_words.specs.Inside.Held.{HasSeenTo}
 use Rattle.round_words.proofs.ChangesLemmas.{part_with, changes_with, changes_more}
 use Rattle.std.proofs.lemmas.List.{get_or-set_other}
 use Rattle.round_words.proofs.ListLemmas.{word_here, word_else}
@@ -23,7 +24,7 @@ pub record SamePart (p q : Part) : Type 0 where
   pub floors : q.floors ≡ p.floors
 
 -- nothing was heard
-same_none : (p : Part) → SamePart p p
+pub same_none : (p : Part) → SamePart p p
 same_none p = record { clock = refl; sights = refl; entries = refl; stints = refl; floors = refl }
 
 -- one core was seen to
@@ -42,13 +43,6 @@ same_core c lag tick d p q r same (asked away low clock enough is) = subst (Same
 pub heard_same : (c lag tick n : ℕ) (p q : Part) → HearsCores c lag tick n p q → SamePart p q
 heard_same c lag tick zero p q h = subst (SamePart p) (sym h) (same_none p)
 heard_same c lag tick (suc d) p q h = same_core c lag tick d p h.0 q (heard_same c lag tick d p h.0 h.1) h.2
-
--- what holds as the actor has seen to the first n cores, and was v before
-pub record HasSeenTo (v u : View) (c lag tick n : ℕ) (known : List ℕ) : Type 0 where
-  pub changes : ChangesOnly v u c
-  pub knows : KnowsClocks known (part u c)
-  pub heard : HearsCores c lag tick n (part v c) (part u c)
-  pub near : HasHeardTo u c n tick
 
 -- no core yet
 pub seen_to_none : (v : View) (c lag tick : ℕ) (known : List ℕ) → ChangesOnly v v c

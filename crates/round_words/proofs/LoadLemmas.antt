@@ -134,7 +134,7 @@ see_keeps id c v on live has core words views ruled at small =
     )
 
 -- the part of a core that heard a clock
-hearing : (g : Board) (a c n : ℕ) (p : Part) → CoreFits g a p → CoreFits g a (hears p c n)
+pub hearing : (g : Board) (a c n : ℕ) (p : Part) → CoreFits g a p → CoreFits g a (hears p c n)
 hearing g a c n p f = record {
   clock = f.clock;
   own = record {
@@ -155,6 +155,24 @@ hearing g a c n p f = record {
   won = f.won;
 }
 
+-- the heard clocks with one more, which is the core's
+pub heard_more : (g : Board) (c n : ℕ) (p : Part) → c < g.cores → n ≡ g.clocks c → HeardFits g p
+    → HeardFits g (hears p c n)
+heard_more g c n p within is fits =
+    let old : All (λ h. h ≤ n) (heard_of p c) =
+    subst (λ (k : ℕ). All (λ h. h ≤ k) (heard_of p c)) (sym is) (fits.low c within) in record {
+      lists = length-set p.heard c (heard_of p c ++ n ∷ []) ∙ fits.lists;
+      rises = λ d h. each_set NeverFalls p.heard c d (heard_of p c ++ n ∷ []) []
+          (λ e. rises_push (heard_of p c) n (fits.rises c within) (last_below (heard_of p c) n old))
+          (fits.rises d h);
+      low = λ d h. each_set (All (λ y. y ≤ g.clocks d)) p.heard c d (heard_of p c ++ n ∷ []) []
+          (λ e. let near : n ≤ g.clocks d = subst (λ (k : ℕ). n ≤ g.clocks k) (sym e) (omega arith) in
+          All-push (λ y. y ≤ g.clocks d) (heard_of p c) n
+          (subst (λ (k : ℕ). All (λ y. y ≤ g.clocks k) (heard_of p c)) (sym e)
+          (fits.low c within)) near)
+          (fits.low d h);
+    }
+
 -- `clock_of` keeps the rule
 pub hear_keeps : (id a c : ℕ) (v : View) → v.started ≡ true → 0 < v.lag → holds v a ≡ true → c < v.cores
     → StepKeepsRule id v (suc c) (λ n. n) (HearClaim (a, c) v)
@@ -171,18 +189,7 @@ hear_keeps id a c v on live has core words views ruled at small =
       with_part v a (hears p c n),
       loads words views id a (suc c) v (hears p c n) r at has
           (λ h. hearing g a c n p (m.core (subst (λ (k : ℕ). a < k) (sym m.settings.1) h)).1)
-          (record {
-            lists = length-set p.heard c (heard_of p c ++ n ∷ []) ∙ m.heard.lists;
-            rises = λ d h. each_set NeverFalls p.heard c d (heard_of p c ++ n ∷ []) []
-                (λ e. rises_push (heard_of p c) n (m.heard.rises c within) (last_below (heard_of p c) n old))
-                (m.heard.rises d h);
-            low = λ d h. each_set (All (λ y. y ≤ g.clocks d)) p.heard c d (heard_of p c ++ n ∷ []) []
-                (λ e. let near : n ≤ g.clocks d = subst (λ (k : ℕ). n ≤ g.clocks k) (sym e) (omega arith) in
-                All-push (λ y. y ≤ g.clocks d) (heard_of p c) n
-                (subst (λ (k : ℕ). All (λ y. y ≤ g.clocks k) (heard_of p c)) (sym e)
-                (m.heard.low c within)) near)
-                (m.heard.low d h);
-          })
+          (heard_more g c n p within is m.heard)
           m.floors,
       (
         refl,

@@ -1,8 +1,9 @@
 //! The plain numbers of a seat, from which its calls work. They agree with its view.
-ghost use Rattle.std.specs.Prelude.{◌≡◌, ◌<◌, ◌≤◌, ◌/◌, ℕ, suc, cond, length, replicate, slice_index, true};
+ghost use Rattle.std.specs.Prelude.{◌≡◌, ◌<◌, ◌≤◌, ◌-◌, ◌/◌, ℕ, suc, cond, length, replicate, slice_index, true};
 ghost use Rattle.tab_core.specs.declared.TheConstants.{MAX_CORES, MAX_EVENTS};
 ghost use Rattle.tab_core.specs.declared.entry.Entry.{Entry};
 ghost use Rattle.tab_core.specs.declared.stint.Stint.{Stint};
+ghost use Rattle.round_words.specs.Inside.Held.{AreHere, TakesClocks};
 ghost use Rattle.round_words.specs.Inside.Numbers.{NumbersAgree};
 ghost use Rattle.round_words.specs.Views.{both, controller, enters, holds, just_started, names, only, part, posts, runs, sees, with_part, without};
 ghost use Rattle.round_words.specs.declared.view.View.{View};
@@ -49,6 +50,58 @@ fn posted_of(mine: u32, theirs: u32, held: u64) -> u32
     ensures { result ≡ cond (names held controller) mine theirs }
 {
     if (held >> 32) & 1 == 0 { theirs } else { mine }
+}
+
+// Of the first so many cores but the actor, those known below `least` are known by their clocks from then on.
+pub(crate) fn take_clocks(
+    known: &mut [u32; 32],
+    clocks: &[u32; 32],
+    actor: u32,
+    cores: u32,
+    least: u32,
+)
+    requires { cores ≤ 32 }
+    ensures { TakesClocks clocks.now actor least cores cores known.old known.new }
+{
+    let own = own_of(known, actor);
+    for core in 0..cores {
+        let at = core as usize;
+        known[at] = newer(known[at], clocks[at], known[at] < least);
+    }
+    // it hears no clock of its own
+    if actor < 32 {
+        known[actor as usize] = own;
+    }
+}
+
+// What stands there of the actor itself, if it is a core.
+fn own_of(known: &[u32; 32], actor: u32) -> u32
+    ensures { result ≡ slice_index known.now actor }
+{
+    if (actor as usize) < known.len() {
+        known[actor as usize]
+    } else {
+        0
+    }
+}
+
+// The clock that is known, or the one that is taken in its place.
+fn newer(heard: u32, clock: u32, taken: bool) -> u32
+    ensures { result ≡ cond taken clock heard }
+{
+    if taken { clock } else { heard }
+}
+
+// The least of the first so many numbers.
+fn least_of(clocks: &[u32; 32], count: u32) -> u32
+    requires { count ≤ 32 }
+    ensures { (d : ℕ) → d < count → result ≤ slice_index clocks.now d }
+{
+    let mut least = u32::MAX;
+    for at in 0..count {
+        least = least.min(clocks[at as usize]);
+    }
+    least
 }
 
 impl Numbers {
@@ -115,6 +168,15 @@ impl Numbers {
         ensures { (v : View) → holds v core ≡ true → NumbersAgree self.old v → NumbersAgree self.new (with_part v core (sees (part v core) count)) }
     {
         self.sights[core] = count;
+    }
+
+    // Whether the seat holds the first so many cores, and none of their clocks is below the tick.
+    pub(crate) fn reach(&self, cores: u32, tick: u32) -> bool
+        requires { cores ≤ MAX_CORES }
+        ensures { result ≡ true → (v : View) → NumbersAgree self.now v → AreHere v cores tick }
+    {
+        let all = (1u64 << cores) - 1;
+        self.held & all == all && tick <= least_of(&self.clocks, cores)
     }
 
     // A core has entered this round.

@@ -1,5 +1,5 @@
 -- A crew that is being made.
-use Rattle.std.specs.Prelude.{◌≡◌, ℕ, ◌+◌, ◌*◌, ◌<◌, List, Some, length, slice_get}
+use Rattle.std.specs.Prelude.{◌≡◌, ℕ, ◌+◌, ◌*◌, ◌<◌, List, Some, length, slice_get, slice_index}
 use Rattle.table_form.specs.Running.Courses.{CourseView, outline_of}
 use Rattle.round_words.specs.declared.view.View.{View}
 use Rattle.round_words.specs.Shown.{HoldsCore}
@@ -11,21 +11,25 @@ use Rattle.core_workers.specs.declared.team.Group.{Group}
 use Rattle.core_workers.specs.declared.team.Member.{Member}
 use Rattle.core_workers.specs.Inside.Teams.{IsMemberOf}
 
--- the member is that of core c, and agrees with each view in which nothing has happened to it
-pub record IsNewMember (course : CourseView) (rounds c : ℕ) (m : Member) : Type 0 where
+-- the member is that of core c, keeps as many stints as `keeps` says for the core, and agrees with each view in
+-- which nothing has happened to it
+pub record IsNewMember (course : CourseView) (rounds : ℕ) (keeps : List ℕ) (c : ℕ) (m : Member) : Type 0 where
   pub member : IsMemberOf course rounds c m
+  pub keep_is : m.state.keep ≡ slice_index keeps c
   pub agrees : (v : View) → IsOfOutline (outline_of course) v → HoldsCore v c → IsNewPart (part v c) → AgreesWith course m.state v
 
 -- the members are the first of the thread's cores
-abbrev pub AreNew : CourseView → ℕ → Deal → List Member → Type 0
-AreNew course rounds deal members = (i : ℕ) (m : Member) → slice_get members i ≡ Some m → IsNewMember course rounds (deal.first + i * deal.threads) m
+abbrev pub AreNew : CourseView → ℕ → List ℕ → Deal → List Member → Type 0
+AreNew course rounds keeps deal members = (i : ℕ) (m : Member) → slice_get members i ≡ Some m
+    → IsNewMember course rounds keeps (deal.first + i * deal.threads) m
 
 -- and all of those below `cores`
-pub record AreMembers (course : CourseView) (rounds : ℕ) (deal : Deal) (members : List Member) (cores : ℕ) : Type 0 where
-  pub each : AreNew course rounds deal members
+pub record AreMembers (course : CourseView) (rounds : ℕ) (keeps : List ℕ) (deal : Deal) (members : List Member)
+    (cores : ℕ) : Type 0 where
+  pub each : AreNew course rounds keeps deal members
   pub all : (i : ℕ) → deal.first + i * deal.threads < cores → i < length members
 
 -- the groups are those of the first threads
-abbrev pub AreGroups : CourseView → ℕ → ℕ → List Group → Type 0
-AreGroups course rounds threads groups = (g : ℕ) (group : Group) → slice_get groups g ≡ Some group
-    → AreMembers course rounds (record { threads = threads; first = g }) group.members.items course.cores
+abbrev pub AreGroups : CourseView → ℕ → List ℕ → ℕ → List Group → Type 0
+AreGroups course rounds keeps threads groups = (g : ℕ) (group : Group) → slice_get groups g ≡ Some group
+    → AreMembers course rounds keeps (record { threads = threads; first = g }) group.members.items course.cores

@@ -1,5 +1,5 @@
 -- What a step, and a turn of steps, brings.
-use Rattle.std.specs.Prelude.{◌≡◌, ◌≢◌, ◌⊎◌, ℕ, suc, ◌+◌, ◌*◌, ◌<◌, ◌≤◌, true, Some, length, slice_index}
+use Rattle.std.specs.Prelude.{◌≡◌, ◌≢◌, ◌⊎◌, ℕ, suc, ◌+◌, ◌*◌, ◌<◌, ◌≤◌, Bool, false, true, Some, length, slice_index}
 use Rattle.tab_core.specs.declared.TheConstants.{ROUND}
 use Rattle.table_form.specs.Running.Courses.{CourseView, tick_at}
 use Rattle.round_words.specs.declared.view.View.{View}
@@ -89,6 +89,11 @@ CoresTold crew clocks v Waits crew' clocks' = (left_of crew' clocks' ≤ left_of
     × (HoldsAll crew v → LeastIsStuck crew' clocks')
 CoresTold crew clocks v Done crew' clocks' = (left_of crew' clocks' ≤ left_of crew clocks)
     × ((d : ℕ) → d < crew'.course.cores → slice_index clocks'.ticks d ≡ OUT)
+
+-- what came of the turn of the core that was guessed
+abbrev pub GuessTold : CrewView → Clocks → Bool → CrewView → Clocks → Type 0
+GuessTold crew clocks true crew' clocks' = left_of crew' clocks' < left_of crew clocks
+GuessTold crew clocks false crew' clocks' = left_of crew' clocks' ≤ left_of crew clocks
 
 -- what a turn is in which the controller waits
 abbrev pub unless_moved : Progress → Progress

@@ -11,6 +11,7 @@ use Rattle.round_words.specs.Views.{just_started, part, with_part, entry, enters
 use Rattle.round_words.specs.Changes.{PostsFloor, SeesCount, HearsClock, AppendsStint}
 use Rattle.round_words.specs.Rule.{decision_word, KeepsRule}
 use Rattle.round_words.specs.Shown.{IsSight, IsHeardClock}
+use Rattle.round_words.specs.Inside.Held.{hears_all_here}
 
 -- `start`, of the lag, the cores and the events
 abbrev pub StartClaim : ℕ × ℕ × ℕ → View → ℕ → View → Type 0
@@ -31,6 +32,10 @@ SeeClaim c v n w = SeesCount v w c n × IsSight v c n
 -- `clock_of`, of the actor and the other core
 abbrev pub HearClaim : ℕ × ℕ → View → ℕ → View → Type 0
 HearClaim x v n w = HearsClock v w x.0 x.1 n × IsHeardClock v x.0 x.1 n
+
+-- `hear_held`, of the actor, the tick below which it asks, and the count of cores
+abbrev pub HeldClaim : ℕ × ℕ × ℕ → View → ℕ → View → Type 0
+HeldClaim x v n w = w ≡ with_part v x.0 (hears_all_here v x.0 x.1 x.2 (part v x.0))
 
 -- what a core expects of the word of round k: 0, or its own entry of four rounds before
 abbrev pub IsExpected : Part → ℕ → ℕ → Type 0

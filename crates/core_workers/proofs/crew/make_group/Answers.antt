@@ -13,16 +13,17 @@ making-preserved c =
     let m : Member = record { slices = c.in_ok-slices.slices; state = c.in_ok-state.state; steps = 0 } in
     let ms : List Member = c.making.members.items in
     let made = c.in_ok-state.ensures in
-    let new : IsNewMember course c.args.rounds c.making.core m = record {
+    let new : IsNewMember course c.args.rounds c.args.keep.now c.making.core m = record {
       member = record {
         slices = subst (λ (k : ℕ). AreSlicesOf course k m.slices) (sym made.same.0) c.in_ok-slices.ensures;
         core = made.same.0;
         within = omega (arith, c.making-test.true, c.cores.ensures.cores);
         rounds_is = made.same.1;
       };
+      keep_is = made.same.2;
       agrees = λ v started core fresh. made.agrees course v c.outline.ensures.outline started core fresh;
     } in record {
-      new = subst (AreNew course c.args.rounds c.args.deal) (sym c.in_ok-push.ensures.items) (new_more course c.args.rounds c.args.deal ms m inv.new (subst (λ (k : ℕ). IsNewMember course c.args.rounds k m) inv.core new));
+      new = subst (AreNew course c.args.rounds c.args.keep.now c.args.deal) (sym c.in_ok-push.ensures.items) (new_more course c.args.rounds c.args.keep.now c.args.deal ms m inv.new (subst (λ (k : ℕ). IsNewMember course c.args.rounds c.args.keep.now k m) inv.core new));
       core = (let long : length c.push.new.self.items ≡ length ms + 1 = ap length c.in_ok-push.ensures.items ∙ (length_push ms m ∙ omega arith) in
           let more : length c.push.new.self.items * c.args.deal.threads ≡ length ms * c.args.deal.threads + c.args.deal.threads = ap (λ (k : ℕ). k * c.args.deal.threads) long ∙ omega arith in
           omega (arith, inv.core, more));

@@ -11,9 +11,9 @@ loop-first-preserved c =
     let course = c.args.course.now in
     let group : Group = c.in_ok-group.group in
     let groups : List Group = c.loop-first.groups.items in
-    let new : AreMembers course c.args.rounds (record { threads = c.args.threads; first = length groups }) group.members.items course.cores =
-    subst (λ (k : ℕ). AreMembers course c.args.rounds (record { threads = c.args.threads; first = k }) group.members.items course.cores) (sym inv.count) c.in_ok-group.ensures in record {
-      groups = subst (AreGroups course c.args.rounds c.args.threads) (sym c.push_reserved.ensures.items) (groups_more course c.args.rounds c.args.threads groups group inv.groups new);
+    let new : AreMembers course c.args.rounds c.args.keep.now (record { threads = c.args.threads; first = length groups }) group.members.items course.cores =
+    subst (λ (k : ℕ). AreMembers course c.args.rounds c.args.keep.now (record { threads = c.args.threads; first = k }) group.members.items course.cores) (sym inv.count) c.in_ok-group.ensures in record {
+      groups = subst (AreGroups course c.args.rounds c.args.keep.now c.args.threads) (sym c.push_reserved.ensures.items) (groups_more course c.args.rounds c.args.keep.now c.args.threads groups group inv.groups new);
       count = omega (arith, ap length c.push_reserved.ensures.items, length_push groups group, inv.count);
       room = omega (arith, inv.room, c.push_reserved.ensures.capacity);
     }

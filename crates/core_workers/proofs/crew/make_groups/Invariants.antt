@@ -5,7 +5,7 @@ use Rattle.core_workers.proofs.crew.make_groups.Given as goal
 
 abbrev pub invariant-loop-first : goal.invariant-loop-first
 invariant-loop-first l = record {
-  groups : AreGroups l.fn.course l.fn.rounds l.fn.threads l.groups.items;
+  groups : AreGroups l.fn.course l.fn.rounds l.fn.keep l.fn.threads l.groups.items;
   count : length l.groups.items ≡ l.first;
   room : l.fn.threads ≤ vec_capacity l.groups;
 }

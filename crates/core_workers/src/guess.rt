@@ -1,0 +1,66 @@
+ghost use Rattle.std.specs.Prelude.{◌≤◌};
+
+use crate::clocks::OUT;
+
+/// A guess which core is the one of least clock, found without looking at all of them. Nothing is claimed of
+/// it: where the core that it names doesn't get on, a turn looks at all clocks.
+///
+/// It is a tree of numbers `64 * clock + core`. Those of the cores stand from place 32 on, and at each place
+/// below that the lesser of the two at twice the place and behind it.
+#[derive(Debug, Drop)]
+pub(crate) struct Guess {
+    places: [u64; 64],
+    running: u32,
+}
+
+impl Guess {
+    pub(crate) fn of(ticks: &[u32; 32]) -> Guess {
+        let mut guess = Guess {
+            places: [u64::MAX; 64],
+            running: 0,
+        };
+        for core in 0..32 {
+            let clock = ticks[core as usize];
+            if clock != OUT {
+                guess.running = guess.running.saturating_add(1);
+                guess.put(core, clock);
+            }
+        }
+        guess
+    }
+
+    // The number of a core, or 63 where it knows of none that is to go on.
+    pub(crate) fn core(&self) -> u32 {
+        (self.places[1] % 64) as u32
+    }
+
+    // How far the core runs on by itself: a stint, or as far as it gets where it is the only one.
+    pub(crate) fn limit(&self, clock: u32) -> u32
+        ensures { clock ≤ result }
+    {
+        if self.running == 1 { OUT } else { clock }
+    }
+
+    // The core's clock is this one, or OUT where it has finished.
+    pub(crate) fn note(&mut self, core: u32, clock: u32) {
+        if clock == OUT {
+            self.running = self.running.saturating_sub(1);
+        }
+        self.put(core, clock);
+    }
+
+    fn put(&mut self, core: u32, clock: u32) {
+        let mut least = if clock == OUT {
+            u64::MAX
+        } else {
+            clock as u64 * 64 + core as u64 % 64
+        };
+        let mut place = 32 + core as usize % 32;
+        self.places[place] = least;
+        for _ in 0..5 {
+            least = least.min(self.places[(place ^ 1) % 64]);
+            place /= 2;
+            self.places[place % 64] = least;
+        }
+    }
+}
