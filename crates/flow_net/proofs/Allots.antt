@@ -54,10 +54,17 @@ all_cost s s0 e pairs j lacks most few cost =
 pub zero_lack : (l : Load) (lacks : List (List ℕ)) → all_lacks l lacks ≡ 0 → (v k : ℕ) → v < l.width
     → k < jobs l v → ticks_at lacks v k ≡ 0
 zero_lack l lacks none v k h lt =
-    omega (arith, total-point (lack_of lacks v) (jobs l v) k lt, total-point (λ w. total (lack_of lacks w) (jobs l w)) l.width v h, none)
+    omega (
+      arith,
+      total-point (lack_of lacks v) (jobs l v) k lt,
+      total-point
+          (λ w. total (lack_of lacks w) (jobs l w)) l.width v h,
+      none,
+    )
 
 -- a flow of which nothing lacks is an allotment
-pub allotted : (tasks : List (Option Periodic)) (marks : List ℕ) (cores : ℕ) (rows lacks : List (List ℕ)) (room : List ℕ)
+pub allotted : (tasks : List (Option Periodic)) (marks : List ℕ) (cores : ℕ) (rows lacks : List (List ℕ))
+    (room : List ℕ)
     → AreMarks (map period_of_task tasks) marks
     → IsNet (load_of_tasks tasks marks cores) rows lacks room (load_of_tasks tasks marks cores).count
     → all_lacks (load_of_tasks tasks marks cores) lacks ≡ 0
@@ -70,7 +77,12 @@ allotted tasks marks cores rows lacks room are net none =
       rows = net.rows_len;
       widths = λ i h. net.row_len i (omega (arith, h, net.rows_len)) ∙ n;
       short = λ v i h a. net.flow.short v i (omega (arith, h, n)) (omega (arith, a, net.rows_len));
-      serves = λ v k h lt. omega (arith, net.flow.due v k (omega (arith, h, n)) lt, zero_lack l lacks none v k (omega (arith, h, n)) lt);
+      serves = λ v k h lt. omega (
+        arith,
+        net.flow.due v k (omega (arith, h, n)) lt,
+        zero_lack l lacks none v k
+            (omega (arith, h, n)) lt,
+      );
       fits = λ i a. omega (arith, net.flow.fits i (omega (arith, a, net.rows_len)));
     }
 
@@ -94,7 +106,8 @@ saturate_cost s0 s1 s2 s3 k i j lacks0 lacks1 lacks2 less less' most few cost co
     let e = j + pairs + i in
     let filled : i * (2 * k + 1) ≡ 2 * pairs + i = omega arith in
     let some : 1 ≤ j = ⊎_elim (λ (x : 0 < j). omega (arith, x))
-    (λ (x : j ≤ 0). let z : k ≡ 0 = omega (arith, few, x) in absurd (omega (arith, ap (λ n. n * i) z, most, less))) (cases_lt 0 j) in
+    (λ (x : j ≤ 0). let z : k ≡ 0 = omega (arith, few, x) in absurd
+    (omega (arith, ap (λ n. n * i) z, most, less))) (cases_lt 0 j) in
     let up = mul-le-mul_left {m = lacks2 + 1 + 1} {n =
     pairs} (2 * e) (omega (arith, less, less', most, some)) in
     let turned : 2 * e * pairs ≡ 2 * pairs * e = omega arith in

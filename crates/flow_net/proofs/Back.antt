@@ -36,7 +36,13 @@ can_follow l f rv rk q head v s jobwise lt h due some none =
       root_job = λ e. absurd (omega (arith, e));
       same = λ x a e e'.
           (let was_read : 0 < q.scan v (q.at x) = rw e at (s.read x a) in
-          absurd (omega (arith, was_read, none, jobwise v (q.at x) (q.at head) h (s.interval x a) (s.interval head lt) e')));
+          absurd (omega (
+            arith,
+            was_read,
+            none,
+            jobwise v (q.at x) (q.at head) h (s.interval x a)
+                (s.interval head lt) e',
+          )));
     }
 
 -- each link has its place in the queue

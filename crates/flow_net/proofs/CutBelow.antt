@@ -45,13 +45,16 @@ pub cut_is_enough : (l : Load) → IsLoad l → Fits l → (chosen : ℕ → ℕ
     ≤ total (λ i. cond (near i) (l.cores * span l i) 0) l.count
     + total (λ v. total (λ i. cond (chosen v (job l v i)) (cond (near i) 0 (span l i)) 0) l.count) l.width
 cut_is_enough l ok fits chosen near =
-    let cut = no_cut_below l.width l.count (l.cores * l.round) l.round (demand l) (span l) (λ v i. chosen v (job l v i)) near (record {
+    let cut = no_cut_below l.width l.count (l.cores * l.round) l.round (demand l) (span l)
+    (λ v i. chosen v (job l v i)) near (record {
       fits = fits;
       single = λ w h. (let m = mul-le-mul_right (jobs l w) (ok.within w h) in omega (arith, m, ok.whole w h));
     }) in
     let costs = λ (v : ℕ). total (λ k. cond (chosen v k) (l.cost v) 0) (jobs l v) in
-    let left : total (λ v. total (λ i. cond (chosen v (job l v i)) (demand l v * span l i) 0) l.count) l.width ≡ total costs l.width * l.round
-    = total-ext _ _ l.width (λ v h. sym (by_jobs l ok v h (λ i. cond (chosen v (job l v i)) (demand l v * span l i) 0))
+    let left : total (λ v. total (λ i. cond (chosen v (job l v i)) (demand l v * span l i) 0) l.count) l.width
+    ≡ total costs l.width * l.round
+    = total-ext _ _ l.width (λ v h. sym
+    (by_jobs l ok v h (λ i. cond (chosen v (job l v i)) (demand l v * span l i) 0))
     ∙ total-ext _ _ (jobs l v) (λ k lt. chosen_job l ok (chosen v) v k h lt)
     ∙ scaled (λ k. cond (chosen v k) (l.cost v) 0) l.round (jobs l v))
     ∙ scaled costs l.round l.width in
@@ -61,8 +64,12 @@ cut_is_enough l ok fits chosen near =
     ≡ total ins l.count * l.round
     = total-ext _ _ l.count (λ i _. near_scaled (near i) l.cores l.round (span l i))
     ∙ scaled ins l.round l.count in
-    let far : total (λ v. total (λ i. cond (chosen v (job l v i)) (cond (near i) 0 (l.round * span l i)) 0) l.count) l.width ≡ total outs l.width * l.round
-    = total-ext _ _ l.width (λ v _. total-ext _ _ l.count (λ i _. far_scaled (chosen v (job l v i)) (near i) l.round (span l i))
+    let far : total (λ v. total (λ i. cond (chosen v (job l v i)) (cond (near i) 0 (l.round * span l i)) 0)
+    l.count) l.width ≡ total outs l.width * l.round
+    = total-ext _ _ l.width (λ v _. total-ext _ _ l.count
+    (λ i _. far_scaled (chosen v (job l v i)) (near i) l.round (span l i))
     ∙ scaled (λ i. cond (chosen v (job l v i)) (cond (near i) 0 (span l i)) 0) l.round l.count)
     ∙ scaled outs l.round l.width in
-    le_of_mul-le-mul_right {k = l.round} (omega (arith, cut, left, right, far, add-mul (total ins l.count) (total outs l.width) l.round)) ok.some_round
+    le_of_mul-le-mul_right {k = l.round}
+    (omega (arith, cut, left, right, far, add-mul (total ins l.count) (total outs l.width) l.round))
+    ok.some_round

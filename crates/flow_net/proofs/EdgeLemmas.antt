@@ -80,8 +80,10 @@ one_edge l n (ToInterval v i) (ToJob w j) is is' = absurd (omega (arith, below_j
 one_edge l n (ToInterval v i) (ToInterval w j) is is' =
     let rank = rank_less l v is.vcpu is.due in
     let rank' = rank_less l w is'.vcpu is'.due in
-    let same = same_parts (admitted l) i (admitted_below l v) j (admitted_below l w) (omega (arith, is.number, is'.number)) rank rank' in
-    let vcpu = same_place (is_due l) v 0 w 0 (omega (arith, same.1)) (omega (arith, is.due)) (omega (arith, is'.due)) in
+    let same = same_parts (admitted l) i (admitted_below l v) j (admitted_below l w)
+    (omega (arith, is.number, is'.number)) rank rank' in
+    let vcpu = same_place (is_due l) v 0 w 0 (omega (arith, same.1)) (omega (arith, is.due))
+    (omega (arith, is'.due)) in
     rw (vcpu.0, same.0) refl
 one_edge l n (ToInterval v i) (ToSink j) is is' = absurd (omega (arith, below_sink l n v i is, is'.number))
 one_edge l n (ToSink i) (ToJob w j) is is' = absurd (omega (arith, below_jobs l n w j is', is.number))

@@ -32,7 +32,8 @@ whole_inside : (l : Load) (seen : ℕ → ℕ → Bool) (f : ℕ → ℕ → ℕ
     → over_job l v k (inside seen f v) ≡ cond b (over_job l v k (f v)) 0
 whole_inside l seen f v k b all =
     let same : over_job l v k (inside seen f v) ≡ over_job l v k (λ i. cond b (f v i) 0)
-    = total-ext (λ i. cond (job l v i == k) (inside seen f v i) 0) (λ i. cond (job l v i == k) (cond b (f v i) 0) 0) l.count
+    = total-ext (λ i. cond (job l v i == k) (inside seen f v i) 0)
+    (λ i. cond (job l v i == k) (cond b (f v i) 0) 0) l.count
     (λ i h. elim (cases_eq (job l v i) k) [
       | inl e ↦ ap (λ c. cond (job l v i == k) (cond c (f v i) 0) 0) (all i h e)
       | inr ne ↦ cond-false (job l v i == k) (inside seen f v i) 0 (ne_eqb (job l v i) k ne)
@@ -40,7 +41,8 @@ whole_inside l seen f v k b all =
     ]) in
     same ∙ elim b as (λ b. over_job l v k (λ i. cond b (f v i) 0) ≡ cond b (over_job l v k (f v)) 0) [
       | true ↦ refl
-      | false ↦ total-none (λ i. cond (job l v i == k) 0 0) l.count (λ i h. elim (job l v i == k) as (λ c. ◌≡◌ {A = ℕ} (cond c 0 0) 0) [ true ↦ refl | false ↦ refl ])
+      | false ↦ total-none (λ i. cond (job l v i == k) 0 0) l.count
+          (λ i h. elim (job l v i == k) as (λ c. ◌≡◌ {A = ℕ} (cond c 0 0) 0) [ true ↦ refl | false ↦ refl ])
     ]
 
 -- all that the fluid schedule gives a job
@@ -50,7 +52,8 @@ fluid_job l ok v k h lt =
     let d = demand l v in
     let inner : over_job l v k (λ i. d * span l i)
     ≡ total (λ i. d * cond (job l v i == k) (span l i) 0) l.count
-    = total-ext (λ i. cond (job l v i == k) (d * span l i) 0) (λ i. d * cond (job l v i == k) (span l i) 0) l.count
+    = total-ext (λ i. cond (job l v i == k) (d * span l i) 0) (λ i. d * cond (job l v i == k) (span l i) 0)
+    l.count
     (λ i _. elim (job l v i == k) as (λ c. cond c (d * span l i) 0
     ≡ d * cond c (span l i) 0) [ true ↦ refl | false ↦ omega arith ]) in
     let all = total-scale d (λ i. cond (job l v i == k) (span l i) 0) l.count in
@@ -115,7 +118,8 @@ never_stuck_here l f lack room seen near v i ok fits flow s =
     let per_vcpu : (w : ℕ) → w < l.width
     → total (inside seen f w) l.count * l.round ≤ total (inside seen fluid_all w) l.count
     = λ w h.
-    let each = total-le (λ k. over_job l w k (inside seen f w) * l.round) (λ k. over_job l w k (inside seen fluid_all w)) (jobs l w)
+    let each = total-le (λ k. over_job l w k (inside seen f w) * l.round)
+    (λ k. over_job l w k (inside seen fluid_all w)) (jobs l w)
     (λ k lt. job_inside l f lack room seen near v i ok flow s w k h lt) in
     omega (
       arith,
@@ -125,8 +129,10 @@ never_stuck_here l f lack room seen near v i ok fits flow s =
       by_jobs l ok w h (inside seen fluid_all w),
     ) in
     let at_root : total (inside seen f v) l.count * l.round < total (inside seen fluid_all v) l.count
-    = let each = total-lt (λ k. over_job l v k (inside seen f v) * l.round) (λ k. over_job l v k (inside seen fluid_all v)) (jobs l v)
-    (job l v i) (λ k lt. job_inside l f lack room seen near v i ok flow s v k s.vcpu lt) (job_in l ok v i s.vcpu s.interval)
+    = let each = total-lt (λ k. over_job l v k (inside seen f v) * l.round)
+    (λ k. over_job l v k (inside seen fluid_all v)) (jobs l v)
+    (job l v i) (λ k lt. job_inside l f lack room seen near v i ok flow s v k s.vcpu lt)
+    (job_in l ok v i s.vcpu s.interval)
     (job_lacks l f lack room seen near v i ok flow s) in
     omega (
       arith,
@@ -135,7 +141,8 @@ never_stuck_here l f lack room seen near v i ok fits flow s =
       ap (λ n. n * l.round) (by_jobs l ok v s.vcpu (inside seen f v)),
       by_jobs l ok v s.vcpu (inside seen fluid_all v),
     ) in
-    let all = total-lt (λ w. total (inside seen f w) l.count * l.round) (λ w. total (inside seen fluid_all w) l.count) l.width v per_vcpu s.vcpu at_root in
+    let all = total-lt (λ w. total (inside seen f w) l.count * l.round)
+    (λ w. total (inside seen fluid_all w) l.count) l.width v per_vcpu s.vcpu at_root in
     never_stuck l.width l.count l.cores l.round (demand l) (span l) f seen near
     (record {
       fits = fits;

@@ -13,7 +13,8 @@ pub flow_and_lacks : (l : Load) → IsLoad l → (rows lacks : List (List ℕ)) 
     → all_lacks l lacks + flow_sum l rows ≡ total (demand l) l.width
 flow_and_lacks l ok rows lacks room hole net =
     let f = flow_of rows in
-    let parts = total-add (λ v. total (lack_of lacks v) (jobs l v)) (λ v. total (given l f v) (jobs l v)) l.width in
+    let parts = total-add (λ v. total (lack_of lacks v) (jobs l v)) (λ v. total (given l f v) (jobs l v))
+    l.width in
     let each : total (λ v. total (lack_of lacks v) (jobs l v) + total (given l f v) (jobs l v)) l.width
     ≡ total (demand l) l.width
     = total-ext _ (demand l) l.width (λ v h. sym (total-add (lack_of lacks v) (given l f v) (jobs l v))

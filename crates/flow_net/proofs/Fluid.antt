@@ -62,7 +62,8 @@ fluid_demand l ok v i h =
 pub fluid_used : (l : Load) → IsLoad l → total (demand l) l.width ≤ l.cores * l.round → (i : ℕ)
     → used l (fluid l) i ≤ l.cores * span l i
 fluid_used l ok fits i =
-    let each = total-le (λ v. fluid l v i * l.round) (λ v. demand l v * span l i) l.width (λ v h. fluid_demand l ok v i h) in
+    let each = total-le (λ v. fluid l v i * l.round) (λ v. demand l v * span l i) l.width
+    (λ v h. fluid_demand l ok v i h) in
     let left = scaled (λ v. fluid l v i) l.round l.width in
     let right = scaled (demand l) (span l i) l.width in
     let most = mul-le-mul_right (span l i) fits in

@@ -26,7 +26,8 @@ pub never_ends : (l : Load) (f lack : ℕ → ℕ → ℕ) (room : ℕ → ℕ) 
     → IsReadUpTo l f room q head
     → q.tail ≤ head → ⊥
 never_ends l f lack room rv rk head q ok fits flow s jobwise root read_to all =
-    never_stuck_here l f lack room (λ v i. nat_lt 0 (q.scan v i)) q.near rv root.interval ok fits flow (record {
+    never_stuck_here l f lack room (λ v i. nat_lt 0 (q.scan v i)) q.near rv root.interval ok fits flow
+    (record {
       forth = λ w j a b seen far. s.forth w j a b (ltb-true 0 (q.scan w j) seen) far;
       full = λ j a near.
           (let x = s.queued j a near in
@@ -64,7 +65,12 @@ read_up_more l f room rv rk head q q' s old lt full reads at followed = record {
       let some' : 0 < f v (q.at x) = rw same at some in
       elim (cases_eq x head) [
         | inl e ↦ (let at_head : 0 < f v (q.at head) = rw e at some' in rw same (rw e (followed v a at_head)))
-        | inr ne ↦ rw same (omega (arith, old.back x v (omega (arith, h, ne)) a some', reads v (q.at x) a (s.interval x (omega (arith, h, lt)))))
+        | inr ne ↦ rw same (omega (
+          arith,
+          old.back x v (omega (arith, h, ne)) a some',
+          reads v (q.at x) a
+              (s.interval x (omega (arith, h, lt))),
+        ))
       ]);
 }
 

@@ -20,6 +20,7 @@ pub mod Searched
 pub mod Loads
 pub mod Marking
 pub mod Opened
+pub mod Lacking
 pub mod Allots
 pub mod FlowSum
 pub mod CutBelow

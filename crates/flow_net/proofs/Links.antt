@@ -24,9 +24,11 @@ passed_at near scans queue tail j u at = record {
 }
 
 -- an edge is read and reaches its interval
-pub pushed_at : (near : List Bool) (scans : List (List ℕ)) (queue : List Link) (tail j u : ℕ) (link : Link) → IsPlace scans j u
+pub pushed_at : (near : List Bool) (scans : List (List ℕ)) (queue : List Link) (tail j u : ℕ) (link : Link) →
+    IsPlace scans j u
     → j < length near → tail < length queue → link.interval ≡ j → link.vcpu ≡ u
-    → Pushed (reached near scans queue tail) (reached (set near j true) (raised_at scans j u) (set queue tail link) (tail + 1)) u j link.back
+    → Pushed (reached near scans queue tail)
+    (reached (set near j true) (raised_at scans j u) (set queue tail link) (tail + 1)) u j link.back
 pushed_at near scans queue tail j u link at in_near in_queue is_j is_u =
     let none : Link = record { interval = 0; vcpu = 0; back = 0 } in
     record {

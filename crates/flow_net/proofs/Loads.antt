@@ -61,7 +61,8 @@ periods_of_tasks tasks =
       same_len = length-map tasks period_of_task ∙ sym n;
       some = λ v h. rw (period_at tasks v (in_tasks v h)) (task_facts (get_or tasks v None)).some;
       whole = λ v h. rw (period_at tasks v (in_tasks v h)) (task_facts (get_or tasks v None)).whole;
-      within = λ v h. rw (period_at tasks v (in_tasks v h)) (rw (cost_at tasks v (in_tasks v h)) (task_facts (get_or tasks v None)).within);
+      within = λ v h. rw (period_at tasks v (in_tasks v h))
+          (rw (cost_at tasks v (in_tasks v h)) (task_facts (get_or tasks v None)).within);
       short = λ v h. rw (period_at tasks v (in_tasks v h)) (task_facts (get_or tasks v None)).short;
     }
 
@@ -95,10 +96,12 @@ total-front f (suc n) = omega (arith, total-front f n)
 
 -- the demands by numbers are those by tasks
 pub demands_total : (tasks : List (Option Periodic))
-    → total (λ v. get_or (map cost_of_task tasks) v 0 * (ROUND / get_or (map period_of_task tasks) v 0)) (length tasks) ≡ demands tasks
+    → total (λ v. get_or (map cost_of_task tasks) v 0 * (ROUND / get_or (map period_of_task tasks) v 0))
+    (length tasks) ≡ demands tasks
 demands_total [] = refl
 demands_total (t ∷ ts) =
-    total-front (λ v. get_or (map cost_of_task (t ∷ ts)) v 0 * (ROUND / get_or (map period_of_task (t ∷ ts)) v 0)) (length ts)
+    total-front (λ v. get_or (map cost_of_task (t ∷ ts)) v 0 *
+    (ROUND / get_or (map period_of_task (t ∷ ts)) v 0)) (length ts)
     ∙ ap (λ n. demand_of_task t + n) (demands_total ts) ∙ sym (sum_by-cons demand_of_task t ts)
 
 -- demands that fit the cores as tasks do so as a load
@@ -106,7 +109,8 @@ pub fits_of_demands : (tasks : List (Option Periodic)) (marks : List ℕ) (cores
     → demands tasks ≤ cores * ROUND → Fits (load_of_tasks tasks marks cores)
 fits_of_demands tasks marks cores h =
     let n = length-map tasks cost_of_task in
-    let f = λ (v : ℕ). get_or (map cost_of_task tasks) v 0 * (ROUND / get_or (map period_of_task tasks) v 0) in
+    let f = λ (v : ℕ). get_or (map cost_of_task tasks) v 0 * (ROUND / get_or (map period_of_task tasks) v 0)
+    in
     let same : total f (length (map cost_of_task tasks)) ≡ total f (length tasks) = ap (λ k. total f k) n in
     let sum = demands_total tasks in
     let all : total f (length (map cost_of_task tasks)) ≤ cores * ROUND = omega (arith, same, sum, h) in
@@ -118,9 +122,12 @@ pub allotment_fits : (tasks : List (Option Periodic)) (cores : ℕ) (a : Allotme
 allotment_fits tasks cores a is =
     let l = load_of_tasks tasks a.marks cores in
     let n = length-map tasks cost_of_task in
-    let ok = load_ok (map cost_of_task tasks) (map period_of_task tasks) a.marks cores (periods_of_tasks tasks) is.marks in
-    let most = no_allotment_beyond l ok (flow_of a.ticks) (λ v k h lt. is.serves v k (omega (arith, h, n)) lt) (λ i h. is.fits i (omega (arith, h, is.rows))) in
-    let f = λ (v : ℕ). get_or (map cost_of_task tasks) v 0 * (ROUND / get_or (map period_of_task tasks) v 0) in
+    let ok = load_ok (map cost_of_task tasks) (map period_of_task tasks) a.marks cores
+    (periods_of_tasks tasks) is.marks in
+    let most = no_allotment_beyond l ok (flow_of a.ticks) (λ v k h lt. is.serves v k (omega (arith, h, n)) lt)
+    (λ i h. is.fits i (omega (arith, h, is.rows))) in
+    let f = λ (v : ℕ). get_or (map cost_of_task tasks) v 0 * (ROUND / get_or (map period_of_task tasks) v 0)
+    in
     let same : total f (length (map cost_of_task tasks)) ≡ total f (length tasks) = ap (λ k. total f k) n in
     let most' : total f (length (map cost_of_task tasks)) ≤ cores * ROUND = most in
     omega (arith, most', same, demands_total tasks)

@@ -1,13 +1,15 @@
 -- The marks of periods.
-use Rattle.std.proofs.Common.{◌≡◌, ℕ, zero, suc, ◌+◌, ◌-◌, ◌*◌, ◌/◌, ◌<◌, ◌≤◌, List, [], ◌∷◌, ◌++◌, length, length-append, get_or, ap, refl, sym, ◌∙◌, arith, ⊎_elim, inl, inr}
+use Rattle.std.proofs.Common.{◌≡◌, ℕ, zero, suc, ◌+◌, ◌-◌, ◌*◌, ◌/◌, ◌<◌, ◌≤◌, List, [], ◌∷◌, ◌++◌, Some, length, length-append, Contains, get_or, ap, refl, sym, subst, ◌∙◌, arith, ⊎_elim, inl, inr}
 use Rattle.std.proofs.lemmas.List.{get_or_append_left}
+use Rattle.std.proofs.lemmas.List.Elements.{Contains-get_or}
+use Rattle.std.proofs.lemmas.Option.{slice_get-get_or, get_or_from_slice_get}
 use Rattle.std.proofs.lemmas.Grind.{same_number_lists}
 use Rattle.std.proofs.Math.Seq.{get_or-append_seam}
 use Rattle.std.proofs.lemmas.Bool.{cases_lt, cases_eq}
 use Rattle.std.proofs.Math.Nat.{mul-le-mul_right, le-div_iff_mul-le, div-mul-le_self}
 use Rattle.tab_core.specs.declared.TheConstants.{ROUND}
 use Rattle.flow_net.specs.Allotments.{AreMarks}
-use Rattle.flow_net.specs.Inside.Marking.{IsNextMark, AreMarksTo}
+use Rattle.flow_net.specs.Inside.Marking.{AreAmong, IsNextMark, AreMarksTo}
 
 -- the first multiple after a tick
 pub next_multiple : (tick t : ℕ) → 0 < t → (tick < (tick / t + 1) * t) × ((k : ℕ) → tick < k * t
@@ -121,11 +123,14 @@ marks_more periods marks tick mark old next =
       ];
       each = λ i a b lt. elim (cases_eq i (length marks)) [
         | inl e ↦ rw (at_last i e) (next.each (omega (arith, lt, at_last i e)))
-        | inr ne ↦ rw (left i (omega (arith, b, len, ne))) (old.each i a (omega (arith, b, len, ne)) (omega (arith, lt, left i (omega (arith, b, len, ne)))))
+        | inr ne ↦ rw (left i (omega (arith, b, len, ne)))
+            (old.each i a (omega (arith, b, len, ne)) (omega (arith, lt, left i (omega (arith, b, len, ne)))))
       ];
       inside = λ i v k h h' above. elim (cases_eq (i + 1) (length marks)) [
         | inl e ↦ rw (at_last (i + 1) e) (next.inside v k h' (omega (arith, above, before i e)))
-        | inr ne ↦ rw (left (i + 1) (omega (arith, h, len, ne))) (old.inside i v k (omega (arith, h, len, ne)) h' (omega (arith, above, left i (omega (arith, h, len, ne)))))
+        | inr ne ↦ rw (left (i + 1) (omega (arith, h, len, ne)))
+            (old.inside i v k (omega (arith, h, len, ne)) h'
+            (omega (arith, above, left i (omega (arith, h, len, ne)))))
       ];
     }
 
@@ -221,5 +226,42 @@ no_longer periods marks other of of' = elim (cases_lt (length other) (length mar
 pub marks_unique : (periods marks other : List ℕ) → AreMarks periods marks → AreMarks periods other
     → marks ≡ other
 marks_unique periods marks other of of' =
-    let size : length marks ≡ length other = omega (arith, no_longer periods marks other of of', no_longer periods other marks of' of) in
-    same_number_lists marks other size (λ k lt. agree periods marks other of of' k lt (omega (arith, lt, size)))
+    let size : length marks ≡ length other = omega
+    (arith, no_longer periods marks other of of', no_longer periods other marks of' of) in
+    same_number_lists marks other size
+    (λ k lt. agree periods marks other of of' k lt (omega (arith, lt, size)))
+
+-- a number of a list has a place in the other
+pub few_at : (ns others : List ℕ) → AreAmong ns others → (v : ℕ) → v < length ns
+    → (w : ℕ) × (w < length others) × (get_or ns v 0 ≡ get_or others w 0)
+few_at ns others among v h =
+    let found = among (get_or ns v 0) (Contains-get_or ns v 0 h) in
+    let same : get_or others found.0 0 ≡ get_or others found.0 (get_or ns v 0)
+    = get_or_from_slice_get others found.0 (get_or others found.0 (get_or ns v 0)) 0
+    (slice_get-get_or others found.0 (get_or ns v 0) found.1) in
+    (found.0, found.1, sym (same ∙ found.2))
+
+-- where each place of a list has its number in the other
+pub all_listed : (ns others : List ℕ) → ((v : ℕ) → v < length ns → Contains others (get_or ns v 0))
+    → AreAmong ns others
+all_listed ns others each n found =
+    let same : get_or ns found.0 0 ≡ n
+    = get_or_from_slice_get ns found.0 n 0 (slice_get-get_or ns found.0 n found.1 ∙ ap Some found.2) in
+    subst (λ x. Contains others x) same (each found.0 found.1)
+
+-- the marks of the same periods, each once, are those of all
+pub marks_among : (periods few marks : List ℕ) → AreAmong periods few → AreAmong few periods
+    → AreMarks few marks → AreMarks periods marks
+marks_among periods few marks all no_more m = record {
+  some = m.some;
+  first = m.first;
+  last = m.last;
+  rise = m.rise;
+  each = λ i a b.
+      let e = m.each i a b in
+      let s = few_at few periods no_more e.vcpu e.listed in
+      record { vcpu = s.0; listed = s.1; times = e.times; is = e.is ∙ ap (λ p. e.times * p) s.2 };
+  inside = λ i v k h lt above.
+      let s = few_at periods few all v lt in
+      rw s.2 (m.inside i s.0 k h s.1 (rw s.2 at above));
+}

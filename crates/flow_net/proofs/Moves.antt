@@ -74,8 +74,16 @@ open_flow l f lack room room' i ok h here else = record {
   short = ok.short;
   due = ok.due;
   fits = λ j lt. elim (cases_eq j i) [
-    | inl e ↦ (let e' : room j ≡ room' j + 1 = rw e here in omega (arith, ok.fits j lt, e', hole_here i j (sym e), hole_else l.count j (λ z. omega arith)))
-    | inr ne ↦ omega (arith, ok.fits j lt, else j ne, hole_else i j (λ z. ne (sym z)), hole_else l.count j (λ z. omega arith))
+    | inl e ↦ (let e' : room j ≡ room' j + 1 = rw e here in omega
+        (arith, ok.fits j lt, e', hole_here i j (sym e), hole_else l.count j (λ z. omega arith)))
+    | inr ne ↦ omega (
+      arith,
+      ok.fits j lt,
+      else j ne,
+      hole_else i j (λ z. ne (sym z)),
+      hole_else l.count j
+          (λ z. omega arith),
+    )
   ];
 }
 
@@ -112,9 +120,19 @@ shift_flow l f g h lack room v j p ok in_width in_j in_p lt same up down =
               let q' : given l g w k ≡ given l h w k + 1 = rw e (rw (e'
               ∙ same) (raised_given l h g v p in_p down)) in
               omega (arith, ok.due w k a b, q, q'))
-          | inr ne ↦ omega (arith, ok.due w k a b, raised_given_else l f g v j w k up (λ x y. ne y), raised_given_else l h g v p w k down (λ x y. ne (y ∙ sym same)))
+          | inr ne ↦ omega (
+            arith,
+            ok.due w k a b,
+            raised_given_else l f g v j w k up (λ x y. ne y),
+            raised_given_else l h g v p w k down (λ x y. ne (y ∙ sym same)),
+          )
         ]
-        | inr ne ↦ omega (arith, ok.due w k a b, raised_given_else l f g v j w k up (λ x y. ne x), raised_given_else l h g v p w k down (λ x y. ne x))
+        | inr ne ↦ omega (
+          arith,
+          ok.due w k a b,
+          raised_given_else l f g v j w k up (λ x y. ne x),
+          raised_given_else l h g v p w k down (λ x y. ne x),
+        )
       ];
       fits = λ i a.
           let at_j : used l g i ≡ used l f i + hole_at j i
@@ -156,13 +174,32 @@ close_flow l f g lack lack' room v j ok in_width in_j lt up down =
               ≡ given l f w k + 1 = rw e (rw e' (raised_given l f g v j in_j up)) in
               let q' : lack w k ≡ lack' w k + 1 = rw e (rw e' down.here) in
               omega (arith, ok.due w k a b, q, q'))
-          | inr ne ↦ omega (arith, ok.due w k a b, raised_given_else l f g v j w k up (λ x y. ne y), down.else w k (λ x y. ne y))
+          | inr ne ↦ omega (
+            arith,
+            ok.due w k a b,
+            raised_given_else l f g v j w k up (λ x y. ne y),
+            down.else
+                w k (λ x y. ne y),
+          )
         ]
-        | inr ne ↦ omega (arith, ok.due w k a b, raised_given_else l f g v j w k up (λ x y. ne x), down.else w k (λ x y. ne x))
+        | inr ne ↦ omega (
+          arith,
+          ok.due w k a b,
+          raised_given_else l f g v j w k up (λ x y. ne x),
+          down.else w
+              k (λ x y. ne x),
+        )
       ];
       fits = λ i a. elim (cases_eq i j) [
         | inl e ↦ (let q : used l g i ≡ used l f i + 1 = rw e (raised_used l f g v j in_width up) in
             omega (arith, ok.fits i a, q, hole_here j i (sym e), hole_else l.count i (λ z. omega arith)))
-        | inr ne ↦ omega (arith, ok.fits i a, raised_used_else l f g v j i up ne, hole_else j i (λ z. ne (sym z)), hole_else l.count i (λ z. omega arith))
+        | inr ne ↦ omega (
+          arith,
+          ok.fits i a,
+          raised_used_else l f g v j i up ne,
+          hole_else j i
+              (λ z. ne (sym z)),
+          hole_else l.count i (λ z. omega arith),
+        )
       ];
     }

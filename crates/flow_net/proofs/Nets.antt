@@ -85,7 +85,8 @@ shift_net l rows lacks room v j p net h in_j in_p lt same some =
       lacks_len = net.lacks_len;
       lack_len = net.lack_len;
       room_len = net.room_len;
-      flow = shift_flow l (flow_of rows) (flow_of up) (flow_of (lowered_at up p v)) (lack_of lacks) (λ i. get_or room i 0) v j p
+      flow = shift_flow l (flow_of rows) (flow_of up) (flow_of (lowered_at up p v)) (lack_of lacks)
+          (λ i. get_or room i 0) v j p
           net.flow h in_j in_p lt same (raised_rows rows j v at_j) (lowered_rows up p v at_p' some);
     }
 
@@ -104,7 +105,8 @@ close_net l ok rows lacks room v j net h in_j lt some =
       lacks_len = length-with lacks v k (ticks_at lacks v k - 1) ∙ net.lacks_len;
       lack_len = λ w a. length-row-with lacks v k (ticks_at lacks v k - 1) w at_k ∙ net.lack_len w a;
       room_len = net.room_len;
-      flow = close_flow l (flow_of rows) (flow_of (raised_at rows j v)) (lack_of lacks) (lack_of (lowered_at lacks v k)) (λ i. get_or room i 0)
+      flow = close_flow l (flow_of rows) (flow_of (raised_at rows j v)) (lack_of lacks)
+          (lack_of (lowered_at lacks v k)) (λ i. get_or room i 0)
           v j net.flow h in_j lt (raised_rows rows j v at_j) (lowered_lacks lacks v k at_k some);
     }
 

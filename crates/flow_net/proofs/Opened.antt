@@ -69,7 +69,13 @@ opened_lacks l ok rows lacks o due =
     let each = total-le (λ v. total (lack_of lacks v) (jobs l v)
     + jobs_due l v) (λ v. is_due l v * l.count) l.width
     (λ v h. vcpu_lacks l ok (flow_of rows) (lack_of lacks) o due v h) in
-    omega (arith, each, total-add (λ v. total (lack_of lacks v) (jobs l v)) (jobs_due l) l.width, scaled (is_due l) l.count l.width)
+    omega (
+      arith,
+      each,
+      total-add (λ v. total (lack_of lacks v) (jobs l v)) (jobs_due l) l.width,
+      scaled
+          (is_due l) l.count l.width,
+    )
 
 -- what the cores offer in an interval is small
 pub offered : (d : Demands) (i n : ℕ) → i < (load d).count → n ≡ span (load d) i

@@ -98,13 +98,17 @@ pass_search l f rv rk q q' u j s in_width due none full p =
           ∙ n) in (o.0, omega (arith, o.1, p.tail), p.at o.0 ∙ o.2));
       back_le = λ x h. omega (arith, p.back x, s.back_le x (old x h));
       short = λ x h. rw (p.by x) (rw (p.at x) (s.short x (old x h)));
-      from_job = λ x h b. rw (p.back x) (rw (p.by x) (rw (p.at x) (rw (p.at (q.back x - 1)) (s.from_job x (old x h) (omega (arith, b, p.back x))))));
-      from_some = λ x h b. rw (p.back x) (rw (p.by x) (rw (p.at (q.back x - 1)) (s.from_some x (old x h) (omega (arith, b, p.back x)))));
+      from_job = λ x h b. rw (p.back x)
+          (rw (p.by x) (rw (p.at x) (rw (p.at (q.back x - 1))
+          (s.from_job x (old x h) (omega (arith, b, p.back x))))));
+      from_some = λ x h b. rw (p.back x)
+          (rw (p.by x) (rw (p.at (q.back x - 1)) (s.from_some x (old x h) (omega (arith, b, p.back x)))));
       root_vcpu = λ x h b. p.by x ∙ s.root_vcpu x (old x h) (sym (p.back x) ∙ b);
       root_job = λ x h b. rw (p.by x) (rw (p.at x) (s.root_job x (old x h) (sym (p.back x) ∙ b)));
       one_back = λ x y h h' e e'. p.back x ∙ s.one_back x y (old x h) (old y h') (sym (p.by x) ∙ e ∙ p.by y)
           (rw (p.by x) at (rw (p.by y) at (rw (p.at x) at (rw (p.at y) at e')))) ∙ sym (p.back y);
-      read = λ x h. rw (p.by x) (rw (p.at x) (omega (arith, s.read x (old x h), scan_more q q' u j p.scan (q.by x) (q.at x))));
+      read = λ x h. rw (p.by x) (rw (p.at x)
+          (omega (arith, s.read x (old x h), scan_more q q' u j p.scan (q.by x) (q.at x))));
       forth = λ v i a b n far. elim (cases_eq v u) [
         | inl e ↦ elim (cases_eq i j) [
           | inl e' ↦ rw e (rw e' (full (rw e' at (sym (p.near i) ∙ far))))
@@ -113,7 +117,8 @@ pass_search l f rv rk q q' u j s in_width due none full p =
         | inr ne ↦ s.forth v i a b (omega (arith, n, p.scan.else v i (λ x y. ne x))) (sym (p.near i) ∙ far)
       ];
       once = once_more l q q' u j p.scan none due s.once;
-      size = total-ext (λ i. cond (q'.near i) 1 0) (λ i. cond (q.near i) 1 0) l.count (λ i h. ap (λ b. cond b 1 0) (p.near i)) ∙ s.size ∙ sym p.tail;
+      size = total-ext (λ i. cond (q'.near i) 1 0) (λ i. cond (q.near i) 1 0) l.count
+          (λ i h. ap (λ b. cond b 1 0) (p.near i)) ∙ s.size ∙ sym p.tail;
     }
 
 -- the new link, and those before it
@@ -165,13 +170,15 @@ push_search l f rv rk q q' u j k from s can in_round at_k none far short p =
           at_k ∙ can.from_job b'
           ∙ ap (λ n. job l u n) (sym (at (from - 1) (omega (arith, b', can.back_le))))))))
           (λ x h b. let b' : 0 < q.back x = omega (arith, b, back x h) in
-          rw (back x h) (rw (by x h) (rw (at x h) (rw (at (q.back x - 1) (omega (arith, h, b', s.back_le x h))) (s.from_job x h b')))));
+          rw (back x h) (rw (by x h) (rw (at x h)
+          (rw (at (q.back x - 1) (omega (arith, h, b', s.back_le x h))) (s.from_job x h b')))));
       from_some = by_links q q' u j from p (λ x. 0 < q'.back x → 0 < f (q'.by x) (q'.at (q'.back x - 1)))
           (λ b. rw p.back_here (rw p.by_here (
           let b' : 0 < from = omega (arith, b, p.back_here) in
           rw (at (from - 1) (omega (arith, b', can.back_le))) (can.from_some b'))))
           (λ x h b. let b' : 0 < q.back x = omega (arith, b, back x h) in
-          rw (back x h) (rw (by x h) (rw (at (q.back x - 1) (omega (arith, h, b', s.back_le x h))) (s.from_some x h b'))));
+          rw (back x h) (rw (by x h) (rw (at (q.back x - 1) (omega (arith, h, b', s.back_le x h)))
+          (s.from_some x h b'))));
       root_vcpu = by_links q q' u j from p (λ x. q'.back x ≡ 0 → q'.by x ≡ rv)
           (λ b. p.by_here ∙ can.root_vcpu (sym p.back_here ∙ b)) (λ x h b. by x h
           ∙ s.root_vcpu x h (sym (back x h) ∙ b));
@@ -203,10 +210,12 @@ push_search l f rv rk q q' u j k from s can in_round at_k none far short p =
           ∙ sym (back y h')) y hy) x hx y hy;
       read = by_links q q' u j from p (λ x. 0 < q'.scan (q'.by x) (q'.at x))
           (rw p.by_here (rw p.at_here (omega (arith, p.scan.here))))
-          (λ x h. rw (by x h) (rw (at x h) (omega (arith, s.read x h, scan_more q q' u j p.scan (q.by x) (q.at x)))));
+          (λ x h. rw (by x h) (rw (at x h)
+          (omega (arith, s.read x h, scan_more q q' u j p.scan (q.by x) (q.at x)))));
       forth = λ v i a b n far'. elim (cases_eq i j) [
         | inl e ↦ absurd (false≢true (sym far' ∙ ap q'.near e ∙ p.near_here))
-        | inr other ↦ s.forth v i a b (omega (arith, n, p.scan.else v i (λ x y. other y))) (sym (p.near_else i other) ∙ far')
+        | inr other ↦ s.forth v i a b (omega (arith, n, p.scan.else v i (λ x y. other y)))
+            (sym (p.near_else i other) ∙ far')
       ];
       once = once_more l q q' u j p.scan none can.due s.once;
       size = total-more (λ i. cond (q.near i) 1 0) (λ i. cond (q'.near i) 1 0) l.count j in_round

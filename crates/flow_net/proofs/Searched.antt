@@ -34,15 +34,18 @@ lacks_less l rows lacks room hole v k net h lt some =
     let at = lack_place l rows lacks room hole v k net h lt in
     let down = lowered_lacks lacks v k at some in
     let new = lowered_at lacks v k in
-    sym (total-more (λ w. total (lack_of new w) (jobs l w)) (λ w. total (lack_of lacks w) (jobs l w)) l.width v h
-    (total-more (lack_of new v) (lack_of lacks v) (jobs l v) k lt down.here (λ j ne. down.else v j (λ a b. ne b)))
+    sym (total-more (λ w. total (lack_of new w) (jobs l w)) (λ w. total (lack_of lacks w) (jobs l w)) l.width
+    v h
+    (total-more (lack_of new v) (lack_of lacks v) (jobs l v) k lt down.here
+    (λ j ne. down.else v j (λ a b. ne b)))
     (λ w ne. total-ext (lack_of lacks w) (lack_of new w) (jobs l w) (λ j _. down.else w j (λ a b. ne a))))
 
 -- each pair is read once at most
 pub scanned_le : (l : Load) (f : ℕ → ℕ → ℕ) (rv rk : ℕ) (q : Reached) → IsSearch l f rv rk q
     → scanned l q ≤ admitted l * l.count
 scanned_le l f rv rk q s =
-    let each = total-le (used l q.scan) (λ i. admitted l) l.count (λ i h. total-le (λ v. q.scan v i) (is_due l) l.width (λ v a. s.once v i a h)) in
+    let each = total-le (used l q.scan) (λ i. admitted l) l.count
+    (λ i h. total-le (λ v. q.scan v i) (is_due l) l.width (λ v a. s.once v i a h)) in
     omega (arith, each, total-const (admitted l) l.count, mul_comm l.count (admitted l))
 
 -- the edges of a search, counted

@@ -77,7 +77,14 @@ pub job_in : (l : Load) → IsLoad l → (v i : ℕ) → v < l.width → i < l.c
 job_in l ok v i h lt =
     ⊎_elim (λ (x : job l v i < jobs l v). x)
     (λ (x : jobs l v ≤ job l v i).
-    absurd (omega (arith, job_from l ok v i h, mul-le-mul_right (l.period v) x, ok.whole v h, ok.last, marks_lt l ok i l.count lt (omega arith))))
+    absurd (omega (
+      arith,
+      job_from l ok v i h,
+      mul-le-mul_right (l.period v) x,
+      ok.whole v h,
+      ok.last,
+      marks_lt l ok i l.count lt (omega arith),
+    )))
     (cases_lt (job l v i) (jobs l v))
 
 -- the interval that holds a tick
@@ -111,9 +118,17 @@ listed l ok v k h le =
     let up = ok.inside v i h s.1 in
     let same : job l v i ≡ k
     = ⊎_elim
-    (λ (a : job l v i < k). absurd (omega (arith, s.3, up, mul-le-mul_right (l.period v) (let q : job l v i + 1 ≤ k = omega arith in q))))
+    (λ (a : job l v i < k). absurd (omega
+    (arith, s.3, up, mul-le-mul_right (l.period v) (let q : job l v i + 1 ≤ k = omega arith in q))))
     (λ (a : k ≤ job l v i). ⊎_elim
-    (λ (b : k < job l v i). absurd (omega (arith, s.2, low, ok.some_period v h, mul-le-mul_right (l.period v) (let q : k + 1 ≤ job l v i = omega arith in q))))
+    (λ (b : k < job l v i). absurd (omega (
+      arith,
+      s.2,
+      low,
+      ok.some_period v h,
+      mul-le-mul_right (l.period v)
+          (let q : k + 1 ≤ job l v i = omega arith in q),
+    )))
     (λ (b : job l v i ≤ k). omega arith)
     (cases_lt k (job l v i)))
     (cases_lt (job l v i) k) in
@@ -177,7 +192,8 @@ over_window l ok v k i j w f =
     let all : i + (j - i) + rest ≡ l.count = omega (arith, w.some, w.in_round) in
     let mid : i + (j - i) ≡ j = omega (arith, w.some) in
     let before : total g i ≡ 0
-    = total-none g i (λ n h. cond-false (job l v n == k) (f n) 0 (ne_eqb (job l v n) k (before_window l ok v k i j n w h))) in
+    = total-none g i (λ n h. cond-false (job l v n == k) (f n) 0
+    (ne_eqb (job l v n) k (before_window l ok v k i j n w h))) in
     let middle : total (λ n. g (i + n)) (j - i) ≡ total (λ n. f (i + n)) (j - i)
     = total-ext (λ n. g (i + n)) (λ n. f (i + n)) (j - i) (λ n h. cond-true (job l v (i + n) == k) (f (i
     + n)) 0
@@ -206,7 +222,8 @@ spans_fill l ok v k h lt =
 pub total-hot : (x n q : ℕ) → q < n → total (λ k. cond (q == k) x 0) n ≡ x
 total-hot x n q h =
     let here : cond (q == q) x 0 ≡ x = cond-true (q == q) x 0 (eq-eqb q q refl) in
-    let most = total-pick (λ k. cond (q == k) x 0) n q (λ k i ne. cond-false (q == k) x 0 (ne_eqb q k (λ e. ne (sym e)))) in
+    let most = total-pick (λ k. cond (q == k) x 0) n q
+    (λ k i ne. cond-false (q == k) x 0 (ne_eqb q k (λ e. ne (sym e)))) in
     let least = total-point (λ k. cond (q == k) x 0) n q h in
     omega (arith, here, most, least)
 

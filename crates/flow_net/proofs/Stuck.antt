@@ -50,23 +50,39 @@ never_stuck vcpus intervals cores round demand length flow reached near cut clos
     let inner = λ (v : ℕ). total (λ i. cond (near i) (flow v i) 0) intervals in
     let split : total (λ v. total (λ i. cond (reached v i) (flow v i) 0) intervals) vcpus
     ≡ total (λ v. inner v + outside v) vcpus
-    = total-ext _ _ vcpus (λ v h. total-ext _ _ intervals (λ i k. part (reached v i) (near i) (flow v i) (length i) (closed.forth v i h k) (closed.back v i h k))
-    ∙ total-add (λ i. cond (near i) (flow v i) 0) (λ i. cond (reached v i) (cond (near i) 0 (length i)) 0) intervals) in
+    = total-ext _ _ vcpus (λ v h. total-ext _ _ intervals
+    (λ i k. part (reached v i) (near i) (flow v i) (length i) (closed.forth v i h k)
+    (closed.back v i h k))
+    ∙ total-add (λ i. cond (near i) (flow v i) 0) (λ i. cond (reached v i) (cond (near i) 0 (length i)) 0)
+    intervals) in
     let sums = total-add inner outside vcpus in
     let swapped = total-swap (λ v i. cond (near i) (flow v i) 0) intervals vcpus in
     let filled : total (λ i. total (λ v. cond (near i) (flow v i) 0) vcpus) intervals
     ≡ total (λ i. cond (near i) (cores * length i) 0) intervals
-    = total-ext _ _ intervals (λ i k. interval_full (near i) vcpus cores (length i) (λ v. flow v i) (closed.full i k)) in
+    = total-ext _ _ intervals (λ i k. interval_full (near i) vcpus cores (length i) (λ v. flow v i)
+    (closed.full i k)) in
     let near_sum : total (λ i. cond (near i) ((cores * round) * length i) 0) intervals
     ≡ total (λ i. cond (near i) (cores * length i) 0) intervals * round
     = total-ext _ _ intervals (λ i k. sym (scaled_cond (near i) cores (length i) round))
     ∙ scaled (λ i. cond (near i) (cores * length i) 0) round intervals in
-    let far_sum : total (λ v. total (λ i. cond (reached v i) (cond (near i) 0 (round * length i)) 0) intervals) vcpus ≡ total outside vcpus * round
-    = total-ext _ _ vcpus (λ v h. total-ext _ _ intervals (λ i k. sym (scaled_pair (reached v i) (near i) (length i) round)) ∙ scaled (λ i. cond (reached v i) (cond (near i) 0 (length i)) 0) round intervals)
+    let far_sum : total (λ v. total (λ i. cond (reached v i) (cond (near i) 0 (round * length i)) 0)
+    intervals) vcpus ≡ total outside vcpus * round
+    = total-ext _ _ vcpus (λ v h. total-ext _ _ intervals
+    (λ i k. sym (scaled_pair (reached v i) (near i) (length i) round)) ∙ scaled
+    (λ i. cond (reached v i) (cond (near i) 0 (length i)) 0) round intervals)
     ∙ scaled outside round vcpus in
     let bound = no_cut_below vcpus intervals (cores * round) round demand length reached near cut in
     let near_total = total (λ i. cond (near i) (cores * length i) 0) intervals in
     let flows = total (λ v. total (λ i. cond (reached v i) (flow v i) 0) intervals) vcpus in
     let same : flows ≡ near_total + total outside vcpus = omega (arith, split, sums, swapped, filled) in
     let scaled_same : flows * round ≡ (near_total + total outside vcpus) * round = ap (λ n. n * round) same in
-    omega (arith, lacks, bound, near_sum, far_sum, scaled_same, add-mul near_total (total outside vcpus) round)
+    omega (
+      arith,
+      lacks,
+      bound,
+      near_sum,
+      far_sum,
+      scaled_same,
+      add-mul near_total (total outside vcpus)
+          round,
+    )

@@ -69,7 +69,18 @@ opening cost span intervals length flow some many whole low high =
     let spans' = total-const span intervals in
     let most : total flow intervals * span ≤ cost * span = omega (arith, below, flow_sum, cost_sum) in
     let least : cost * span + intervals ≤ (total flow intervals + intervals) * span
-    = omega (arith, above, ones, ones', spans, spans', flow_sum, cost_sum, add-mul (total flow intervals) intervals span) in (
+    = omega (
+      arith,
+      above,
+      ones,
+      ones',
+      spans,
+      spans',
+      flow_sum,
+      cost_sum,
+      add-mul (total flow intervals)
+          intervals span,
+    ) in (
       le_of_mul-le-mul_right most some,
       ⊎_elim
           (λ (ok : cost < total flow intervals + intervals). omega arith)

@@ -2,6 +2,7 @@
 pub mod Demanded
 pub mod Edges
 pub mod Filling
+pub mod Lacking
 pub mod Marking
 pub mod Reach
 pub mod Reaching

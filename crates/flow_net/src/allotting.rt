@@ -7,10 +7,9 @@ ghost use Rattle.flow_net.specs.Counts.{admitted, edges, job_count};
 
 use crate::allotment::Allotment;
 use crate::net::Net;
-use crate::steps::Steps;
 use std::alloc::Global;
 use std::sync::ledger::Ledger;
-use tab_core::{NoMemory, Tasks};
+use tab_core::{NoMemory, Steps, Tasks};
 
 // Searches until every job has its cost.
 fn search_all<L: Ledger>(net: &mut Net, steps: &mut Steps<L>)
@@ -35,7 +34,8 @@ fn saturate<L: Ledger>(alloc: Global, net: &mut Net, steps: &mut Steps<L>) -> Re
     ensures demands { IfOk result (λ _. net.new.demands ≡ net.old.demands) }
     ensures done { IfOk result (λ _. lacks_of net.new ≡ 0) }
     ensures cost { steps.new ≤ steps.old
-        + 2 * (admitted (load net.old.demands) * (load net.old.demands).count) * edges (load net.old.demands) }
+        + 2 * (admitted (load net.old.demands) * (load net.old.demands).count)
+        * edges (load net.old.demands) }
 {
     if net.search(steps) {
         net.fill(alloc, steps)?;

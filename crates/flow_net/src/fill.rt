@@ -8,11 +8,10 @@ ghost use Rattle.flow_net.specs.Counts.{admitted, is_due};
 
 use crate::demands::Demands;
 use crate::flow::{Flow, give, take_room};
-use crate::steps::Steps;
-use crate::ticks::read;
+use crate::ticks::{read, row_of};
 use std::alloc::Global;
 use std::sync::ledger::Ledger;
-use tab_core::NoMemory;
+use tab_core::{NoMemory, Steps};
 
 // How many classes of urgency there are. The last one is of those that get nothing.
 const NOT_YET: usize = 64;
@@ -54,20 +53,27 @@ struct Wanting {
     vcpu: usize,
 }
 
+// An interval, with its first tick and its length.
+#[derive(Clone, Copy, Debug)]
+struct Interval {
+    number: usize,
+    mark: u32,
+    length: u32,
+}
+
 // What is kept of a vCPU at an interval, where its next job may begin.
-fn watch_at(demands: &Demands, flow: &Flow, i: usize, v: usize, watch: Watch) -> Watch
+fn watch_at(demands: &Demands, flow: &Flow, at: Interval, v: usize, watch: Watch) -> Watch
     requires net { IsFlowOf demands.now flow.now (load demands.now).count }
-    requires interval { i < (load demands.now).count }
+    requires interval { at.number < (load demands.now).count }
     requires vcpu { v < (load demands.now).width }
 {
-    let mark = demands.marks[i];
-    if mark != watch.end {
+    if at.mark != watch.end {
         return watch;
     }
     let period = demands.periods[v];
-    let job = demands.job(v, i);
+    let job = demands.job(v, at.number);
     Watch {
-        end: mark.wrapping_add(period),
+        end: at.mark.wrapping_add(period),
         lack: read(&flow.lacks, v, job),
         owed: period,
     }
@@ -78,13 +84,14 @@ fn watch_at(demands: &Demands, flow: &Flow, i: usize, v: usize, watch: Watch) ->
 fn urgency<L: Ledger>(
     demands: &Demands,
     flow: &Flow,
-    i: usize,
+    at: Interval,
     v: usize,
+    ticks: u32,
     watches: &mut Vec<Watch>,
     steps: &mut Steps<L>,
 ) -> usize
     requires net { IsFlowOf demands.now flow.now (load demands.now).count }
-    requires interval { i < (load demands.now).count }
+    requires interval { at.number < (load demands.now).count }
     requires vcpu { v < (load demands.now).width }
     requires watches { length watches.old.items ≡ (load demands.now).width }
     ensures small { result ≤ 64 }
@@ -98,18 +105,16 @@ fn urgency<L: Ledger>(
     steps.tell();
     steps.tell();
     let period = demands.periods[v];
-    let length = demands.length(i);
-    let ticks = read(&flow.rows, i, v);
-    let watch = watch_at(demands, flow, i, v, watches[v]);
+    let watch = watch_at(demands, flow, at, v, watches[v]);
     let share = cost
-        .wrapping_mul(length)
+        .wrapping_mul(at.length)
         .wrapping_sub(period.wrapping_mul(ticks));
     let owed = watch.owed.wrapping_add(share);
     watches[v] = Watch { owed, ..watch };
-    if owed <= period || watch.lack == 0 || ticks >= length {
+    if owed <= period || watch.lack == 0 || ticks >= at.length {
         return NOT_YET;
     }
-    let wait = period.saturating_add(period).saturating_sub(owed) / cost;
+    let wait = period.wrapping_add(period).saturating_sub(owed) / cost;
     (wait as usize).min(NOT_YET - 1)
 }
 
@@ -133,12 +138,18 @@ fn rate_all<L: Ledger>(
     ensures listed { AreVcpus (load demands.now).width wanting.new.items result }
     ensures cost { steps.new ≤ steps.old + 2 * admitted (load demands.now) }
 {
+    let at = Interval {
+        number: i,
+        mark: demands.marks[i],
+        length: demands.length(i),
+    };
+    let row = row_of(&flow.rows, i);
     let mut tail = 0;
     for v in 0..demands.costs.len() {
-        let class = urgency(demands, flow, i, v, watches, steps);
+        let class = urgency(demands, flow, at, v, row[v], watches, steps);
         wanting[tail] = Wanting { class, vcpu: v };
         tail += usize::from(class < NOT_YET);
-        counts[class] = counts[class].saturating_add(1);
+        counts[class] = counts[class].wrapping_add(1);
     }
     tail
 }

@@ -19,7 +19,8 @@ pub fn cuts_are_enough()
     ensures { (l : Load) → IsLoad l → Fits l → (chosen : ℕ → ℕ → Bool) (near : ℕ → Bool)
         → total (λ v. total (λ k. cond (chosen v k) (l.cost v) 0) (jobs l v)) l.width
         ≤ total (λ i. cond (near i) (l.cores * span l i) 0) l.count
-        + total (λ v. total (λ i. cond (chosen v (job l v i)) (cond (near i) 0 (span l i)) 0) l.count) l.width }
+        + total (λ v. total (λ i. cond (chosen v (job l v i)) (cond (near i) 0 (span l i)) 0) l.count)
+        l.width }
 {}
 
 /// Periods have at most one list of marks.

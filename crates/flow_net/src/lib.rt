@@ -18,7 +18,6 @@ mod net;
 mod opening;
 mod reach;
 mod search;
-mod steps;
 mod ticks;
 
 pub use allotment::{Allotment, Marks, Rows};
@@ -26,5 +25,4 @@ pub use allotting::allot;
 pub use laws::{allotments_fit, cuts_are_enough, periods_have_one_list_of_marks};
 pub use making::demand_sum;
 pub use net::Net;
-pub use steps::Steps;
 pub use ticks::Ticks;

@@ -16,11 +16,10 @@ use crate::making::{blank, demands_of};
 use crate::opening::open_flow;
 use crate::reach::Reach;
 use crate::search::search_once;
-use crate::steps::Steps;
 use std::alloc::Global;
 use std::marker::Model;
 use std::sync::ledger::Ledger;
-use tab_core::{NoMemory, Tasks};
+use tab_core::{NoMemory, Steps, Tasks};
 
 /// A flow network of a host's vCPUs: from the source to the jobs of admitted vCPUs, from each job to
 /// the intervals of its period, and from the intervals to the sink. Contracts see what is due, the

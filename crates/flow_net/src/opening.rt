@@ -4,6 +4,7 @@ ghost use Rattle.flow_net.specs.Load.{given, jobs, span, used};
 ghost use Rattle.flow_net.specs.Rows.{row_at, ticks_at};
 ghost use Rattle.flow_net.specs.Flows.{all_lacks, flow_of, fluid};
 ghost use Rattle.flow_net.specs.Inside.Demanded.{IsFlowOf, load};
+ghost use Rattle.flow_net.specs.Inside.Lacking.{AreLacksTo};
 ghost use Rattle.flow_net.specs.Counts.{admitted, job_count};
 
 use crate::demands::Demands;
@@ -93,33 +94,42 @@ fn rooms_of(alloc: Global, demands: &Demands, rows: &Vec<Ticks>) -> Result<Vec<u
     Ok(room)
 }
 
-// The ticks that a vCPU gets in its job's intervals.
-fn given_to(rows: &Vec<Ticks>, v: usize, from: usize, until: usize) -> u32
-    requires rows { until ≤ length rows.now.items }
-    requires width { (i : ℕ) → i < length rows.now.items → v < length (row_at rows.now.items i) }
-    requires order { from ≤ until }
-    requires small { total (λ n. ticks_at rows.now.items (from + n) v) (until - from) ≤ u32.MAX }
-    ensures { result ≡ total (λ n. ticks_at rows.now.items (from + n) v) (until - from) }
-{
-    let mut sum = 0;
-    for n in 0..until - from {
-        sum += read(rows, from + n, v);
-    }
-    sum
+// The job of a vCPU that hasn't ended: where its period ends, and what it still lacks.
+#[derive(Clone, Copy, Debug)]
+struct Unended {
+    end: u32,
+    lack: u32,
 }
 
-// What a vCPU's job lacks.
-fn lack_left(demands: &Demands, rows: &Vec<Ticks>, v: usize, k: usize) -> u32
+// Goes through an interval: the job there gets its ticks, and its lack is listed where it ends.
+fn go_through(
+    demands: &Demands,
+    rows: &Vec<Ticks>,
+    v: usize,
+    i: usize,
+    job: Unended,
+    lacks: &mut Vec<u32>,
+) -> Result<Unended, NoMemory>
     requires vcpu { v < (load demands.now).width }
-    requires job { k < jobs (load demands.now) v }
+    requires interval { i < (load demands.now).count }
     requires len { length rows.now.items ≡ (load demands.now).count }
-    requires widths { (i : ℕ) → i < (load demands.now).count
-        → length (row_at rows.now.items i) ≡ (load demands.now).width }
-    requires most { given (load demands.now) (flow_of rows.now.items) v k ≤ (load demands.now).cost v }
-    ensures { result + given (load demands.now) (flow_of rows.now.items) v k ≡ (load demands.now).cost v }
+    requires width { length (row_at rows.now.items i) ≡ (load demands.now).width }
+    requires most { (k : ℕ) → k < jobs (load demands.now) v
+        → given (load demands.now) (flow_of rows.now.items) v k ≤ (load demands.now).cost v }
+    requires before { AreLacksTo (load demands.now) (flow_of rows.now.items) v lacks.old.items
+        job.end job.lack i }
+    ensures { IfOk result (λ next. AreLacksTo (load demands.now) (flow_of rows.now.items) v
+        lacks.new.items next.end next.lack (i + 1)) }
 {
-    let (from, until) = demands.window(v, k);
-    demands.costs[v] - given_to(rows, v, from, until)
+    let lack = job.lack - read(rows, i, v);
+    if demands.marks[i + 1] != job.end {
+        return Ok(Unended { end: job.end, lack });
+    }
+    lacks.push(lack)?;
+    Ok(Unended {
+        end: job.end + demands.periods[v],
+        lack: demands.costs[v],
+    })
 }
 
 // What each job of a vCPU lacks.
@@ -140,10 +150,14 @@ fn lacks_of_vcpu(
         → slice_index lacks k + given (load demands.now) (flow_of rows.now.items) v k
         ≡ (load demands.now).cost v) }
 {
-    let jobs = (ROUND / demands.periods[v]) as usize;
-    let mut lacks = Vec::with_capacity(alloc, jobs)?;
-    for k in 0..jobs {
-        lacks.push(lack_left(demands, rows, v, k))?;
+    let period = demands.periods[v];
+    let mut lacks = Vec::with_capacity(alloc, (ROUND / period) as usize)?;
+    let mut job = Unended {
+        end: period,
+        lack: demands.costs[v],
+    };
+    for i in 0..rows.len() {
+        job = go_through(demands, rows, v, i, job, &mut lacks)?;
     }
     Ok(Ticks::of(lacks))
 }

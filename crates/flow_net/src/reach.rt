@@ -8,9 +8,9 @@ ghost use Rattle.flow_net.specs.Inside.Reaching.{CanReachOf, HasPlaces, IsSearch
 
 use crate::demands::Demands;
 use crate::flow::Flow;
-use crate::steps::Steps;
 use crate::ticks::{Ticks, clear_rows, raise_at, read};
 use std::sync::ledger::Ledger;
+use tab_core::Steps;
 
 // An interval that was reached: a tick of this vCPU may move there, from the interval of the link
 // before number `back`, or as one that its job lacks where `back` is 0.

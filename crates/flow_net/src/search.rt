@@ -10,9 +10,9 @@ ghost use Rattle.flow_net.specs.Inside.Reaching.{HasPlaces, IsRootedOf, IsSearch
 use crate::demands::Demands;
 use crate::flow::{Flow, give, shift, take_room};
 use crate::reach::{Reach, begin, interval_at, link_of, read_back, read_job};
-use crate::steps::Steps;
 use crate::ticks::{Ticks, read, row_len};
 use std::sync::ledger::Ledger;
+use tab_core::Steps;
 
 // The first job of a vCPU that lacks ticks.
 fn first_in<L: Ledger>(lacks: &Vec<Ticks>, v: usize, steps: &mut Steps<L>) -> Option<usize>

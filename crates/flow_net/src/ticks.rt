@@ -77,6 +77,14 @@ pub(crate) fn row_len(rows: &Vec<Ticks>, row: usize) -> usize
     rows[row].items().len()
 }
 
+// The numbers of a row.
+pub(crate) fn row_of(rows: &Vec<Ticks>, row: usize) -> &[u32]
+    requires { row < length rows.now.items }
+    ensures { result.now ≡ row_at rows.now.items row }
+{
+    rows[row].items()
+}
+
 // The number at a place of a row.
 #[tactic(auto, unfolding(crate::specs::Rows::ticks_at))]
 pub(crate) fn read(rows: &Vec<Ticks>, row: usize, place: usize) -> u32

@@ -69,7 +69,8 @@ count_most ss v rises =
 pub count_end : (ss : List Segment) (v from place : ℕ) → length ss ≤ place
     → count_of v (cells_from from (drop place ss)) ≡ 0
 count_end ss v from place past =
-    ap (λ xs. count_of v (cells_from from xs)) (nil_from_length (drop place ss) (omega (arith, length-drop place ss)))
+    ap (λ xs. count_of v (cells_from from xs))
+    (nil_from_length (drop place ss) (omega (arith, length-drop place ss)))
     ∙ ap (count_of v) (cells-nil from)
 
 -- the cells of a row are those of its segments
@@ -143,7 +144,8 @@ most_more rows v count cells best old is = elim (cases_lt best.cells cells) [
     ]
 
 -- one home more
-pub homes_more : (tasks : List (Option Periodic)) (rows : List Row) (homes : List (Option ℕ)) (home : Option ℕ)
+pub homes_more : (tasks : List (Option Periodic)) (rows : List Row) (homes : List (Option ℕ))
+    (home : Option ℕ)
     (best : Most) (task : Option Periodic) → slice_get tasks (length homes) ≡ Some task
     → IsMostOfFirst rows (length homes) (length rows) best → home ≡ option_map (λ _. best.core) task
     → ((w : ℕ) (t : Option Periodic) (h : Option ℕ) → slice_get tasks w ≡ Some t → slice_get homes w ≡ Some h

@@ -111,7 +111,8 @@ owned_is ns v q h =
           }))
               ∙ cond-true {A = ℕ} (v == 0 + v) 1 0 (eq-eqb v (0 + v) (omega arith))
               ∙ sym (cond-true {A = ℕ} (nat_lt q (o + n)) 1 0 (lt-ltb q (o + n) inside)) ∙ sym outer
-          | inr beyond ↦ not_owned v (owner_from 0 ns q) (λ e. omega (arith, beyond, (laid_here ns v q e).until))
+          | inr beyond ↦ not_owned v (owner_from 0 ns q)
+              (λ e. omega (arith, beyond, (laid_here ns v q e).until))
               ∙ sym (cond-false {A = ℕ} (nat_lt q (o + n)) 1 0 (le-ltb q (o + n) beyond)) ∙ sym outer
         ]
 

@@ -75,7 +75,8 @@ by_intervals l ok h a (suc n) le =
     ∙ omega (arith, by_intervals l ok h a n (omega (arith, le)), last)
 
 -- the vCPU's cells of an interval, over all cores
-interval_cells : (tasks : List (Option Periodic)) (cores : ℕ) (a : AllotmentView) (rows : List Row) (v i : ℕ) → IsAllotment tasks cores a
+interval_cells : (tasks : List (Option Periodic)) (cores : ℕ) (a : AllotmentView) (rows : List Row) (v i : ℕ)
+    → IsAllotment tasks cores a
     → AreWrapped a cores rows → v < length tasks → i < length a.ticks
     → total (λ c. total (λ t. one v (owner_at rows c (get_or a.marks i 0 + t))) (length_at a i)) cores
     ≡ ticks_at a.ticks i v
@@ -91,7 +92,8 @@ interval_cells tasks cores a rows v i is w h lt =
     total-ext (λ j. get_or row j 0) (λ u. ticks_at a.ticks i u) l.width (λ u b. ticks_is a.ticks i u) in
     let fits : offset row v + get_or row v 0 ≤ cores * length_at a i
     = omega (arith, part, all, total-step (λ j. get_or row j 0) v, is.fits i lt) in
-    total-ext _ _ cores (λ c b. total-ext _ _ (length_at a i) (λ t b'. ap (λ o. one v o) (w.cells c i t b lt b')))
+    total-ext _ _ cores (λ c b. total-ext _ _ (length_at a i)
+    (λ t b'. ap (λ o. one v o) (w.cells c i t b lt b')))
     ∙ laid_count row v (length_at a i) cores in_row fits ∙ ticks_is a.ticks i v
 
 -- each task gets its cost in each of its periods

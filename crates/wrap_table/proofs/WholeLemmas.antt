@@ -147,6 +147,8 @@ pub whole_plan : (host : Host) (tasks : List (Option Periodic)) (a : AllotmentVi
 whole_plan host tasks a plan are is wrapped = record {
   allotment = a;
   tasks = subst (λ (ts : List (Option Periodic)). AreTasksOf host.vcpus ts) (sym wrapped.tasks_are) are;
-  is_allotment = subst (λ (ts : List (Option Periodic)). IsAllotment ts host.cores a) (sym wrapped.tasks_are) is;
-  wrapped = subst (λ (ts : List (Option Periodic)). IsWrapped ts a host.cores plan) (sym wrapped.tasks_are) wrapped;
+  is_allotment = subst (λ (ts : List (Option Periodic)). IsAllotment ts host.cores a) (sym wrapped.tasks_are)
+      is;
+  wrapped = subst (λ (ts : List (Option Periodic)). IsWrapped ts a host.cores plan) (sym wrapped.tasks_are)
+      wrapped;
 }

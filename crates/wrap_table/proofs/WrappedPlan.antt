@@ -13,7 +13,8 @@ use Rattle.wrap_table.proofs.WholeLemmas.{some_core}
 use Rattle.wrap_table.proofs.Wraps.{wrapped_apart, wrapped_owned}
 
 -- the homes of an allotment that was laid out
-pub housed : (tasks : List (Option Periodic)) (cores : ℕ) (a : AllotmentView) (rows : List Row) (homes : List (Option ℕ))
+pub housed : (tasks : List (Option Periodic)) (cores : ℕ) (a : AllotmentView) (rows : List Row)
+    (homes : List (Option ℕ))
     → IsAllotment tasks cores a → AreWrapped a cores rows → AreHomesOf tasks rows homes
     → HaveHomes tasks homes rows
 housed tasks cores a rows homes is wrapped are =
@@ -21,7 +22,8 @@ housed tasks cores a rows homes is wrapped are =
     (λ v task at. omega (arith, some_core tasks cores a is v task at, wrapped.count))
 
 -- what a plan of them keeps
-pub keeps : (tasks : List (Option Periodic)) (cores : ℕ) (a : AllotmentView) (rows : List Row) (homes : List (Option ℕ))
+pub keeps : (tasks : List (Option Periodic)) (cores : ℕ) (a : AllotmentView) (rows : List Row)
+    (homes : List (Option ℕ))
     → IsAllotment tasks cores a → AreWrapped a cores rows → AreHomesOf tasks rows homes
     → IsPlan (record { tasks = tasks; homes = homes; rows = rows })
 keeps tasks cores a rows homes is wrapped are = record {
@@ -32,7 +34,8 @@ keeps tasks cores a rows homes is wrapped are = record {
 }
 
 -- and it is the plan of the allotment
-pub is_wrapped : (tasks : List (Option Periodic)) (cores : ℕ) (a : AllotmentView) (rows : List Row) (homes : List (Option ℕ))
+pub is_wrapped : (tasks : List (Option Periodic)) (cores : ℕ) (a : AllotmentView) (rows : List Row)
+    (homes : List (Option ℕ))
     → IsAllotment tasks cores a → AreWrapped a cores rows → AreHomesOf tasks rows homes
     → IsWrapped tasks a cores (record { tasks = tasks; homes = homes; rows = rows })
 is_wrapped tasks cores a rows homes is wrapped are = record {
@@ -45,10 +48,11 @@ is_wrapped tasks cores a rows homes is wrapped are = record {
 }
 
 -- what was made of an allotment: a copy of the tasks, wrapped rows, and homes
-pub record IsMade (tasks : List (Option Periodic)) (cores : ℕ) (a : AllotmentView) (plan : PlanView) : Type 0 where
-  pub tasks_are : plan.tasks ≡ tasks
-  pub rows_are : AreWrapped a cores plan.rows
-  pub homes_are : AreHomesOf tasks plan.rows plan.homes
+pub record IsMade (tasks : List (Option Periodic)) (cores : ℕ) (a : AllotmentView) (plan : PlanView) : Type 0
+  where
+    pub tasks_are : plan.tasks ≡ tasks
+    pub rows_are : AreWrapped a cores plan.rows
+    pub homes_are : AreHomesOf tasks plan.rows plan.homes
 
 -- it is a plan
 pub made_keeps : (tasks : List (Option Periodic)) (cores : ℕ) (a : AllotmentView) (plan : PlanView)

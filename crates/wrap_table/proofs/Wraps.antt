@@ -20,7 +20,8 @@ use Rattle.wrap_table.proofs.Positions.{laid_apart, laid_some}
 -- an allotment's tasks and marks make a load
 pub the_load : (tasks : List (Option Periodic)) (cores : ℕ) (a : AllotmentView)
     → IsAllotment tasks cores a → IsLoad (load_of_tasks tasks a.marks cores)
-the_load tasks cores a is = load_ok (map cost_of_task tasks) (map period_of_task tasks) a.marks cores (periods_of_tasks tasks) is.marks
+the_load tasks cores a is = load_ok (map cost_of_task tasks) (map period_of_task tasks) a.marks cores
+    (periods_of_tasks tasks) is.marks
 
 -- two ways to read a place of a row
 pub ticks_is : (rows : List (List ℕ)) (i v : ℕ) → get_or (row_at rows i) v 0 ≡ ticks_at rows i v
@@ -52,7 +53,8 @@ pub record IsCellOf (a : AllotmentView) (cores : ℕ) (rows : List Row) (c place
   pub place_is : get_or a.marks interval 0 + tick ≡ place
 
 -- an owned cell lies in some interval
-pub cell_in : (tasks : List (Option Periodic)) (cores : ℕ) (a : AllotmentView) (rows : List Row) (c place v : ℕ) → IsAllotment tasks cores a
+pub cell_in : (tasks : List (Option Periodic)) (cores : ℕ) (a : AllotmentView) (rows : List Row)
+    (c place v : ℕ) → IsAllotment tasks cores a
     → AreWrapped a cores rows → owner_at rows c place ≡ Some v → IsCellOf a cores rows c place v
 cell_in tasks cores a rows c place v is w owned =
     let l = load_of_tasks tasks a.marks cores in
@@ -77,10 +79,16 @@ wrapped_apart tasks cores a rows is w v place c d at_c at_d =
     let here : owner_from 0 (row_at a.ticks i) (c * length_at a i + x.tick) ≡ Some v
     = sym (w.cells c i x.tick x.core x.in_round x.within) ∙ ap (λ n. owner_at rows c n) x.place_is ∙ at_c in
     let there : owner_from 0 (row_at a.ticks i) (d * length_at a i + x.tick) ≡ Some v
-    = sym (w.cells d i x.tick (omega (arith, owner_within rows d place v at_d, w.count)) x.in_round x.within) ∙ ap (λ n. owner_at rows d n) x.place_is ∙ at_d in
+    = sym (w.cells d i x.tick (omega (arith, owner_within rows d place v at_d, w.count)) x.in_round x.within)
+    ∙ ap (λ n. owner_at rows d n) x.place_is ∙ at_d in
     let some = laid_some (row_at a.ticks i) v (c * length_at a i + x.tick) here in
     laid_apart (row_at a.ticks i) v (length_at a i) c d x.tick
-    (omega (arith, is.short v i (omega (arith, some.0, is.widths i x.in_round)) x.in_round, ticks_is a.ticks i v)) here there
+    (omega (
+      arith,
+      is.short v i (omega (arith, some.0, is.widths i x.in_round)) x.in_round,
+      ticks_is a.ticks i
+          v,
+    )) here there
 
 -- a cost of some ticks is that of a task
 has_cost : (tasks : List (Option Periodic)) (v : ℕ) (o : Option Periodic) → slice_get tasks v ≡ Some o

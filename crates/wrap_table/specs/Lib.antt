@@ -1,4 +1,5 @@
 pub mod Faults
 pub mod Inside
+pub mod Refusal
 pub mod Whole
 pub mod Wrapping

@@ -39,7 +39,8 @@ pub record IsMostOn (rows : List Row) (v core : ℕ) : Type 0 where
 
 -- The plan of an allotment: these tasks, its wrapped rows, and as the home of each admitted vCPU the
 -- core with most of its cells.
-pub record IsWrapped (tasks : List (Option Periodic)) (a : AllotmentView) (cores : ℕ) (plan : PlanView) : Type 0 where
+pub record IsWrapped (tasks : List (Option Periodic)) (a : AllotmentView) (cores : ℕ) (plan : PlanView) : Type
+    0 where
   pub tasks_are : plan.tasks ≡ tasks
   pub rows_are : AreWrapped a cores plan.rows
   pub housed : HaveHomes tasks plan.homes plan.rows

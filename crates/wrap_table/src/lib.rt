@@ -10,9 +10,11 @@ mod homing;
 mod laws;
 mod laying;
 mod planner;
+mod refusal;
 mod wrapping;
 
 pub use fault::WholeFault;
 pub use laws::{wrapped_rows_are_apart, wrapped_rows_are_owned, wrapped_rows_serve};
 pub use planner::plan_whole;
+pub use refusal::put_no_fit;
 pub use wrapping::wrap;

@@ -10,11 +10,11 @@ ghost use Rattle.wrap_table.specs.Whole.{IsBeyondRoom, IsWholePlan};
 
 use crate::fault::WholeFault;
 use crate::wrapping::wrap;
-use flow_net::{Steps, allot, demand_sum};
+use flow_net::{allot, demand_sum};
 use period_choice::tasks_of;
 use std::alloc::Global;
 use std::sync::ledger::Ledger;
-use tab_core::{Host, ROUND};
+use tab_core::{Host, ROUND, Steps};
 use table_form::Plan;
 
 /// A plan of the whole host: the vCPUs' ticks are allotted to the intervals between the ends of

@@ -27,7 +27,8 @@ pub fn wrap(
 ) -> Result<Plan, NoMemory>
     requires cores { cores ≤ MAX_CORES }
     requires allotment { IsAllotment tasks.now cores (allotment_view allotment.now) }
-    ensures { IfOk result (λ plan. IsWrapped tasks.now (allotment_view allotment.now) cores (plan_view plan)) }
+    ensures { IfOk result (λ plan. IsWrapped tasks.now (allotment_view allotment.now) cores
+        (plan_view plan)) }
 {
     let tasks = tasks.items();
     let rows = rows_of(alloc, allotment, cores)?;

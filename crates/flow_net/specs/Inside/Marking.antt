@@ -1,7 +1,11 @@
 -- How far the marks of periods are made.
-use Rattle.std.specs.Prelude.{◌≡◌, ℕ, ◌+◌, ◌-◌, ◌*◌, ◌<◌, ◌≤◌, List, length, slice_index}
+use Rattle.std.specs.Prelude.{◌≡◌, ℕ, ◌+◌, ◌-◌, ◌*◌, ◌<◌, ◌≤◌, Contains, List, length, slice_index}
 use Rattle.tab_core.specs.declared.TheConstants.{ROUND}
 use Rattle.flow_net.specs.Allotments.{IsMultiple}
+
+-- each number of a list is in the other
+abbrev pub AreAmong : List ℕ → List ℕ → Type 0
+AreAmong ns others = (n : ℕ) → Contains ns n → Contains others n
 
 -- the round's end or the first multiple of one of the first `n` periods after the tick
 pub record IsNextMark (periods : List ℕ) (tick n mark : ℕ) : Type 0 where

@@ -29,8 +29,9 @@ abbrev pub with_core : Most → ℕ → ℕ → Most
 with_core most cells core = if nat_lt most.cells cells then record { core = core; cells = cells } else most
 
 -- each admitted vCPU has as its home a core of which so much is known, and no other vCPU has one
-pub record AreHomesOf (tasks : List (Option Periodic)) (rows : List Row) (homes : List (Option ℕ)) : Type 0 where
-  pub as_many : length homes ≡ length tasks
-  pub each : (v : ℕ) (task : Option Periodic) (home : Option ℕ) → slice_get tasks v ≡ Some task
-      → slice_get homes v ≡ Some home
-      → (most : Most) × IsMostOfFirst rows v (length rows) most × (home ≡ option_map (λ _. most.core) task)
+pub record AreHomesOf (tasks : List (Option Periodic)) (rows : List Row) (homes : List (Option ℕ)) : Type 0
+  where
+    pub as_many : length homes ≡ length tasks
+    pub each : (v : ℕ) (task : Option Periodic) (home : Option ℕ) → slice_get tasks v ≡ Some task
+        → slice_get homes v ≡ Some home
+        → (most : Most) × IsMostOfFirst rows v (length rows) most × (home ≡ option_map (λ _. most.core) task)

@@ -10,7 +10,8 @@ use Rattle.flow_net.proofs.Marking.{marks_unique}
 use Rattle.flow_net.proofs.allotting.allot.Goals as goal
 
 -- the network's end is an allotment
-ended : (tasks : List (Option Periodic)) (cores : ℕ) (old new : NetView) (marks : List ℕ) (rows : List (List ℕ))
+ended : (tasks : List (Option Periodic)) (cores : ℕ) (old new : NetView) (marks : List ℕ)
+    (rows : List (List ℕ))
     → new.demands ≡ old.demands → IsNetwork new
     → load old.demands ≡ load_of_tasks tasks old.demands.marks cores
     → AreMarks (map period_of_task tasks) old.demands.marks
@@ -28,7 +29,8 @@ ended tasks cores old new marks rows same net is_load are none m r =
 pub returns-clause-allotment : goal.returns-clause-allotment
 returns-clause-allotment g c =
     let known = c.in_ok-saturate.ensures in
-    ended c.args.tasks.now c.args.cores c.in_ok-net.net c.saturate.new.net c.into_allotment.result.marks c.into_allotment.result.ticks
+    ended c.args.tasks.now c.args.cores c.in_ok-net.net c.saturate.new.net c.into_allotment.result.marks
+    c.into_allotment.result.ticks
     known.demands known.network c.in_ok-net.ensures.load c.in_ok-net.ensures.marks known.done
     c.into_allotment.ensures.marks c.into_allotment.ensures.ticks
 

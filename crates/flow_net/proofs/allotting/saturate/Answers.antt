@@ -27,14 +27,18 @@ together n0 n1 n2 s0 s1 s2 s3 net same same' less less' most cost cost' cost'' =
 
 pub returns-in_ok-fill-clause-cost : goal.returns-in_ok-fill-clause-cost
 returns-in_ok-fill-clause-cost g c =
-    together c.args.net.now c.search.new.self c.fill.new.self c.args.steps.now c.search.new.steps c.fill.new.steps c.search_all.new.steps
-    c.search.ensures.network c.search.ensures.demands c.fill.ensures.demands (c.search.ensures.raised c.if-search.true)
+    together c.args.net.now c.search.new.self c.fill.new.self c.args.steps.now c.search.new.steps
+    c.fill.new.steps c.search_all.new.steps
+    c.search.ensures.network c.search.ensures.demands c.fill.ensures.demands
+    (c.search.ensures.raised c.if-search.true)
     c.fill.ensures.lacks c.requires.lacks
     c.search.ensures.cost c.fill.ensures.cost c.search_all.ensures.cost
 
 pub returns-in_err-fill-clause-cost : goal.returns-in_err-fill-clause-cost
 returns-in_err-fill-clause-cost g c =
-    together c.args.net.now c.search.new.self c.fill.new.self c.args.steps.now c.search.new.steps c.fill.new.steps c.fill.new.steps
-    c.search.ensures.network c.search.ensures.demands c.fill.ensures.demands (c.search.ensures.raised c.if-search.true)
+    together c.args.net.now c.search.new.self c.fill.new.self c.args.steps.now c.search.new.steps
+    c.fill.new.steps c.fill.new.steps
+    c.search.ensures.network c.search.ensures.demands c.fill.ensures.demands
+    (c.search.ensures.raised c.if-search.true)
     c.fill.ensures.lacks c.requires.lacks
     c.search.ensures.cost c.fill.ensures.cost (omega arith)

@@ -24,7 +24,8 @@ loop-raised-preserved g c =
       network = λ _. known.network;
       demands = known.demands ∙ same;
       done = none;
-      cost = step_cost c.loop-raised.steps c.search-raised.new.steps c.args.steps.now (edges (load d)) (lacks_of old)
+      cost = step_cost c.loop-raised.steps c.search-raised.new.steps c.args.steps.now (edges (load d))
+          (lacks_of old)
           (lacks_of new) (lacks_of c.args.net.now) (job_count (load d)) c.search-raised.result
           known.raised none cost last (let before =
           rw c.loop-raised-test.true at inv.cost in omega (arith, before));

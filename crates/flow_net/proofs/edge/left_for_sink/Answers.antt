@@ -11,7 +11,8 @@ overflow_mul-offered c =
 
 pub overflow_sub-result : goal.overflow_sub-result
 overflow_sub-result c =
-    let room = get_or_read c.args.flow.now.room.items c.args.i _ (omega (arith, c.requires.interval, c.requires.net.room_len)) c.index-room.ensures 0 in
+    let room = get_or_read c.args.flow.now.room.items c.args.i _
+    (omega (arith, c.requires.interval, c.requires.net.room_len)) c.index-room.ensures 0 in
     let product : c.args.demands.now.cores * c.length.result
     ≡ c.args.demands.now.cores * span (load c.args.demands.now) c.args.i
     = ap (λ n. c.args.demands.now.cores * n) c.length.ensures in

@@ -15,7 +15,8 @@ lower_at-requires-clause-at c =
     let l = load d in
     let f = c.args.flow.now in
     let below = job_in l d.ok c.args.v c.args.j c.requires.vcpu c.requires.interval in
-    lack_place l f.rows.items f.lacks.items f.room.items c.args.j c.args.v c.args.k c.requires.net c.requires.vcpu
+    lack_place l f.rows.items f.lacks.items f.room.items c.args.j c.args.v c.args.k c.requires.net
+    c.requires.vcpu
     (rw c.requires.job below)
 
 pub returns-clause-net : goal.returns-clause-net
@@ -23,6 +24,7 @@ returns-clause-net c =
     let d = c.args._demands.now in
     let l = load d in
     let f = c.args.flow.now in
-    let net = close_net l d.ok f.rows.items f.lacks.items f.room.items c.args.v c.args.j c.requires.net c.requires.vcpu
+    let net = close_net l d.ok f.rows.items f.lacks.items f.room.items c.args.v c.args.j c.requires.net
+    c.requires.vcpu
     c.requires.interval c.requires.short (rw c.requires.job at c.requires.lacks) in
     rw c.lower_at.ensures (rw c.raise_at.ensures (rw c.requires.job net))

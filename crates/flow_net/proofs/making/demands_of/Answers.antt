@@ -30,6 +30,10 @@ invariant_of-result c =
       few = rw c.in_ok-costs.ensures (omega (arith, n, c.requires.few));
       some_mark = marks.some;
       few_cores = c.requires.cores;
-      ok = rw c.in_ok-costs.ensures (rw c.in_ok-periods.ensures (load_ok (map cost_of_task tasks) (map period_of_task tasks) c.in_ok-marks.marks.items c.args.cores p marks));
-      fits = rw c.in_ok-costs.ensures (rw c.in_ok-periods.ensures (fits_of_demands tasks c.in_ok-marks.marks.items c.args.cores c.requires.fits));
+      ok = rw c.in_ok-costs.ensures (rw c.in_ok-periods.ensures
+          (load_ok (map cost_of_task tasks) (map period_of_task tasks) c.in_ok-marks.marks.items c.args.cores
+          p marks));
+      fits = rw c.in_ok-costs.ensures
+          (rw c.in_ok-periods.ensures (fits_of_demands tasks c.in_ok-marks.marks.items c.args.cores
+          c.requires.fits));
     }

@@ -1,10 +1,26 @@
-use Rattle.flow_net.proofs.Marking.{marks_more, marks_end}
+use Rattle.std.proofs.Common.{sym, subst}
+use Rattle.flow_net.specs.Allotments.{AreMarks}
+use Rattle.flow_net.specs.Inside.Marking.{AreAmong}
+use Rattle.flow_net.proofs.Marking.{few_at, marks_among}
 use Rattle.flow_net.proofs.marks.marks_of.Goals as goal
 
-pub loop-tick-preserved : goal.loop-tick-preserved
-loop-tick-preserved c =
-    rw c.in_ok-push-2.ensures.items (marks_more c.args.periods.now c.loop-tick.marks.items c.loop-tick.tick c.next_mark-tick.result
-    c.loop-tick.invariant c.next_mark-tick.ensures)
+pub marks_of_few-requires-clause-some : goal.marks_of_few-requires-clause-some
+marks_of_few-requires-clause-some c v h =
+    let among = subst (λ ns. AreAmong ns c.args.periods.now) (sym c.deref.ensures.value)
+    c.in_ok-few.ensures.no_more in
+    let s = few_at c.deref.result.now c.args.periods.now among v h in
+    rw s.2 (c.requires.some s.0 s.1)
+
+pub marks_of_few-requires-clause-short : goal.marks_of_few-requires-clause-short
+marks_of_few-requires-clause-short c v h =
+    let among = subst (λ ns. AreAmong ns c.args.periods.now) (sym c.deref.ensures.value)
+    c.in_ok-few.ensures.no_more in
+    let s = few_at c.deref.result.now c.args.periods.now among v h in
+    rw s.2 (c.requires.short s.0 s.1)
 
 pub returns : goal.returns
-returns c = marks_end c.args.periods.now c.loop-tick.marks.items c.loop-tick.tick c.loop-tick.invariant c.loop-tick-test.false
+returns c =
+    let marks = subst (λ ns. AreMarks ns c.in_ok-marks.marks.items) c.deref.ensures.value
+    c.in_ok-marks.ensures in
+    marks_among c.args.periods.now c.in_ok-few.few.items c.in_ok-marks.marks.items
+    c.in_ok-few.ensures.all c.in_ok-few.ensures.no_more marks

@@ -23,6 +23,11 @@ loop-v-preserved c =
             let same = ticks-push_here rows row w k (omega (arith, e, inv.len)) in
             let new' : get_or row k 0 + given l f w k ≡ l.cost w = rw e new in
             omega (arith, same, new'))
-        | inr ne ↦ omega (arith, ticks-push_else rows row w k (omega (arith, h, ne, inv.len)), inv.due w k (omega (arith, h, ne)) lt)
+        | inr ne ↦ omega (
+          arith,
+          ticks-push_else rows row w k (omega (arith, h, ne, inv.len)),
+          inv.due w k
+              (omega (arith, h, ne)) lt,
+        )
       ]);
     }

@@ -16,4 +16,5 @@ rooms_of-requires-clause-fits c =
 pub returns-clause-lacks : goal.returns-clause-lacks
 returns-clause-lacks c =
     let d = c.args.demands.now in
-    opened_lacks (load d) d.ok c.in_ok-rows.rows.items c.in_ok-lacks.lacks.items c.in_ok-rows.ensures.shares c.in_ok-lacks.ensures.due
+    opened_lacks (load d) d.ok c.in_ok-rows.rows.items c.in_ok-lacks.lacks.items c.in_ok-rows.ensures.shares
+    c.in_ok-lacks.ensures.due

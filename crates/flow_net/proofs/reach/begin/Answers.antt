@@ -6,5 +6,6 @@ use Rattle.flow_net.proofs.reach.begin.Goals as goal
 
 pub returns-clause-search : goal.returns-clause-search
 returns-clause-search c =
-    search_begins (load c.args.demands.now) (flow_of c.args.flow.now.rows.items) c.args.u c.args.k _ refl c.forget.ensures.none
+    search_begins (load c.args.demands.now) (flow_of c.args.flow.now.rows.items) c.args.u c.args.k _ refl
+    c.forget.ensures.none
     (λ v i. c.clear_rows.ensures.none i v)

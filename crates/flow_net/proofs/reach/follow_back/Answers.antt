@@ -32,14 +32,29 @@ returns-then-index-eq0-clause-followed g c some =
     let d = c.args.demands.now in
     let f = c.args.flow.now in
     let i = (link_at c.args.reach.now.queue.items c.args.head).interval in
-    let most = flow_le (load d) d.ok (flow_of f.rows.items) (lack_of f.lacks.items) (λ j. get_or f.room.items j 0) (load d).count c.args.v i
+    let most = flow_le (load d) d.ok (flow_of f.rows.items) (lack_of f.lacks.items)
+    (λ j. get_or f.room.items j 0) (load d).count c.args.v i
     c.requires.net.flow c.requires.vcpu (c.requires.search.interval c.args.head c.requires.link) in
-    absurd (omega (arith, some, most, cost_is d c.args.v c.index.result.now c.requires.vcpu c.index.ensures, c.if-index-eq0.true))
+    absurd (omega (
+      arith,
+      some,
+      most,
+      cost_is d c.args.v c.index.result.now c.requires.vcpu c.index.ensures,
+      c.if-index-eq0.true,
+    ))
 
 pub returns-then-index-eq0-clause-cost : goal.returns-then-index-eq0-clause-cost
 returns-then-index-eq0-clause-cost g c =
     let d = c.args.demands.now in
-    omega (arith, due_none (load d) c.args.v (omega (arith, cost_is d c.args.v c.index.result.now c.requires.vcpu c.index.ensures, c.if-index-eq0.true)))
+    omega (
+      arith,
+      due_none (load d) c.args.v
+          (omega (
+            arith,
+            cost_is d c.args.v c.index.result.now c.requires.vcpu c.index.ensures,
+            c.if-index-eq0.true,
+          )),
+    )
 
 pub interval_at-i-requires : goal.interval_at-i-requires
 interval_at-i-requires g c =
@@ -47,21 +62,25 @@ interval_at-i-requires g c =
     omega (
       arith,
       c.requires.places.queue,
-      link_place (load c.args.demands.now) (flow_of c.args.flow.now.rows.items) r.root_vcpu r.root_job (reached_of r) c.args.head c.requires.search c.requires.link,
+      link_place (load c.args.demands.now) (flow_of c.args.flow.now.rows.items) r.root_vcpu r.root_job
+          (reached_of r) c.args.head c.requires.search c.requires.link,
     )
 
 pub read-ticks-requires : goal.read-ticks-requires
 read-ticks-requires g c =
     let d = c.args.demands.now in
     let f = c.args.flow.now in
-    net_place (load d) f.rows.items f.lacks.items f.room.items (load d).count c.args.v c.interval_at-i.result c.requires.net c.requires.vcpu
-    (in_round d f c.args.reach.now c.interval_at-i.result c.args.head c.requires.search c.requires.link c.interval_at-i.ensures)
+    net_place (load d) f.rows.items f.lacks.items f.room.items (load d).count c.args.v c.interval_at-i.result
+    c.requires.net c.requires.vcpu
+    (in_round d f c.args.reach.now c.interval_at-i.result c.args.head c.requires.search c.requires.link
+    c.interval_at-i.ensures)
 
 pub read-reads-requires : goal.read-reads-requires
 read-reads-requires g c =
     let d = c.args.demands.now in
     edge_place (load d) c.args.reach.now c.interval_at-i.result c.args.v c.requires.places c.requires.vcpu
-    (in_round d c.args.flow.now c.args.reach.now c.interval_at-i.result c.args.head c.requires.search c.requires.link c.interval_at-i.ensures)
+    (in_round d c.args.flow.now c.args.reach.now c.interval_at-i.result c.args.head c.requires.search
+    c.requires.link c.interval_at-i.ensures)
 
 pub read_job-requires-clause-can : goal.read_job-requires-clause-can
 read_job-requires-clause-can g c =
@@ -75,14 +94,19 @@ read_job-requires-clause-can g c =
     ∙ ap (λ n. ticks_at f.rows.items n c.args.v) c.interval_at-i.ensures in
     let reads : c.read-reads.result ≡ ticks_at r.scans.items i c.args.v = c.read-reads.ensures
     ∙ ap (λ n. ticks_at r.scans.items n c.args.v) c.interval_at-i.ensures in
-    rw k (can_follow (load d) (flow_of f.rows.items) r.root_vcpu r.root_job (reached_of r) c.args.head c.args.v c.requires.search c.requires.jobwise
-    c.requires.link c.requires.vcpu (due_is (load d) c.args.v (cost_pos d c.args.v c.index.result.now c.requires.vcpu c.index.ensures (omega (arith, c.if-index-eq0.false)))) (omega (arith, ticks, c.if-ticks-eq0.false)) (omega (arith, reads, c.if-reads-gt0.false)))
+    rw k (can_follow (load d) (flow_of f.rows.items) r.root_vcpu r.root_job (reached_of r) c.args.head
+    c.args.v c.requires.search c.requires.jobwise
+    c.requires.link c.requires.vcpu
+    (due_is (load d) c.args.v (cost_pos d c.args.v c.index.result.now c.requires.vcpu c.index.ensures
+    (omega (arith, c.if-index-eq0.false)))) (omega (arith, ticks, c.if-ticks-eq0.false))
+    (omega (arith, reads, c.if-reads-gt0.false)))
 
 pub read_job-requires-clause-job : goal.read_job-requires-clause-job
 read_job-requires-clause-job g c =
     let d = c.args.demands.now in
     rw c.job-k.ensures (job_in (load d) d.ok c.args.v c.interval_at-i.result c.requires.vcpu
-    (in_round d c.args.flow.now c.args.reach.now c.interval_at-i.result c.args.head c.requires.search c.requires.link c.interval_at-i.ensures))
+    (in_round d c.args.flow.now c.args.reach.now c.interval_at-i.result c.args.head c.requires.search
+    c.requires.link c.interval_at-i.ensures))
 
 pub read_job-requires-clause-unread : goal.read_job-requires-clause-unread
 read_job-requires-clause-unread g c j h e =
@@ -90,7 +114,8 @@ read_job-requires-clause-unread g c j h e =
     let r = c.args.reach.now in
     let i = c.interval_at-i.result in
     let same = c.requires.jobwise c.args.v j i c.requires.vcpu h
-    (in_round d c.args.flow.now r i c.args.head c.requires.search c.requires.link c.interval_at-i.ensures) (e ∙ c.job-k.ensures) in
+    (in_round d c.args.flow.now r i c.args.head c.requires.search c.requires.link c.interval_at-i.ensures)
+    (e ∙ c.job-k.ensures) in
     omega (arith, same, c.read-reads.ensures, c.if-reads-gt0.false)
 
 pub returns-clause-followed : goal.returns-clause-followed

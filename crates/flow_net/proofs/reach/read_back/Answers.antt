@@ -26,7 +26,12 @@ loop-v-preserved g c =
       followed = λ v lt some. elim (cases_eq v c.loop-v.v) [
         | inl e ↦ (let now = rw here at c.follow_back.ensures.followed in rw e (now (rw e at some)))
         | inr ne ↦ (let old = c.loop-v.invariant.followed v (omega (arith, lt, ne)) some in
-            omega (arith, old, c.follow_back.ensures.reads v i (omega (arith, lt, c.loop-v-test.true, c.len-v-end.ensures, d.costs.ok.0)) in_round))
+            omega (
+              arith,
+              old,
+              c.follow_back.ensures.reads v i
+                  (omega (arith, lt, c.loop-v-test.true, c.len-v-end.ensures, d.costs.ok.0)) in_round,
+            ))
       ];
       cost = (let inv = c.loop-v.invariant.cost in let new = c.follow_back.ensures.cost in
           let step : admitted_below (load d) (c.loop-v.v + 1)

@@ -20,40 +20,51 @@ in_job d u k from until j w a b = window_job (load d) d.ok u k from until j w a 
 pub read_edge-requires-clause-can : goal.read_edge-requires-clause-can
 read_edge-requires-clause-can g c =
     let d = c.args.demands.now in
-    let is_k = in_job d c.args.u c.args.k c.window-from.result.0 c.window-from.result.1 c.loop-j.j c.window-from.ensures c.loop-j.auto.j c.loop-j-test.true in
+    let is_k = in_job d c.args.u c.args.k c.window-from.result.0 c.window-from.result.1 c.loop-j.j
+    c.window-from.ensures c.loop-j.auto.j c.loop-j-test.true in
     rw is_k c.loop-j.invariant.can
 
 pub read_edge-requires-clause-unread : goal.read_edge-requires-clause-unread
 read_edge-requires-clause-unread g c =
     let d = c.args.demands.now in
     let w = c.window-from.ensures in
-    let is_k = in_job d c.args.u c.args.k c.window-from.result.0 c.window-from.result.1 c.loop-j.j w c.loop-j.auto.j c.loop-j-test.true in
-    reading_unread (load d) (reached_of c.args.reach.now) (reached_of c.loop-j.reach) c.args.u c.window-from.result.0 c.loop-j.j
-    c.loop-j.invariant.reading (c.requires.unread c.loop-j.j (omega (arith, c.loop-j-test.true, w.in_round)) is_k)
+    let is_k = in_job d c.args.u c.args.k c.window-from.result.0 c.window-from.result.1 c.loop-j.j w
+    c.loop-j.auto.j c.loop-j-test.true in
+    reading_unread (load d) (reached_of c.args.reach.now) (reached_of c.loop-j.reach) c.args.u
+    c.window-from.result.0 c.loop-j.j
+    c.loop-j.invariant.reading (c.requires.unread c.loop-j.j (omega (arith, c.loop-j-test.true, w.in_round))
+    is_k)
 
 pub loop-j-preserved : goal.loop-j-preserved
 loop-j-preserved g c =
     let d = c.args.demands.now in
     let w = c.window-from.ensures in
-    let is_k = in_job d c.args.u c.args.k c.window-from.result.0 c.window-from.result.1 c.loop-j.j w c.loop-j.auto.j c.loop-j-test.true in
+    let is_k = in_job d c.args.u c.args.k c.window-from.result.0 c.window-from.result.1 c.loop-j.j w
+    c.loop-j.auto.j c.loop-j-test.true in
     let in_round : c.loop-j.j < (load d).count = omega (arith, c.loop-j-test.true, w.in_round) in
-    let at = edge_place (load d) c.loop-j.reach c.loop-j.j c.args.u c.loop-j.invariant.places w.vcpu in_round in
+    let at = edge_place (load d) c.loop-j.reach c.loop-j.j c.args.u c.loop-j.invariant.places w.vcpu in_round
+    in
     let up0 = raised_rows c.loop-j.reach.scans.items c.loop-j.j c.args.u at in
-    let up : Raised (reached_of c.loop-j.reach).scan (reached_of c.read_edge.new.reach).scan c.args.u c.loop-j.j
+    let up : Raised (reached_of c.loop-j.reach).scan (reached_of c.read_edge.new.reach).scan c.args.u
+    c.loop-j.j
     = rw c.read_edge.ensures.scans up0 in
     record {
       places = c.read_edge.ensures.places;
       search = c.read_edge.ensures.search;
       can = rw is_k at c.read_edge.ensures.can;
-      links = more_trans (reached_of c.args.reach.now) (reached_of c.loop-j.reach) (reached_of c.read_edge.new.reach)
+      links = more_trans (reached_of c.args.reach.now) (reached_of c.loop-j.reach)
+          (reached_of c.read_edge.new.reach)
           c.loop-j.invariant.links c.read_edge.ensures.more;
-      reading = reading_more (load d) (reached_of c.args.reach.now) (reached_of c.loop-j.reach) (reached_of c.read_edge.new.reach) c.args.u
-          c.window-from.result.0 c.loop-j.j c.loop-j.invariant.reading c.loop-j.auto.j (c.requires.unread c.loop-j.j in_round is_k) up;
+      reading = reading_more (load d) (reached_of c.args.reach.now) (reached_of c.loop-j.reach)
+          (reached_of c.read_edge.new.reach) c.args.u
+          c.window-from.result.0 c.loop-j.j c.loop-j.invariant.reading c.loop-j.auto.j
+          (c.requires.unread c.loop-j.j in_round is_k) up;
       cost = omega (
         arith,
         c.loop-j.invariant.cost,
         c.tell.ensures,
-        scanned_more (load d) (reached_of c.loop-j.reach) (reached_of c.read_edge.new.reach) c.args.u c.loop-j.j w.vcpu in_round up,
+        scanned_more (load d) (reached_of c.loop-j.reach) (reached_of c.read_edge.new.reach) c.args.u
+            c.loop-j.j w.vcpu in_round up,
       );
       root_vcpu = c.read_edge.ensures.root_vcpu ∙ c.loop-j.invariant.root_vcpu;
       root_job = c.read_edge.ensures.root_job ∙ c.loop-j.invariant.root_job;
@@ -70,25 +81,31 @@ pub returns-clause-jobwise : goal.returns-clause-jobwise
 returns-clause-jobwise g c =
     let d = c.args.demands.now in
     let w = c.window-from.ensures in
-    let r = read_whole d c.window-from.result.0 c.window-from.result.1 c.loop-j.j c.args.u _ _ w.some c.loop-j.auto.j c.loop-j.auto.j-end c.loop-j-test.false
+    let r = read_whole d c.window-from.result.0 c.window-from.result.1 c.loop-j.j c.args.u _ _ w.some
+    c.loop-j.auto.j c.loop-j.auto.j-end c.loop-j-test.false
     c.loop-j.invariant.reading in
-    reading_jobwise (load d) d.ok (reached_of c.args.reach.now) (reached_of c.loop-j.reach) c.args.u c.args.k c.window-from.result.0 c.window-from.result.1
+    reading_jobwise (load d) d.ok (reached_of c.args.reach.now) (reached_of c.loop-j.reach) c.args.u c.args.k
+    c.window-from.result.0 c.window-from.result.1
     w r c.requires.jobwise
 
 pub returns-clause-reads : goal.returns-clause-reads
 returns-clause-reads g c =
     let d = c.args.demands.now in
     let w = c.window-from.ensures in
-    let r = read_whole d c.window-from.result.0 c.window-from.result.1 c.loop-j.j c.args.u _ _ w.some c.loop-j.auto.j c.loop-j.auto.j-end c.loop-j-test.false
+    let r = read_whole d c.window-from.result.0 c.window-from.result.1 c.loop-j.j c.args.u _ _ w.some
+    c.loop-j.auto.j c.loop-j.auto.j-end c.loop-j-test.false
     c.loop-j.invariant.reading in
-    reading_keeps (load d) d.ok (reached_of c.args.reach.now) (reached_of c.loop-j.reach) c.args.u c.args.k c.window-from.result.0 c.window-from.result.1
+    reading_keeps (load d) d.ok (reached_of c.args.reach.now) (reached_of c.loop-j.reach) c.args.u c.args.k
+    c.window-from.result.0 c.window-from.result.1
     w r c.requires.unread
 
 pub returns-clause-all : goal.returns-clause-all
 returns-clause-all g c i h e =
     let d = c.args.demands.now in
     let w = c.window-from.ensures in
-    let r = read_whole d c.window-from.result.0 c.window-from.result.1 c.loop-j.j c.args.u _ _ w.some c.loop-j.auto.j c.loop-j.auto.j-end c.loop-j-test.false
+    let r = read_whole d c.window-from.result.0 c.window-from.result.1 c.loop-j.j c.args.u _ _ w.some
+    c.loop-j.auto.j c.loop-j.auto.j-end c.loop-j-test.false
     c.loop-j.invariant.reading in
-    reading_all (load d) d.ok (reached_of c.args.reach.now) (reached_of c.loop-j.reach) c.args.u c.args.k c.window-from.result.0 c.window-from.result.1 i
+    reading_all (load d) d.ok (reached_of c.args.reach.now) (reached_of c.loop-j.reach) c.args.u c.args.k
+    c.window-from.result.0 c.window-from.result.1 i
     w r h e

@@ -11,4 +11,11 @@ returns-in-Some-clause-cost g c =
     let v = c.loop-v.v in
     let in_width : v + 1
     ≤ l.width = omega (arith, c.loop-v-test.true, c.len-v-end.ensures, c.args.demands.now.costs.ok.0) in
-    omega (arith, c.loop-v.invariant.cost, c.first_of.ensures.cost, total-step (jobs_due l) v, total-part (jobs_due l) (v + 1) l.width in_width)
+    omega (
+      arith,
+      c.loop-v.invariant.cost,
+      c.first_of.ensures.cost,
+      total-step (jobs_due l) v,
+      total-part
+          (jobs_due l) (v + 1) l.width in_width,
+    )

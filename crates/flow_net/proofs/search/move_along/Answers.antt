@@ -16,7 +16,8 @@ in_queue : (d : Demands) (f : Flow) (r : Reach) (x : ℕ) → HasPlaces (load d)
 in_queue d f r x places s h = omega (arith, places.queue, tail_le (load d) (reached_of r) s.size, h)
 
 pub link_of-link-requires : goal.link_of-link-requires
-link_of-link-requires c = in_queue c.args.demands.now c.args.flow.now c.args.reach.now c.args.end c.requires.places c.requires.search c.requires.link
+link_of-link-requires c = in_queue c.args.demands.now c.args.flow.now c.args.reach.now c.args.end
+    c.requires.places c.requires.search c.requires.link
 
 -- the link before it
 before : (d : Demands) (f : Flow) (r : Reach) (x : ℕ) (link : Link) → IsSearchOf d f r → x < r.tail
@@ -29,14 +30,17 @@ before d f r x link s h is some =
 pub link_of-before-requires : goal.link_of-before-requires
 link_of-before-requires c =
     let d = c.args.demands.now in
-    in_queue d c.args.flow.now c.args.reach.now (c.loop-link.link.back - 1) c.requires.places c.requires.search
-    (before d c.args.flow.now c.args.reach.now c.loop-link.x c.loop-link.link c.requires.search c.loop-link.invariant.within c.loop-link.invariant.is c.loop-link-test.true)
+    in_queue d c.args.flow.now c.args.reach.now (c.loop-link.link.back - 1) c.requires.places
+    c.requires.search
+    (before d c.args.flow.now c.args.reach.now c.loop-link.x c.loop-link.link c.requires.search
+    c.loop-link.invariant.within c.loop-link.invariant.is c.loop-link-test.true)
 
 pub shift-requires-clause-from : goal.shift-requires-clause-from
 shift-requires-clause-from c =
     let d = c.args.demands.now in
     rw c.link_of-before.ensures (c.requires.search.interval (c.loop-link.link.back - 1)
-    (before d c.args.flow.now c.args.reach.now c.loop-link.x c.loop-link.link c.requires.search c.loop-link.invariant.within c.loop-link.invariant.is c.loop-link-test.true))
+    (before d c.args.flow.now c.args.reach.now c.loop-link.x c.loop-link.link c.requires.search
+    c.loop-link.invariant.within c.loop-link.invariant.is c.loop-link-test.true))
 
 pub loop-link-init : goal.loop-link-init
 loop-link-init c = record {
@@ -55,11 +59,13 @@ loop-link-preserved c =
     let inv = c.loop-link.invariant in
     let s = rw (← c.take_room.ensures.rows) at c.requires.search in
     let b : c.loop-link.link.back ≡ q.back c.loop-link.x = ap (λ (l : Link). l.back) inv.is in
-    let kept = kept_more (load d) (flow_of c.take_room.new.flow.rows.items) (flow_of c.loop-link.flow.rows.items) (flow_of c.shift.new.flow.rows.items)
+    let kept = kept_more (load d) (flow_of c.take_room.new.flow.rows.items)
+    (flow_of c.loop-link.flow.rows.items) (flow_of c.shift.new.flow.rows.items)
     r.root_vcpu r.root_job q c.loop-link.x s inv.within (omega (arith, b, c.loop-link-test.true))
     (rw inv.is at c.shift.ensures.others) inv.kept in
     record {
-      within = before d c.args.flow.now r c.loop-link.x c.loop-link.link c.requires.search inv.within inv.is c.loop-link-test.true;
+      within = before d c.args.flow.now r c.loop-link.x c.loop-link.link c.requires.search inv.within inv.is
+          c.loop-link-test.true;
       is = c.link_of-before.ensures;
       net = rw c.link_of-before.ensures at c.shift.ensures.net;
       lacks = c.shift.ensures.lacks ∙ inv.lacks;

@@ -15,7 +15,8 @@ pub find_room-requires-clause-rooted : goal.find_room-requires-clause-rooted
 find_room-requires-clause-rooted g c =
     let d = c.args.demands.now in
     let known = c.in-Some.ensures in
-    let root = rooted_at (load d) d.ok (lack_of c.args.flow.now.lacks.items) c.in-Some.at.0 c.in-Some.at.1 (reached_of c.read_job.new.reach)
+    let root = rooted_at (load d) d.ok (lack_of c.args.flow.now.lacks.items) c.in-Some.at.0 c.in-Some.at.1
+    (reached_of c.read_job.new.reach)
     known.vcpu known.job known.lacks c.read_job.ensures.all in
     let u : c.read_job.new.reach.root_vcpu ≡ c.in-Some.at.0 = c.read_job.ensures.root_vcpu
     ∙ c.begin.ensures.root_vcpu in
@@ -32,7 +33,9 @@ returns-in-Some-find_room-clause-raised g c t =
     ∙ c.read_job.ensures.root_vcpu ∙ c.begin.ensures.root_vcpu in
     let k : c.find_room.new.reach.root_job ≡ c.in-Some.at.1 = c.find_room.ensures.root_job
     ∙ c.read_job.ensures.root_job ∙ c.begin.ensures.root_job in
-    rw c.move_along.ensures.lacks (rw u (rw k (lacks_less (load d) f.rows.items f.lacks.items f.room.items (load d).count c.in-Some.at.0 c.in-Some.at.1
+    rw c.move_along.ensures.lacks (rw u
+    (rw k (lacks_less (load d) f.rows.items f.lacks.items f.room.items (load d).count c.in-Some.at.0
+    c.in-Some.at.1
     c.requires.net known.vcpu known.job known.lacks)))
 
 pub returns-in-Some-find_room-clause-cost : goal.returns-in-Some-find_room-clause-cost
@@ -40,6 +43,7 @@ returns-in-Some-find_room-clause-cost g c =
     let d = c.args.demands.now in
     let l = load d in
     let r = c.find_room.new.reach in
-    let most = scanned_le l (flow_of c.args.flow.now.rows.items) r.root_vcpu r.root_job (reached_of r) c.find_room.ensures.search in
+    let most = scanned_le l (flow_of c.args.flow.now.rows.items) r.root_vcpu r.root_job (reached_of r)
+    c.find_room.ensures.search in
     let bound = cost_bound l.count (admitted l) (job_count l) (scanned l (reached_of r)) most in
     omega (arith, bound, c.first_lacking.ensures.cost, c.read_job.ensures.cost, c.find_room.ensures.cost)

@@ -50,5 +50,6 @@ pub returns-clause-cells : goal.returns-clause-cells
 returns-clause-cells c = λ v lt.
     let ss = c.segments-segments.result.now in
     let none = count_end ss v c.loop-segment.from c.loop-segment.segment-index c.loop-segment-test.false in
-    let all = count_row v c.args.row.now ss c.segments-segments.ensures.cells c.segments-segments.ensures.rises in
+    let all = count_row v c.args.row.now ss c.segments-segments.ensures.cells
+    c.segments-segments.ensures.rises in
     omega (arith, c.loop-segment.invariant.cells v lt, none, all)

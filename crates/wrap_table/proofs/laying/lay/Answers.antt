@@ -20,7 +20,8 @@ returns-then-left-eq0-clause-row c =
     let all : c.args.span - c.loop-vcpu.left + n ≡ c.args.span
     = omega (arith, c.min-count.ensures, c.if-left-eq0.true, inv.most) in
     c.in_ok-append.ensures
-    ∙ row_more ns c.loop-vcpu.row c.args.row.now (replicate n (Some v)) c.args.from (c.args.span - c.loop-vcpu.left) n
+    ∙ row_more ns c.loop-vcpu.row c.args.row.now (replicate n (Some v)) c.args.from
+    (c.args.span - c.loop-vcpu.left) n
     inv.row (run_is ns _ v c.loop-vcpu.begun n inv.at h le)
     ∙ ap (λ m. c.args.row.now ++ owners ns c.args.from m) all
 

@@ -25,7 +25,13 @@ lay-requires-clause-room c =
     let a = allotment_view c.args.allotment.now in
     let lt : c.loop-i.i < length a.ticks =
     omega (arith, c.loop-i-test.true, c.loop-i.invariant.size, c.requires.size) in
-    omega (arith, c.length_of-span.ensures, c.loop-i.invariant.ticks, end_in_round a c.requires.intervals c.loop-i.i lt)
+    omega (
+      arith,
+      c.length_of-span.ensures,
+      c.loop-i.invariant.ticks,
+      end_in_round a c.requires.intervals
+          c.loop-i.i lt,
+    )
 
 pub loop-i-preserved : goal.loop-i-preserved
 loop-i-preserved c =
@@ -37,7 +43,8 @@ loop-i-preserved c =
     let span_is = c.length_of-span.ensures in
     let row_is : c.lay.new.row ≡ c.loop-i.row ++ cells_at a core i
     = c.in_ok-at.ensures.row
-    ∙ ap (λ r. c.loop-i.row ++ r) (ap (λ ns. owners ns (core * c.length_of-span.result) c.length_of-span.result) c.ticks_in.ensures
+    ∙ ap (λ r. c.loop-i.row ++ r) (ap
+    (λ ns. owners ns (core * c.length_of-span.result) c.length_of-span.result) c.ticks_in.ensures
     ∙ ap (λ s. owners (row_at a.ticks i) (core * s) s) span_is) in
     let next : core * length_at a i + length_at a i ≡ (core + 1) * length_at a i = omega arith in
     let laid : IsLaidTo (row_at a.ticks i) ((core + 1) * length_at a i) c.in_ok-at.field-0
@@ -50,6 +57,7 @@ loop-i-preserved c =
       ticks = ap length row_is ∙ length_more a c.requires.intervals core c.loop-i.row i lt inv.ticks;
       cells = subst (λ r. HasCells a core r (i + 1)) (sym row_is)
           (cells_more a c.requires.intervals core c.loop-i.row i lt inv.ticks inv.cells);
-      done = laid_further a core c.loop-i.at.items c.in_ok-at.field-0 i (omega (arith, lt, inv.size, c.requires.size)) laid inv.done;
+      done = laid_further a core c.loop-i.at.items c.in_ok-at.field-0 i
+          (omega (arith, lt, inv.size, c.requires.size)) laid inv.done;
       todo = laid_before a core c.loop-i.at.items c.in_ok-at.field-0 i inv.todo;
     }

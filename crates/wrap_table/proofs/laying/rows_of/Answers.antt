@@ -24,4 +24,5 @@ loop-core-preserved c =
 pub returns : goal.returns
 returns c =
     rows_are_wrapped (allotment_view c.args.allotment.now) c.args.cores c.loop-core.rows.items
-    (omega (arith, c.loop-core.invariant.count, c.loop-core-test.false, c.loop-core.auto.core-end)) c.loop-core.invariant.rows
+    (omega (arith, c.loop-core.invariant.count, c.loop-core-test.false, c.loop-core.auto.core-end))
+    c.loop-core.invariant.rows

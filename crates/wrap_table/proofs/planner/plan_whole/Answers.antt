@@ -17,7 +17,8 @@ returns-in_err-tasks-clause-planned g c = λ tasks are fit.
 pub returns-clause-fits_host : goal.returns-clause-fits_host
 returns-clause-fits_host g c =
     fits_host c.args.host.now (plan_view c.in_ok-wrap.field-0)
-    (whole_plan c.args.host.now c.in_ok-tasks.tasks (allotment_view c.in_ok-allotment.allotment) (plan_view c.in_ok-wrap.field-0)
+    (whole_plan c.args.host.now c.in_ok-tasks.tasks (allotment_view c.in_ok-allotment.allotment)
+    (plan_view c.in_ok-wrap.field-0)
     c.in_ok-tasks.ensures.ok c.in_ok-allotment.ensures.allotment c.in_ok-wrap.ensures)
 
 pub returns-clause-without_period : goal.returns-clause-without_period

@@ -10,7 +10,8 @@ returns c =
     let l = load_of d.costs.items d.periods.items d.marks.items d.cores in
     let s = window_of l d.ok c.args.u c.args.k c.requires.vcpu c.requires.job in
     let w = s.2 in
-    let period = get_or_read d.periods.items c.args.u c.index-period.result.now (omega (arith, d.same_len, c.requires.vcpu)) c.index-period.ensures 0 in
+    let period = get_or_read d.periods.items c.args.u c.index-period.result.now
+    (omega (arith, d.same_len, c.requires.vcpu)) c.index-period.ensures 0 in
     let begin : get_or d.marks.items s.0 0 ≡ c.args.k * c.index-period.result.now = w.from
     ∙ ap (λ n. c.args.k * n) (sym period) in
     let end : get_or d.marks.items s.1 0 ≡ c.args.k * c.index-period.result.now + c.index-period.result.now

@@ -13,7 +13,8 @@ returns-clause-rose g c t =
     let seen = ap flow_in c.self.view_is in
     omega (
       arith,
-      flow_and_lacks l d.ok old.flow.rows.items old.flow.lacks.items old.flow.room.items l.count c.self.invariant.flow_ok,
+      flow_and_lacks l d.ok old.flow.rows.items old.flow.lacks.items old.flow.room.items l.count
+          c.self.invariant.flow_ok,
       flow_and_lacks l d.ok new.rows.items new.lacks.items new.room.items l.count c.search_once.ensures.net,
       c.search_once.ensures.raised t,
       seen,
