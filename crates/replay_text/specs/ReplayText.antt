@@ -4,7 +4,7 @@ use Rattle.tab_core.specs.declared.entry.Entry.{Entry}
 use Rattle.table_form.specs.Running.Courses.{CourseView}
 use Rattle.step_machine.specs.declared.trace.Made.{Made}
 use Rattle.step_machine.specs.declared.trace.Made.TheVariants.{Entered, Ran}
-use Rattle.replay_text.specs.StintLine.{stint_line}
+use Rattle.stint_text.specs.StintLine.{stint_line}
 
 -- the line of an entry of core c: its round, and the count of events that the round's plan includes
 unfoldable pub entry_line : ℕ → Entry → List ℕ

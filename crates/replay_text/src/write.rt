@@ -5,8 +5,8 @@ ghost use Rattle.replay_text.specs.ReplayText.{made_line, posted_line, replay_te
 ghost use Rattle.step_machine.specs.Traces.{AreOfCourse, IsOfCourse};
 
 use crate::entry_line::put_entry;
-use crate::stint_line::put_stint;
 use step_machine::{Made, Trace};
+use stint_text::put_stint;
 use tab_core::{Host, Vcpu};
 use tab_io::{Sink, WriteFault};
 use tab_words::{TextPiece, put_pieces};

@@ -1,22 +1,18 @@
-ghost use Rattle.std.specs.Prelude.{◌≡◌, ◌%◌, ◌<◌, ◌≤◌, Some, length};
-ghost use Rattle.tab_core.specs.declared.TheConstants.{ROUND};
+ghost use Rattle.std.specs.Prelude.{◌≡◌, ◌<◌, ◌≤◌, Some, length};
 ghost use Rattle.tab_io.specs.Sinks.{Writes};
-ghost use Rattle.table_form.specs.Running.Choice.{is_shared, runs_other};
-ghost use Rattle.table_form.specs.Running.Courses.{plan_after};
-ghost use Rattle.table_form.specs.Tables.Serves.{owner_at};
+ghost use Rattle.table_form.specs.Running.Choice.{runs_other};
 ghost use Rattle.vcpu_names.specs.Names.{names_of};
-ghost use Rattle.replay_text.specs.StintLine.{how_word, stint_line};
+ghost use Rattle.stint_text.specs.StintLine.{first_owner, how_word, owned_line, stint_line};
 
 use tab_core::{CoreNo, ROUND, Stint, Vcpu, VcpuNo};
 use tab_io::{Sink, WriteFault};
-use tab_words::{TextPiece, put_pieces};
+use tab_words::{TextPiece, put_line};
 use table_form::Course;
 use vcpu_names::owner_in;
 
 /// Writes the line of a core's stint, for the vCPUs of a host and a course.
 ///
 /// A fault leaves a front of the line in the sink. Nothing is settled.
-#[tactic(auto, unfolding(crate::specs::StintLine::stint_line))]
 pub fn put_stint<K: Sink>(
     sink: &mut K,
     vcpus: &[Vcpu],
@@ -29,39 +25,49 @@ pub fn put_stint<K: Sink>(
     ensures { Writes (K.state sink.old) (K.state sink.new)
         (stint_line (names_of vcpus.now) course.now core stint.now) result }
 {
+    let owner = owner_at_begin(course, core, stint);
+    put_owned_stint(sink, vcpus, core, stint, &owner)
+}
+
+/// Writes the same line where the owner of the stint's first tick is known.
+#[tactic(auto, unfolding(crate::specs::StintLine::owned_line))]
+pub fn put_owned_stint<K: Sink>(
+    sink: &mut K,
+    vcpus: &[Vcpu],
+    core: CoreNo,
+    stint: &Stint,
+    owner: &Option<VcpuNo>,
+) -> Result<(), WriteFault>
+    ensures { Writes (K.state sink.old) (K.state sink.new)
+        (owned_line (names_of vcpus.now) core owner.now stint.now) result }
+{
     let name = owner_in(vcpus, &stint.ran);
-    let how = how_of(course, core, stint);
-    put_pieces(
+    let how = how_of(owner, &stint.ran);
+    put_line(
         sink,
         &[
-            TextPiece::Text(b"core "),
+            TextPiece::Text(b"core"),
             TextPiece::Number(core.0),
-            TextPiece::Text(b" "),
             TextPiece::Number(stint.from),
-            TextPiece::Text(b" "),
             TextPiece::Number(stint.end),
-            TextPiece::Text(b" used "),
+            TextPiece::Text(b"used"),
             TextPiece::Number(stint.used),
-            TextPiece::Text(b" seen "),
+            TextPiece::Text(b"seen"),
             TextPiece::Number(stint.seen),
-            TextPiece::Text(b" "),
             TextPiece::Text(name),
-            TextPiece::Text(b" "),
             TextPiece::Text(how),
-            TextPiece::Text(b"\n"),
         ],
     )
 }
 
-fn how_of(course: &Course, core: CoreNo, stint: &Stint) -> &'static [u8]
-    requires core { core < course.now.cores }
-    requires used { stint.now.used ≤ length course.now.ticks }
-    ensures { result.now ≡ how_word (is_shared course.now core stint.now) stint.now.ran }
+// How whoever ran came to run, where this is the owner.
+fn how_of(owner: &Option<VcpuNo>, ran: &Option<VcpuNo>) -> &'static [u8]
+    ensures { result.now ≡ how_word (runs_other owner.now ran.now) ran.now }
 {
-    let Some(ran) = &stint.ran else {
+    let Some(vcpu) = ran else {
         return b"idle";
     };
-    if is_other(&owner_at_begin(course, core, stint), ran) {
+    if is_other(owner, vcpu) {
         b"shared"
     } else {
         b"slot"
@@ -72,7 +78,7 @@ fn how_of(course: &Course, core: CoreNo, stint: &Stint) -> &'static [u8]
 fn owner_at_begin(course: &Course, core: CoreNo, stint: &Stint) -> Option<VcpuNo>
     requires core { core < course.now.cores }
     requires used { stint.now.used ≤ length course.now.ticks }
-    ensures { result ≡ owner_at (plan_after course.now stint.now.used).rows core (stint.now.from % ROUND) }
+    ensures { result ≡ first_owner course.now core stint.now }
 {
     let plan = course.plan_after(stint.used);
     let rows = plan.tables.rows.items();
