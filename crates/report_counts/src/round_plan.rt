@@ -14,13 +14,14 @@ pub struct RoundPlan {
 /// Lists round 0, and each round whose plan has another number than that of the round before, in a run of
 /// which `used` has the count of each round.
 ///
-/// Takes no memory: `plans` has room for them, and nothing in it yet.
+/// Takes no memory: `plans` has room for them, and nothing in it yet. Its room stays as it is.
 pub fn round_plans(course: &Course, used: &[u32], plans: &mut Vec<RoundPlan>)
     requires counts { (r count : ℕ) → slice_get used.now r ≡ Some count → count ≤ length course.now.ticks }
     requires few { length used.now ≤ MAX_ROUNDS }
     requires empty { plans.old.items ≡ [] }
     requires room { length used.now ≤ vec_capacity plans.old }
-    ensures { plans.new.items ≡ round_plans_of course.now used.now }
+    ensures listed { plans.new.items ≡ round_plans_of course.now used.now }
+    ensures room { vec_capacity plans.new ≡ vec_capacity plans.old }
 {
     let mut last = None;
     for r in 0..used.len() {

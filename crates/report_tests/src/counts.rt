@@ -1,42 +1,18 @@
-use plan_book::{BookFault, PlanBook, make_book};
+use crate::samples::{book_of, halved_host};
+use plan_book::PlanBook;
 use report_counts::{RoundPlan, Stretch, count_waits, round_plans};
-use script_doc::read_script;
 use std::alloc::Global;
 use std::cmp::min;
 use std::test::Fail;
 use std::thread::Threads;
 use stint_limit::{round_stints, stint_bound};
-use tab_core::{CoreNo, Host, MAX_ROUNDS, MAX_VCPUS, Name, NoMemory, Reservation, Vcpu, Vcpus};
+use tab_core::{CoreNo, MAX_ROUNDS, MAX_VCPUS, NoMemory};
 use table_form::Course;
 
 // One core with a, which has half of it until tick 102600 and a quarter from then on.
 fn halved<R: Threads + Sync>(rt: &R, alloc: Global) -> Result<PlanBook, Fail> {
-    let mut vcpus = Vec::new(alloc);
-    vcpus.push(Vcpu {
-        name: Name::of(alloc, b"a")?,
-        reservation: Some(Reservation {
-            share_ppm: 500_000,
-            latency_ns: 102_702_600,
-        }),
-        runnable: true,
-    })?;
-    let host = Host {
-        cores: 1,
-        lag: 102_600,
-        sliver: 30,
-        quantum: 102_600,
-        vcpus: Vcpus::of(vcpus),
-    };
-    let script = read_script(alloc, b"102600 change set a 250000 102702600", &host, 2)?;
-    make_book(rt, alloc, &host, &script).map_err(|fault| told(&fault))
-}
-
-fn told(fault: &BookFault) -> Fail {
-    match fault {
-        BookFault::NoPeriod { .. } => Fail::from("no period"),
-        BookFault::NoRoom { .. } => Fail::from("no room"),
-        BookFault::NoMemory => Fail::from("no memory"),
-    }
+    let host = halved_host(alloc)?;
+    book_of(rt, alloc, &host, b"102600 change set a 250000 102702600")
 }
 
 // What is counted of so many rounds, the first of them by the plan before the change: the run of vCPU 0,

@@ -1,6 +1,10 @@
-//! The tests of what is counted of a run, which stand apart since a crate with tests is proved twice,
+//! The tests of what is counted and told of a run. They stand apart since a crate with tests is proved twice,
 //! with them and without.
 #![tactic(auto)]
 
 #[cfg(test)]
 mod counts;
+#[cfg(test)]
+mod reports;
+#[cfg(test)]
+mod samples;

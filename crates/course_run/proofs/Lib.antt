@@ -1,0 +1,4 @@
+pub mod ChangesLemmas
+pub mod KeepLemmas
+pub mod RunLemmas
+pub mod TellingLemmas

@@ -1,0 +1,42 @@
+-- How many stints each core keeps.
+use Rattle.std.specs.Prelude.{◌≡◌, ℕ, ◌*◌, ◌<◌, ◌≤◌, List, Some, slice_index}
+use Rattle.tab_words.specs.declared.command.RunMode.{RunMode}
+use Rattle.tab_words.specs.declared.command.RunMode.TheVariants.{Trace}
+use Rattle.table_form.specs.Running.Courses.{CourseView}
+use Rattle.dispatch_core.specs.States.{StateView}
+use Rattle.round_words.specs.declared.view.View.{View}
+use Rattle.core_workers.specs.Crews.{AllAgree, IsFresh}
+use Rattle.core_workers.specs.Groups.{CrewView, actor_of}
+use Rattle.stint_limit.specs.StintBounds.{IsLargestSpans, IsStintBound, stints_of_round}
+use Rattle.course_run.specs.declared.keeping.RunFault.{RunFault}
+use Rattle.course_run.specs.declared.keeping.RunFault.TheVariants.{TraceTooLong, NoMemory}
+use Rattle.course_run.specs.declared.keeping.TheConstants.{TRACE_LIMIT}
+
+-- so many stints are all that a run of so many rounds can have of the core
+pub record IsRoomFor (course : CourseView) (rounds c keep : ℕ) : Type 0 where
+  pub most : ℕ
+  pub largest : IsLargestSpans course c most
+  pub keep_is : keep ≡ rounds * stints_of_round course most
+
+-- each core below the n-th keeps as many
+abbrev pub KeepAll : CourseView → ℕ → List ℕ → ℕ → Type 0
+KeepAll course rounds keep n = (c : ℕ) → c < n → IsRoomFor course rounds c (slice_index keep c)
+
+-- a trace is asked for, and the bound on the stints is beyond its limit
+abbrev pub IsTooLong : CourseView → ℕ → RunMode → RunFault → Type 0
+IsTooLong course rounds mode (TraceTooLong bound) = (mode ≡ Trace) × IsStintBound course rounds bound
+    × (TRACE_LIMIT < bound)
+IsTooLong course rounds mode NoMemory = Unit {0}
+
+-- and otherwise it isn't
+abbrev pub IsShort : CourseView → ℕ → RunMode → Type 0
+IsShort course rounds mode = mode ≡ Trace → (bound : ℕ) → IsStintBound course rounds bound
+    → bound ≤ TRACE_LIMIT
+
+-- the crew is that of a run of the course that hasn't begun, and for a trace it keeps all stints
+pub record IsReady (course : CourseView) (rounds : ℕ) (mode : RunMode) (crew : CrewView) : Type 0 where
+  pub course_is : crew.course ≡ course
+  pub rounds_are : crew.rounds ≡ rounds
+  pub agrees : (v : View) → IsFresh course v → AllAgree crew v
+  pub keeps : mode ≡ Trace → (c : ℕ) (a : StateView) → actor_of crew c ≡ Some a → c < course.cores
+      → IsRoomFor course rounds c a.keep

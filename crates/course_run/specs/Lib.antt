@@ -1,0 +1,4 @@
+pub mod Changes
+pub mod Inside
+pub mod RunText
+pub mod Runs

@@ -1,0 +1,82 @@
+-- What a run by threads gives back.
+-- Source: the rules of this project.
+use Rattle.std.specs.Prelude.{◌≡◌, ℕ, ◌<◌, ◌≤◌, All, List, [], Option, None, Some, length, slice_get}
+use Rattle.tab_core.specs.declared.host.Host.{Host}
+use Rattle.tab_core.specs.declared.stint.Stint.{Stint}
+use Rattle.tab_words.specs.declared.command.RunMode.{RunMode}
+use Rattle.tab_words.specs.declared.command.RunMode.TheVariants.{Trace}
+use Rattle.table_form.specs.Running.Courses.{CourseView, IsCourse, outline_of}
+use Rattle.table_form.specs.Running.Invariant.{IsComplete}
+use Rattle.table_form.specs.Running.Promises.{KeepsPromises}
+use Rattle.table_form.specs.Running.State.{CoreState, State}
+use Rattle.dispatch_core.specs.Accounts.{IsAccountOf}
+use Rattle.dispatch_core.specs.Parts.{IsOfOutline}
+use Rattle.dispatch_core.specs.States.{StateView}
+use Rattle.dispatch_core.specs.declared.account.CoreAccount.{CoreAccount}
+use Rattle.round_words.specs.declared.view.View.{View}
+use Rattle.board_state.specs.Readings.{state_of}
+use Rattle.board_state.specs.RunViews.{HoldsAllParts}
+use Rattle.core_workers.specs.Groups.{CrewView, actor_of}
+use Rattle.trace_report.specs.ReportViews.{ReportView}
+use Rattle.trace_report.specs.RunReports.{IsReportOf}
+
+-- ---- a state's stints and report
+
+abbrev pub stints_in : Option CoreState → List Stint
+stints_in None = []
+stints_in (Some core) = core.stints
+
+-- the stints of a core
+abbrev pub stints_at : State → ℕ → List Stint
+stints_at s c = stints_in (slice_get s.cores c)
+
+-- the accounts are those of the cores' stints, by core number
+pub record AreAccountsOf (course : CourseView) (s : State) (accounts : List CoreAccount) : Type 0 where
+  pub size : length accounts ≡ length s.cores
+  pub each : (c : ℕ) (account : CoreAccount) → slice_get accounts c ≡ Some account
+      → IsAccountOf course c (stints_at s c) account
+
+-- the report of a run that led to the state: of the counts of its rounds and of its cores' stints
+pub record IsReportOfState (course : CourseView) (s : State) (report : ReportView) : Type 0 where
+  pub accounts : List CoreAccount
+  pub are : AreAccountsOf course s accounts
+  pub is : IsReportOf course s.decided accounts report
+
+-- ---- what comes back
+
+-- the run's actors and its report
+pub record RanView : Type 0 where
+  pub crew : CrewView
+  pub report : ReportView
+
+abbrev pub ran_view : CrewView → ReportView → RanView
+ran_view crew report = record { crew = crew; report = report }
+
+abbrev pub kept_in : Option StateView → List Stint
+kept_in None = []
+kept_in (Some a) = a.stints
+
+-- the stints that are kept of a core
+abbrev pub kept_stints : RanView → ℕ → List Stint
+kept_stints ran c = kept_in (actor_of ran.crew c)
+
+-- the view is of all parts of a whole run of the course, read as a state it keeps all promises, the report is
+-- that state's, and with a trace all its stints are kept
+pub record IsRunOf (course : CourseView) (rounds : ℕ) (mode : RunMode) (view : View) (ran : RanView) : Type 0 where
+  pub course_is : ran.crew.course ≡ course
+  pub course_kept : IsCourse course
+  pub started : IsOfOutline (outline_of course) view
+  pub holds : HoldsAllParts view
+  pub promises : KeepsPromises course rounds (state_of course view)
+  pub complete : IsComplete course rounds (state_of course view)
+  pub report : IsReportOfState course (state_of course view) ran.report
+  pub trace : mode ≡ Trace → (c : ℕ) → c < course.cores
+      → kept_stints ran c ≡ stints_at (state_of course view) c
+
+-- the run can be written for the names of the host: its report tells of the host's vCPUs and cores, and the
+-- stints of its trace have counts of its course
+pub record CanBeTold (mode : RunMode) (host : Host) (ran : RanView) : Type 0 where
+  pub each_vcpu : length ran.report.vcpus ≡ length host.vcpus
+  pub each_core : length ran.report.cores ≡ host.cores
+  pub used : mode ≡ Trace → (c : ℕ) → c < ran.crew.course.cores
+      → All (λ (s : Stint). s.used ≤ length ran.crew.course.ticks) (kept_stints ran c)

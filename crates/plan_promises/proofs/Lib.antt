@@ -1,0 +1,2 @@
+pub mod OffersLemmas
+pub mod ReservationsLemmas

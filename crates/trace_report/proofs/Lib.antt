@@ -1,0 +1,4 @@
+pub mod NearLemmas
+pub mod OneReport
+pub mod SoFarLemmas
+pub mod SumLemmas

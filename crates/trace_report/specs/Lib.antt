@@ -1,0 +1,5 @@
+pub mod Inside
+pub mod ReportText
+pub mod ReportViews
+pub mod RunReports
+pub mod TraceText

@@ -1,0 +1,53 @@
+ghost use Rattle.std.specs.Prelude.{◌<◌, ◌≤◌, All, length};
+ghost use Rattle.tab_core.specs.declared.stint.Stint.{Stint as StintValue};
+ghost use Rattle.tab_io.specs.Sinks.{Writes};
+ghost use Rattle.vcpu_names.specs.Names.{names_of};
+ghost use Rattle.trace_report.specs.TraceText.{trace_text};
+
+use crate::first_owner::first_owner;
+use stint_text::put_owned_stint;
+use tab_core::{CoreNo, Host, Stint, Vcpu};
+use tab_io::{Sink, WriteFault};
+use table_form::Course;
+
+/// Writes the trace of a core: the lines of its stints, for the names of a host.
+///
+/// Each stint has counts of the course. A fault leaves a front of the text in the sink. Nothing is
+/// settled, and nothing is allocated.
+pub fn write_trace<K: Sink>(
+    sink: &mut K,
+    host: &Host,
+    course: &Course,
+    core: CoreNo,
+    stints: &[Stint],
+) -> Result<(), WriteFault>
+    requires core { core < course.now.cores }
+    requires used { All (λ (s : StintValue). s.used ≤ length course.now.ticks) stints.now }
+    ensures { Writes (K.state sink.old) (K.state sink.new)
+        (trace_text (names_of host.now.vcpus) course.now core stints.now) result }
+{
+    put_stints(sink, host.vcpus.items(), course, core, stints)
+}
+
+// Writes the lines for these vCPUs. The segment of one stint's begin is where the next one's is looked
+// for first.
+fn put_stints<K: Sink>(
+    sink: &mut K,
+    vcpus: &[Vcpu],
+    course: &Course,
+    core: CoreNo,
+    stints: &[Stint],
+) -> Result<(), WriteFault>
+    requires core { core < course.now.cores }
+    requires used { All (λ (s : StintValue). s.used ≤ length course.now.ticks) stints.now }
+    ensures { Writes (K.state sink.old) (K.state sink.new)
+        (trace_text (names_of vcpus.now) course.now core stints.now) result }
+{
+    let mut near = 0;
+    for stint in stints {
+        let found = first_owner(course, core, stint, near);
+        near = found.place;
+        put_owned_stint(sink, vcpus, core, stint, &found.owner)?;
+    }
+    Ok(())
+}
