@@ -1,6 +1,8 @@
 //! The program `tableau`: it answers its words by one call, over standard input and output.
 #![tactic(auto)]
 
+use core_workers::FreeGate;
+use round_words::RoundBoard;
 use std::io::{BufWriter, ErrorKind};
 use std::process::ExitCode;
 use std::{env, io};
@@ -23,11 +25,23 @@ fn main(rt: HostRuntime) -> ExitCode {
         [] => &[],
         [_, words @ ..] => words,
     };
+    let Ok((board, seat)) = RoundBoard::make(rt.alloc()) else {
+        return ExitCode::from(Status::NoMemory.exit());
+    };
     let Ok(writer) = BufWriter::new(rt.alloc(), io::writer(&rt)) else {
         return ExitCode::from(Status::NoMemory.exit());
     };
     let mut input = StdSource::of(rt.reader());
     let mut output = StdSink::of(writer);
-    let status = tableau(&rt, rt.alloc(), words, &mut input, &mut output);
-    ExitCode::from(status.exit())
+    let done = tableau(
+        &rt,
+        rt.alloc(),
+        words,
+        &mut input,
+        &mut output,
+        &board,
+        seat,
+        &FreeGate,
+    );
+    ExitCode::from(done.status.exit())
 }

@@ -12,7 +12,8 @@ use Rattle.tableau_sim.specs.declared.status.Status.{Status}
 use Rattle.tableau_sim.specs.Bounds.{HasBoundedTasks, IsBounded}
 use Rattle.tab_words.specs.Sections.{sections_of}
 use Rattle.tab_words.specs.declared.command.Command.TheVariants as called
-use Rattle.tableau_sim.specs.Commands.{IsFaultless}
+use Rattle.tableau_sim.specs.Clauses.{IsFaultless}
+use Rattle.tableau_sim.specs.Commands.{Replies}
 use Rattle.tableau_sim.specs.Outcomes.Outcome.{Refuses}
 use Rattle.tableau_sim.proofs.OutcomesLemmas.{no_refusal}
 use Rattle.tableau_sim.specs.Plan.{Plans}
@@ -49,6 +50,6 @@ bounded_is_planned sections bounded refusal names (Plans.NoRoom host vcpu rest o
 
 -- the same of the whole input
 pub bounded_is_faultless : (input : List ℕ) → length (sections_of input) ≡ 1
-    → IsBounded (host_section (sections_of input)) → IsFaultless called.Plan input
+    → IsBounded (host_section (sections_of input)) → IsFaultless Replies called.Plan input
 bounded_is_faultless input one bounded refusal names h =
     no_refusal 1 Plans input one (bounded_is_planned (sections_of input) bounded) refusal names h

@@ -1,40 +1,50 @@
--- What a status of the call tells by itself, whatever the commands are.
+-- What a status of the call tells by itself, whatever the commands R are.
 use Rattle.std.proofs.Common.{◌≡◌, ◌≢◌, ◌⊎◌, ℕ, ◌+◌, List, [], Bool, true, false, length, refl, sym, ap, subst, ◌∙◌, inl, inr, arith}
 use Rattle.std.specs.Io.KnownBytes.{Consumes}
 use Rattle.tab_io.specs.Views.{SourceView, SinkView}
 use Rattle.tab_io.specs.FaultCounts.{Rose}
 use Rattle.tab_words.specs.Commands.{IsCommand, IsFaultAt}
 use Rattle.tab_words.specs.declared.command.Command.{Command}
-use Rattle.tab_words.specs.declared.command.Command.TheVariants as called
 use Rattle.tableau_sim.specs.declared.input.TheConstants.{INPUT_LIMIT}
 use Rattle.tableau_sim.specs.declared.status.Status.{Status}
 use Rattle.tableau_sim.specs.declared.status.Status.TheVariants as status
-use Rattle.tableau_sim.specs.Clauses.{FrontIsOut, HasCause, IsOut, IsToRead, IsToReadIf, LineIsOut, NoFaults, ReadTooMuch, Unread, WroteFor}
-use Rattle.tableau_sim.specs.Commands.{IsFaultless, Replies, reads}
-use Rattle.tableau_sim.specs.Frame.{Answers, Due, HasReadIf, IsDue, outcome_of}
+use Rattle.tableau_sim.specs.Clauses.{EndsUnread, FrontIsOut, HasCause, IsFaultless, IsOut, IsToRead, IsToReadIf, LineIsOut, NoFaults, ReadTooMuch, Unread, WroteFor}
+use Rattle.tableau_sim.specs.Columns.{reads, takes_memory}
+use Rattle.tableau_sim.specs.Frame.{Answers, Due, HasReadIf, IsDue, MayHaveReadIf, outcome_of}
 use Rattle.tableau_sim.specs.Frame.Due.{LacksMemory, NoCommand, Replied, SourceFailed, TooMuch}
 use Rattle.tableau_sim.specs.Lines.{line_of}
 use Rattle.tableau_sim.specs.Outcomes.{IsOfInput, Outcome, status_of, text_of}
 use Rattle.tableau_sim.specs.Outcomes.Outcome.{Refuses, Writes}
 use Rattle.tableau_sim.proofs.ReadingLemmas.{read_given, read_within}
-use Rattle.tableau_sim.proofs.OutcomesLemmas.{refuses_input}
 use Rattle.tableau_sim.proofs.Words.{no_fault, same_command, same_place}
 
+-- what is shown of each R: its refusals are of the input
+abbrev pub RefusesInput : (Command → List ℕ → Outcome → Type 0) → Type 0
+RefusesInput R = (command : Command) (input : List ℕ) (refusal : Status) (names : List (List ℕ))
+    → R command input (Refuses refusal names) → IsOfInput refusal
+
+-- and a command that reads nothing refuses nothing
+abbrev pub WritesUnread : (Command → List ℕ → Outcome → Type 0) → Type 0
+WritesUnread R = (command : Command) (input : List ℕ) (outcome : Outcome) → reads command ≡ false
+    → R command input outcome → status_of outcome ≡ status.Ok
+
 -- what is due came whole, with its status
-pub record IsTold (words : List (List ℕ)) (source source' : SourceView) (sink sink' : SinkView)
+pub record IsTold (R : Command → List ℕ → Outcome → Type 0) (Still : Type 0)
+    (words : List (List ℕ)) (source source' : SourceView) (sink sink' : SinkView)
     (told : Status) : Type 0 where
   pub input : List ℕ
   pub consumed : Consumes source.rest source'.rest input
   pub due : Due
-  pub is_due : IsDue words source source' input due
+  pub is_due : IsDue R Still words source source' input due
   pub told_is : status_of (outcome_of due) ≡ told
   pub out : IsOut sink sink' (text_of (outcome_of due))
 
 -- where the status is no write fault, what was due is out whole: each clause on a status starts here
-told_due : (words : List (List ℕ)) (source source' : SourceView) (sink sink' : SinkView) (told : Status)
-    → Answers words source source' sink sink' told → told ≢ status.WriteFault
-    → IsTold words source source' sink sink' told
-told_due words source source' sink sink' told a works = elim a.written.whole [
+told_due : (R : Command → List ℕ → Outcome → Type 0) (Still : Type 0)
+    (words : List (List ℕ)) (source source' : SourceView) (sink sink' : SinkView) (told : Status)
+    → Answers R Still words source source' sink sink' told → told ≢ status.WriteFault
+    → IsTold R Still words source source' sink sink' told
+told_due R Still words source source' sink sink' told a works = elim a.written.whole [
   | inl came ↦ record {
     input = a.input;
     consumed = a.consumed;
@@ -56,86 +66,92 @@ outcome_written (Writes text) is of = refl
 outcome_written (Refuses refusal names) is of = absurd (subst IsOfInput is (of refusal names refl))
 
 -- the same premise for any outcome of a command, so that it needn't be a refusal by its form
-of_input : (command : Command) (input : List ℕ) (outcome : Outcome) → Replies command input outcome
+of_input : (R : Command → List ℕ → Outcome → Type 0) (refuses : RefusesInput R)
+    (command : Command) (input : List ℕ) (outcome : Outcome) → R command input outcome
     → (refusal : Status) (names : List (List ℕ)) → outcome ≡ Refuses refusal names → IsOfInput refusal
-of_input command input outcome h refusal names is =
-    refuses_input command input refusal names (subst (Replies command input) is h)
+of_input R refuses command input outcome h refusal names is =
+    refuses command input refusal names (subst (R command input) is h)
 
 -- with `Ok` only a reply can have been due, and it is a text of the command
-wrote_of : (words : List (List ℕ)) (source source' : SourceView) (sink sink' : SinkView)
+wrote_of : (R : Command → List ℕ → Outcome → Type 0) (Still : Type 0) (refuses : RefusesInput R)
+    (words : List (List ℕ)) (source source' : SourceView) (sink sink' : SinkView)
     (command : Command) (input : List ℕ) (due : Due) → IsCommand words command
-    → Consumes source.rest source'.rest input → IsDue words source source' input due
+    → Consumes source.rest source'.rest input → IsDue R Still words source source' input due
     → status_of (outcome_of due) ≡ status.Ok → IsOut sink sink' (text_of (outcome_of due))
-    → WroteFor command source source' sink sink'
-wrote_of words source source' sink sink' command input (NoCommand place) are consumed h is out = absurd cc
-wrote_of words source source' sink sink' command input (SourceFailed other) are consumed h is out = absurd cc
-wrote_of words source source' sink sink' command input (TooMuch other) are consumed h is out = absurd cc
-wrote_of words source source' sink sink' command input (LacksMemory other) are consumed h is out = absurd cc
-wrote_of words source source' sink sink' command input (Replied other outcome) are consumed h is out =
+    → WroteFor R command source source' sink sink'
+wrote_of R Still refuses words source source' sink sink' command input (NoCommand place) are consumed h is out = absurd cc
+wrote_of R Still refuses words source source' sink sink' command input (SourceFailed other) are consumed h is out = absurd cc
+wrote_of R Still refuses words source source' sink sink' command input (TooMuch other) are consumed h is out = absurd cc
+wrote_of R Still refuses words source source' sink sink' command input (LacksMemory other) are consumed h is out = absurd cc
+wrote_of R Still refuses words source source' sink sink' command input (Replied other outcome) are consumed h is out =
     let same : other ≡ command = same_command words other command h.0 are in
-    let replies = subst (λ c. Replies c input outcome) same h.2 in
+    let replies = subst (λ c. R c input outcome) same h.2 in
     record {
       input = input;
       read = record { consumed = consumed; read = subst (λ c. HasReadIf (reads c) source' input) same h.1 };
       text = text_of outcome;
-      replies = subst (Replies command input)
-          (outcome_written outcome is (of_input other input outcome h.2)) replies;
+      replies = subst (R command input)
+          (outcome_written outcome is (of_input R refuses other input outcome h.2)) replies;
       out = out;
     }
 
 -- the clause `wrote`
-pub wrote_told : (words : List (List ℕ)) (source source' : SourceView) (sink sink' : SinkView) (told : Status)
-    → Answers words source source' sink sink' told → (command : Command) → IsCommand words command
-    → told ≡ status.Ok → WroteFor command source source' sink sink'
-wrote_told words source source' sink sink' told a command are is =
-    let t = told_due words source source' sink sink' told a (λ failed. let e = sym is ∙ failed in absurd cc) in
-    wrote_of words source source' sink sink' command t.input t.due are t.consumed t.is_due (t.told_is ∙ is)
+pub wrote_told : (R : Command → List ℕ → Outcome → Type 0) (Still : Type 0) (refuses : RefusesInput R)
+    (words : List (List ℕ)) (source source' : SourceView) (sink sink' : SinkView) (told : Status)
+    → Answers R Still words source source' sink sink' told → (command : Command) → IsCommand words command
+    → told ≡ status.Ok → WroteFor R command source source' sink sink'
+wrote_told R Still refuses words source source' sink sink' told a command are is =
+    let t = told_due R Still words source source' sink sink' told a (λ failed. let e = sym is ∙ failed in absurd cc) in
+    wrote_of R Still refuses words source source' sink sink' command t.input t.due are t.consumed t.is_due (t.told_is ∙ is)
     t.out
 
 -- ---- a refusal of the input
 
 -- with a refusal of the input only a refusal of a command can have been due
-cause_of : (words : List (List ℕ)) (source source' : SourceView) (sink sink' : SinkView) (told : Status)
+cause_of : (R : Command → List ℕ → Outcome → Type 0) (Still : Type 0)
+    (words : List (List ℕ)) (source source' : SourceView) (sink sink' : SinkView) (told : Status)
     (input : List ℕ) (due : Due) → Consumes source.rest source'.rest input
-    → IsDue words source source' input due → status_of (outcome_of due) ≡ told
+    → IsDue R Still words source source' input due → status_of (outcome_of due) ≡ told
     → IsOut sink sink' (text_of (outcome_of due)) → IsOfInput told
-    → HasCause words source source' sink sink' told
-cause_of words source source' sink sink' told input (NoCommand place) consumed h is out of =
+    → HasCause R words source source' sink sink' told
+cause_of R Still words source source' sink sink' told input (NoCommand place) consumed h is out of =
     absurd (subst IsOfInput (sym is) of)
-cause_of words source source' sink sink' told input (SourceFailed command) consumed h is out of =
+cause_of R Still words source source' sink sink' told input (SourceFailed command) consumed h is out of =
     absurd (subst IsOfInput (sym is) of)
-cause_of words source source' sink sink' told input (TooMuch command) consumed h is out of =
+cause_of R Still words source source' sink sink' told input (TooMuch command) consumed h is out of =
     absurd (subst IsOfInput (sym is) of)
-cause_of words source source' sink sink' told input (LacksMemory command) consumed h is out of =
+cause_of R Still words source source' sink sink' told input (LacksMemory command) consumed h is out of =
     absurd (subst IsOfInput (sym is) of)
-cause_of words source source' sink sink' told input (Replied command (Writes text)) consumed h is out of =
+cause_of R Still words source source' sink sink' told input (Replied command (Writes text)) consumed h is out of =
     absurd (subst IsOfInput (sym is) of)
-cause_of words source source' sink sink' told input (Replied command (Refuses refusal names)) consumed h
+cause_of R Still words source source' sink sink' told input (Replied command (Refuses refusal names)) consumed h
     is out of = record {
       command = command;
       words_are = h.0;
       input = input;
       read = record { consumed = consumed; read = h.1 };
       names = names;
-      replies = subst (λ r. Replies command input (Refuses r names)) is h.2;
+      replies = subst (λ r. R command input (Refuses r names)) is h.2;
       out = subst (λ r. IsOut sink sink' (line_of names r)) is out;
     }
 
 -- the clause `refused`
-pub cause_told : (words : List (List ℕ)) (source source' : SourceView) (sink sink' : SinkView) (told : Status)
-    → Answers words source source' sink sink' told → IsOfInput told
-    → HasCause words source source' sink sink' told
-cause_told words source source' sink sink' told a of =
-    let t = told_due words source source' sink sink' told a (λ failed. subst IsOfInput failed of) in
-    cause_of words source source' sink sink' told t.input t.due t.consumed t.is_due t.told_is t.out of
+pub cause_told : (R : Command → List ℕ → Outcome → Type 0) (Still : Type 0)
+    (words : List (List ℕ)) (source source' : SourceView) (sink sink' : SinkView) (told : Status)
+    → Answers R Still words source source' sink sink' told → IsOfInput told
+    → HasCause R words source source' sink sink' told
+cause_told R Still words source source' sink sink' told a of =
+    let t = told_due R Still words source source' sink sink' told a (λ failed. subst IsOfInput failed of) in
+    cause_of R Still words source source' sink sink' told t.input t.due t.consumed t.is_due t.told_is t.out of
 
 -- ---- a faultless input
 
 -- what a command makes of a faultless input is a text
-faultless : (command : Command) (input : List ℕ) (outcome : Outcome) → IsFaultless command input
-    → Replies command input outcome → status_of outcome ≡ status.Ok
-faultless command input (Writes text) fine h = refl
-faultless command input (Refuses refusal names) fine h = absurd (fine refusal names h)
+faultless : (R : Command → List ℕ → Outcome → Type 0)
+    (command : Command) (input : List ℕ) (outcome : Outcome) → IsFaultless R command input
+    → R command input outcome → status_of outcome ≡ status.Ok
+faultless R command input (Writes text) fine h = refl
+faultless R command input (Refuses refusal names) fine h = absurd (fine refusal names h)
 
 -- an input within the limit never ends in `TooMuch`
 not_too_much : (reading : Bool) (old new : SourceView) (input given : List ℕ) → reading ≡ true
@@ -148,35 +164,37 @@ not_too_much true old new input given reading_is is consumed size =
 not_too_much false old new input given reading_is is consumed size = absurd cc
 
 -- over a source that works, of a faultless input a text is due, or memory was wanting
-complete_of : (words : List (List ℕ)) (source source' : SourceView) (command : Command)
+complete_of : (R : Command → List ℕ → Outcome → Type 0) (Still : Type 0)
+    (words : List (List ℕ)) (source source' : SourceView) (command : Command)
     (input given : List ℕ) (due : Due) → IsCommand words command → IsToRead command source given
-    → IsFaultless command given → (Rose source.faults source'.faults → ⊥)
-    → Consumes source.rest source'.rest input → IsDue words source source' input due
+    → IsFaultless R command given → (Rose source.faults source'.faults → ⊥)
+    → Consumes source.rest source'.rest input → IsDue R Still words source source' input due
     → (status_of (outcome_of due) ≡ status.Ok) ⊎ (status_of (outcome_of due) ≡ status.NoMemory)
-complete_of words source source' command input given (NoCommand place) are is fine works consumed h =
+complete_of R Still words source source' command input given (NoCommand place) are is fine works consumed h =
     absurd (no_fault words command place are h.0)
-complete_of words source source' command input given (SourceFailed other) are is fine works consumed h =
+complete_of R Still words source source' command input given (SourceFailed other) are is fine works consumed h =
     absurd (works h.3)
-complete_of words source source' command input given (TooMuch other) are is fine works consumed h =
+complete_of R Still words source source' command input given (TooMuch other) are is fine works consumed h =
     let same = same_command words other command h.0 are in
     let reading : reads command ≡ true = subst (λ c. reads c ≡ true) same h.1 in
     absurd (not_too_much (reads command) source source' input given reading is consumed h.2)
-complete_of words source source' command input given (LacksMemory other) are is fine works consumed h = inr refl
-complete_of words source source' command input given (Replied other outcome) are is fine works consumed h =
+complete_of R Still words source source' command input given (LacksMemory other) are is fine works consumed h = inr refl
+complete_of R Still words source source' command input given (Replied other outcome) are is fine works consumed h =
     let same : other ≡ command = same_command words other command h.0 are in
-    let replies = subst (λ c. Replies c input outcome) same h.2 in
+    let replies = subst (λ c. R c input outcome) same h.2 in
     let read = subst (λ c. HasReadIf (reads c) source' input) same h.1 in
     let whole : input ≡ given = read_given (reads command) source source' input given consumed read is in
-    inl (faultless command given outcome fine (subst (λ i. Replies command i outcome) whole replies))
+    inl (faultless R command given outcome fine (subst (λ i. R command i outcome) whole replies))
 
 -- the clause `complete`
-pub complete_told : (words : List (List ℕ)) (source source' : SourceView) (sink sink' : SinkView)
-    (told : Status) → Answers words source source' sink sink' told → (command : Command)
-    (given : List ℕ) → IsCommand words command → IsToRead command source given → IsFaultless command given
+pub complete_told : (R : Command → List ℕ → Outcome → Type 0) (Still : Type 0)
+    (words : List (List ℕ)) (source source' : SourceView) (sink sink' : SinkView)
+    (told : Status) → Answers R Still words source source' sink sink' told → (command : Command)
+    (given : List ℕ) → IsCommand words command → IsToRead command source given → IsFaultless R command given
     → NoFaults source source' sink sink' → (told ≡ status.Ok) ⊎ (told ≡ status.NoMemory)
-complete_told words source source' sink sink' told a command given are is fine works = elim a.written.whole [
+complete_told R Still words source source' sink sink' told a command given are is fine works = elim a.written.whole [
   | inl came ↦
-      elim (complete_of words source source' command a.input given a.due are is fine works.source_works
+      elim (complete_of R Still words source source' command a.input given a.due are is fine works.source_works
       a.consumed a.is_due) [
         | inl ok ↦ inl (came.0 ∙ ok)
         | inr lacks ↦ inr (came.0 ∙ lacks)
@@ -186,152 +204,171 @@ complete_told words source source' sink sink' told a command given are is fine w
 
 -- ---- a command that reads nothing
 
--- a command that reads nothing has no refusal: a row for each command
-silent_ok : (command : Command) (input : List ℕ) (outcome : Outcome) → reads command ≡ false
-    → Replies command input outcome → status_of outcome ≡ status.Ok
-silent_ok called.Help input outcome still h = ap status_of h
-silent_ok called.Version input outcome still h = ap status_of h
-silent_ok called.Plan input outcome still h = absurd cc
-silent_ok called.Check input outcome still h = absurd cc
-silent_ok (called.Replay rounds) input outcome still h = absurd cc
-
--- so its text is due after nothing was read, and never want of memory
-silent_of : (words : List (List ℕ)) (source source' : SourceView) (command : Command)
+-- what is due is its text, or memory was wanting, and nothing was read
+silent_of : (R : Command → List ℕ → Outcome → Type 0) (Still : Type 0) (silent : WritesUnread R)
+    (words : List (List ℕ)) (source source' : SourceView) (command : Command)
     (input : List ℕ) (due : Due) → IsCommand words command → reads command ≡ false
-    → IsDue words source source' input due → (status_of (outcome_of due) ≡ status.Ok) × (input ≡ [])
-silent_of words source source' command input (NoCommand place) are still h =
+    → IsDue R Still words source source' input due
+    → ((status_of (outcome_of due) ≡ status.Ok)
+    ⊎ ((takes_memory command ≡ true) × (status_of (outcome_of due) ≡ status.NoMemory))) × (input ≡ [])
+silent_of R Still silent words source source' command input (NoCommand place) are still h =
     absurd (no_fault words command place are h.0)
-silent_of words source source' command input (SourceFailed other) are still h =
+silent_of R Still silent words source source' command input (SourceFailed other) are still h =
     let e = sym still ∙ subst (λ c. reads c ≡ true) (same_command words other command h.0 are) h.1 in absurd cc
-silent_of words source source' command input (TooMuch other) are still h =
+silent_of R Still silent words source source' command input (TooMuch other) are still h =
     let e = sym still ∙ subst (λ c. reads c ≡ true) (same_command words other command h.0 are) h.1 in absurd cc
-silent_of words source source' command input (LacksMemory other) are still h =
-    let e = sym still ∙ subst (λ c. reads c ≡ true) (same_command words other command h.0 are) h.1 in absurd cc
-silent_of words source source' command input (Replied other outcome) are still h =
+silent_of R Still silent words source source' command input (LacksMemory other) are still h =
+    let same : other ≡ command = same_command words other command h.0 are in (
+      inr (subst (λ c. takes_memory c ≡ true) same h.1, refl),
+      subst (λ b. MayHaveReadIf b input) (ap reads same ∙ still) h.2,
+    )
+silent_of R Still silent words source source' command input (Replied other outcome) are still h =
     let same : other ≡ command = same_command words other command h.0 are in
-    let replies = subst (λ c. Replies c input outcome) same h.2 in (
-      silent_ok command input outcome still replies,
+    let replies = subst (λ c. R c input outcome) same h.2 in (
+      inl (silent command input outcome still replies),
       subst (λ b. HasReadIf b source' input) (ap reads same ∙ still) h.1,
     )
 
+-- so it ends in one of these ways
+ends_unread : (takes : Bool) (told due : Status) → (told ≡ due) ⊎ (told ≡ status.WriteFault)
+    → (due ≡ status.Ok) ⊎ ((takes ≡ true) × (due ≡ status.NoMemory)) → EndsUnread takes told
+ends_unread false told due (inl is) (inl ok) = inl (is ∙ ok)
+ends_unread false told due (inl is) (inr lacks) = let e = lacks.0 in absurd cc
+ends_unread false told due (inr failed) end = inr failed
+ends_unread true told due (inl is) (inl ok) = inl (is ∙ ok)
+ends_unread true told due (inl is) (inr lacks) = inr (inr (is ∙ lacks.1))
+ends_unread true told due (inr failed) end = inr (inl failed)
+
 -- the clause `unread`
-pub silent_told : (words : List (List ℕ)) (source source' : SourceView) (sink sink' : SinkView)
-    (told : Status) → Answers words source source' sink sink' told → (command : Command)
+pub silent_told : (R : Command → List ℕ → Outcome → Type 0) (Still : Type 0) (silent : WritesUnread R)
+    (words : List (List ℕ)) (source source' : SourceView) (sink sink' : SinkView)
+    (told : Status) → Answers R Still words source source' sink sink' told → (command : Command)
     → IsCommand words command → reads command ≡ false
-    → ((told ≡ status.Ok) ⊎ (told ≡ status.WriteFault)) × Unread source source'
-silent_told words source source' sink sink' told a command are still =
-    let s = silent_of words source source' command a.input a.due are still a.is_due in (
-      elim a.written.whole [ inl came ↦ inl (came.0 ∙ s.0) | inr failed ↦ inr failed.0 ],
+    → EndsUnread (takes_memory command) told × Unread source source'
+silent_told R Still silent words source source' sink sink' told a command are still =
+    let s = silent_of R Still silent words source source' command a.input a.due are still a.is_due in (
+      ends_unread (takes_memory command) told (status_of (outcome_of a.due))
+          (elim a.written.whole [ inl came ↦ inl came.0 | inr failed ↦ inr failed.0 ]) s.0,
       subst (Consumes source.rest source'.rest) s.1 a.consumed,
     )
 
 -- ---- the words
 
 -- `Usage` can only have been due for words that are no command
-usage_of : (words : List (List ℕ)) (source source' : SourceView) (input : List ℕ) (due : Due) (place : ℕ)
-    → IsDue words source source' input due → status_of (outcome_of due) ≡ status.Usage place
+usage_of : (R : Command → List ℕ → Outcome → Type 0) (Still : Type 0) (refuses : RefusesInput R)
+    (words : List (List ℕ)) (source source' : SourceView) (input : List ℕ) (due : Due) (place : ℕ)
+    → IsDue R Still words source source' input due → status_of (outcome_of due) ≡ status.Usage place
     → IsFaultAt words place × (input ≡ [])
-usage_of words source source' input (NoCommand other) place h is =
+usage_of R Still refuses words source source' input (NoCommand other) place h is =
     let same : other ≡ place = cc in (subst (IsFaultAt words) same h.0, h.1)
-usage_of words source source' input (SourceFailed command) place h is = absurd cc
-usage_of words source source' input (TooMuch command) place h is = absurd cc
-usage_of words source source' input (LacksMemory command) place h is = absurd cc
-usage_of words source source' input (Replied command (Writes text)) place h is = absurd cc
-usage_of words source source' input (Replied command (Refuses refusal names)) place h is =
-    absurd (subst IsOfInput is (refuses_input command input refusal names h.2))
+usage_of R Still refuses words source source' input (SourceFailed command) place h is = absurd cc
+usage_of R Still refuses words source source' input (TooMuch command) place h is = absurd cc
+usage_of R Still refuses words source source' input (LacksMemory command) place h is = absurd cc
+usage_of R Still refuses words source source' input (Replied command (Writes text)) place h is = absurd cc
+usage_of R Still refuses words source source' input (Replied command (Refuses refusal names)) place h is =
+    absurd (subst IsOfInput is (refuses command input refusal names h.2))
 
 -- the clause `usage`
-pub usage_told : (words : List (List ℕ)) (source source' : SourceView) (sink sink' : SinkView)
-    (told : Status) → Answers words source source' sink sink' told → (place : ℕ)
+pub usage_told : (R : Command → List ℕ → Outcome → Type 0) (Still : Type 0) (refuses : RefusesInput R)
+    (words : List (List ℕ)) (source source' : SourceView) (sink sink' : SinkView)
+    (told : Status) → Answers R Still words source source' sink sink' told → (place : ℕ)
     → told ≡ status.Usage place → IsFaultAt words place × Unread source source'
-usage_told words source source' sink sink' told a place is =
-    let t = told_due words source source' sink sink' told a (λ failed. let e = sym is ∙ failed in absurd cc) in
-    let u = usage_of words source source' t.input t.due place t.is_due (t.told_is ∙ is) in
+usage_told R Still refuses words source source' sink sink' told a place is =
+    let t = told_due R Still words source source' sink sink' told a (λ failed. let e = sym is ∙ failed in absurd cc) in
+    let u = usage_of R Still refuses words source source' t.input t.due place t.is_due (t.told_is ∙ is) in
     (u.0, subst (Consumes source.rest source'.rest) u.1 t.consumed)
 
 -- for words that are no command nothing but `Usage` can be due
-usage_only : (words : List (List ℕ)) (source source' : SourceView) (input : List ℕ) (due : Due) (place : ℕ)
-    → IsFaultAt words place → IsDue words source source' input due
+usage_only : (R : Command → List ℕ → Outcome → Type 0) (Still : Type 0)
+    (words : List (List ℕ)) (source source' : SourceView) (input : List ℕ) (due : Due) (place : ℕ)
+    → IsFaultAt words place → IsDue R Still words source source' input due
     → status_of (outcome_of due) ≡ status.Usage place
-usage_only words source source' input (NoCommand other) place fault h =
+usage_only R Still words source source' input (NoCommand other) place fault h =
     ap status.Usage (same_place words other place h.0 fault)
-usage_only words source source' input (SourceFailed command) place fault h =
+usage_only R Still words source source' input (SourceFailed command) place fault h =
     absurd (no_fault words command place h.0 fault)
-usage_only words source source' input (TooMuch command) place fault h =
+usage_only R Still words source source' input (TooMuch command) place fault h =
     absurd (no_fault words command place h.0 fault)
-usage_only words source source' input (LacksMemory command) place fault h =
+usage_only R Still words source source' input (LacksMemory command) place fault h =
     absurd (no_fault words command place h.0 fault)
-usage_only words source source' input (Replied command outcome) place fault h =
+usage_only R Still words source source' input (Replied command outcome) place fault h =
     absurd (no_fault words command place h.0 fault)
 
 -- the clause `usage_due`
-pub usage_due : (words : List (List ℕ)) (source source' : SourceView) (sink sink' : SinkView)
-    (told : Status) → Answers words source source' sink sink' told → (place : ℕ) → IsFaultAt words place
+pub usage_due : (R : Command → List ℕ → Outcome → Type 0) (Still : Type 0)
+    (words : List (List ℕ)) (source source' : SourceView) (sink sink' : SinkView)
+    (told : Status) → Answers R Still words source source' sink sink' told → (place : ℕ) → IsFaultAt words place
     → (told ≡ status.Usage place) ⊎ (told ≡ status.WriteFault)
-usage_due words source source' sink sink' told a place fault = elim a.written.whole [
-  | inl came ↦ inl (came.0 ∙ usage_only words source source' a.input a.due place fault a.is_due)
+usage_due R Still words source source' sink sink' told a place fault = elim a.written.whole [
+  | inl came ↦ inl (came.0 ∙ usage_only R Still words source source' a.input a.due place fault a.is_due)
   | inr failed ↦ inr failed.0
 ]
 
 -- ---- the ends
 
 -- `ReadFault` can only have been due after a fault of the source
-read_fault_of : (words : List (List ℕ)) (source source' : SourceView) (input : List ℕ) (due : Due)
-    → IsDue words source source' input due → status_of (outcome_of due) ≡ status.ReadFault
+read_fault_of : (R : Command → List ℕ → Outcome → Type 0) (Still : Type 0) (refuses : RefusesInput R)
+    (words : List (List ℕ)) (source source' : SourceView) (input : List ℕ) (due : Due)
+    → IsDue R Still words source source' input due → status_of (outcome_of due) ≡ status.ReadFault
     → Rose source.faults source'.faults
-read_fault_of words source source' input (NoCommand place) h is = absurd cc
-read_fault_of words source source' input (SourceFailed command) h is = h.3
-read_fault_of words source source' input (TooMuch command) h is = absurd cc
-read_fault_of words source source' input (LacksMemory command) h is = absurd cc
-read_fault_of words source source' input (Replied command (Writes text)) h is = absurd cc
-read_fault_of words source source' input (Replied command (Refuses refusal names)) h is =
-    absurd (subst IsOfInput is (refuses_input command input refusal names h.2))
+read_fault_of R Still refuses words source source' input (NoCommand place) h is = absurd cc
+read_fault_of R Still refuses words source source' input (SourceFailed command) h is = h.3
+read_fault_of R Still refuses words source source' input (TooMuch command) h is = absurd cc
+read_fault_of R Still refuses words source source' input (LacksMemory command) h is = absurd cc
+read_fault_of R Still refuses words source source' input (Replied command (Writes text)) h is = absurd cc
+read_fault_of R Still refuses words source source' input (Replied command (Refuses refusal names)) h is =
+    absurd (subst IsOfInput is (refuses command input refusal names h.2))
 
 -- the clause `read_fault`
-pub read_fault_told : (words : List (List ℕ)) (source source' : SourceView) (sink sink' : SinkView)
-    (told : Status) → Answers words source source' sink sink' told → told ≡ status.ReadFault
+pub read_fault_told : (R : Command → List ℕ → Outcome → Type 0) (Still : Type 0) (refuses : RefusesInput R)
+    (words : List (List ℕ)) (source source' : SourceView) (sink sink' : SinkView)
+    (told : Status) → Answers R Still words source source' sink sink' told → told ≡ status.ReadFault
     → Rose source.faults source'.faults
-read_fault_told words source source' sink sink' told a is =
-    let t = told_due words source source' sink sink' told a (λ failed. let e = sym is ∙ failed in absurd cc) in
-    read_fault_of words source source' t.input t.due t.is_due (t.told_is ∙ is)
+read_fault_told R Still refuses words source source' sink sink' told a is =
+    let t = told_due R Still words source source' sink sink' told a (λ failed. let e = sym is ∙ failed in absurd cc) in
+    read_fault_of R Still refuses words source source' t.input t.due t.is_due (t.told_is ∙ is)
 
 -- `TooLong` can only have been due after a byte too much
-too_long_of : (words : List (List ℕ)) (source source' : SourceView) (input : List ℕ) (due : Due)
-    → IsDue words source source' input due → status_of (outcome_of due) ≡ status.TooLong
+too_long_of : (R : Command → List ℕ → Outcome → Type 0) (Still : Type 0) (refuses : RefusesInput R)
+    (words : List (List ℕ)) (source source' : SourceView) (input : List ℕ) (due : Due)
+    → IsDue R Still words source source' input due → status_of (outcome_of due) ≡ status.TooLong
     → length input ≡ INPUT_LIMIT + 1
-too_long_of words source source' input (NoCommand place) h is = absurd cc
-too_long_of words source source' input (SourceFailed command) h is = absurd cc
-too_long_of words source source' input (TooMuch command) h is = h.2
-too_long_of words source source' input (LacksMemory command) h is = absurd cc
-too_long_of words source source' input (Replied command (Writes text)) h is = absurd cc
-too_long_of words source source' input (Replied command (Refuses refusal names)) h is =
-    absurd (subst IsOfInput is (refuses_input command input refusal names h.2))
+too_long_of R Still refuses words source source' input (NoCommand place) h is = absurd cc
+too_long_of R Still refuses words source source' input (SourceFailed command) h is = absurd cc
+too_long_of R Still refuses words source source' input (TooMuch command) h is = h.2
+too_long_of R Still refuses words source source' input (LacksMemory command) h is = absurd cc
+too_long_of R Still refuses words source source' input (Replied command (Writes text)) h is = absurd cc
+too_long_of R Still refuses words source source' input (Replied command (Refuses refusal names)) h is =
+    absurd (subst IsOfInput is (refuses command input refusal names h.2))
 
 -- the clause `too_long`
-pub too_long_told : (words : List (List ℕ)) (source source' : SourceView) (sink sink' : SinkView)
-    (told : Status) → Answers words source source' sink sink' told → told ≡ status.TooLong
+pub too_long_told : (R : Command → List ℕ → Outcome → Type 0) (Still : Type 0) (refuses : RefusesInput R)
+    (words : List (List ℕ)) (source source' : SourceView) (sink sink' : SinkView)
+    (told : Status) → Answers R Still words source source' sink sink' told → told ≡ status.TooLong
     → ReadTooMuch source source'
-too_long_told words source source' sink sink' told a is =
-    let t = told_due words source source' sink sink' told a (λ failed. let e = sym is ∙ failed in absurd cc) in
-    (t.input, t.consumed, too_long_of words source source' t.input t.due t.is_due (t.told_is ∙ is))
+too_long_told R Still refuses words source source' sink sink' told a is =
+    let t = told_due R Still words source source' sink sink' told a (λ failed. let e = sym is ∙ failed in absurd cc) in
+    (t.input, t.consumed, too_long_of R Still refuses words source source' t.input t.due t.is_due (t.told_is ∙ is))
 
 -- `WriteFault` is never due, so it tells of the sink
-no_write_fault : (words : List (List ℕ)) (source source' : SourceView) (input : List ℕ) (due : Due)
-    → IsDue words source source' input due → status_of (outcome_of due) ≢ status.WriteFault
-no_write_fault words source source' input (NoCommand place) h is = absurd cc
-no_write_fault words source source' input (SourceFailed command) h is = absurd cc
-no_write_fault words source source' input (TooMuch command) h is = absurd cc
-no_write_fault words source source' input (LacksMemory command) h is = absurd cc
-no_write_fault words source source' input (Replied command (Writes text)) h is = absurd cc
-no_write_fault words source source' input (Replied command (Refuses refusal names)) h is =
-    absurd (subst IsOfInput is (refuses_input command input refusal names h.2))
+no_write_fault : (R : Command → List ℕ → Outcome → Type 0) (Still : Type 0) (refuses : RefusesInput R)
+    (words : List (List ℕ)) (source source' : SourceView) (input : List ℕ) (due : Due)
+    → IsDue R Still words source source' input due → status_of (outcome_of due) ≢ status.WriteFault
+no_write_fault R Still refuses words source source' input (NoCommand place) h is = absurd cc
+no_write_fault R Still refuses words source source' input (SourceFailed command) h is = absurd cc
+no_write_fault R Still refuses words source source' input (TooMuch command) h is = absurd cc
+no_write_fault R Still refuses words source source' input (LacksMemory command) h is = absurd cc
+no_write_fault R Still refuses words source source' input (Replied command (Writes text)) h is = absurd cc
+no_write_fault R Still refuses words source source' input (Replied command (Refuses refusal names)) h is =
+    absurd (subst IsOfInput is (refuses command input refusal names h.2))
 
 -- the clause `write_fault`
-pub front_told : (words : List (List ℕ)) (source source' : SourceView) (sink sink' : SinkView)
-    (told : Status) → Answers words source source' sink sink' told → told ≡ status.WriteFault
-    → FrontIsOut words source source' sink sink'
-front_told words source source' sink sink' told a is = elim a.written.whole [
-  | inl came ↦ absurd (no_write_fault words source source' a.input a.due a.is_due (sym came.0 ∙ is))
+pub front_told : (R : Command → List ℕ → Outcome → Type 0) (Still : Type 0) (refuses : RefusesInput R)
+    (words : List (List ℕ)) (source source' : SourceView) (sink sink' : SinkView)
+    (told : Status) → Answers R Still words source source' sink sink' told → told ≡ status.WriteFault
+    → FrontIsOut R Still words source source' sink sink'
+front_told R Still refuses words source source' sink sink' told a is = elim a.written.whole [
+  | inl came ↦ absurd (no_write_fault R Still refuses words source source' a.input a.due a.is_due (sym came.0 ∙ is))
   | inr failed ↦ record {
     failed = failed.2;
     input = a.input;
@@ -351,10 +388,11 @@ line_from (Writes text) not_ok = absurd (not_ok refl)
 line_from (Refuses refusal names) not_ok = (names, refl)
 
 -- the clause `refusal`
-pub line_told : (words : List (List ℕ)) (source source' : SourceView) (sink sink' : SinkView)
-    (told : Status) → Answers words source source' sink sink' told → told ≢ status.Ok
+pub line_told : (R : Command → List ℕ → Outcome → Type 0) (Still : Type 0)
+    (words : List (List ℕ)) (source source' : SourceView) (sink sink' : SinkView)
+    (told : Status) → Answers R Still words source source' sink sink' told → told ≢ status.Ok
     → told ≢ status.WriteFault → LineIsOut sink sink' told
-line_told words source source' sink sink' told a not_ok not_failed =
-    let t = told_due words source source' sink sink' told a not_failed in
+line_told R Still words source source' sink sink' told a not_ok not_failed =
+    let t = told_due R Still words source source' sink sink' told a not_failed in
     let line = line_from (outcome_of t.due) (λ ok. not_ok (sym t.told_is ∙ ok)) in
     (line.0, subst (IsOut sink sink') (line.1 ∙ ap (line_of line.0) t.told_is) t.out)

@@ -1,5 +1,5 @@
 -- An input has one outcome: at each stage of a command one cause refuses it, or one thing is read of it.
-use Rattle.std.proofs.Common.{◌≡◌, ℕ, List, [], length, codes, Option, refl, sym, subst, ◌∙◌, Some, inl, inr, arith}
+use Rattle.std.proofs.Common.{◌≡◌, ◌≢◌, ℕ, List, [], length, codes, Option, refl, sym, ap, subst, ◌∙◌, Some, inl, inr, arith}
 use Rattle.std.specs.Prelude.{slice_get}
 use Rattle.std.proofs.lemmas.List.{length-map}
 use Rattle.tab_core.specs.declared.host.Host.{Host}
@@ -46,15 +46,21 @@ use Rattle.step_machine.specs.declared.answer.Answer.{Answer}
 use Rattle.step_machine.specs.declared.trace.Made.{Made}
 use Rattle.step_machine.proofs.OneRun.{one_refused, one_trace, refused_or_leads}
 use Rattle.step_machine.proofs.TraceLemmas.{leads_of}
+use Rattle.host_gen.specs.HostText.{host_text}
+use Rattle.host_gen.proofs.GeneratedLemmas.{one_host as one_generated}
+use Rattle.tableau_sim.specs.declared.status.Status.{Status}
 use Rattle.tableau_sim.specs.declared.status.Status.TheVariants as status
 use Rattle.tableau_sim.specs.Check.{Checks, plan_section}
 use Rattle.tableau_sim.specs.Commands.{Replies}
 use Rattle.tableau_sim.specs.Outcomes.{Outcome}
 use Rattle.tableau_sim.specs.Outcomes.Outcome.{Refuses, Writes}
+use Rattle.tableau_sim.specs.Gen.{Gens}
 use Rattle.tableau_sim.specs.Plan.{Plans}
+use Rattle.tableau_sim.specs.PlanWhole.{PlansWhole}
 use Rattle.tableau_sim.specs.Replay.{HasParts, Parts, Replays, script_section, steps_section}
 use Rattle.tableau_sim.specs.Sections.{host_section}
 use Rattle.tableau_sim.proofs.Stages.{Ends, HostStage, IsOne, Staged, one_end, one_host_stage, one_of_sections, one_staged, same_pair}
+use Rattle.tableau_sim.proofs.WholeOutcomes.{whole_only}
 
 -- ---- plan
 
@@ -291,12 +297,31 @@ replay_only rounds s a b of_a of_b = one_host_stage s (OfReplayedHost rounds s) 
 
 -- ---- the law
 
--- each command has one outcome of an input
-pub one_outcome : (command : Command) (input : List ℕ) (one other : Outcome) → Replies command input one
-    → Replies command input other → one ≡ other
-one_outcome called.Help input one other = λ p q. p ∙ sym q
-one_outcome called.Version input one other = λ p q. p ∙ sym q
-one_outcome called.Plan input one other = one_of_sections 1 Plans input one other (plan_only _ one other)
-one_outcome called.Check input one other = one_of_sections 2 Checks input one other (check_only _ one other)
-one_outcome (called.Replay rounds) input one other =
+-- a seed makes one text
+gen_only : (seed cores vcpus : ℕ) (a b : Outcome) → Gens seed cores vcpus a → Gens seed cores vcpus b → a ≡ b
+gen_only seed cores vcpus a b (Gens.Generated h is) (Gens.Generated other also) =
+    ap (λ g. Writes (host_text g)) (one_generated seed cores vcpus h other is also)
+
+-- each command but `plan whole` has one outcome of an input
+pub one_outcome : (command : Command) (input : List ℕ) (one other : Outcome) → command ≢ called.PlanWhole
+    → Replies command input one → Replies command input other → one ≡ other
+one_outcome called.Help input one other single = λ p q. p ∙ sym q
+one_outcome called.Version input one other single = λ p q. p ∙ sym q
+one_outcome called.Plan input one other single =
+    one_of_sections 1 Plans input one other (plan_only _ one other)
+one_outcome called.PlanWhole input one other single = absurd (single refl)
+one_outcome called.Check input one other single =
+    one_of_sections 2 Checks input one other (check_only _ one other)
+one_outcome (called.Replay rounds) input one other single =
     one_of_sections 3 (Replays rounds) input one other (replay_only rounds _ one other)
+one_outcome (called.Gen seed cores vcpus) input one other single = gen_only seed cores vcpus one other
+one_outcome (called.Run rounds mode) input one other single = λ p q. absurd p
+one_outcome (called.Selftest seed) input one other single = λ p q. absurd p
+
+-- and each that is refused has no other
+pub one_refusal : (command : Command) (input : List ℕ) (refusal : Status) (names : List (List ℕ))
+    (other : Outcome) → Replies command input (Refuses refusal names) → Replies command input other
+    → Refuses refusal names ≡ other
+one_refusal called.PlanWhole input refusal names other p q =
+    one_of_sections 1 PlansWhole input _ other (whole_only _ refusal names other) p q
+one_refusal command input refusal names other p q = one_outcome command input _ other (λ same. absurd cc) p q

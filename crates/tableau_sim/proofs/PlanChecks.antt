@@ -10,7 +10,8 @@ use Rattle.table_form.specs.declared.raw_tables.RawTables.{RawTables}
 use Rattle.vcpu_names.specs.Names.{names_of}
 use Rattle.host_doc.proofs.HostNames.{stated_few, stated_names}
 use Rattle.plan_make.proofs.PlannedRounds.{planned_rounds}
-use Rattle.plan_make.specs.Planned.{IsPlanned}
+use Rattle.plan_make.proofs.ListMembers.{all_from_places}
+use Rattle.period_choice.specs.Tasks.{AreTasksOf}
 use Rattle.plan_text.proofs.ReadBack.{read_back}
 use Rattle.plan_text.proofs.ReadingHeadLemmas.{names_of_host}
 use Rattle.plan_text.specs.Meaning.{AreLinesOf, worded}
@@ -21,10 +22,12 @@ use Rattle.plan_text.specs.PlanText.{plan_text}
 use Rattle.table_check.specs.Faults.{AreGood}
 use Rattle.tab_words.specs.Sections.{sections_of}
 use Rattle.tab_words.specs.declared.command.Command.TheVariants as called
-use Rattle.tableau_sim.specs.Commands.{IsFaultless}
+use Rattle.tableau_sim.specs.Clauses.{IsFaultless}
+use Rattle.tableau_sim.specs.Commands.{Replies}
 use Rattle.tableau_sim.specs.Check.{Checks, HasTasks}
 use Rattle.tableau_sim.specs.Outcomes.Outcome.{Refuses, Writes}
 use Rattle.tableau_sim.specs.Plan.{Plans}
+use Rattle.tableau_sim.specs.PlanWhole.{PlansWhole}
 use Rattle.tableau_sim.proofs.OneOutcome.{check_only}
 use Rattle.tableau_sim.proofs.OutcomesLemmas.{no_refusal}
 
@@ -48,7 +51,8 @@ pub record WritesPlan (section text : List ℕ) : Type 0 where
   pub host : Host
   pub is_host : IsHostText section host
   pub plan : PlanView
-  pub planned : IsPlanned host plan
+  pub tasks : AreTasksOf host.vcpus plan.tasks
+  pub rounds : All (λ (row : Row). length row ≡ ROUND) plan.rows
   pub keeps : IsPlan plan
   pub is_for : IsPlanFor host plan
   pub says : text ≡ plan_text (names_of host.vcpus) plan
@@ -59,7 +63,21 @@ plan_written section text (Plans.Planned host plan is has) = record {
   host = host;
   is_host = is;
   plan = plan;
-  planned = has.planned;
+  tasks = has.planned.layout.is_start.tasks_are;
+  rounds = planned_rounds host plan has.planned;
+  keeps = has.keeps;
+  is_for = has.is_for;
+  says = refl;
+}
+
+-- and so is what `plan whole` wrote
+whole_written : (section text : List ℕ) → PlansWhole (section ∷ []) (Writes text) → WritesPlan section text
+whole_written section text (PlansWhole.Planned host plan is has) = record {
+  host = host;
+  is_host = is;
+  plan = plan;
+  tasks = has.planned.tasks;
+  rounds = all_from_places (λ (row : Row). length row ≡ ROUND) plan.rows has.planned.wrapped.rows_are.lengths;
   keeps = has.keeps;
   is_for = has.is_for;
   says = refl;
@@ -72,7 +90,7 @@ valid_plan section text p =
     record {
       names = names_of_host p.host.vcpus stated.good stated.distinct;
       few = stated_few section p.host p.is_host;
-      rounds = planned_rounds p.host p.plan p.planned;
+      rounds = p.rounds;
       keeps = p.keeps;
       is_for = p.is_for;
     }
@@ -86,16 +104,26 @@ passes section text p =
     let valid = valid_plan section text p in
     let back = read_back p.host p.plan valid in
     let tasked : HasTasks (section ∷ text ∷ []) p.host p.plan.tasks =
-    record { is_host = p.is_host; are_tasks = p.planned.layout.is_start.tasks_are } in
+    record { is_host = p.is_host; are_tasks = p.tasks } in
     let own = subst (λ t. AreLinesOf (names_of p.host.vcpus) p.host.cores p.plan.tasks (worded t) back.raw)
     (sym p.says) back.text in
     Checks.Passes p.host p.plan.tasks back.raw (record { tasked = tasked; text = own })
     (good_tables p.plan back.raw back.own p.keeps valid.rounds)
 
 -- so it isn't refused, since `check` has one outcome
-pub plan_checks : (section text input : List ℕ) → Plans (section ∷ []) (Writes text)
-    → sections_of input ≡ section ∷ text ∷ [] → IsFaultless called.Check input
-plan_checks section text input planned parts refusal names h =
+written_checks : (section text input : List ℕ) → WritesPlan section text
+    → sections_of input ≡ section ∷ text ∷ [] → IsFaultless Replies called.Check input
+written_checks section text input written parts refusal names h =
     no_refusal 2 Checks input (ap length parts) (λ r ns made.
-    let e = check_only (section ∷ text ∷ []) _ _ (passes section text (plan_written section text planned))
+    let e = check_only (section ∷ text ∷ []) _ _ (passes section text written)
     (subst (λ sections. Checks sections (Refuses r ns)) parts made) in absurd cc) refusal names h
+
+-- the law of `plan`
+pub plan_checks : (section text input : List ℕ) → Plans (section ∷ []) (Writes text)
+    → sections_of input ≡ section ∷ text ∷ [] → IsFaultless Replies called.Check input
+plan_checks section text input planned = written_checks section text input (plan_written section text planned)
+
+-- and of `plan whole`
+pub whole_checks : (section text input : List ℕ) → PlansWhole (section ∷ []) (Writes text)
+    → sections_of input ≡ section ∷ text ∷ [] → IsFaultless Replies called.Check input
+whole_checks section text input planned = written_checks section text input (whole_written section text planned)

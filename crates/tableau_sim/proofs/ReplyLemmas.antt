@@ -1,6 +1,7 @@
 -- What was read, and what is due after it: the lemmas of `specs/Inside/Reply.antt`.
-use Rattle.std.proofs.Common.{◌≡◌, ℕ, List, [], true, false, length, refl, None, Result, Ok, Err, sym, subst, arith}
+use Rattle.std.proofs.Common.{◌≡◌, ℕ, ◌≤◌, List, [], true, false, length, refl, None, Result, Ok, Err, sym, subst, arith}
 use Rattle.std.proofs.KnownBytes.{Consumes-nil}
+use Rattle.std.specs.Io.KnownBytes.{Consumes}
 use Rattle.std.specs.Prelude.{IsErrOf, Vec}
 use Rattle.std.specs.declared.alloc.Global.{Global}
 use Rattle.tab_io.specs.Sources.{Ended, ReadsAll}
@@ -16,20 +17,22 @@ use Rattle.tableau_sim.specs.declared.reply.Stop.TheVariants as stop
 use Rattle.tableau_sim.specs.declared.reply.Text.{Text}
 use Rattle.tableau_sim.specs.declared.status.Status.{Status}
 use Rattle.tableau_sim.specs.declared.status.Status.TheVariants as status
-use Rattle.tableau_sim.specs.Commands.{Replies, reads}
-use Rattle.tableau_sim.specs.Inside.Reply.{HasInput, IsOff, IsReplyTo, IsWritable, Makes, StopsReading, bytes_of, outcome_in}
-use Rattle.tableau_sim.specs.Frame.{Answers, HasReadIf, WritesReply}
+use Rattle.tab_words.specs.declared.command.Command.TheVariants as called
+use Rattle.tableau_sim.specs.Columns.{reads, takes_memory}
+use Rattle.tableau_sim.specs.Commands.{IsStillCommand}
+use Rattle.tableau_sim.specs.Inside.Reply.{HasInput, HasNoInput, IsOff, IsReplyTo, Makes, StopsReading, outcome_in}
+use Rattle.tableau_sim.specs.Frame.{Answers, HasReadIf, MayHaveReadIf, WritesReply}
 use Rattle.tableau_sim.specs.Frame.Due.{LacksMemory, NoCommand, Replied, SourceFailed, TooMuch}
 use Rattle.tableau_sim.specs.Outcomes.{Outcome}
-use Rattle.tableau_sim.specs.Outcomes.Outcome.{Writes}
 use Rattle.tableau_sim.specs.Sections.{OfSections}
 use Rattle.tableau_sim.specs.Sections.OfSections.{BadSections, Sectioned}
 
 -- the call replies and writes, and no more: its whole answer comes from these two
-pub answers_of : (words : List (List ℕ)) (source source' : SourceView) (sink sink' : SinkView)
-    (told : Status) (reply : Result Text Stop) → IsReplyTo words source source' reply
-    → WritesReply sink sink' (outcome_in reply) told → Answers words source source' sink sink' told
-answers_of words source source' sink sink' told reply is written = record {
+pub answers_of : (R : Command → List ℕ → Outcome → Type 0) (Still : Type 0) (words : List (List ℕ))
+    (source source' : SourceView) (sink sink' : SinkView) (told : Status) (reply : Result Text Stop)
+    → IsReplyTo R Still words source source' reply
+    → WritesReply sink sink' (outcome_in reply) told → Answers R Still words source source' sink sink' told
+answers_of R Still words source source' sink sink' told reply is written = record {
   input = is.input;
   consumed = is.consumed;
   later = is.later;
@@ -39,63 +42,137 @@ answers_of words source source' sink sink' told reply is written = record {
 }
 
 -- words that are no command: nothing is read
-pub usage_reply : (words : List (List ℕ)) (source : SourceView) (place : ℕ) → IsFaultAt words place
-    → IsReplyTo words source source (Err (stop.Refused (status.Usage place) None))
-usage_reply words source place fault = record {
+pub usage_reply : (R : Command → List ℕ → Outcome → Type 0) (Still : Type 0) (words : List (List ℕ))
+    (source : SourceView) (place : ℕ) → IsFaultAt words place → Still
+    → IsReplyTo R Still words source source (Err (stop.Refused (status.Usage place) None))
+usage_reply R Still words source place fault still = record {
   input = [];
   consumed = Consumes-nil source.rest;
   later = omega arith;
   due = NoCommand place;
-  is_due = (fault, refl);
+  is_due = (fault, refl, still);
   same = refl;
   writable = tt {0};
 }
 
--- a command that reads nothing: its text is due
-pub unread_reply : (words : List (List ℕ)) (source : SourceView) (command : Command) (text : Text)
-    → IsCommand words command → reads command ≡ false → Replies command [] (Writes (bytes_of text))
-    → IsWritable text → IsReplyTo words source source (Ok text)
-unread_reply words source command text are still replies writable = record {
-  input = [];
-  consumed = Consumes-nil source.rest;
-  later = omega arith;
-  due = Replied command (Writes (bytes_of text));
-  is_due = (are, subst (λ b. HasReadIf b source []) (sym still) refl, replies);
-  same = refl;
-  writable = writable;
-}
-
--- a command that has read its whole input: what it makes of it is due
-pub input_reply : (words : List (List ℕ)) (old new : SourceView) (command : Command) (input : List ℕ)
-    (reply : Result Text Stop) → IsCommand words command → reads command ≡ true
-    → HasInput old new input → Makes (Replies command input) reply → IsReplyTo words old new reply
-input_reply words old new command input (Ok text) are reading has h = record {
+-- a command that has read what it wants: what it makes of that is due
+pub made_reply : (R : Command → List ℕ → Outcome → Type 0) (Still : Type 0) (words : List (List ℕ))
+    (old new : SourceView) (command : Command) (input : List ℕ) (reply : Result Text Stop)
+    → IsCommand words command → Consumes old.rest new.rest input → old.faults ≤ new.faults
+    → HasReadIf (reads command) new input → MayHaveReadIf (reads command) input
+    → (reply ≡ Err stop.NoMemory → (takes_memory command ≡ true) × Still)
+    → Makes (R command input) reply → IsReplyTo R Still words old new reply
+made_reply R Still words old new command input (Ok text) are consumed later read part lacks h = record {
   input = input;
-  consumed = has.consumed;
-  later = has.later;
+  consumed = consumed;
+  later = later;
   due = Replied command (outcome_in (Ok text));
-  is_due = (are, subst (λ b. HasReadIf b new input) (sym reading) (has.short, has.ended), h.0);
+  is_due = (are, read, h.0);
   same = refl;
   writable = h.1;
 }
-input_reply words old new command input (Err (stop.Refused refusal host)) are reading has h = record {
+made_reply R Still words old new command input (Err (stop.Refused refusal host)) are consumed later read part
+    lacks h = record {
+      input = input;
+      consumed = consumed;
+      later = later;
+      due = Replied command (outcome_in (Err (stop.Refused refusal host)));
+      is_due = (are, read, h);
+      same = refl;
+      writable = tt {0};
+    }
+made_reply R Still words old new command input (Err stop.NoMemory) are consumed later read part lacks h = record {
   input = input;
-  consumed = has.consumed;
-  later = has.later;
-  due = Replied command (outcome_in (Err (stop.Refused refusal host)));
-  is_due = (are, subst (λ b. HasReadIf b new input) (sym reading) (has.short, has.ended), h);
-  same = refl;
-  writable = tt {0};
-}
-input_reply words old new command input (Err stop.NoMemory) are reading has h = record {
-  input = input;
-  consumed = has.consumed;
-  later = has.later;
+  consumed = consumed;
+  later = later;
   due = LacksMemory command;
-  is_due = (are, reading);
+  is_due = (are, (lacks refl).0, part, (lacks refl).1);
   same = refl;
   writable = tt {0};
 }
+
+-- a command that reads nothing
+pub unread_reply : (R : Command → List ℕ → Outcome → Type 0) (Still : Type 0) (words : List (List ℕ))
+    (source : SourceView) (command : Command) (reply : Result Text Stop) → IsCommand words command
+    → reads command ≡ false → (reply ≡ Err stop.NoMemory → (takes_memory command ≡ true) × Still)
+    → Makes (R command []) reply → IsReplyTo R Still words source source reply
+unread_reply R Still words source command reply are still lacks h =
+    made_reply R Still words source source command [] reply are (Consumes-nil source.rest) (omega arith)
+    (subst (λ b. HasReadIf b source []) (sym still) refl) (subst (λ b. MayHaveReadIf b []) (sym still) refl)
+    lacks h
+
+-- who reads takes memory
+reading_takes : (command : Command) → reads command ≡ true → takes_memory command ≡ true
+reading_takes called.Help reading = absurd cc
+reading_takes called.Version reading = absurd cc
+reading_takes other reading = refl
+
+-- who starts no threads and is none of those that read nothing reads
+pub reads_unless : (command : Command) → IsStillCommand command → (command ≡ called.Help → ⊥)
+    → (command ≡ called.Version → ⊥)
+    → ((seed cores vcpus : ℕ) → command ≡ called.Gen seed cores vcpus → ⊥) → reads command ≡ true
+reads_unless called.Help still no_help no_version no_gen = absurd (no_help refl)
+reads_unless called.Version still no_help no_version no_gen = absurd (no_version refl)
+reads_unless (called.Gen seed cores vcpus) still no_help no_version no_gen =
+    absurd (no_gen seed cores vcpus refl)
+reads_unless (called.Selftest seed) still no_help no_version no_gen = absurd still
+reads_unless other still no_help no_version no_gen = refl
+
+-- a command that has read its whole input
+pub input_reply : (R : Command → List ℕ → Outcome → Type 0) (Still : Type 0) (words : List (List ℕ))
+    (old new : SourceView) (command : Command) (input : List ℕ) (reply : Result Text Stop)
+    → IsCommand words command → reads command ≡ true → HasInput old new input
+    → (reply ≡ Err stop.NoMemory → Still) → Makes (R command input) reply
+    → IsReplyTo R Still words old new reply
+input_reply R Still words old new command input reply are reading has lacks h =
+    made_reply R Still words old new command input reply are has.consumed has.later
+    (subst (λ b. HasReadIf b new input) (sym reading) (has.short, has.ended))
+    (subst (λ b. MayHaveReadIf b input) (sym reading) (tt {0}))
+    (λ is. (reading_takes command reading, lacks is)) h
+
+-- why a command got no input is due
+stop_due : (R : Command → List ℕ → Outcome → Type 0) (Still : Type 0) (words : List (List ℕ))
+    (old new : SourceView) (command : Command) (input : List ℕ) (why : Stop) → IsCommand words command
+    → reads command ≡ true → Still → Consumes old.rest new.rest input → old.faults ≤ new.faults
+    → HasNoInput old new input why → IsReplyTo R Still words old new (Err why)
+stop_due R Still words old new command input why are reading still consumed later
+    (HasNoInput.Failed short rose sound) = record {
+      input = input;
+      consumed = consumed;
+      later = later;
+      due = SourceFailed command;
+      is_due = (are, reading, short, rose, sound, still);
+      same = refl;
+      writable = tt {0};
+    }
+stop_due R Still words old new command input why are reading still consumed later
+    (HasNoInput.TooLong long) = record {
+      input = input;
+      consumed = consumed;
+      later = later;
+      due = TooMuch command;
+      is_due = (are, reading, long, still);
+      same = refl;
+      writable = tt {0};
+    }
+stop_due R Still words old new command input why are reading still consumed later HasNoInput.Lacks =
+    let part = subst (λ b. MayHaveReadIf b input) (sym reading) (tt {0}) in
+    record {
+      input = input;
+      consumed = consumed;
+      later = later;
+      due = LacksMemory command;
+      is_due = (are, reading_takes command reading, part, still);
+      same = refl;
+      writable = tt {0};
+    }
+
+-- a command that got no input
+pub no_input_reply : (R : Command → List ℕ → Outcome → Type 0) (Still : Type 0) (words : List (List ℕ))
+    (old new : SourceView) (command : Command) (why : Stop) → IsCommand words command
+    → reads command ≡ true → Still → StopsReading old new why → IsReplyTo R Still words old new (Err why)
+no_input_reply R Still words old new command why are reading still stops =
+    stop_due R Still words old new command stops.input why are reading still stops.consumed stops.later stops.why_is
 
 -- ---- sections
 
@@ -127,53 +204,39 @@ input_read old new result bytes all is =
       ended = ended.2;
     })
 
--- the source failed: that is due
+-- the source failed
 pub read_failed : (old new : SourceView) (result : Result (Vec ℕ Global) ReadAll)
     → ReadsAll old new INPUT_LIMIT result → result ≡ Err read.ReadFault
     → StopsReading old new (stop.Refused status.ReadFault None)
-read_failed old new result all is words command are reading =
+read_failed old new result all is =
     let ended = subst (Ended old new INPUT_LIMIT all.bytes) is all.ended in
     record {
       input = all.bytes;
       consumed = all.consumed;
       later = all.later;
-      due = SourceFailed command;
-      is_due = (
-        are,
-        reading,
-        ended.0,
-        ended.1,
-        (λ sound. all.sound sound (subst (λ r. IsErrOf r read.ReadFault) (sym is) refl)),
-      );
-      same = refl;
-      writable = tt {0};
+      why_is = HasNoInput.Failed ended.0 ended.1
+          (λ sound. all.sound sound (subst (λ r. IsErrOf r read.ReadFault) (sym is) refl));
     }
 
--- one byte more than the limit came: that is due
+-- one byte more than the limit came
 pub read_too_much : (old new : SourceView) (result : Result (Vec ℕ Global) ReadAll) (at : ℕ)
     → ReadsAll old new INPUT_LIMIT result → result ≡ Err (read.TooLong at)
     → StopsReading old new (stop.Refused status.TooLong None)
-read_too_much old new result at all is words command are reading =
+read_too_much old new result at all is =
     let ended = subst (Ended old new INPUT_LIMIT all.bytes) is all.ended in
     record {
       input = all.bytes;
       consumed = all.consumed;
       later = all.later;
-      due = TooMuch command;
-      is_due = (are, reading, ended.1);
-      same = refl;
-      writable = tt {0};
+      why_is = HasNoInput.TooLong ended.1;
     }
 
--- memory was wanting while the input was read: that is due
+-- memory was wanting while the input was read
 pub read_lacking : (old new : SourceView) (result : Result (Vec ℕ Global) ReadAll)
     → ReadsAll old new INPUT_LIMIT result → StopsReading old new stop.NoMemory
-read_lacking old new result all words command are reading = record {
+read_lacking old new result all = record {
   input = all.bytes;
   consumed = all.consumed;
   later = all.later;
-  due = LacksMemory command;
-  is_due = (are, reading);
-  same = refl;
-  writable = tt {0};
+  why_is = HasNoInput.Lacks;
 }

@@ -7,6 +7,8 @@ use Rattle.period_choice.specs.declared.fault.TaskFault.{TaskFault}
 use Rattle.period_choice.specs.declared.fault.TaskFault.TheVariants as lacks
 use Rattle.plan_make.specs.declared.fault.PlanFault.{PlanFault}
 use Rattle.plan_make.specs.declared.fault.PlanFault.TheVariants as fault
+use Rattle.wrap_table.specs.declared.fault.WholeFault.{WholeFault}
+use Rattle.wrap_table.specs.declared.fault.WholeFault.TheVariants as whole
 use Rattle.vcpu_names.specs.Names.{names_of}
 use Rattle.tableau_sim.specs.declared.reply.Stop.{Stop}
 use Rattle.tableau_sim.specs.declared.reply.Stop.TheVariants as stop
@@ -19,7 +21,7 @@ use Rattle.script_doc.specs.declared.script_fault.ScriptFault.TheVariants as scr
 use Rattle.tableau_sim.specs.Hosts.{IsHostFault}
 use Rattle.tableau_sim.specs.Outcomes.{Outcome}
 use Rattle.tableau_sim.specs.Outcomes.Outcome.{Refuses}
-use Rattle.tableau_sim.specs.Inside.Stops.{IsHostStop, check_stop, plan_stop, script_stop, tasks_stop}
+use Rattle.tableau_sim.specs.Inside.Stops.{IsHostStop, check_stop, plan_stop, script_stop, tasks_stop, whole_stop}
 
 -- where a section is no host, any command P that refuses it so makes the stop
 pub host_stopped : (P : Outcome → Type 0) (section : List ℕ) (why : Stop)
@@ -46,6 +48,15 @@ pub plan_stopped : (P : Outcome → Type 0) (host : Host) (f : PlanFault)
 plan_stopped P host (fault.NoPeriod vcpu) no_period no_room = no_period vcpu refl
 plan_stopped P host (fault.NoRoom vcpu rest over) no_period no_room = no_room vcpu rest over refl
 plan_stopped P host fault.NoMemory no_period no_room = tt {0}
+
+-- the same where it has no plan of all cores together
+pub whole_stopped : (P : Outcome → Type 0) (host : Host) (f : WholeFault)
+    → ((vcpu : ℕ) → f ≡ whole.NoPeriod vcpu → P (Refuses (status.NoPeriod vcpu) (names_of host.vcpus)))
+    → ((demand room : ℕ) → f ≡ whole.NoFit demand room → P (Refuses (status.NoFit demand room) []))
+    → Makes P (Err (whole_stop f host))
+whole_stopped P host (whole.NoPeriod vcpu) no_period no_fit = no_period vcpu refl
+whole_stopped P host (whole.NoFit demand room) no_period no_fit = no_fit demand room refl
+whole_stopped P host whole.NoMemory no_period no_fit = tt {0}
 
 -- the same where tables are no plan
 pub check_stopped : (P : Outcome → Type 0) (host : Host) (f : CheckFault) (what : Type 0)

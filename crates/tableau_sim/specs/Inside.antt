@@ -1,3 +1,4 @@
 -- What the code keeps between reading and writing: private to this crate.
 pub mod Reply
+pub mod Running
 pub mod Stops

@@ -6,6 +6,7 @@ use Rattle.host_doc.specs.Document.{IsHostText}
 use Rattle.host_doc.specs.declared.fault.HostFault.{HostFault}
 use Rattle.table_form.specs.Tables.Plans.{IsPlan, IsPlanFor, PlanView}
 use Rattle.period_choice.specs.Tasks.{IsFirstWithoutPeriod}
+use Rattle.plan_promises.specs.Reservations.{KeepsReservations}
 use Rattle.plan_make.specs.Planned.{IsFirstWithoutRoom, IsPlanned}
 use Rattle.vcpu_names.specs.Names.{names_of}
 use Rattle.plan_text.specs.PlanText.{plan_text}
@@ -16,11 +17,13 @@ use Rattle.tableau_sim.specs.Outcomes.Outcome.{Refuses, Writes}
 use Rattle.tableau_sim.specs.Sections.{host_section}
 
 -- the host has this plan, which gives each of the host's tasks its cost in each of its periods, and
--- has each vCPU on one core at a time
+-- has each vCPU on one core at a time; so, as the table repeats without end, each vCPU gets its share of
+-- each of its periods and waits no longer than its latency
 pub record HasPlan (host : Host) (plan : PlanView) : Type 0 where
   pub planned : IsPlanned host plan
   pub keeps : IsPlan plan
   pub is_for : IsPlanFor host plan
+  pub reservations : KeepsReservations host plan
 
 pub data Plans (sections : List (List ℕ)) : Outcome → Type 0 where
   Planned : (host : Host) (plan : PlanView) → IsHostText (host_section sections) host → HasPlan host plan

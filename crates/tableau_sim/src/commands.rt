@@ -1,4 +1,8 @@
-// The commands that read an input, and what they reply to it.
+// The commands, and what they reply.
 pub(crate) mod check;
+pub(crate) mod gen_host;
 pub(crate) mod plan;
+pub(crate) mod plan_whole;
 pub(crate) mod replay;
+pub(crate) mod run;
+pub(crate) mod selftest;

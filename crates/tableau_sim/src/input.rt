@@ -1,10 +1,15 @@
-ghost use Rattle.std.specs.Prelude.{◌≡◌, ◌<◌, ◌≤◌, ◌^◌, ℕ, IfErr, IfOk, List, length};
+ghost use Rattle.std.specs.Prelude.{◌≡◌, ◌<◌, ◌≤◌, ◌^◌, ℕ, IfErr, IfOk, List, length, true};
 ghost use Rattle.tab_words.specs.Commands.{IsCommand, texts};
 ghost use Rattle.tab_words.specs.Sections.{sections_of};
-ghost use Rattle.tableau_sim.specs.Inside.Reply.{HasGoodRounds, HasInput, IsOff, IsReplyTo, StopsReading};
+ghost use Rattle.tableau_sim.specs.Columns.{reads};
+ghost use Rattle.tableau_sim.specs.Commands.{AreStill, IsStillCommand, Replies};
+ghost use Rattle.tableau_sim.specs.Inside.Reply.{HasGoodNumbers, HasInput, IsOff, IsReplyTo, Makes, StopsReading};
+ghost use Rattle.tableau_sim.specs.declared.input.TheConstants.{INPUT_LIMIT};
 
 use crate::commands::check::check_reply;
+use crate::commands::gen_host::gen_reply;
 use crate::commands::plan::plan_reply;
+use crate::commands::plan_whole::plan_whole_reply;
 use crate::commands::replay::replay_reply;
 use crate::reply::{Reply, Stop, Text, stopped};
 use crate::status::Status;
@@ -23,7 +28,8 @@ pub(crate) fn reply_to<R: Threads + Sync, S: Source>(
     words: &[String],
     input: &mut S,
 ) -> Reply
-    ensures { IsReplyTo (texts words.now) (S.state input.old) (S.state input.new) result }
+    requires { AreStill (texts words.now) }
+    ensures { IsReplyTo Replies (Unit {0}) (texts words.now) (S.state input.old) (S.state input.new) result }
 {
     match read_words(words) {
         Ok(command) => reply_of(rt, alloc, command, input),
@@ -31,37 +37,48 @@ pub(crate) fn reply_to<R: Threads + Sync, S: Source>(
     }
 }
 
-// The command's reply. One row for each, which reads the input where the command does.
+// The command's reply, which reads the input where the command does.
 fn reply_of<R: Threads + Sync, S: Source>(
     rt: &R,
     alloc: Global,
     command: Command,
     input: &mut S,
 ) -> Reply
-    requires { HasGoodRounds command }
+    requires good { HasGoodNumbers command }
+    requires still { IsStillCommand command }
     ensures { (words : List (List ℕ)) → IsCommand words command
-        → IsReplyTo words (S.state input.old) (S.state input.new) result }
+        → IsReplyTo Replies (Unit {0}) words (S.state input.old) (S.state input.new) result }
 {
     match command {
         Command::Help => Ok(Text::Help),
         Command::Version => Ok(Text::Version),
-        Command::Plan => match read_input(alloc, input) {
-            Ok(bytes) => plan_reply(rt, alloc, &bytes),
-            Err(stop) => Err(stop),
-        },
-        Command::Check => match read_input(alloc, input) {
-            Ok(bytes) => check_reply(alloc, &bytes),
-            Err(stop) => Err(stop),
-        },
-        Command::Replay { rounds } => match read_input(alloc, input) {
-            Ok(bytes) => replay_reply(rt, alloc, rounds, &bytes),
+        Command::Gen { seed, cores, vcpus } => gen_reply(alloc, seed, cores, vcpus),
+        command => match read_input(alloc, input) {
+            Ok(bytes) => reply_to_input(rt, alloc, command, &bytes),
             Err(stop) => Err(stop),
         },
     }
 }
 
+// What the command makes of its input. One row for each command that reads it.
+fn reply_to_input<R: Threads + Sync>(rt: &R, alloc: Global, command: Command, input: &[u8]) -> Reply
+    requires good { HasGoodNumbers command }
+    requires still { IsStillCommand command }
+    requires reads { reads command ≡ true }
+    requires short { length input.now ≤ INPUT_LIMIT }
+    ensures { Makes (Replies command input.now) result }
+{
+    match command {
+        Command::Plan => plan_reply(rt, alloc, input),
+        Command::PlanWhole => plan_whole_reply(alloc, input),
+        Command::Check => check_reply(alloc, input),
+        Command::Replay { rounds } => replay_reply(rt, alloc, rounds, input),
+        _ => unreachable!(),
+    }
+}
+
 // The whole input, of which no more than the limit is taken.
-fn read_input<S: Source>(alloc: Global, input: &mut S) -> Result<Vec<u8>, Stop>
+pub(crate) fn read_input<S: Source>(alloc: Global, input: &mut S) -> Result<Vec<u8>, Stop>
     ensures ok { IfOk result (λ bytes. HasInput (S.state input.old) (S.state input.new) bytes.items) }
     ensures stop { IfErr result (StopsReading (S.state input.old) (S.state input.new)) }
 {

@@ -9,6 +9,7 @@ use crate::help::{HELP, VERSION};
 use crate::line::put_line;
 use crate::reply::{Reply, Stop, Text};
 use crate::status::Status;
+use host_gen::write_host;
 use plan_text::write_plan;
 use replay_text::write_replay;
 use tab_core::{Host, Vcpu};
@@ -50,6 +51,7 @@ fn put_text<K: Sink>(output: &mut K, text: &Text) -> Result<(), WriteFault>
         Text::Version => write_all(output, VERSION.as_bytes()),
         Text::Plan { host, plan } => write_plan(output, host, plan),
         Text::Checked => write_all(output, b"ok\n"),
+        Text::Generated { host } => write_host(output, host),
         Text::Replay { host, book, trace } => write_replay(output, host, book.course(), trace),
     }
 }

@@ -280,7 +280,7 @@ fn words_and_sections(rt: HostRuntime) -> Result<(), Fail> {
     let cases: [(&str, &str, u8, &str); 7] = [
         ("replay", "", 1, "refused: usage at word 1\n"),
         ("replay 0", "", 1, "refused: usage at word 1\n"),
-        ("replay 65", "", 1, "refused: usage at word 1\n"),
+        ("replay 10001", "", 1, "refused: usage at word 1\n"),
         ("replay 1 1", "", 1, "refused: usage at word 2\n"),
         ("replay 1", ONE, 2, "refused: 1 sections, not 3\n"),
         (

@@ -1,17 +1,18 @@
 -- What stands between reading and writing: the reply to the words.
-use Rattle.std.specs.Prelude.{◌≡◌, ◌≢◌, ℕ, ◌≤◌, true, List, [], codes, length, Option, Some, None, Result, Ok, Err}
+use Rattle.std.specs.Prelude.{◌≡◌, ◌≢◌, ℕ, ◌+◌, ◌<◌, ◌≤◌, ◌^◌, true, List, [], codes, length, Option, Some, None, Result, Ok, Err}
 use Rattle.std.specs.Io.KnownBytes.{Consumes, IsAtEnd}
 use Rattle.tab_core.specs.declared.host.Host.{Host}
+use Rattle.tab_io.specs.FaultCounts.{Rose}
 use Rattle.tab_io.specs.Views.{SourceView}
-use Rattle.tab_words.specs.Commands.{IsCommand}
+use Rattle.tab_words.specs.Commands.{IsGenerable, IsRoundCount}
 use Rattle.tab_words.specs.Sections.{sections_of}
 use Rattle.tab_words.specs.declared.command.Command.{Command}
 use Rattle.tab_words.specs.declared.command.Command.TheVariants as command
-use Rattle.tab_words.specs.declared.command.TheConstants.{MOST_ROUNDS}
 use Rattle.table_form.specs.Tables.Plans.{IsPlanFor}
 use Rattle.table_form.specs.Tables.Views.{plan_view}
 use Rattle.vcpu_names.specs.Names.{names_of}
 use Rattle.plan_text.specs.PlanText.{plan_text}
+use Rattle.host_gen.specs.HostText.{AreAdmitted, host_text}
 use Rattle.replay_text.specs.ReplayText.{replay_text}
 use Rattle.step_machine.specs.Traces.{AreOfCourse}
 use Rattle.tableau_sim.specs.declared.help.TheConstants.{HELP, VERSION}
@@ -21,7 +22,6 @@ use Rattle.tableau_sim.specs.declared.reply.Text.{Text}
 use Rattle.tableau_sim.specs.declared.reply.Text.TheVariants as written
 use Rattle.tableau_sim.specs.declared.status.Status.TheVariants as status
 use Rattle.tableau_sim.specs.declared.input.TheConstants.{INPUT_LIMIT}
-use Rattle.tableau_sim.specs.Commands.{reads}
 use Rattle.tableau_sim.specs.Frame.{Due, IsDue, outcome_of}
 use Rattle.tableau_sim.specs.Outcomes.{Outcome}
 use Rattle.tableau_sim.specs.Outcomes.Outcome.{Refuses, Writes}
@@ -32,13 +32,15 @@ bytes_of written.Help = HELP.now
 bytes_of written.Version = VERSION.now
 bytes_of (written.Plan host plan) = plan_text (names_of host.vcpus) (plan_view plan)
 bytes_of written.Checked = codes "ok\n"
+bytes_of (written.Generated host) = host_text host
 bytes_of (written.Replay host book trace) =
     replay_text (names_of host.vcpus) book.course trace.made.items trace.posted
 
--- a plan in a text is one for its host, and a trace is of the book's course, so that they can be
--- written
+-- a plan in a text is one for its host, a generated host's vCPUs are admitted, and a trace is of the
+-- book's course, so that they can be written
 abbrev pub IsWritable : Text → Type 0
 IsWritable (written.Plan host plan) = IsPlanFor host (plan_view plan)
+IsWritable (written.Generated host) = AreAdmitted host.vcpus
 IsWritable (written.Replay host book trace) = AreOfCourse book.course trace.made.items
 IsWritable text = Unit {0}
 
@@ -64,12 +66,13 @@ CanBeWritten (Ok text) = IsWritable text
 CanBeWritten (Err why) = Unit {0}
 
 -- what was read, and that the reply is due after it
-pub record IsReplyTo (words : List (List ℕ)) (old new : SourceView) (reply : Result Text Stop) : Type 0 where
+pub record IsReplyTo (R : Command → List ℕ → Outcome → Type 0) (Still : Type 0) (words : List (List ℕ))
+    (old new : SourceView) (reply : Result Text Stop) : Type 0 where
   pub input : List ℕ
   pub consumed : Consumes old.rest new.rest input
   pub later : old.faults ≤ new.faults
   pub due : Due
-  pub is_due : IsDue words old new input due
+  pub is_due : IsDue R Still words old new input due
   pub same : outcome_of due ≡ outcome_in reply
   pub writable : CanBeWritten reply
 
@@ -80,17 +83,29 @@ pub record HasInput (old new : SourceView) (input : List ℕ) : Type 0 where
   pub short : length input ≤ INPUT_LIMIT
   pub ended : IsAtEnd new.rest
 
+-- after these bytes the source failed, or it gave too many of them, or memory was wanting
+pub data HasNoInput (old new : SourceView) (input : List ℕ) : Stop → Type 0 where
+  Failed : length input ≤ INPUT_LIMIT → Rose old.faults new.faults → (old.sound ≡ true → ⊥)
+      → HasNoInput old new input (stop.Refused status.ReadFault None)
+  TooLong : length input ≡ INPUT_LIMIT + 1 → HasNoInput old new input (stop.Refused status.TooLong None)
+  Lacks : HasNoInput old new input stop.NoMemory
+
 -- so each command that reads must reply
-abbrev pub StopsReading : SourceView → SourceView → Stop → Type 0
-StopsReading old new why = (words : List (List ℕ)) (command : Command) → IsCommand words command
-    → reads command ≡ true → IsReplyTo words old new (Err why)
+pub record StopsReading (old new : SourceView) (why : Stop) : Type 0 where
+  pub input : List ℕ
+  pub consumed : Consumes old.rest new.rest input
+  pub later : old.faults ≤ new.faults
+  pub why_is : HasNoInput old new input why
 
 -- the input has another number of sections than is wanted
 pub record IsOff (wanted : ℕ) (input : List ℕ) (why : Stop) : Type 0 where
   pub off : length (sections_of input) ≢ wanted
   pub why_is : why ≡ stop.Refused (status.BadSections (length (sections_of input)) wanted) None
 
--- the rounds that a command is given are some and not too many
-abbrev pub HasGoodRounds : Command → Type 0
-HasGoodRounds (command.Replay rounds) = (1 ≤ rounds) × (rounds ≤ MOST_ROUNDS)
-HasGoodRounds other = Unit {0}
+-- what the numbers of a command keep
+abbrev pub HasGoodNumbers : Command → Type 0
+HasGoodNumbers (command.Replay rounds) = IsRoundCount rounds
+HasGoodNumbers (command.Run rounds mode) = IsRoundCount rounds
+HasGoodNumbers (command.Gen seed cores vcpus) = IsGenerable seed cores vcpus
+HasGoodNumbers (command.Selftest seed) = seed < 2 ^ 64
+HasGoodNumbers other = Unit {0}

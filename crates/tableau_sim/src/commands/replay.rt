@@ -1,7 +1,7 @@
 ghost use Rattle.std.specs.Prelude.{◌≡◌, ◌<◌, ◌≤◌, ◌^◌, ℕ, [], All, List, length, slice_index_or};
 ghost use Rattle.script_doc.specs.Script.{AreInRun, AreWithin};
 ghost use Rattle.script_doc.specs.Steps.{IsStepWithin};
-ghost use Rattle.tab_words.specs.declared.command.TheConstants.{MOST_ROUNDS};
+ghost use Rattle.tab_words.specs.Commands.{IsRoundCount};
 ghost use Rattle.tableau_sim.specs.Inside.Reply.{Makes};
 ghost use Rattle.tableau_sim.specs.Replay.{HasParts, Replays};
 ghost use Rattle.tableau_sim.specs.Sections.{OfSections};
@@ -27,8 +27,7 @@ pub(crate) fn replay_reply<R: Threads + Sync>(
     input: &[u8],
 ) -> Reply
     requires within { length input.now ≤ INPUT_LIMIT }
-    requires some { 1 ≤ rounds }
-    requires few { rounds ≤ MOST_ROUNDS }
+    requires rounds { IsRoundCount rounds }
     ensures { Makes (OfSections 3 (Replays rounds) input.now) result }
 {
     match cut(input, 3) {
@@ -40,8 +39,7 @@ pub(crate) fn replay_reply<R: Threads + Sync>(
 fn replay_of<R: Threads + Sync>(rt: &R, alloc: Global, rounds: u32, sections: &Sections) -> Reply
     requires three { length sections.now ≡ 3 }
     requires short { (i : ℕ) → length (slice_index_or sections.now i []) < 2 ^ 32 }
-    requires some { 1 ≤ rounds }
-    requires few { rounds ≤ MOST_ROUNDS }
+    requires rounds { IsRoundCount rounds }
     ensures { Makes (Replays rounds sections.now) result }
 {
     let host = match host_of(alloc, sections.part(0)) {
@@ -69,8 +67,7 @@ fn replay_of_parts<R: Threads + Sync>(
     script: Script,
     list: StepList,
 ) -> Reply
-    requires some { 1 ≤ rounds }
-    requires few { rounds ≤ MOST_ROUNDS }
+    requires rounds { IsRoundCount rounds }
     requires within { AreWithin (length host.vcpus) script }
     requires in_run { AreInRun rounds script }
     requires names { All (IsStepWithin host.cores) list.steps }

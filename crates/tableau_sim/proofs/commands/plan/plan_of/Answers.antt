@@ -1,4 +1,5 @@
 use Rattle.std.proofs.Common.{ap, Err}
+use Rattle.plan_promises.proofs.ReservationsLemmas.{kept_by_rows}
 use Rattle.tableau_sim.specs.Plan.{Plans}
 use Rattle.tableau_sim.proofs.StopsLemmas.{host_stopped, plan_stopped}
 use Rattle.tableau_sim.proofs.commands.plan.plan_of.Goals as goal
@@ -18,6 +19,8 @@ returns-in-Ok-plan g c = (
       owned = c.in-Ok-plan.plan.owned;
     };
     is_for = c.in-Ok-plan.ensures.fits_host;
+    reservations = kept_by_rows c.in-Ok.host _ c.in-Ok-plan.ensures.chosen c.in-Ok-plan.plan.serves
+        c.in-Ok-plan.plan.apart;
   }),
   c.in-Ok-plan.ensures.fits_host,
 )

@@ -1,0 +1,67 @@
+// Calls with words and bytes in memory, and what came of each.
+mod hosts;
+mod runs;
+mod words;
+
+use core_workers::{FreeGate, Gate};
+use round_words::RoundBoard;
+use std::alloc::Global;
+use std::process::Abort;
+use std::test::Fail;
+use std::thread::Threads;
+use tab_io::{MemSink, MemSource};
+use tableau_sim::tableau;
+
+// Room for each text of these tests.
+const ROOM: usize = 10_000;
+
+// The exit status of a call, and where its text went.
+#[derive(Drop)]
+struct Called {
+    exit: u8,
+    sink: MemSink,
+}
+
+// The call on these words, which spaces part, and this input.
+fn call<R: Threads + Sync, G: Gate>(
+    rt: &R,
+    alloc: Global,
+    words: &str,
+    input: &str,
+    gate: &G,
+) -> Result<Called, Fail> {
+    let mut owned = Vec::new(alloc);
+    for word in words.split_whitespace() {
+        owned.push(String::from_str(alloc, word)?)?;
+    }
+    let mut source = MemSource::of(alloc, input.as_bytes(), &[])?;
+    let mut sink = MemSink::with_room(alloc, ROOM)?;
+    let (board, seat) = RoundBoard::make(alloc)?;
+    let done = tableau(
+        rt,
+        alloc,
+        &owned,
+        &mut source,
+        &mut sink,
+        &board,
+        seat,
+        gate,
+    );
+    Ok(Called {
+        exit: done.status.exit(),
+        sink,
+    })
+}
+
+// Words, input, the exit status and the text.
+type Case<'a> = (&'a str, &'a str, u8, &'a str);
+
+// Whether each call ends and writes as its case says.
+fn try_all<R: Threads + Sync + Abort>(rt: &R, alloc: Global, cases: &[Case]) -> Result<(), Fail> {
+    for (words, input, exit, text) in cases {
+        let called = call(rt, alloc, words, input, &FreeGate)?;
+        assert_eq!(rt; called.sink.bytes(), text.as_bytes(), "of {words}");
+        assert_eq!(rt; called.exit, *exit, "of {words}");
+    }
+    Ok(())
+}

@@ -1,0 +1,178 @@
+-- A command that is given a seat: its replies, and the runs that it makes.
+use Rattle.std.proofs.Common.{◌≡◌, ◌⊎◌, ℕ, List, [], length, Result, Ok, Err, refl, sym, subst, inl, inr, arith}
+use Rattle.tab_core.specs.declared.host.Host.{Host}
+use Rattle.tab_io.specs.Views.{SinkView}
+use Rattle.tab_words.specs.declared.command.RunMode.{RunMode}
+use Rattle.script_doc.specs.declared.event.Event.{Event}
+use Rattle.host_doc.specs.Document.{IsHostText}
+use Rattle.script_doc.specs.ScriptFaults.{IsFirstFault}
+use Rattle.script_doc.specs.Statements.{statements_of}
+use Rattle.script_doc.specs.declared.script_fault.ScriptFault.{ScriptFault}
+use Rattle.script_doc.specs.declared.script_fault.ScriptFault.TheVariants as script
+use Rattle.vcpu_names.specs.Names.{names_of}
+use Rattle.plan_book.specs.Books.{BookView, IsBookOf}
+use Rattle.round_words.specs.declared.view.View.{View}
+use Rattle.course_run.specs.Inside.Keeping.{IsTooLong}
+use Rattle.tab_io.specs.Views.{SourceView}
+use Rattle.tab_words.specs.Commands.{IsCommand}
+use Rattle.tab_words.specs.Sections.{sections_of}
+use Rattle.tab_words.specs.declared.command.Command.TheVariants as called
+use Rattle.course_run.specs.declared.keeping.RunFault.{RunFault}
+use Rattle.course_run.specs.declared.keeping.RunFault.TheVariants as fault
+use Rattle.tableau_sim.specs.declared.reply.Stop.{Stop}
+use Rattle.tableau_sim.specs.declared.reply.Stop.TheVariants as stop
+use Rattle.tableau_sim.specs.declared.reply.Text.{Text}
+use Rattle.tableau_sim.specs.declared.status.Status.{Status}
+use Rattle.tableau_sim.specs.declared.status.Status.TheVariants as status
+use Rattle.tableau_sim.specs.Frame.{Answers, WritesReply}
+use Rattle.tableau_sim.specs.Frame.Due.{LacksMemory, Replied}
+use Rattle.tableau_sim.specs.Inside.Reply.{HasInput, IsOff, Makes, names_in, outcome_in}
+use Rattle.tableau_sim.specs.Inside.Stops.{IsScriptStop, run_stop, script_stop}
+use Rattle.tableau_sim.specs.Outcomes.{Outcome}
+use Rattle.tableau_sim.specs.Outcomes.Outcome.{Refuses}
+use Rattle.tableau_sim.specs.Replay.{HasScript, script_section}
+use Rattle.tableau_sim.specs.Run.{Runs}
+use Rattle.tableau_sim.specs.Seats.{IsStillIfRefused, OnSeat}
+use Rattle.tableau_sim.specs.Selftest.{Selftests}
+use Rattle.tableau_sim.specs.Sections.{OfSections, host_section}
+use Rattle.tableau_sim.specs.Sections.OfSections.{Sectioned}
+use Rattle.tableau_sim.proofs.ReplyLemmas.{answers_of, input_reply, off_sections}
+use Rattle.std.proofs.KnownBytes.{Consumes-nil}
+use Rattle.tableau_sim.specs.Inside.Running.{AnswersBy}
+
+-- a reply that was written, over a seat that is as it was
+pub answered : (P : Outcome → Type 0) (old new : View) (sink sink' : SinkView) (told : Status) (reply : Result Text Stop)
+    → Makes P reply → new ≡ old → WritesReply sink sink' (outcome_in reply) told
+    → AnswersBy P old new sink sink' told
+answered P old new sink sink' told (Ok text) makes same written = record {
+  outcome = outcome_in (Ok text);
+  is = inl makes.0;
+  still = tt {0};
+  written = written;
+}
+answered P old new sink sink' told (Err (stop.Refused refusal host)) makes same written = record {
+  outcome = outcome_in (Err (stop.Refused refusal host));
+  is = inl makes;
+  still = same;
+  written = written;
+}
+answered P old new sink sink' told (Err stop.NoMemory) makes same written = record {
+  outcome = outcome_in (Err stop.NoMemory);
+  is = inr refl;
+  still = same;
+  written = written;
+}
+
+-- a section that is no script stops it
+pub script_stops_it : (rounds : ℕ) (sections : List (List ℕ)) (host : Host) (f : ScriptFault)
+    → IsHostText (host_section sections) host
+    → (f ≡ script.NoMemory) ⊎ IsFirstFault (names_of host.vcpus) rounds (statements_of (script_section sections)) f
+    → IsScriptStop rounds sections (script_stop f)
+script_stops_it rounds sections host script.NoMemory is h = tt {0}
+script_stops_it rounds sections host f is (inl lacks) = absurd cc
+script_stops_it rounds sections host f is (inr faulty) = (host, is, faulty, refl)
+
+-- sections that are no host and script are refused so
+pub script_stops : (rounds : ℕ) (mode : RunMode) (view : View) (sections : List (List ℕ)) (why : Stop)
+    → IsScriptStop rounds sections why → Makes (Runs rounds mode view sections) (Err why)
+script_stops rounds mode view sections stop.NoMemory is = tt {0}
+script_stops rounds mode view sections (stop.Refused (status.Host bad) host) is =
+    subst (λ o. Runs rounds mode view sections (Refuses (status.Host bad) (names_in o))) (sym is.1) (Runs.BadHost bad is.0)
+script_stops rounds mode view sections (stop.Refused (status.Script bad) named) is =
+    subst (λ o. Runs rounds mode view sections (Refuses (status.Script bad) (names_in o))) (sym is.3)
+    (Runs.BadScript is.0 bad is.1 is.2)
+script_stops rounds mode view sections (stop.Refused other host) is = absurd is
+
+-- a run that doesn't begin is refused so
+pub run_stops : (rounds : ℕ) (mode : RunMode) (view : View) (sections : List (List ℕ)) (host : Host)
+    (events : List Event) (book : BookView) (f : RunFault) → HasScript rounds sections host events
+    → IsBookOf host events book → IsTooLong book.course rounds mode f
+    → Makes (Runs rounds mode view sections) (Err (run_stop f))
+run_stops rounds mode view sections host events book (fault.TraceTooLong bound) script is long =
+    Runs.TraceTooLong host events book bound script is (record { asked = long.0; is = long.1; beyond = long.2 })
+run_stops rounds mode view sections host events book fault.NoMemory script is long = tt {0}
+
+-- ---- the whole answer
+
+-- where memory was wanting, the seat is as it was
+lacking_still : (old new : View) (outcome : Outcome) → outcome ≡ Refuses status.NoMemory []
+    → IsStillIfRefused old new outcome → new ≡ old
+lacking_still old new outcome is still = subst (IsStillIfRefused old new) is still
+
+-- what was made of two sections, and written, is the whole answer of a run
+pub run_answers : (rounds : ℕ) (mode : RunMode) (old new : View) (words : List (List ℕ))
+    (source source' : SourceView) (sink sink' : SinkView) (told : Status) (input : List ℕ)
+    → IsCommand words (called.Run rounds mode) → HasInput source source' input → length (sections_of input) ≡ 2
+    → AnswersBy (Runs rounds mode new (sections_of input)) old new sink sink' told
+    → Answers (OnSeat old new) (new ≡ old) words source source' sink sink' told
+run_answers rounds mode old new words source source' sink sink' told input are has two by = elim by.is [
+  | inl made ↦ record {
+    input = input;
+    consumed = has.consumed;
+    later = has.later;
+    due = Replied (called.Run rounds mode) by.outcome;
+    is_due = (are, (has.short, has.ended), (Sectioned by.outcome two made, by.still));
+    written = by.written;
+  }
+  | inr lacks ↦ record {
+    input = input;
+    consumed = has.consumed;
+    later = has.later;
+    due = LacksMemory (called.Run rounds mode);
+    is_due = (are, refl, tt {0}, lacking_still old new by.outcome lacks by.still);
+    written = subst (λ o. WritesReply sink sink' o told) lacks by.written;
+  }
+]
+
+-- a run that is stopped leaves the seat as it was
+still_stop : (rounds : ℕ) (mode : RunMode) (view : View) (input : List ℕ) (why : Stop)
+    → Makes (OfSections 2 (Runs rounds mode view) input) (Err why)
+    → Makes (OnSeat view view (called.Run rounds mode) input) (Err why)
+still_stop rounds mode view input (stop.Refused refusal host) h = (h, refl)
+still_stop rounds mode view input stop.NoMemory h = tt {0}
+
+-- another number of sections stops it
+pub off_answers : (rounds : ℕ) (mode : RunMode) (view : View) (words : List (List ℕ)) (source source' : SourceView)
+    (sink sink' : SinkView) (told : Status) (input : List ℕ) (why : Stop)
+    → IsCommand words (called.Run rounds mode) → HasInput source source' input → IsOff 2 input why
+    → WritesReply sink sink' (outcome_in (Err why)) told
+    → Answers (OnSeat view view) (view ≡ view) words source source' sink sink' told
+off_answers rounds mode view words source source' sink sink' told input why are has off written =
+    answers_of (OnSeat view view) (view ≡ view) words source source' sink sink' told (Err why)
+    (input_reply (OnSeat view view) (view ≡ view) words source source' (called.Run rounds mode) input (Err why) are refl
+    has (λ lacks. refl) (still_stop rounds mode view input why
+    (off_sections 2 (Runs rounds mode view) input why off))) written
+
+-- what was made of a seed, and written, is the whole answer of a selftest, which reads nothing
+pub test_answers : (seed : ℕ) (old new : View) (words : List (List ℕ)) (source : SourceView)
+    (sink sink' : SinkView) (told : Status) → IsCommand words (called.Selftest seed)
+    → AnswersBy (Selftests seed new) old new sink sink' told
+    → Answers (OnSeat old new) (new ≡ old) words source source sink sink' told
+test_answers seed old new words source sink sink' told are by = elim by.is [
+  | inl made ↦ record {
+    input = [];
+    consumed = Consumes-nil source.rest;
+    later = omega arith;
+    due = Replied (called.Selftest seed) by.outcome;
+    is_due = (are, refl, (made, by.still));
+    written = by.written;
+  }
+  | inr lacks ↦ record {
+    input = [];
+    consumed = Consumes-nil source.rest;
+    later = omega arith;
+    due = LacksMemory (called.Selftest seed);
+    is_due = (are, refl, refl, lacking_still old new by.outcome lacks by.still);
+    written = subst (λ o. WritesReply sink sink' o told) lacks by.written;
+  }
+]
+
+-- want of memory, over a seat that is as it was
+pub lacking : (P : Outcome → Type 0) (view : View) (sink sink' : SinkView) (told : Status)
+    → WritesReply sink sink' (Refuses status.NoMemory []) told → AnswersBy P view view sink sink' told
+lacking P view sink sink' told written = record {
+  outcome = Refuses status.NoMemory [];
+  is = inr refl;
+  still = refl;
+  written = written;
+}

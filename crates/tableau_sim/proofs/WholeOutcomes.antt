@@ -1,0 +1,94 @@
+-- `plan whole` refuses a host for one cause, and then has no plan for it.
+use Rattle.std.proofs.Common.{◌≡◌, ℕ, List, [], refl, sym, ap, ◌∙◌, inl, inr, arith}
+use Rattle.tab_core.specs.declared.host.Host.{Host}
+use Rattle.table_form.specs.Tables.Plans.{PlanView}
+use Rattle.vcpu_names.specs.Names.{names_of}
+use Rattle.period_choice.specs.Tasks.{IsFirstWithoutPeriod}
+use Rattle.period_choice.proofs.Unique.{tasks_unique}
+use Rattle.plan_make.proofs.OneRefusal.{one_without_period}
+use Rattle.plan_make.proofs.TasksOfPlan.{none_without_period}
+use Rattle.plan_text.specs.PlanText.{plan_text}
+use Rattle.flow_net.specs.Allotments.{demands}
+use Rattle.flow_net.proofs.Loads.{allotment_fits}
+use Rattle.wrap_table.specs.Whole.{IsBeyondRoom, IsWholePlan}
+use Rattle.wrap_table.specs.declared.fault.WholeFault.{WholeFault}
+use Rattle.wrap_table.specs.declared.fault.WholeFault.TheVariants as whole
+use Rattle.tableau_sim.specs.declared.status.Status.{Status}
+use Rattle.tableau_sim.specs.declared.status.Status.TheVariants as status
+use Rattle.tableau_sim.specs.Outcomes.{Outcome}
+use Rattle.tableau_sim.specs.Outcomes.Outcome.{Refuses, Writes}
+use Rattle.tableau_sim.specs.PlanWhole.{HasWholePlan, PlansWhole}
+use Rattle.tableau_sim.proofs.Stages.{Ends, HostStage, one_host_stage}
+
+-- why a host has no such plan, in the form in which `plan_whole` says it
+abbrev HasWholeFault : Host → WholeFault → Type 0
+HasWholeFault h (whole.NoPeriod vcpu) = IsFirstWithoutPeriod h.vcpus vcpu
+HasWholeFault h (whole.NoFit demand room) = IsBeyondRoom h demand room
+HasWholeFault h whole.NoMemory = ⊥
+
+-- how that is refused
+abbrev whole_refusal : Host → WholeFault → Outcome
+whole_refusal h (whole.NoPeriod vcpu) = Refuses (status.NoPeriod vcpu) (names_of h.vcpus)
+whole_refusal h (whole.NoFit demand room) = Refuses (status.NoFit demand room) []
+whole_refusal h whole.NoMemory = Refuses status.NoMemory []
+
+-- one demand is beyond one room
+one_beyond : (h : Host) (demand other room more : ℕ) → IsBeyondRoom h demand room
+    → IsBeyondRoom h other more → (demand ≡ other) × (room ≡ more)
+one_beyond h demand other room more a b = (
+  a.demand_is ∙ ap demands (tasks_unique h.vcpus a.tasks b.tasks a.tasks_are b.tasks_are) ∙ sym b.demand_is,
+  a.room_is ∙ sym b.room_is,
+)
+
+-- a host has one fault
+one_whole_fault : (h : Host) (f g : WholeFault) → HasWholeFault h f → HasWholeFault h g → f ≡ g
+one_whole_fault h whole.NoMemory g of_f of_g = absurd of_f
+one_whole_fault h f whole.NoMemory of_f of_g = absurd of_g
+one_whole_fault h (whole.NoPeriod vcpu) (whole.NoPeriod other) of_f of_g =
+    ap whole.NoPeriod (one_without_period h.vcpus vcpu other of_f of_g)
+one_whole_fault h (whole.NoPeriod vcpu) (whole.NoFit demand room) of_f of_g =
+    absurd (none_without_period h.vcpus of_g.tasks vcpu of_g.tasks_are of_f)
+one_whole_fault h (whole.NoFit demand room) (whole.NoPeriod vcpu) of_f of_g =
+    absurd (none_without_period h.vcpus of_f.tasks vcpu of_f.tasks_are of_g)
+one_whole_fault h (whole.NoFit demand room) (whole.NoFit other more) of_f of_g =
+    let one = one_beyond h demand other room more of_f of_g in
+    let due = one.0 in
+    let has = one.1 in
+    cc
+
+-- and no plan with it, since an allotment needs room for all demands
+whole_or_fault : (h : Host) (p : PlanView) (f : WholeFault) → IsWholePlan h p → HasWholeFault h f → ⊥
+whole_or_fault h p (whole.NoPeriod vcpu) is bad = none_without_period h.vcpus p.tasks vcpu is.tasks bad
+whole_or_fault h p (whole.NoFit demand room) is bad =
+    let fits = allotment_fits p.tasks h.cores is.allotment is.is_allotment in
+    let same = ap demands (tasks_unique h.vcpus bad.tasks p.tasks bad.tasks_are is.tasks) in
+    omega (arith, bad.demand_is, bad.room_is, bad.beyond, same, fits)
+whole_or_fault h p whole.NoMemory is bad = bad
+
+-- what `plan whole` makes of a host
+abbrev OfWholeHost : Host → Outcome → Type 0
+OfWholeHost h = Ends (HasWholeFault h) (whole_refusal h) (HasWholePlan h)
+    (λ p. Writes (plan_text (names_of h.vcpus) p))
+
+-- an outcome of it, by its stages
+whole_stages : (s : List (List ℕ)) (o : Outcome) → PlansWhole s o → HostStage s OfWholeHost o
+whole_stages s o (PlansWhole.Planned h p is has) = inr (h, is, inr (p, has, refl))
+whole_stages s o (PlansWhole.BadHost f bad) = inl (f, bad, refl)
+whole_stages s o (PlansWhole.NoPeriod h vcpu is lacks) = inr (h, is, inl (whole.NoPeriod vcpu, lacks, refl))
+whole_stages s o (PlansWhole.NoFit h demand room is beyond) =
+    inr (h, is, inl (whole.NoFit demand room, beyond, refl))
+
+-- a refusal of a host is its only outcome
+whole_refused : (h : Host) (a b : Outcome) (refusal : Status) (names : List (List ℕ))
+    → a ≡ Refuses refusal names → OfWholeHost h a → OfWholeHost h b → a ≡ b
+whole_refused h a b refusal names is (inl p) (inl q) =
+    p.2 ∙ ap (whole_refusal h) (one_whole_fault h p.0 q.0 p.1 q.1) ∙ sym q.2
+whole_refused h a b refusal names is (inl p) (inr q) = absurd (whole_or_fault h q.0 p.0 q.1.planned p.1)
+whole_refused h a b refusal names is (inr p) q = let e = sym is ∙ p.2 in absurd cc
+
+-- and so of its sections
+pub whole_only : (s : List (List ℕ)) (refusal : Status) (names : List (List ℕ)) (b : Outcome)
+    → PlansWhole s (Refuses refusal names) → PlansWhole s b → Refuses refusal names ≡ b
+whole_only s refusal names b of_a of_b = one_host_stage s OfWholeHost (Refuses refusal names) b
+    (λ h is. whole_refused h (Refuses refusal names) b refusal names refl)
+    (whole_stages s _ of_a) (whole_stages s b of_b)

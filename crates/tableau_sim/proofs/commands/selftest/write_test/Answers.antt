@@ -1,0 +1,7 @@
+use Rattle.tableau_sim.proofs.FrameLemmas.{unsettled}
+use Rattle.tableau_sim.proofs.commands.selftest.write_test.Goals as goal
+
+pub returns-in-Failed : goal.returns-in-Failed
+returns-in-Failed g c =
+    let f = c.in-Failed.ensures in
+    unsettled _ _ _ _ _ c.in_default.field-0 c.put_test.ensures c.in_default.is f.finished.1 f.works f.taken f.later

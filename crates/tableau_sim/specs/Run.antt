@@ -1,0 +1,87 @@
+-- `run`, of a host and a script: a whole run of the host's cores by threads; or the first cause that there
+-- is none.
+use Rattle.std.specs.Prelude.{◌≡◌, ℕ, ◌<◌, List, []}
+use Rattle.tab_core.specs.declared.host.Host.{Host}
+use Rattle.tab_core.specs.declared.over.Over.{Over}
+use Rattle.tab_words.specs.declared.command.RunMode.{RunMode}
+use Rattle.tab_words.specs.declared.command.RunMode.TheVariants.{Trace}
+use Rattle.host_doc.specs.Document.{IsHostText}
+use Rattle.host_doc.specs.declared.fault.HostFault.{HostFault}
+use Rattle.vcpu_names.specs.Names.{names_of}
+use Rattle.script_doc.specs.Statements.{statements_of}
+use Rattle.script_doc.specs.ScriptFaults.{IsFirstFault}
+use Rattle.script_doc.specs.declared.event.Event.{Event}
+use Rattle.script_doc.specs.declared.script_fault.ScriptFault.{ScriptFault}
+use Rattle.period_choice.specs.Tasks.{IsFirstWithoutPeriod}
+use Rattle.plan_make.specs.Planned.{IsFirstWithoutRoom}
+use Rattle.plan_book.specs.Books.{BookView, IsBookOf}
+use Rattle.plan_book.specs.Courses.{IsCourseOf}
+use Rattle.plan_book.specs.Waits.{WaitsWithinLatency}
+use Rattle.table_form.specs.Running.Courses.{CourseView, IsCourse, outline_of}
+use Rattle.table_form.specs.Running.Invariant.{IsComplete}
+use Rattle.table_form.specs.Running.Promises.{KeepsPromises}
+use Rattle.stint_limit.specs.StintBounds.{IsStintBound}
+use Rattle.dispatch_core.specs.Parts.{IsOfOutline}
+use Rattle.round_words.specs.declared.view.View.{View}
+use Rattle.board_state.specs.Readings.{state_of}
+use Rattle.board_state.specs.RunViews.{HoldsAllParts}
+use Rattle.trace_report.specs.ReportViews.{ReportView}
+use Rattle.course_run.specs.Changes.{changes_of}
+use Rattle.course_run.specs.Runs.{IsReportOfState, stints_at}
+use Rattle.course_run.specs.RunText.{run_text}
+use Rattle.course_run.specs.declared.keeping.TheConstants.{TRACE_LIMIT}
+use Rattle.tableau_sim.specs.declared.status.Status.TheVariants as status
+use Rattle.tableau_sim.specs.Hosts.{IsHostFault}
+use Rattle.tableau_sim.specs.Outcomes.{Outcome}
+use Rattle.tableau_sim.specs.Outcomes.Outcome.{Refuses, Writes}
+use Rattle.tableau_sim.specs.Replay.{HasScript, script_section}
+use Rattle.tableau_sim.specs.Sections.{host_section}
+
+-- The view holds all parts of a board that was started for the course that the events make of the host.
+-- Read as a state it is a whole run of so many rounds that keeps all promises: all cores use one plan in a
+-- round, no vCPU runs on two cores at once, each is offered its cost in each of its periods, no core idles
+-- while somebody may run there, and each wait is within the vCPU's latency
+pub record RunsWhole (rounds : ℕ) (host : Host) (events : List Event) (course : CourseView)
+    (view : View) : Type 0 where
+  pub course_is : IsCourseOf host events course
+  pub course_kept : IsCourse course
+  pub started : IsOfOutline (outline_of course) view
+  pub holds : HoldsAllParts view
+  pub promises : KeepsPromises course rounds (state_of course view)
+  pub waits : WaitsWithinLatency host events course (state_of course view)
+  pub complete : IsComplete course rounds (state_of course view)
+
+-- a trace is asked for, and may have more stints than are kept
+pub record IsTooLong (rounds : ℕ) (mode : RunMode) (course : CourseView) (bound : ℕ) : Type 0 where
+  pub asked : mode ≡ Trace
+  pub is : IsStintBound course rounds bound
+  pub beyond : TRACE_LIMIT < bound
+
+-- the text of a run whose view this is: its trace if it is asked for, and the report
+abbrev pub text_of_run : ℕ → RunMode → Host → List Event → BookView → View → ReportView → List ℕ
+text_of_run rounds mode host events book view report =
+    run_text mode host (changes_of events book.outcomes) book.course rounds
+    (stints_at (state_of book.course view)) report
+
+pub data Runs (rounds : ℕ) (mode : RunMode) (view : View) (sections : List (List ℕ)) : Outcome → Type 0 where
+  Ran : (host : Host) (events : List Event) (book : BookView) (report : ReportView)
+      → HasScript rounds sections host events → IsBookOf host events book
+      → RunsWhole rounds host events book.course view
+      → ((bound : ℕ) → IsTooLong rounds mode book.course bound → ⊥)
+      → IsReportOfState book.course (state_of book.course view) report
+      → Runs rounds mode view sections (Writes (text_of_run rounds mode host events book view report))
+  BadHost : (fault : HostFault) → IsHostFault (host_section sections) fault
+      → Runs rounds mode view sections (Refuses (status.Host fault) [])
+  BadScript : (host : Host) (fault : ScriptFault) → IsHostText (host_section sections) host
+      → IsFirstFault (names_of host.vcpus) rounds (statements_of (script_section sections)) fault
+      → Runs rounds mode view sections (Refuses (status.Script fault) [])
+  NoPeriod : (host : Host) (events : List Event) (vcpu : ℕ) → HasScript rounds sections host events
+      → IsFirstWithoutPeriod host.vcpus vcpu
+      → Runs rounds mode view sections (Refuses (status.NoPeriod vcpu) (names_of host.vcpus))
+  NoRoom : (host : Host) (events : List Event) (vcpu rest : ℕ) (over : List Over)
+      → HasScript rounds sections host events → IsFirstWithoutRoom host vcpu rest over
+      → Runs rounds mode view sections (Refuses (status.NoRoom vcpu rest over) (names_of host.vcpus))
+  TraceTooLong : (host : Host) (events : List Event) (book : BookView) (bound : ℕ)
+      → HasScript rounds sections host events → IsBookOf host events book
+      → IsTooLong rounds mode book.course bound
+      → Runs rounds mode view sections (Refuses (status.TraceTooLong bound) [])
