@@ -6,12 +6,12 @@ use crate::checks::{A, B, IDLE, Part, rows_of};
 use crate::plans::{host_with, patient};
 use crate::samples::number_of;
 use plan_make::plan;
-use slice_table::{SliceTable, Steps};
+use slice_table::SliceTable;
 use std::alloc::Global;
 use std::marker::Brand;
 use std::sync::ledger::{Blank, Ledger};
 use std::test::Fail;
-use tab_core::{CoreNo, Periodic, ROUND, Reservation, Tasks, VcpuNo, VcpuSet};
+use tab_core::{CoreNo, Periodic, ROUND, Reservation, Steps, Tasks, VcpuNo, VcpuSet};
 use table_check::check;
 use table_form::{Homes, Plan, RawTables};
 

@@ -16,7 +16,7 @@ not_more course c m n a b =
     omega (arith, found.2, same)
 
 -- so they are the same
-one_largest : (course : CourseView) (c m n : ℕ) → IsLargestSpans course c m
+pub one_largest : (course : CourseView) (c m n : ℕ) → IsLargestSpans course c m
     → IsLargestSpans course c n → m ≡ n
 one_largest course c m n a b =
     (let le = not_more course c m n a b in let le' = not_more course c n m b a in omega arith)

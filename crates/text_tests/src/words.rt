@@ -148,7 +148,7 @@ fn reads_commands_and_places_faults(rt: HostRuntime) -> Result<(), Fail> {
         ("replay", fault(1)),
         ("replay 0", fault(1)),
         ("replay 0 x", fault(1)),
-        ("replay 65", fault(1)),
+        ("replay 10001", fault(1)),
         ("replay 01", fault(1)),
         ("replay +1", fault(1)),
         ("replay ", fault(1)),
