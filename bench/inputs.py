@@ -112,5 +112,22 @@ def replays():
     write("changes.replay_64", host(32, vcpus) + "%%\n" + changes + "%%\nsee 0\n")
 
 
-for make in (plans, checks, replays):
+def generated(seed, cores, vcpus):
+    words = [PROGRAM, "gen", str(seed), str(cores), str(vcpus)]
+    return subprocess.run(words, capture_output=True, text=True, check=True).stdout
+
+
+def runs():
+    usual = host(32, [(f"v{n}", 100_000, 20_000_000) for n in range(256)])
+    write("cores32.run_10000", usual + "%%\n")
+    write("generated32.run_1000", generated(1, 32, 256) + "%%\n")
+    write("cores4.run_10000", host(4, [(f"v{n}", 100_000, 20_000_000) for n in range(32)]) + "%%\n")
+    write("core1.run_10000", "cores = 1\n%%\n")
+    few = [(f"v{n}", 400_000, 102_702_600) for n in range(64)]
+    write("trace32.run_100_trace", host(32, few) + "%%\n")
+    events = "".join(f"{n * 15_600} {'wake' if n % 2 else 'block'} v{n // 2 % 32}\n" for n in range(65_535))
+    write("events4.run_10000", host(4, [(f"v{n}", 100_000, 20_000_000) for n in range(32)]) + "%%\n" + events)
+
+
+for make in (plans, checks, replays, runs):
     make()
