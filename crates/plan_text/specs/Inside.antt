@@ -1,2 +1,3 @@
 -- What the reader of a plan text keeps on its way, private to this crate.
+pub mod Gathered
 pub mod Reading

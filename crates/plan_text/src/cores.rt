@@ -7,11 +7,11 @@ ghost use Rattle.vcpu_names.specs.Names.{names_of};
 ghost use Rattle.plan_text.specs.PlanLines.{core_lines, core_words};
 ghost use Rattle.plan_text.specs.PlanText.{segment_line, view_words};
 
+use crate::rows::put_row;
 use tab_core::Vcpu;
 use tab_io::{Sink, WriteFault};
 use tab_words::{TextPiece, put_line};
-use table_form::{CoreTable, Segment};
-use vcpu_names::owner_in;
+use table_form::CoreTable;
 
 // Writes each core's lines.
 pub(crate) fn put_cores<K: Sink>(
@@ -43,29 +43,4 @@ fn put_core<K: Sink>(
 {
     put_line(sink, &[TextPiece::Text(b"core"), TextPiece::Number(core)])?;
     put_row(sink, vcpus, row.segments())
-}
-
-// Writes the lines of a row's segments.
-fn put_row<K: Sink>(sink: &mut K, vcpus: &[Vcpu], segments: &[Segment]) -> Result<(), WriteFault>
-    ensures { Writes (K.state sink.old) (K.state sink.new)
-        (flat_map (segment_line (names_of vcpus.now)) (map segment_view segments.now)) result }
-{
-    for segment in segments {
-        put_segment(sink, vcpus, segment)?;
-    }
-    Ok(())
-}
-
-#[tactic(auto, unfolding(crate::specs::PlanText::segment_line))]
-fn put_segment<K: Sink>(sink: &mut K, vcpus: &[Vcpu], segment: &Segment) -> Result<(), WriteFault>
-    ensures { Writes (K.state sink.old) (K.state sink.new)
-        (segment_line (names_of vcpus.now) (segment_view segment.now)) result }
-{
-    put_line(
-        sink,
-        &[
-            TextPiece::Number(segment.end),
-            TextPiece::Text(owner_in(vcpus, &segment.owner)),
-        ],
-    )
 }

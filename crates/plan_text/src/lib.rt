@@ -15,6 +15,7 @@ mod read_cores;
 mod read_fault;
 mod read_vcpus;
 mod refusal;
+mod rows;
 mod vcpus;
 mod write;
 
