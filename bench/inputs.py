@@ -129,5 +129,14 @@ def runs():
     write("events4.run_10000", host(4, [(f"v{n}", 100_000, 20_000_000) for n in range(32)]) + "%%\n" + events)
 
 
-for make in (plans, checks, replays, runs):
+def wholes():
+    write("generated32.plan_whole", generated(1, 32, 256))
+    # demands of exactly 32 rounds, in periods of 25 ticks times a divisor
+    write("full32.plan_whole", host(32, [(f"v{n}", 640_000, 200_000 + n * 900_000) for n in range(50)]))
+    # periods of a hundred ticks or so: a million segments
+    short = [(f"v{n}", 110_000 + n * 37 % 20_000, 180_000 + n * 2_500) for n in range(256)]
+    write("short32.plan_whole", host(32, short))
+
+
+for make in (plans, checks, replays, runs, wholes):
     make()
