@@ -31,7 +31,7 @@ use Rattle.trace_report.specs.ReportViews.{ReportView}
 use Rattle.trace_report.specs.RunReports.{IsReportOf}
 use Rattle.course_run.specs.Inside.Keeping.{IsReady, IsRoomFor}
 use Rattle.course_run.specs.Inside.Telling.{AreTold, account_in, accounts_below, first_used, used_in}
-use Rattle.course_run.specs.Runs.{AreAccountsOf, IsRunOf, kept_in, ran_view, stints_at, stints_in}
+use Rattle.course_run.specs.Runs.{AreAccountsOf, IsRunOf, kept_in, ran_view, stints_at, stints_of}
 
 -- ---- the accounts of the first cores
 
@@ -86,7 +86,7 @@ module _ (crew : CrewView) (v : View) (is : IsCrew crew) (whole : IsWhole crew) 
 
   -- the stints of a core of the state are those of its part
   stints_are : (c : ℕ) → c < crew.course.cores → stints_at (state_of crew.course v) c ≡ (part v c).stints
-  stints_are c lt = ap stints_in (is_core crew.course v c (subst (λ (n : ℕ). c < n) (sym started.cores_are) lt))
+  stints_are c lt = ap stints_of (is_core crew.course v c (subst (λ (n : ℕ). c < n) (sym started.cores_are) lt))
 
   -- each actor agrees with the part of its core
   pub agreed : (c : ℕ) (a : StateView) → actor_of crew c ≡ Some a → AgreesWith crew.course a v
@@ -190,7 +190,7 @@ module _ (crew : CrewView) (v : View) (is : IsCrew crew) (whole : IsWhole crew) 
             let small : c < v.cores = omega (arith, of.cores_are, lt) in
             let core = is_core crew.course v c small in
             let most = few_stints crew.course crew.rounds c room.most s (core_state crew.course (part v c)) is.course_kept invariant room.largest core in
-            let few : length (stints_at s c) ≤ a.0.keep = omega (arith, most, room.keep_is, ap (λ o. length (stints_in o)) core) in
+            let few : length (stints_at s c) ≤ a.0.keep = omega (arith, most, room.keep_is, ap (λ o. length (stints_of o)) core) in
             all_kept crew v is whole agree all invariant c a.0 a.1 few;
       }))
 

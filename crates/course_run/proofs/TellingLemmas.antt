@@ -22,13 +22,13 @@ use Rattle.trace_report.specs.ReportText.{report_text}
 use Rattle.trace_report.specs.RunReports.{core_ticks, vcpus_of}
 use Rattle.trace_report.specs.TraceText.{trace_text}
 use Rattle.course_run.specs.RunText.{run_text, trace_part}
-use Rattle.course_run.specs.Runs.{CanBeTold, IsRunOf, RanView, kept_stints, stints_at, stints_in}
+use Rattle.course_run.specs.Runs.{CanBeTold, IsRunOf, RanView, kept_stints, stints_at, stints_of}
 
 -- a stint's used count is one of the course's
 used_in_course : (course : CourseView) (rounds : ℕ) (s : State) (c k : ℕ) (st : Stint)
     → StateInvariant course rounds s → slice_get (stints_at s c) k ≡ Some st → st.used ≤ length course.ticks
 used_in_course course rounds s c k st kept at = of (slice_get s.cores c) refl at where
-  of : (o : Option CoreState) → slice_get s.cores c ≡ o → slice_get (stints_in o) k ≡ Some st
+  of : (o : Option CoreState) → slice_get s.cores c ≡ o → slice_get (stints_of o) k ≡ Some st
       → st.used ≤ length course.ticks
   of None is at = absurd cc
   of (Some core) is at =

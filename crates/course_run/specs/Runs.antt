@@ -22,13 +22,13 @@ use Rattle.trace_report.specs.RunReports.{IsReportOf}
 
 -- ---- a state's stints and report
 
-abbrev pub stints_in : Option CoreState → List Stint
-stints_in None = []
-stints_in (Some core) = core.stints
+abbrev pub stints_of : Option CoreState → List Stint
+stints_of None = []
+stints_of (Some core) = core.stints
 
 -- the stints of a core
 abbrev pub stints_at : State → ℕ → List Stint
-stints_at s c = stints_in (slice_get s.cores c)
+stints_at s c = stints_of (slice_get s.cores c)
 
 -- the accounts are those of the cores' stints, by core number
 pub record AreAccountsOf (course : CourseView) (s : State) (accounts : List CoreAccount) : Type 0 where

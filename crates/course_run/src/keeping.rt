@@ -1,7 +1,7 @@
 ghost use Rattle.std.specs.Prelude.{◌≡◌, ◌≤◌, IfErr, IfOk};
 ghost use Rattle.tab_core.specs.declared.TheConstants.{MAX_ROUNDS};
 ghost use Rattle.tab_words.specs.declared.command.RunMode.TheVariants.{Trace};
-ghost use Rattle.course_run.specs.Inside.Keeping.{IsShort, IsTooLong, KeepAll};
+ghost use Rattle.course_run.specs.Inside.Keeping.{IsShort, StopsRun, KeepAll};
 
 use stint_limit::{round_stints, stint_bound};
 use tab_core::CoreNo;
@@ -24,7 +24,7 @@ pub(crate) fn keep_of(course: &Course, rounds: u32, mode: RunMode) -> Result<[u3
     requires { rounds ≤ MAX_ROUNDS }
     ensures keeps { IfOk result (λ keep. mode ≡ Trace → KeepAll course.now rounds keep course.now.cores) }
     ensures short { IfOk result (λ _. IsShort course.now rounds mode) }
-    ensures long { IfErr result (IsTooLong course.now rounds mode) }
+    ensures cause { IfErr result (StopsRun course.now rounds mode) }
 {
     let mut keep = [0; 32];
     if mode == RunMode::Report {

@@ -3,7 +3,7 @@ ghost use Rattle.table_form.specs.Running.Courses.{FitsRounds};
 ghost use Rattle.round_words.specs.Seats.{view_of, IsSeatOf};
 ghost use Rattle.round_words.specs.Views.{opening};
 ghost use Rattle.trace_report.specs.RunReports.{HasRoom};
-ghost use Rattle.course_run.specs.Inside.Keeping.{IsReady, IsShort, IsTooLong};
+ghost use Rattle.course_run.specs.Inside.Keeping.{IsReady, IsShort, StopsRun};
 ghost use Rattle.course_run.specs.Runs.{IsRunOf};
 
 use crate::keeping::{RunFault, keep_of};
@@ -58,7 +58,7 @@ pub fn run_course<'a, R: Threads + Sync, G: Gate>(
     ensures short { IfOk result (λ _. IsShort course.now rounds mode) }
     ensures board_still { IfErr result (λ r. IsSeatOf board.now r.0) }
     ensures still { IfErr result (λ r. view_of r.0 ≡ opening) }
-    ensures fault { IfErr result (λ r. IsTooLong course.now rounds mode r.1) }
+    ensures cause { IfErr result (λ r. StopsRun course.now rounds mode r.1) }
 {
     let (crew, mut report) = match ready(rt, alloc, course, rounds, mode) {
         Ok(taken) => taken,
@@ -84,7 +84,7 @@ fn ready<'a, R: Threads>(
     requires fits { FitsRounds course.now rounds }
     ensures ready { IfOk result (λ r. IsReady course.now rounds mode r.0 × HasRoom course.now rounds r.1) }
     ensures short { IfOk result (λ _. IsShort course.now rounds mode) }
-    ensures long { IfErr result (IsTooLong course.now rounds mode) }
+    ensures cause { IfErr result (StopsRun course.now rounds mode) }
 {
     let keep = keep_of(course, rounds, mode)?;
     let cores = course.cores() as usize;

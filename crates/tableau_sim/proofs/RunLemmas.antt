@@ -12,7 +12,7 @@ use Rattle.script_doc.specs.declared.script_fault.ScriptFault.TheVariants as scr
 use Rattle.vcpu_names.specs.Names.{names_of}
 use Rattle.plan_book.specs.Books.{BookView, IsBookOf}
 use Rattle.round_words.specs.declared.view.View.{View}
-use Rattle.course_run.specs.Inside.Keeping.{IsTooLong}
+use Rattle.course_run.specs.Inside.Keeping.{StopsRun}
 use Rattle.tab_io.specs.Views.{SourceView}
 use Rattle.tab_words.specs.Commands.{IsCommand}
 use Rattle.tab_words.specs.Sections.{sections_of}
@@ -86,7 +86,7 @@ script_stops rounds mode view sections (stop.Refused other host) is = absurd is
 -- a run that doesn't begin is refused so
 pub run_stops : (rounds : ℕ) (mode : RunMode) (view : View) (sections : List (List ℕ)) (host : Host)
     (events : List Event) (book : BookView) (f : RunFault) → HasScript rounds sections host events
-    → IsBookOf host events book → IsTooLong book.course rounds mode f
+    → IsBookOf host events book → StopsRun book.course rounds mode f
     → Makes (Runs rounds mode view sections) (Err (run_stop f))
 run_stops rounds mode view sections host events book (fault.TraceTooLong bound) script is long =
     Runs.TraceTooLong host events book bound script is (record { asked = long.0; is = long.1; beyond = long.2 })

@@ -22,13 +22,13 @@ pub record IsRoomFor (course : CourseView) (rounds c keep : ℕ) : Type 0 where
 abbrev pub KeepAll : CourseView → ℕ → List ℕ → ℕ → Type 0
 KeepAll course rounds keep n = (c : ℕ) → c < n → IsRoomFor course rounds c (slice_index keep c)
 
--- a trace is asked for, and the bound on the stints is beyond its limit
-abbrev pub IsTooLong : CourseView → ℕ → RunMode → RunFault → Type 0
-IsTooLong course rounds mode (TraceTooLong bound) = (mode ≡ Trace) × IsStintBound course rounds bound
+-- the cause of a fault: a trace is asked for, and the bound on the stints is beyond its limit
+abbrev pub StopsRun : CourseView → ℕ → RunMode → RunFault → Type 0
+StopsRun course rounds mode (TraceTooLong bound) = (mode ≡ Trace) × IsStintBound course rounds bound
     × (TRACE_LIMIT < bound)
-IsTooLong course rounds mode NoMemory = Unit {0}
+StopsRun course rounds mode NoMemory = Unit {0}
 
--- and otherwise it isn't
+-- where a trace is asked for, the bound is within the limit
 abbrev pub IsShort : CourseView → ℕ → RunMode → Type 0
 IsShort course rounds mode = mode ≡ Trace → (bound : ℕ) → IsStintBound course rounds bound
     → bound ≤ TRACE_LIMIT

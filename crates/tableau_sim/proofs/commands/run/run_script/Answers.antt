@@ -4,7 +4,7 @@ use Rattle.plan_book.proofs.WaitsLemmas.{waits}
 use Rattle.board_state.specs.Readings.{state_of}
 use Rattle.course_run.proofs.TellingLemmas.{can_be_told, tells_of_state}
 use Rattle.course_run.specs.Changes.{changes_of}
-use Rattle.course_run.specs.Inside.Keeping.{IsShort, IsTooLong}
+use Rattle.course_run.specs.Inside.Keeping.{IsShort, StopsRun}
 use Rattle.course_run.specs.RunText.{run_text}
 use Rattle.course_run.specs.Runs.{IsRunOf, kept_stints, stints_at}
 use Rattle.script_doc.specs.declared.event.Event.{Event}
@@ -75,8 +75,8 @@ returns-in-Ok-run_course-clause-answers g c = λ sections script.
 pub returns-clause-answers : goal.returns-clause-answers
 returns-clause-answers g c = λ sections script.
     let book = c.in-Ok.book in
-    let long : IsTooLong book.course c.args.rounds c.args.mode c.in-Err-run_course.fault =
-    rw c.course.ensures at c.in-Err-run_course.ensures.fault in
+    let long : StopsRun book.course c.args.rounds c.args.mode c.in-Err-run_course.fault =
+    rw c.course.ensures at c.in-Err-run_course.ensures.cause in
     let stops : Makes (Runs c.args.rounds c.args.mode c.in-Err-run_course.seat.view sections) (Err c.stop_of_run.result) =
     subst (λ (why : Stop). Makes (Runs c.args.rounds c.args.mode c.in-Err-run_course.seat.view sections) (Err why)) (sym c.stop_of_run.ensures)
     (run_stops c.args.rounds c.args.mode c.in-Err-run_course.seat.view sections c.args.host c.args.script book
