@@ -1,4 +1,5 @@
 // Calls with words and bytes in memory, and what came of each.
+mod ends;
 mod hosts;
 mod runs;
 mod words;
@@ -15,11 +16,12 @@ use tableau_sim::tableau;
 // Room for each text of these tests.
 const ROOM: usize = 10_000;
 
-// The exit status of a call, and where its text went.
+// The exit status of a call, where its text went, and whether its board is started.
 #[derive(Drop)]
 struct Called {
     exit: u8,
     sink: MemSink,
+    started: bool,
 }
 
 // The call on these words, which spaces part, and this input.
@@ -30,12 +32,25 @@ fn call<R: Threads + Sync, G: Gate>(
     input: &str,
     gate: &G,
 ) -> Result<Called, Fail> {
+    call_with(rt, alloc, words, input, &[], ROOM, gate)
+}
+
+// The same with room for so many bytes, where the listed reads fail.
+fn call_with<R: Threads + Sync, G: Gate>(
+    rt: &R,
+    alloc: Global,
+    words: &str,
+    input: &str,
+    fails: &[u32],
+    room: usize,
+    gate: &G,
+) -> Result<Called, Fail> {
     let mut owned = Vec::new(alloc);
     for word in words.split_whitespace() {
         owned.push(String::from_str(alloc, word)?)?;
     }
-    let mut source = MemSource::of(alloc, input.as_bytes(), &[])?;
-    let mut sink = MemSink::with_room(alloc, ROOM)?;
+    let mut source = MemSource::of(alloc, input.as_bytes(), fails)?;
+    let mut sink = MemSink::with_room(alloc, room)?;
     let (board, seat) = RoundBoard::make(alloc)?;
     let done = tableau(
         rt,
@@ -50,6 +65,8 @@ fn call<R: Threads + Sync, G: Gate>(
     Ok(Called {
         exit: done.status.exit(),
         sink,
+        // (the controller, whose part each started board has)
+        started: done.seat.holds(32),
     })
 }
 

@@ -1,9 +1,11 @@
 //! The program `tableau`: it answers its words by one call, over standard input and output.
 #![tactic(auto)]
 
-use core_workers::FreeGate;
+mod progress;
+
+use progress::ProgressGate;
 use round_words::RoundBoard;
-use std::io::{BufWriter, ErrorKind};
+use std::io::{BufWriter, ErrorKind, IsTerminal};
 use std::process::ExitCode;
 use std::{env, io};
 use tab_io::{StdSink, StdSource};
@@ -33,6 +35,7 @@ fn main(rt: HostRuntime) -> ExitCode {
     };
     let mut input = StdSource::of(rt.reader());
     let mut output = StdSink::of(writer);
+    let gate = ProgressGate::new(rt, rt.stderr(), rt.stderr().is_terminal());
     let done = tableau(
         &rt,
         rt.alloc(),
@@ -41,7 +44,7 @@ fn main(rt: HostRuntime) -> ExitCode {
         &mut output,
         &board,
         seat,
-        &FreeGate,
+        &gate,
     );
     ExitCode::from(done.status.exit())
 }

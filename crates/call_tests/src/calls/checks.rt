@@ -131,12 +131,12 @@ fn plans_pass(rt: HostRuntime) -> Result<(), Fail> {
 ]\n",
     ];
     for host in hosts {
-        let plan = call_with(&rt, rt.alloc(), "plan", host.as_bytes(), &[], 1_000_000)?;
+        let plan = call_with(&rt, rt.alloc(), "plan", host.as_bytes(), 1_000_000)?;
         assert_eq!(rt; plan.exit, 0, "of {host}");
         let mut input = Vec::from_slice(rt.alloc(), host.as_bytes())?;
         input.extend_from_slice(b"%%\n")?;
         input.extend_from_slice(plan.sink.bytes())?;
-        let called = call_with(&rt, rt.alloc(), "check", &input, &[], 10)?;
+        let called = call_with(&rt, rt.alloc(), "check", &input, 10)?;
         assert_eq!(rt; called.exit, 0, "of {host}");
         assert_eq!(rt; called.sink.bytes(), b"ok\n".as_slice(), "of {host}");
     }

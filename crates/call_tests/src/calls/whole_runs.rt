@@ -96,7 +96,7 @@ fn ends_whole<R: Threads + Sync>(
     };
     let (input, lines) = input_of(alloc, host, script, &steps)?;
     let words = format!(in alloc; "replay {rounds}")?;
-    let called = call_with(rt, alloc, words.as_str(), input.as_bytes(), &[], ROOM)?;
+    let called = call_with(rt, alloc, words.as_str(), input.as_bytes(), ROOM)?;
     let text = called.sink.bytes();
     let found = text.iter().filter(|byte| **byte == b'\n').count();
     Ok(called.exit == 0 && found == lines.saturating_add(1) && text.ends_with(last.as_bytes()))

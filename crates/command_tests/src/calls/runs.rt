@@ -7,13 +7,23 @@ use std::sync::atomic::Ordering::SeqCst;
 use std::test::Fail;
 use std::thread::yield_now;
 
-const SPLIT_REPORT: &str = "run 3 rounds 2 cores 0 events
+pub(super) const SPLIT_REPORT: &str = "run 3 rounds 2 cores 0 events
 round 0 plan 0
 vcpu a offered 184680 slots 184680 shared 0 gap 41040
 vcpu b offered 184680 slots 184680 shared 31040 gap 41040
 vcpu c offered 184680 slots 184680 shared 30520 gap 20520
 core 0 slots 307800 shared 0 idle 0
 core 1 slots 246240 shared 61560 idle 0
+done
+";
+
+// One core without vCPUs, whose stint is as long as the round, and no event.
+pub(super) const IDLE: &str = "cores = 1\nlag = 102600\n%%\n";
+
+pub(super) const IDLE_TRACE: &str = "core 0 0 102600 used 0 seen 0 - idle
+run 1 rounds 1 cores 0 events
+round 0 plan 0
+core 0 slots 0 shared 0 idle 102600
 done
 ";
 
@@ -67,17 +77,7 @@ core 0 slots 153900 shared 51300 idle 0
 done
 ",
         ),
-        (
-            "run 1 trace",
-            "cores = 1\nlag = 102600\n%%\n",
-            0,
-            "core 0 0 102600 used 0 seen 0 - idle
-run 1 rounds 1 cores 0 events
-round 0 plan 0
-core 0 slots 0 shared 0 idle 102600
-done
-",
-        ),
+        ("run 1 trace", IDLE, 0, IDLE_TRACE),
         (
             "run 10000 trace",
             "cores = 1\nlag = 1\n%%\n",

@@ -1,0 +1,108 @@
+// Sources and sinks that fail, at each of the calls that are made of them.
+use super::hosts::SPLIT;
+use super::runs::{IDLE, IDLE_TRACE, SPLIT_REPORT};
+use super::{ROOM, call_with};
+use core_workers::FreeGate;
+use std::alloc::Global;
+use std::process::Abort;
+use std::test::Fail;
+use std::thread::Threads;
+
+const NO_VCPUS: &str = "plan cores 1 vcpus 0\ncore 0\n102600 -\nend\n";
+
+const SPLIT_PLAN: &str = "plan cores 2 vcpus 3
+vcpu a period 102600 cost 61560 home 0
+vcpu b period 102600 cost 61560 home 1
+vcpu c period 102600 cost 61560 home 1
+core 0
+41040 c
+102600 a
+core 1
+61560 b
+82080 c
+102600 -
+end
+";
+
+// A vCPU of half a core, and tables that have a tick less for it.
+const SHORT_OF_HALF: &str = "cores = 1
+[[vcpu]]
+name = \"a\"
+share_ppm = 500000
+latency_ns = 102702600
+%%
+plan cores 1 vcpus 1
+vcpu a period 102600 cost 51300 home 0
+core 0
+51299 a
+102600 -
+end
+";
+
+#[test]
+fn reads_that_fail(rt: HostRuntime) -> Result<(), Fail> {
+    let split = format!(in rt.alloc(); "{SPLIT}%%\n")?;
+    // words, input, and what comes where neither of the two reads fails: the exit status, the text, and
+    // whether the board is started
+    let cases = [
+        ("plan", "cores = 1\n", (0, NO_VCPUS, false)),
+        ("plan", SPLIT, (0, SPLIT_PLAN, false)),
+        ("run 3", split.as_str(), (0, SPLIT_REPORT, true)),
+        (
+            "check",
+            SHORT_OF_HALF,
+            (7, "no: a has 51299 of 51300 ticks in period 0\n", false),
+        ),
+    ];
+    for (words, input, whole) in cases {
+        for failing in 0..3 {
+            let (exit, text, started) = if failing < 2 {
+                (4, "refused: read fault\n", false)
+            } else {
+                whole
+            };
+            let called = call_with(&rt, rt.alloc(), words, input, &[failing], ROOM, &FreeGate)?;
+            let told = (called.exit, called.sink.bytes(), called.started);
+            assert_eq!(rt;
+                told,
+                (exit, text.as_bytes(), started),
+                "read {failing} of {words}"
+            );
+        }
+    }
+    Ok(())
+}
+
+// Whether the text is cut where the room ends, for every room up to its length.
+fn try_rooms<R: Threads + Sync + Abort>(
+    rt: &R,
+    alloc: Global,
+    words: &str,
+    input: &str,
+    starts: bool,
+    text: &str,
+) -> Result<(), Fail> {
+    for room in 0..=text.len() {
+        let called = call_with(rt, alloc, words, input, &[], room, &FreeGate)?;
+        let exit = if room < text.len() { 5 } else { 0 };
+        let told = (called.exit, called.sink.bytes(), called.started);
+        assert_eq!(rt;
+            told,
+            (exit, &text.as_bytes()[..room], starts),
+            "room {room} of {words}"
+        );
+    }
+    Ok(())
+}
+
+#[test]
+fn room_for_a_front_of_a_plan_or_a_trace(rt: HostRuntime) -> Result<(), Fail> {
+    try_rooms(&rt, rt.alloc(), "plan", "cores = 1\n", false, NO_VCPUS)?;
+    try_rooms(&rt, rt.alloc(), "run 1 trace", IDLE, true, IDLE_TRACE)
+}
+
+#[test]
+fn room_for_a_front_of_a_report(rt: HostRuntime) -> Result<(), Fail> {
+    let split = format!(in rt.alloc(); "{SPLIT}%%\n")?;
+    try_rooms(&rt, rt.alloc(), "run 3", split.as_str(), true, SPLIT_REPORT)
+}
