@@ -151,14 +151,12 @@ fn judge_end(
 }
 
 // The stint runs whom the rules choose as long as they say.
-fn judge_choice(
-    setting: &Setting,
-    core: usize,
-    left: &Left,
-    stint: &Stint,
-) -> Result<Due, Broken> {
+fn judge_choice(setting: &Setting, core: usize, left: &Left, stint: &Stint) -> Result<Due, Broken> {
     let picture = setting.picture_after(stint.used).ok_or(Broken::Number)?;
-    let runnable = *setting.runnable.get(stint.seen as usize).ok_or(Broken::Number)?;
+    let runnable = *setting
+        .runnable
+        .get(stint.seen as usize)
+        .ok_or(Broken::Number)?;
     let home = *picture.homes.get(core).ok_or(Broken::Number)?;
     let look = picture
         .look(core, (stint.from % ROUND) as usize)
@@ -174,14 +172,20 @@ fn judge_place(setting: &Setting, used: &[u32], left: &Left, stint: &Stint) -> R
     let round = (stint.from / ROUND) as usize;
     hold(stint.from == left.clock, Broken::Hole)?;
     hold(stint.from < stint.end, Broken::Reach)?;
-    hold(stint.end.saturating_sub(1) / ROUND == stint.from / ROUND, Broken::Reach)?;
+    hold(
+        stint.end.saturating_sub(1) / ROUND == stint.from / ROUND,
+        Broken::Reach,
+    )?;
     hold(used.get(round) == Some(&stint.used), Broken::OtherPlan)?;
     hold(left.seen <= stint.seen, Broken::SightFalls)?;
     if round > 0 {
         let before = used.get(round - 1).ok_or(Broken::Number)?;
         hold(*before <= stint.seen, Broken::SightFalls)?;
     }
-    hold(is_fresh(setting, stint.seen, stint.from), Broken::StaleSight)
+    hold(
+        is_fresh(setting, stint.seen, stint.from),
+        Broken::StaleSight,
+    )
 }
 
 // The stint follows the rules, and its ticks are added to the account.
@@ -199,7 +203,11 @@ fn judge_stint(
     Ok(Left {
         clock: stint.end,
         seen: stint.seen,
-        last: if due.shared { Some(due.vcpu) } else { left.last },
+        last: if due.shared {
+            Some(due.vcpu)
+        } else {
+            left.last
+        },
     })
 }
 

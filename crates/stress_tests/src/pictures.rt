@@ -4,7 +4,7 @@ ghost use Rattle.std.specs.Prelude.{◌≤◌, length};
 
 use std::alloc::Global;
 use tab_core::{CoreNo, NoMemory, ROUND, VcpuNo};
-use table_form::{Course, CoreTable, Plan};
+use table_form::{CoreTable, Course, Plan};
 
 // stands for the vCPU of a cell that has none
 pub(crate) const NOBODY: u32 = 64;

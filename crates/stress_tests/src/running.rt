@@ -27,8 +27,16 @@ fn shown_of(alloc: Global, crew: &Crew<'_>) -> Result<Shown, NoMemory> {
         let state = crew.actor(CoreNo(core));
         used.push(Vec::from_slice(alloc, state.used())?)?;
         stints.push(Vec::from_slice(alloc, state.stints())?)?;
-        let CoreAccount { slots, shared, idle } = *state.account();
-        accounts.push(CoreAccount { slots, shared, idle })?;
+        let CoreAccount {
+            slots,
+            shared,
+            idle,
+        } = *state.account();
+        accounts.push(CoreAccount {
+            slots,
+            shared,
+            idle,
+        })?;
     }
     Ok(Shown {
         used,

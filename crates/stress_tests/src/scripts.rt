@@ -97,18 +97,36 @@ pub(crate) fn book_of<R: Threads + Sync>(
 
 // A number below the bound, which isn't 0.
 fn number_below(words: &mut SplitMix64, bound: u64) -> u64 {
-    if bound == 0 { 0 } else { words.next_word() % bound }
+    if bound == 0 {
+        0
+    } else {
+        words.next_word() % bound
+    }
 }
 
 // One vCPU wakes or blocks.
-fn flag_line(alloc: Global, words: &mut SplitMix64, tick: u64, vcpus: u64) -> Result<String, NoMemory> {
+fn flag_line(
+    alloc: Global,
+    words: &mut SplitMix64,
+    tick: u64,
+    vcpus: u64,
+) -> Result<String, NoMemory> {
     let vcpu = number_below(words, vcpus);
-    let act = if number_below(words, 2) == 0 { "wake" } else { "block" };
+    let act = if number_below(words, 2) == 0 {
+        "wake"
+    } else {
+        "block"
+    };
     format!(in alloc; "{tick} {act} v{vcpu}\n")
 }
 
 // One vCPU leaves and another gets short slots or a share of its own, with which there may be no plan.
-fn edit_line(alloc: Global, words: &mut SplitMix64, tick: u64, vcpus: u64) -> Result<String, NoMemory> {
+fn edit_line(
+    alloc: Global,
+    words: &mut SplitMix64,
+    tick: u64,
+    vcpus: u64,
+) -> Result<String, NoMemory> {
     let first = number_below(words, vcpus);
     let other = number_below(words, vcpus);
     if number_below(words, 2) == 0 {

@@ -17,8 +17,8 @@ use step_machine::replay;
 use tab_core::ROUND;
 use table_form::Course;
 
-// Hosts that are also run by threads, and their scripts.
-const THREADED: [Row; 21] = [
+// Hosts that are run by threads twice, and in one thread.
+const TWICE: [Row; 18] = [
     (1, 3, 102_600, 1000, 30, 3, 40),
     (2, 6, 102_600, 100, 0, 3, 40),
     (3, 5, 102_600, 102_600, 30, 3, 30),
@@ -36,13 +36,17 @@ const THREADED: [Row; 21] = [
     (7, 14, 1000, 1000, 0, 1, 20),
     (8, 10, 1000, 200, 30, 1, 30),
     (1, 2, 7, 1000, 30, 1, 30),
+    (1, 4, 1, 1000, 30, 1, 30),
+];
+
+// Hosts that are run by threads once, since cores of a small lag wait for each other at each few ticks.
+const ONCE: [Row; 3] = [
     (2, 5, 7, 3, 30, 1, 30),
     (3, 7, 7, 7, 0, 1, 20),
-    (1, 4, 1, 1000, 30, 1, 30),
     (2, 3, 1, 1, 30, 1, 20),
 ];
 
-// Hosts that are run in one thread alone, since cores of a small lag wait for each other at each few ticks.
+// Hosts that are run in one thread alone.
 const ALONE: [Row; 4] = [
     (4, 7, 7, 1000, 30, 1, 30),
     (8, 17, 7, 50, 30, 1, 20),
@@ -72,24 +76,33 @@ fn short_runs_follow_the_rules(rt: HostRuntime) -> Result<(), Fail> {
         shared: 0,
         idle: 0,
     };
-    for (seed, row) in THREADED.iter().enumerate() {
-        try_row(&rt, rt.alloc(), seed as u64, row, true, &mut met)?;
+    for (seed, row) in TWICE.iter().enumerate() {
+        try_row(&rt, rt.alloc(), seed as u64, row, 2, &mut met)?;
+    }
+    for (seed, row) in ONCE.iter().enumerate() {
+        try_row(&rt, rt.alloc(), seed as u64, row, 1, &mut met)?;
     }
     for (seed, row) in ALONE.iter().enumerate() {
-        try_row(&rt, rt.alloc(), seed as u64, row, false, &mut met)?;
+        try_row(&rt, rt.alloc(), seed as u64, row, 0, &mut met)?;
     }
-    assert!(rt; met.splits > 0 && met.planned > 0 && met.unplanned > 0, "{met:?}");
-    assert!(rt; met.switches > 0 && met.shared > 0 && met.idle > 0, "{met:?}");
+    assert!(rt;
+        met.splits > 0 && met.planned > 0 && met.unplanned > 0,
+        "{met:?}"
+    );
+    assert!(rt;
+        met.switches > 0 && met.shared > 0 && met.idle > 0,
+        "{met:?}"
+    );
     Ok(())
 }
 
-// Runs of one host and script, by threads if they are wanted, and by turns in this one.
+// Runs of one host and script, as often by threads as is wanted, and by turns in this one.
 fn try_row<R: Threads + Sync + Abort>(
     rt: &R,
     alloc: Global,
     seed: u64,
     row: &Row,
-    threads: bool,
+    by_threads: u32,
     met: &mut Met,
 ) -> Result<(), Fail> {
     let case = case_of(seed, *row).ok_or("numbers out of bounds")?;
@@ -97,10 +110,12 @@ fn try_row<R: Threads + Sync + Abort>(
     let course = book.course();
     let setting = setting_of(alloc, course, case.rounds)?;
     note_plans(met, &setting, book.outcomes());
-    if threads {
+    if by_threads > 0 {
+        try_run(rt, alloc, course, &setting, true, &FreeGate, &case, met)?;
+    }
+    if by_threads > 1 {
         let pattern = seed.wrapping_add(1).wrapping_mul(0x9E37_79B9_7F4A_7C15);
         let gate = Stumbling { pattern };
-        try_run(rt, alloc, course, &setting, true, &FreeGate, &case, met)?;
         try_run(rt, alloc, course, &setting, true, &gate, &case, met)?;
     }
     try_run(rt, alloc, course, &setting, false, &FreeGate, &case, met)
@@ -129,9 +144,15 @@ fn try_run<R: Threads + Sync + Abort, G: Gate>(
     let log = order_of(alloc, setting, course.cores(), &shown)?;
     assert_eq!(rt; log.cores(), course.cores());
     let world = replay(alloc, course, case.rounds, log.steps())?;
-    assert!(rt; is_same(&world, course, &shown), "made again otherwise in {case:?}");
+    assert!(rt;
+        is_same(&world, course, &shown),
+        "made again otherwise in {case:?}"
+    );
     for round in 0..case.rounds {
-        assert!(rt; is_won_once(&world, course, round as usize), "round {round} of {case:?}");
+        assert!(rt;
+            is_won_once(&world, course, round as usize),
+            "round {round} of {case:?}"
+        );
     }
     Ok(())
 }
@@ -149,8 +170,12 @@ fn note_plans(met: &mut Met, setting: &Setting, outcomes: &[Outcome]) {
 
 fn note_run(met: &mut Met, setting: &Setting, shown: &Shown) {
     if let Some(used) = shown.used.first() {
-        let first = used.first().and_then(|count| setting.numbers.get(*count as usize));
-        let last = used.last().and_then(|count| setting.numbers.get(*count as usize));
+        let first = used
+            .first()
+            .and_then(|count| setting.numbers.get(*count as usize));
+        let last = used
+            .last()
+            .and_then(|count| setting.numbers.get(*count as usize));
         met.switches = met.switches.saturating_add(u32::from(first != last));
     }
     for account in &shown.accounts {
