@@ -1,4 +1,4 @@
-// The rules of running, as plain tests of what a run shows.
+//! The rules of running, as plain tests of what a run shows.
 use crate::pictures::{Look, NOBODY, Picture, Setting, bit, number_of};
 use crate::running::Shown;
 use dispatch_core::CoreAccount;
@@ -81,7 +81,8 @@ fn judge_counts(setting: &Setting, shown: &Shown) -> Result<(), Broken> {
     judge_rounds(setting, first)
 }
 
-// What the stints of a core up to one of them leave to the next: the tick, what was seen, and the last shared pick.
+// What the stints of a core up to one of them leave to the next: the tick, what was seen, and the last
+// shared pick.
 #[derive(Clone, Copy)]
 struct Left {
     clock: u32,
@@ -106,7 +107,8 @@ fn least_from(set: u64, from: u32) -> Option<u32> {
     None
 }
 
-// The cell's vCPU if it is runnable, otherwise the next in turn of those at home that are runnable and not away.
+// The cell's vCPU if it is runnable, otherwise the next in turn of those at home that are runnable and not
+// away.
 fn due_at(look: &Look, home: u64, runnable: u64, last: Option<u32>) -> Due {
     if runnable & bit(look.owner) != 0 {
         return Due {

@@ -1,4 +1,4 @@
-// An order of steps in which a run that is shown can have come about.
+//! An order of steps in which a run that is shown can have come about.
 use crate::pictures::Setting;
 use crate::running::Shown;
 use crate::step_log::StepLog;
@@ -6,8 +6,8 @@ use script_doc::Step;
 use std::alloc::Global;
 use tab_core::{CoreNo, MAX_CORES, NoMemory, ROUND, Stint};
 
-// How far the order has come with one core: how many of its stints are in it, the tick up to which they go, how many
-// rounds it has entered, and what it has seen since its last stint.
+// How far the order has come with one core: how many of its stints are in it, the tick up to which they go,
+// how many rounds it has entered, and what it has seen since its last stint.
 #[derive(Clone, Copy)]
 struct Walk {
     stints: usize,
@@ -36,16 +36,16 @@ fn are_near(walks: &[Walk], lag: u32, skip: Option<usize>, tick: u32) -> bool {
     true
 }
 
-// Whether the core has to see the posted count now: its next stint shows it, or the core may be the one that gives
-// it to the round.
+// Whether the core has to see the posted count now: its next stint shows it, or the core may be the one that
+// gives it to the round.
 fn has_to_see(order: &Order, walk: &Walk, stint: &Stint, count: u32) -> bool {
     let round = (stint.from / ROUND) as usize;
     let gives = order.entered == round && count == order.posted && order.posted < stint.seen;
     walk.sight != Some(order.posted) && (stint.seen == order.posted || gives)
 }
 
-// Whether the core, which hasn't entered its round, may do so with what it has seen: it takes the round's count or
-// gives it.
+// Whether the core, which hasn't entered its round, may do so with what it has seen: it takes the round's
+// count or gives it.
 fn may_enter(order: &Order, walk: &Walk, round: usize, count: u32) -> bool {
     match walk.sight {
         None => false,
@@ -138,8 +138,8 @@ fn step_cores(setting: &Setting, order: &mut Order, shown: &Shown) -> Result<boo
     Ok(moved)
 }
 
-// The steps by which a run that is shown can have come about: an event is posted only once no core can get on, since a
-// core that has run further holds nobody up, but what the others see is what is posted then.
+// The steps by which a run that is shown can have come about. An event is posted only once no core gets on
+// without it: a core that has run further holds nobody up, but no core can see the count before again.
 pub(crate) fn order_of(
     alloc: Global,
     setting: &Setting,

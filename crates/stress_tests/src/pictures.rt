@@ -1,5 +1,5 @@
-// A course as plain numbers: each plan tick by tick, and sets of vCPUs as the bits of a word, since hosts here have at
-// most 64 vCPUs. It asks no search or set of the product.
+//! A course as plain numbers: each plan tick by tick, and sets of vCPUs as the bits of a word, since hosts
+//! here have at most 64 vCPUs. No search of the product is asked.
 ghost use Rattle.std.specs.Prelude.{◌≤◌, length};
 
 use std::alloc::Global;
@@ -63,8 +63,8 @@ impl Picture {
     }
 }
 
-// What is known of a course and a run of it: times in ticks, the events' ticks, and by count of first events the
-// number of the plan and the runnable vCPUs.
+// What is known of a course and a run of it: times in ticks, the events' ticks, and by count of first events
+// the number of the plan and the runnable vCPUs.
 #[derive(Drop)]
 pub(crate) struct Setting {
     pub(crate) lag: u32,

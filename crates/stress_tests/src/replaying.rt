@@ -1,4 +1,4 @@
-// A run that is shown, made again step by step.
+//! A run that is shown, made again step by step.
 ghost use Rattle.std.specs.Prelude.{◌≡◌, ◌<◌};
 
 use crate::running::Shown;

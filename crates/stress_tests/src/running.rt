@@ -1,4 +1,4 @@
-// Runs of a course, and what they show.
+//! Runs of a course, and what they show.
 ghost use Rattle.std.specs.Prelude.{◌≡◌, ◌<◌};
 ghost use Rattle.table_form.specs.Running.Courses.{FitsRounds};
 

@@ -1,4 +1,4 @@
-// Hosts and scripts from a seed.
+//! Hosts and scripts from a seed.
 ghost use Rattle.std.specs.Prelude.{◌≤◌, ◌+◌, ◌*◌, IfOk};
 ghost use Rattle.tab_core.specs.declared.TheConstants.{MAX_CORES, MAX_SLIVER, ROUND};
 ghost use Rattle.table_form.specs.Running.Courses.{FitsRounds};
@@ -17,7 +17,8 @@ use tab_core::{Host, MAX_CORES, MAX_SLIVER, NoMemory, ROUND};
 // Cores, vCPUs, lag, quantum, sliver, rounds and events.
 pub(crate) type Row = (u32, u32, u32, u32, u32, u32, u32);
 
-// What is run: a generated host with these numbers in ticks, and a script of so many events in so many rounds.
+// What is run: a generated host with these numbers in ticks, and a script of so many events in so many
+// rounds.
 #[derive(Clone, Copy, Debug)]
 pub(crate) struct Case {
     pub(crate) seed: u64,

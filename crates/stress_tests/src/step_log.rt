@@ -1,4 +1,4 @@
-// Steps that can be replayed.
+//! Steps that can be replayed.
 ghost use Rattle.std.specs.Prelude.{◌≡◌, IsTrue};
 ghost use Rattle.table_form.specs.Running.Courses.{CourseView};
 ghost use Rattle.step_machine.specs.Answers.{NamesCore};

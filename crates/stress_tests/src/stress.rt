@@ -1,4 +1,4 @@
-// Many short runs of generated hosts and scripts, by threads and by turns in one thread.
+//! Many short runs of generated hosts and scripts, by threads and by turns in one thread.
 ghost use Rattle.table_form.specs.Running.Courses.{FitsRounds};
 
 use crate::judging::judge;
@@ -54,8 +54,8 @@ const ALONE: [Row; 4] = [
     (5, 9, 1, 10, 1000, 1, 20),
 ];
 
-// What the cases have met, by how often: plans that split a vCPU, changes that are planned and that aren't, runs that
-// use several plans, and those with shared and with idle ticks.
+// What the cases have met, by how often: plans that split a vCPU, changes that are planned and that aren't,
+// runs that use several plans, and cores with shared and with idle ticks.
 #[derive(Clone, Copy, Debug)]
 struct Met {
     splits: u32,
