@@ -1,0 +1,20 @@
+//! The stress test of running cores: short runs of many kinds, of which each is judged by plain rules and
+//! replayed step by step. It stands apart since a crate with tests is proved twice, with them and without.
+#![tactic(auto)]
+
+#[cfg(test)]
+mod judging;
+#[cfg(test)]
+mod ordering;
+#[cfg(test)]
+mod pictures;
+#[cfg(test)]
+mod replaying;
+#[cfg(test)]
+mod running;
+#[cfg(test)]
+mod scripts;
+#[cfg(test)]
+mod step_log;
+#[cfg(test)]
+mod stress;

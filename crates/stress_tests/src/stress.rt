@@ -1,0 +1,186 @@
+//! Many short runs of generated hosts and scripts, by threads and by turns in one thread.
+ghost use Rattle.table_form.specs.Running.Courses.{FitsRounds};
+
+use crate::judging::judge;
+use crate::ordering::order_of;
+use crate::pictures::{Setting, setting_of};
+use crate::replaying::{is_same, is_won_once};
+use crate::running::{Shown, Stumbling, run_course};
+use crate::scripts::{Case, Row, book_of, case_of};
+use core_workers::{FreeGate, Gate};
+use plan_book::Outcome;
+use std::alloc::Global;
+use std::process::Abort;
+use std::test::Fail;
+use std::thread::Threads;
+use step_machine::replay;
+use tab_core::ROUND;
+use table_form::Course;
+
+// Hosts that are run by threads twice, and in one thread.
+const TWICE: [Row; 18] = [
+    (1, 3, 102_600, 1000, 30, 3, 40),
+    (2, 6, 102_600, 100, 0, 3, 40),
+    (3, 5, 102_600, 102_600, 30, 3, 30),
+    (4, 12, 102_600, 1000, 1000, 2, 40),
+    (5, 20, 102_600, 7, 30, 2, 20),
+    (6, 8, 102_600, 1000, 11, 2, 20),
+    (7, 30, 102_600, 300, 30, 1, 20),
+    (8, 33, 102_600, 1000, 30, 2, 20),
+    (1, 5, 1000, 1000, 0, 3, 50),
+    (2, 3, 1000, 1000, 30, 3, 60),
+    (3, 9, 1000, 50, 30, 2, 40),
+    (4, 6, 1000, 1000, 100, 2, 30),
+    (5, 6, 1000, 102_600, 30, 1, 20),
+    (6, 18, 1000, 1000, 30, 1, 20),
+    (7, 14, 1000, 1000, 0, 1, 20),
+    (8, 10, 1000, 200, 30, 1, 30),
+    (1, 2, 7, 1000, 30, 1, 30),
+    (1, 4, 1, 1000, 30, 1, 30),
+];
+
+// Hosts that are run by threads once, since cores of a small lag wait for each other at each few ticks.
+const ONCE: [Row; 3] = [
+    (2, 5, 7, 3, 30, 1, 30),
+    (3, 7, 7, 7, 0, 1, 20),
+    (2, 3, 1, 1, 30, 1, 20),
+];
+
+// Hosts that are run in one thread alone.
+const ALONE: [Row; 4] = [
+    (4, 7, 7, 1000, 30, 1, 30),
+    (8, 17, 7, 50, 30, 1, 20),
+    (3, 5, 1, 1000, 30, 1, 20),
+    (5, 9, 1, 10, 1000, 1, 20),
+];
+
+// What the cases have met, by how often: plans that split a vCPU, changes that are planned and that aren't,
+// runs that use several plans, and cores with shared and with idle ticks.
+#[derive(Clone, Copy, Debug)]
+struct Met {
+    splits: u32,
+    planned: u32,
+    unplanned: u32,
+    switches: u32,
+    shared: u32,
+    idle: u32,
+}
+
+#[test]
+fn short_runs_follow_the_rules(rt: HostRuntime) -> Result<(), Fail> {
+    let mut met = Met {
+        splits: 0,
+        planned: 0,
+        unplanned: 0,
+        switches: 0,
+        shared: 0,
+        idle: 0,
+    };
+    for (seed, row) in TWICE.iter().enumerate() {
+        try_row(&rt, rt.alloc(), seed as u64, row, 2, &mut met)?;
+    }
+    for (seed, row) in ONCE.iter().enumerate() {
+        try_row(&rt, rt.alloc(), seed as u64, row, 1, &mut met)?;
+    }
+    for (seed, row) in ALONE.iter().enumerate() {
+        try_row(&rt, rt.alloc(), seed as u64, row, 0, &mut met)?;
+    }
+    assert!(rt;
+        met.splits > 0 && met.planned > 0 && met.unplanned > 0,
+        "{met:?}"
+    );
+    assert!(rt;
+        met.switches > 0 && met.shared > 0 && met.idle > 0,
+        "{met:?}"
+    );
+    Ok(())
+}
+
+// Runs of one host and script, as often by threads as is wanted, and by turns in this one.
+fn try_row<R: Threads + Sync + Abort>(
+    rt: &R,
+    alloc: Global,
+    seed: u64,
+    row: &Row,
+    by_threads: u32,
+    met: &mut Met,
+) -> Result<(), Fail> {
+    let case = case_of(seed, *row).ok_or("numbers out of bounds")?;
+    let book = book_of(rt, alloc, &case)?;
+    let course = book.course();
+    let setting = setting_of(alloc, course, case.rounds)?;
+    note_plans(met, &setting, book.outcomes());
+    if by_threads > 0 {
+        try_run(rt, alloc, course, &setting, true, &FreeGate, &case, met)?;
+    }
+    if by_threads > 1 {
+        let pattern = seed.wrapping_add(1).wrapping_mul(0x9E37_79B9_7F4A_7C15);
+        let gate = Stumbling { pattern };
+        try_run(rt, alloc, course, &setting, true, &gate, &case, met)?;
+    }
+    try_run(rt, alloc, course, &setting, false, &FreeGate, &case, met)
+}
+
+// One run, which is judged by the rules and made again step by step.
+fn try_run<R: Threads + Sync + Abort, G: Gate>(
+    rt: &R,
+    alloc: Global,
+    course: &Course,
+    setting: &Setting,
+    threads: bool,
+    gate: &G,
+    case: &Case,
+    met: &mut Met,
+) -> Result<(), Fail>
+    requires { FitsRounds course.now case.now.rounds }
+{
+    let shown = run_course(rt, alloc, course, case.rounds, threads, gate)?;
+    let ticks = case.rounds.saturating_mul(ROUND) as usize;
+    let mut marks = vec![in alloc; 0; ticks]?;
+    if let Err(broken) = judge(setting, &mut marks, &shown) {
+        assert!(rt; false, "{broken:?} in {case:?}");
+    }
+    note_run(met, setting, &shown);
+    let log = order_of(alloc, setting, course.cores(), &shown)?;
+    assert_eq!(rt; log.cores(), course.cores());
+    let world = replay(alloc, course, case.rounds, log.steps())?;
+    assert!(rt;
+        is_same(&world, course, &shown),
+        "made again otherwise in {case:?}"
+    );
+    for round in 0..case.rounds {
+        assert!(rt;
+            is_won_once(&world, course, round as usize),
+            "round {round} of {case:?}"
+        );
+    }
+    Ok(())
+}
+
+fn note_plans(met: &mut Met, setting: &Setting, outcomes: &[Outcome]) {
+    for picture in &setting.pictures {
+        met.splits = met.splits.saturating_add(u32::from(picture.splits()));
+    }
+    for outcome in outcomes {
+        let planned = *outcome == Outcome::Planned;
+        met.planned = met.planned.saturating_add(u32::from(planned));
+        met.unplanned = met.unplanned.saturating_add(u32::from(!planned));
+    }
+}
+
+fn note_run(met: &mut Met, setting: &Setting, shown: &Shown) {
+    if let Some(used) = shown.used.first() {
+        let first = used
+            .first()
+            .and_then(|count| setting.numbers.get(*count as usize));
+        let last = used
+            .last()
+            .and_then(|count| setting.numbers.get(*count as usize));
+        met.switches = met.switches.saturating_add(u32::from(first != last));
+    }
+    for account in &shown.accounts {
+        let shared = account.shared != [0; 256];
+        met.shared = met.shared.saturating_add(u32::from(shared));
+        met.idle = met.idle.saturating_add(u32::from(account.idle > 0));
+    }
+}
