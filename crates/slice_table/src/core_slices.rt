@@ -108,11 +108,10 @@ impl SliceTable {
         ensures holds { HoldsTick (ends_of self.now) result tick }
         ensures small { result < 2 ^ 32 }
     {
-        if self.holds(guess, tick) {
-            return guess;
-        }
-        if self.holds(guess + 1, tick) {
-            return guess + 1;
+        // counted and not branched on, since whether a stint ends its span can't be foreseen
+        let number = guess + self.is_past(guess, tick) as usize;
+        if self.holds(number, tick) {
+            return number;
         }
         self.number_of(tick)
     }
