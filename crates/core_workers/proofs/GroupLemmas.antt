@@ -104,7 +104,7 @@ read_member deal groups c m h d e =
 
 -- the same, where the group's number and the place in it are kept
 module _ (deal : Deal) (groups : List Group) (c g i : ℕ) (m : Member) (at : member_of deal groups c ≡ Some m)
-        (g_is : g ≡ c % deal.threads - deal.first) (i_is : i ≡ c / deal.threads) where
+    (g_is : g ≡ c % deal.threads - deal.first) (i_is : i ≡ c / deal.threads) where
   pub group_placed : (d : Group) → slice_get groups (c % deal.threads - deal.first) ≡ Some (get_or groups g d)
   group_placed d = read_group deal groups c m at d ∙ ap (λ (k : ℕ). Some (get_or groups k d)) (sym g_is)
 

@@ -166,6 +166,7 @@ fn turn_guessed<G: Gate>(
 }
 
 // A core of least clock runs on until it is stuck, or too far ahead of the others.
+#[inline(never)]
 fn turn_least<G: Gate>(
     board: &RoundBoard,
     seat: &mut RoundSeat,

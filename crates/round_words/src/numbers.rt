@@ -184,6 +184,7 @@ impl Numbers {
     }
 
     // Whether the seat holds the first so many cores, and none of their clocks is below the tick.
+    #[inline(always)]
     pub(crate) fn reach(&self, cores: u32, tick: u32) -> bool
         requires { cores ≤ MAX_CORES }
         ensures { result ≡ true → (v : View) → NumbersAgree self.now v → AreHere v cores tick }

@@ -117,6 +117,7 @@ impl SliceTable {
     }
 
     // The number of the span that holds the tick, where nobody counts the steps.
+    #[inline(never)]
     fn number_of(&self, tick: u32) -> usize
         requires { tick < ROUND }
         ensures holds { HoldsTick (ends_of self.now) result tick }

@@ -45,7 +45,7 @@ returns-clause-steps g c =
     let e = c.step_member.ensures in
     let old : Group = get_or c.args.groups.now c.args.place.group c.index-groups-place.result in
     subst (λ (gs : List Group). Steps (crew_view course c.args.lead.now c.args.deal c.args.groups.now) v c.args.core c.step_member.result
-        (crew_view course c.args.lead.now c.args.deal gs) w) (changed_placed c.args.deal c.args.groups.now c.args.core c.args.place.group c.args.place.at m.0 m.1 c.requires.place.group_is c.requires.place.at_is n old)
+    (crew_view course c.args.lead.now c.args.deal gs) w) (changed_placed c.args.deal c.args.groups.now c.args.core c.args.place.group c.args.place.at m.0 m.1 c.requires.place.group_is c.requires.place.at_is n old)
     (steps_changed c.args.course.now c.args.lead.now c.args.deal c.args.groups.now c.args.core m.0 n old v w c.step_member.result m.1 (group_placed c.args.deal c.args.groups.now c.args.core c.args.place.group c.args.place.at m.0 m.1 c.requires.place.group_is c.requires.place.at_is _)
     (subst (λ (x : Member). IsSameCore x.state n.state) at e.same)
     (subst (ChangesOnly v w) (c.requires.team.each c.args.core m.0 m.1).core (subst (λ (x : Member). ChangesOnly v w x.state.core) at e.changes))
