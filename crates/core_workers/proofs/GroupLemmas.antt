@@ -102,6 +102,21 @@ read_member deal groups c m h d e =
     let g = get_or_from_slice_get groups (c % deal.threads - deal.first) f.group d f.group_is in
     sym (ap (λ (x : Group). get_or x.members.items (c / deal.threads) e) g ∙ get_or_from_slice_get f.group.members.items (c / deal.threads) m e f.member_is)
 
+-- the same, where the group's number and the place in it are kept
+module _ (deal : Deal) (groups : List Group) (c g i : ℕ) (m : Member) (at : member_of deal groups c ≡ Some m)
+    (g_is : g ≡ c % deal.threads - deal.first) (i_is : i ≡ c / deal.threads) where
+  pub group_placed : (d : Group) → slice_get groups (c % deal.threads - deal.first) ≡ Some (get_or groups g d)
+  group_placed d = read_group deal groups c m at d ∙ ap (λ (k : ℕ). Some (get_or groups k d)) (sym g_is)
+
+  pub member_placed : (d : Group) (e : Member) → m ≡ get_or (get_or groups g d).members.items i e
+  member_placed d e = read_member deal groups c m at d e
+      ∙ ap₂ (λ (k j : ℕ). get_or (get_or groups k d).members.items j e) (sym g_is) (sym i_is)
+
+  pub changed_placed : (n : Member) (old : Group)
+      → changed deal groups c m n old ≡ slice_set groups g (record { members = with_item old.members i n })
+  changed_placed n old =
+      ap₂ (λ (k j : ℕ). slice_set groups k (record { members = with_item old.members j n })) (sym g_is) (sym i_is)
+
 pub member_inside : (deal : Deal) (groups : List Group) (c : ℕ) (m : Member) → member_of deal groups c ≡ Some m → (d : Group)
     → c / deal.threads < vec_len (get_or groups (c % deal.threads - deal.first) d).members
 member_inside deal groups c m h d =

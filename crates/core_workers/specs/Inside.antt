@@ -1,4 +1,5 @@
 pub mod Clocks
 pub mod Making
+pub mod Places
 pub mod Teams
 pub mod Turns

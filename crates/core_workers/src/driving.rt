@@ -6,6 +6,7 @@ ghost use Rattle.core_workers.specs.Inside.Teams.{GoesOn, IsManned, IsSameShape,
 use crate::clocks::read_clocks;
 use crate::gate::Gate;
 use crate::guess::Guess;
+use crate::places::places_of;
 use crate::team::{Deal, Group, Lead, Team};
 use crate::turns::{Progress, turn};
 use round_words::{RoundBoard, RoundSeat};
@@ -37,6 +38,7 @@ pub(crate) fn drive_groups<G: Gate>(
     ensures finished { HoldsAll (crew_view course.now lead.old deal groups.old) (view_of seat.old)
         → HeldFinished (crew_view course.now lead.new deal groups.new) (view_of seat.new) }
 {
+    let places = places_of(deal, course.cores());
     let mut clocks = read_clocks(seat, course, lead, deal, groups);
     let mut guess = Guess::of(&clocks.ticks);
     let mut left = PATIENCE;
@@ -47,6 +49,7 @@ pub(crate) fn drive_groups<G: Gate>(
             course,
             lead,
             deal,
+            &places,
             groups,
             &mut clocks,
             &mut guess,

@@ -42,6 +42,7 @@ impl Guess {
     }
 
     // The core's clock is this one, or OUT where it has finished.
+    #[inline(always)]
     pub(crate) fn note(&mut self, core: u32, clock: u32) {
         if clock == OUT {
             self.running = self.running.saturating_sub(1);

@@ -8,11 +8,12 @@ ghost use Rattle.dispatch_core.specs.States.{AgreesWith, IsSameCore};
 ghost use Rattle.plan_switch.specs.Controllers.{AgreesWith as LeadAgrees};
 ghost use Rattle.core_workers.specs.Crews.{AllAgree};
 ghost use Rattle.core_workers.specs.Groups.{crew_view};
+ghost use Rattle.core_workers.specs.Inside.Places.{IsPlace};
 ghost use Rattle.core_workers.specs.Inside.Teams.{IsPresent, IsTeam};
 ghost use Rattle.core_workers.specs.Inside.Turns.{CoreStep, LeadStep, Steps};
 
 use crate::gate::Gate;
-use crate::team::{Deal, Group, Lead, Member};
+use crate::team::{Deal, Group, Lead, Member, Place};
 use dispatch_core::{CoreAnswer, step_state};
 use plan_switch::{ControlAnswer, post_step};
 use round_words::{RoundBoard, RoundSeat};
@@ -21,7 +22,8 @@ use table_form::Course;
 // the controller's number as an actor
 pub(crate) const CONTROLLER: u32 = 32;
 
-// A step of a core of the groups, whose part the seat holds. `lead` is for the proof alone.
+// A step of a core of the groups, whose part the seat holds. It is that of this place. `lead` and `deal` are for
+// the proof alone.
 pub(crate) fn step_core<G: Gate>(
     board: &RoundBoard,
     seat: &mut RoundSeat,
@@ -30,9 +32,11 @@ pub(crate) fn step_core<G: Gate>(
     deal: Deal,
     groups: &mut [Group],
     core: u32,
+    place: Place,
     gate: &G,
 ) -> CoreAnswer
     requires board { IsSeatOf board.now seat.old }
+    requires place { IsPlace deal core place }
     requires team { IsTeam course.now lead.now.rounds deal groups.old }
     requires agree { AllAgree (crew_view course.now lead.now deal groups.old) (view_of seat.old) }
     requires there { IsPresent (crew_view course.now lead.now deal groups.old) core }
@@ -43,13 +47,12 @@ pub(crate) fn step_core<G: Gate>(
         (crew_view course.now lead.now deal groups.new) (view_of seat.new) }
 {
     let _ = lead;
-    let group = (core % deal.threads - deal.first) as usize;
-    let at = (core / deal.threads) as usize;
+    let _ = deal;
     step_member(
         board,
         seat,
         course,
-        &mut groups[group].members[at],
+        &mut groups[place.group as usize].members[place.at as usize],
         core,
         gate,
     )

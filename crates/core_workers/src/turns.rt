@@ -5,14 +5,16 @@ ghost use Rattle.dispatch_core.specs.States.{StateView};
 ghost use Rattle.core_workers.specs.Crews.{AllAgree};
 ghost use Rattle.core_workers.specs.Groups.{actor_of, crew_view};
 ghost use Rattle.core_workers.specs.Inside.Clocks.{AreClocks};
+ghost use Rattle.core_workers.specs.Inside.Places.{ArePlaces, IsPlace};
 ghost use Rattle.core_workers.specs.Inside.Teams.{GoesOn, IsTeam};
 ghost use Rattle.core_workers.specs.Inside.Turns.{CoresTold, GuessTold, RunsOn, TurnTold, unless_moved};
 
 use crate::clocks::{Clocks, OUT, find_least};
 use crate::gate::Gate;
 use crate::guess::Guess;
+use crate::places::place_of;
 use crate::steps::{step_core, step_lead};
-use crate::team::{Deal, Group, Lead};
+use crate::team::{Deal, Group, Lead, Place, Places};
 use dispatch_core::CoreAnswer;
 use plan_switch::ControlAnswer;
 use round_words::{RoundBoard, RoundSeat};
@@ -36,12 +38,14 @@ pub(crate) fn turn<G: Gate>(
     course: &Course,
     lead: &mut Lead,
     deal: Deal,
+    places: &Places,
     groups: &mut [Group],
     clocks: &mut Clocks,
     guess: &mut Guess,
     gate: &G,
 ) -> Progress
     requires board { IsSeatOf board.now seat.old }
+    requires places { ArePlaces deal course.now.cores places.now }
     requires team { IsTeam course.now lead.old.rounds deal groups.old }
     requires agree { AllAgree (crew_view course.now lead.old deal groups.old) (view_of seat.old) }
     requires clocks { AreClocks (crew_view course.now lead.old deal groups.old) (view_of seat.old) clocks.old }
@@ -52,7 +56,9 @@ pub(crate) fn turn<G: Gate>(
     ensures told { TurnTold (crew_view course.now lead.old deal groups.old) clocks.old (view_of seat.old) result
         (crew_view course.now lead.new deal groups.new) clocks.new (view_of seat.new) }
 {
-    let cores = turn_cores(board, seat, course, lead, deal, groups, clocks, guess, gate);
+    let cores = turn_cores(
+        board, seat, course, lead, deal, places, groups, clocks, guess, gate,
+    );
     if !clocks.posting {
         return cores;
     }
@@ -82,12 +88,14 @@ fn turn_cores<G: Gate>(
     course: &Course,
     lead: &Lead,
     deal: Deal,
+    places: &Places,
     groups: &mut [Group],
     clocks: &mut Clocks,
     guess: &mut Guess,
     gate: &G,
 ) -> Progress
     requires board { IsSeatOf board.now seat.old }
+    requires places { ArePlaces deal course.now.cores places.now }
     requires team { IsTeam course.now lead.now.rounds deal groups.old }
     requires agree { AllAgree (crew_view course.now lead.now deal groups.old) (view_of seat.old) }
     requires clocks { AreClocks (crew_view course.now lead.now deal groups.old) (view_of seat.old) clocks.old }
@@ -99,10 +107,14 @@ fn turn_cores<G: Gate>(
     ensures told { CoresTold (crew_view course.now lead.now deal groups.old) clocks.old (view_of seat.old) result
         (crew_view course.now lead.now deal groups.new) clocks.new }
 {
-    if turn_guessed(board, seat, course, lead, deal, groups, clocks, guess, gate) {
+    if turn_guessed(
+        board, seat, course, lead, deal, places, groups, clocks, guess, gate,
+    ) {
         return Progress::Moved;
     }
-    turn_least(board, seat, course, lead, deal, groups, clocks, guess, gate)
+    turn_least(
+        board, seat, course, lead, deal, places, groups, clocks, guess, gate,
+    )
 }
 
 // The core that is guessed runs on. The answer is whether it got on.
@@ -112,12 +124,14 @@ fn turn_guessed<G: Gate>(
     course: &Course,
     lead: &Lead,
     deal: Deal,
+    places: &Places,
     groups: &mut [Group],
     clocks: &mut Clocks,
     guess: &mut Guess,
     gate: &G,
 ) -> bool
     requires board { IsSeatOf board.now seat.old }
+    requires places { ArePlaces deal course.now.cores places.now }
     requires team { IsTeam course.now lead.now.rounds deal groups.old }
     requires agree { AllAgree (crew_view course.now lead.now deal groups.old) (view_of seat.old) }
     requires clocks { AreClocks (crew_view course.now lead.now deal groups.old) (view_of seat.old) clocks.old }
@@ -130,7 +144,8 @@ fn turn_guessed<G: Gate>(
         (crew_view course.now lead.now deal groups.new) clocks.new }
 {
     let core = guess.core();
-    if core >= course.cores() {
+    let cores = course.cores();
+    if core >= cores {
         return false;
     }
     let clock = clocks.ticks[core as usize];
@@ -138,8 +153,9 @@ fn turn_guessed<G: Gate>(
         return false;
     }
     let limit = guess.limit(clock);
+    let place = place_of(places, deal, cores, core);
     let reached = run_core(
-        board, seat, course, lead, deal, groups, core, clock, limit, gate,
+        board, seat, course, lead, deal, groups, core, place, clock, limit, gate,
     );
     clocks.ticks[core as usize] = reached;
     if reached == clock {
@@ -150,18 +166,21 @@ fn turn_guessed<G: Gate>(
 }
 
 // A core of least clock runs on until it is stuck, or too far ahead of the others.
+#[inline(never)]
 fn turn_least<G: Gate>(
     board: &RoundBoard,
     seat: &mut RoundSeat,
     course: &Course,
     lead: &Lead,
     deal: Deal,
+    places: &Places,
     groups: &mut [Group],
     clocks: &mut Clocks,
     guess: &mut Guess,
     gate: &G,
 ) -> Progress
     requires board { IsSeatOf board.now seat.old }
+    requires places { ArePlaces deal course.now.cores places.now }
     requires team { IsTeam course.now lead.now.rounds deal groups.old }
     requires agree { AllAgree (crew_view course.now lead.now deal groups.old) (view_of seat.old) }
     requires clocks { AreClocks (crew_view course.now lead.now deal groups.old) (view_of seat.old) clocks.old }
@@ -181,8 +200,9 @@ fn turn_least<G: Gate>(
         return Progress::Done;
     }
     let limit = next.next.min(clock.saturating_add(lag)).saturating_add(lag);
+    let place = place_of(places, deal, cores, next.core);
     let reached = run_core(
-        board, seat, course, lead, deal, groups, next.core, clock, limit, gate,
+        board, seat, course, lead, deal, groups, next.core, place, clock, limit, gate,
     );
     clocks.ticks[next.core as usize] = reached;
     if reached == clock {
@@ -202,11 +222,13 @@ fn run_core<G: Gate>(
     deal: Deal,
     groups: &mut [Group],
     core: u32,
+    place: Place,
     from: u32,
     limit: u32,
     gate: &G,
 ) -> u32
     requires board { IsSeatOf board.now seat.old }
+    requires place { IsPlace deal core place }
     requires team { IsTeam course.now lead.now.rounds deal groups.old }
     requires agree { AllAgree (crew_view course.now lead.now deal groups.old) (view_of seat.old) }
     requires there { (a : StateView) × (actor_of (crew_view course.now lead.now deal groups.old) core ≡ Some a) × (from ≡ a.clock) }
@@ -219,7 +241,7 @@ fn run_core<G: Gate>(
 {
     let mut clock = from;
     'running: while clock <= limit {
-        match step_core(board, seat, course, lead, deal, groups, core, gate) {
+        match step_core(board, seat, course, lead, deal, groups, core, place, gate) {
             CoreAnswer::Ran(stint) => clock = stint.end,
             CoreAnswer::Behind { who: _, tick: _ } => return clock,
             CoreAnswer::Finished => return OUT,

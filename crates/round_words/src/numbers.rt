@@ -92,16 +92,27 @@ fn newer(heard: u32, clock: u32, taken: bool) -> u32
     if taken { clock } else { heard }
 }
 
-// The least of the first so many numbers.
-fn least_of(clocks: &[u32; 32], count: u32) -> u32
-    requires { count ≤ 32 }
-    ensures { (d : ℕ) → d < count → result ≤ slice_index clocks.now d }
+// The least of the numbers.
+fn least_of(clocks: &[u32; 32]) -> u32
+    ensures { (d : ℕ) → d < 32 → result ≤ slice_index clocks.now d }
 {
     let mut least = u32::MAX;
-    for at in 0..count {
-        least = least.min(clocks[at as usize]);
+    for at in 0..32 {
+        least = least.min(clocks[at]);
     }
     least
+}
+
+// The clocks at the start: 0 for each of the first so many, and behind them what is above every clock, so that the
+// least of all is the least of theirs.
+fn first_clocks(cores: u32) -> [u32; 32]
+    ensures { (c : ℕ) → c < cores → slice_index result c ≡ 0 }
+{
+    let mut clocks = [0; 32];
+    for core in cores..32 {
+        clocks[core as usize] = u32::MAX;
+    }
+    clocks
 }
 
 impl Numbers {
@@ -126,7 +137,9 @@ impl Numbers {
         requires cores { cores ≤ MAX_CORES }
         ensures { (lag events : ℕ) → 0 < lag → events ≤ MAX_EVENTS → NumbersAgree result (just_started lag cores events) }
     {
-        Numbers::new(((1 << cores) - 1) | (1 << 32))
+        let mut numbers = Numbers::new(((1 << cores) - 1) | (1 << 32));
+        numbers.clocks = first_clocks(cores);
+        numbers
     }
 
     // Gives the parts of these actors away.
@@ -171,12 +184,13 @@ impl Numbers {
     }
 
     // Whether the seat holds the first so many cores, and none of their clocks is below the tick.
+    #[inline(always)]
     pub(crate) fn reach(&self, cores: u32, tick: u32) -> bool
         requires { cores ≤ MAX_CORES }
         ensures { result ≡ true → (v : View) → NumbersAgree self.now v → AreHere v cores tick }
     {
         let all = (1u64 << cores) - 1;
-        self.held & all == all && tick <= least_of(&self.clocks, cores)
+        self.held & all == all && tick <= least_of(&self.clocks)
     }
 
     // A core has entered this round.

@@ -108,16 +108,16 @@ impl SliceTable {
         ensures holds { HoldsTick (ends_of self.now) result tick }
         ensures small { result < 2 ^ 32 }
     {
-        if self.holds(guess, tick) {
-            return guess;
-        }
-        if self.holds(guess + 1, tick) {
-            return guess + 1;
+        // counted and not branched on, since whether a stint ends its span can't be foreseen
+        let number = guess + self.is_past(guess, tick) as usize;
+        if self.holds(number, tick) {
+            return number;
         }
         self.number_of(tick)
     }
 
     // The number of the span that holds the tick, where nobody counts the steps.
+    #[inline(never)]
     fn number_of(&self, tick: u32) -> usize
         requires { tick < ROUND }
         ensures holds { HoldsTick (ends_of self.now) result tick }

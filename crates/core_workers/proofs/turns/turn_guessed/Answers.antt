@@ -13,7 +13,7 @@ returns-then-reached-clock-clause-clocks g c =
     let crew' : CrewView = crew_view c.args.course.now c.args.lead.now c.args.deal c.run_core-reached.new.groups in
     let v : View = view_of c.args.seat.now in
     let k : ℕ = c.core-core.result in
-    let lt : k < crew.course.cores = omega (arith, c.if-core-cores.false, c.cores.ensures.cores) in
+    let lt : k < crew.course.cores = omega (arith, c.if-core-cores.false, c.cores-cores.ensures.cores) in
     let at = going_on crew v c.args.clocks.now k c.requires.clocks lt c.if-clock.false in
     let e = c.run_core-reached.ensures in
     clocks_ran crew crew' v (view_of c.run_core-reached.new.seat) c.args.clocks.now k (slice_index c.args.clocks.now.ticks k) c.run_core-reached.result
@@ -26,7 +26,7 @@ returns-clause-clocks g c =
     let crew' : CrewView = crew_view c.args.course.now c.args.lead.now c.args.deal c.run_core-reached.new.groups in
     let v : View = view_of c.args.seat.now in
     let k : ℕ = c.core-core.result in
-    let lt : k < crew.course.cores = omega (arith, c.if-core-cores.false, c.cores.ensures.cores) in
+    let lt : k < crew.course.cores = omega (arith, c.if-core-cores.false, c.cores-cores.ensures.cores) in
     let at = going_on crew v c.args.clocks.now k c.requires.clocks lt c.if-clock.false in
     let e = c.run_core-reached.ensures in
     clocks_ran crew crew' v (view_of c.run_core-reached.new.seat) c.args.clocks.now k (slice_index c.args.clocks.now.ticks k) c.run_core-reached.result
@@ -39,7 +39,7 @@ returns-then-reached-clock-clause-told g c =
     let crew' : CrewView = crew_view c.args.course.now c.args.lead.now c.args.deal c.run_core-reached.new.groups in
     let v : View = view_of c.args.seat.now in
     let k : ℕ = c.core-core.result in
-    let lt : k < crew.course.cores = omega (arith, c.if-core-cores.false, c.cores.ensures.cores) in
+    let lt : k < crew.course.cores = omega (arith, c.if-core-cores.false, c.cores-cores.ensures.cores) in
     let small : k < 32 = omega (arith, lt, c.requires.team.course_kept.form.outline.few_cores) in
     let inside : k < length c.args.clocks.now.ticks = omega (arith, small, c.requires.clocks.size) in
     left_same crew crew' c.args.clocks.now k c.run_core-reached.result refl refl inside c.if-reached-clock.true

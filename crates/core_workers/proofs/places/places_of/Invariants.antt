@@ -1,0 +1,9 @@
+use Rattle.std.proofs.Common.{◌≡◌, length}
+use Rattle.core_workers.specs.Inside.Places.{ArePlaces}
+use Rattle.core_workers.proofs.places.places_of.Given as goal
+
+abbrev pub invariant-loop-core : goal.invariant-loop-core
+invariant-loop-core l = record {
+  are : ArePlaces l.fn.deal l.core l.places;
+  sizes : (length l.places.groups ≡ 32) × (length l.places.ats ≡ 32);
+}
