@@ -1,15 +1,9 @@
 -- A command that is given a seat: its replies, and the runs that it makes.
-use Rattle.std.proofs.Common.{◌≡◌, ◌⊎◌, ℕ, List, [], length, Result, Ok, Err, refl, sym, subst, inl, inr, arith}
+use Rattle.std.proofs.Common.{◌≡◌, ℕ, List, [], length, Result, Ok, Err, refl, subst, inl, inr, arith}
 use Rattle.tab_core.specs.declared.host.Host.{Host}
 use Rattle.tab_io.specs.Views.{SinkView}
 use Rattle.tab_words.specs.declared.command.RunMode.{RunMode}
 use Rattle.script_doc.specs.declared.event.Event.{Event}
-use Rattle.host_doc.specs.Document.{IsHostText}
-use Rattle.script_doc.specs.ScriptFaults.{IsFirstFault}
-use Rattle.script_doc.specs.Statements.{statements_of}
-use Rattle.script_doc.specs.declared.script_fault.ScriptFault.{ScriptFault}
-use Rattle.script_doc.specs.declared.script_fault.ScriptFault.TheVariants as script
-use Rattle.vcpu_names.specs.Names.{names_of}
 use Rattle.plan_book.specs.Books.{BookView, IsBookOf}
 use Rattle.round_words.specs.declared.view.View.{View}
 use Rattle.course_run.specs.Inside.Keeping.{StopsRun}
@@ -26,15 +20,15 @@ use Rattle.tableau_sim.specs.declared.status.Status.{Status}
 use Rattle.tableau_sim.specs.declared.status.Status.TheVariants as status
 use Rattle.tableau_sim.specs.Frame.{Answers, WritesReply}
 use Rattle.tableau_sim.specs.Frame.Due.{LacksMemory, Replied}
-use Rattle.tableau_sim.specs.Inside.Reply.{HasInput, IsOff, Makes, names_in, outcome_in}
-use Rattle.tableau_sim.specs.Inside.Stops.{IsScriptStop, run_stop, script_stop}
+use Rattle.tableau_sim.specs.Inside.Reply.{HasInput, IsOff, Makes, outcome_in}
+use Rattle.tableau_sim.specs.Inside.Stops.{run_stop}
 use Rattle.tableau_sim.specs.Outcomes.{Outcome}
 use Rattle.tableau_sim.specs.Outcomes.Outcome.{Refuses}
-use Rattle.tableau_sim.specs.Replay.{HasScript, script_section}
+use Rattle.tableau_sim.specs.Replay.{HasScript}
 use Rattle.tableau_sim.specs.Run.{Runs}
 use Rattle.tableau_sim.specs.Seats.{IsStillIfRefused, OnSeat}
 use Rattle.tableau_sim.specs.Selftest.{Selftests}
-use Rattle.tableau_sim.specs.Sections.{OfSections, host_section}
+use Rattle.tableau_sim.specs.Sections.{OfSections}
 use Rattle.tableau_sim.specs.Sections.OfSections.{Sectioned}
 use Rattle.tableau_sim.proofs.ReplyLemmas.{answers_of, input_reply, off_sections}
 use Rattle.std.proofs.KnownBytes.{Consumes-nil}
@@ -62,26 +56,6 @@ answered P old new sink sink' told (Err stop.NoMemory) makes same written = reco
   still = same;
   written = written;
 }
-
--- a section that is no script stops it
-pub script_stops_it : (rounds : ℕ) (sections : List (List ℕ)) (host : Host) (f : ScriptFault)
-    → IsHostText (host_section sections) host
-    → (f ≡ script.NoMemory) ⊎ IsFirstFault (names_of host.vcpus) rounds (statements_of (script_section sections)) f
-    → IsScriptStop rounds sections (script_stop f)
-script_stops_it rounds sections host script.NoMemory is h = tt {0}
-script_stops_it rounds sections host f is (inl lacks) = absurd cc
-script_stops_it rounds sections host f is (inr faulty) = (host, is, faulty, refl)
-
--- sections that are no host and script are refused so
-pub script_stops : (rounds : ℕ) (mode : RunMode) (view : View) (sections : List (List ℕ)) (why : Stop)
-    → IsScriptStop rounds sections why → Makes (Runs rounds mode view sections) (Err why)
-script_stops rounds mode view sections stop.NoMemory is = tt {0}
-script_stops rounds mode view sections (stop.Refused (status.Host bad) host) is =
-    subst (λ o. Runs rounds mode view sections (Refuses (status.Host bad) (names_in o))) (sym is.1) (Runs.BadHost bad is.0)
-script_stops rounds mode view sections (stop.Refused (status.Script bad) named) is =
-    subst (λ o. Runs rounds mode view sections (Refuses (status.Script bad) (names_in o))) (sym is.3)
-    (Runs.BadScript is.0 bad is.1 is.2)
-script_stops rounds mode view sections (stop.Refused other host) is = absurd is
 
 -- a run that doesn't begin is refused so
 pub run_stops : (rounds : ℕ) (mode : RunMode) (view : View) (sections : List (List ℕ)) (host : Host)

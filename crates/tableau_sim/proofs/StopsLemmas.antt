@@ -21,7 +21,12 @@ use Rattle.script_doc.specs.declared.script_fault.ScriptFault.TheVariants as scr
 use Rattle.tableau_sim.specs.Hosts.{IsHostFault}
 use Rattle.tableau_sim.specs.Outcomes.{Outcome}
 use Rattle.tableau_sim.specs.Outcomes.Outcome.{Refuses}
-use Rattle.tableau_sim.specs.Inside.Stops.{IsHostStop, check_stop, plan_stop, script_stop, tasks_stop, whole_stop}
+use Rattle.host_doc.specs.Document.{IsHostText}
+use Rattle.script_doc.specs.ScriptFaults.{IsFirstFault}
+use Rattle.script_doc.specs.Statements.{statements_of}
+use Rattle.tableau_sim.specs.Replay.{script_section}
+use Rattle.tableau_sim.specs.Sections.{host_section}
+use Rattle.tableau_sim.specs.Inside.Stops.{IsHostStop, IsScriptStop, check_stop, plan_stop, script_stop, tasks_stop, whole_stop}
 
 -- where a section is no host, any command P that refuses it so makes the stop
 pub host_stopped : (P : Outcome → Type 0) (section : List ℕ) (why : Stop)
@@ -66,10 +71,25 @@ check_stopped P host tables.NoMemory what faulty h = tt {0}
 check_stopped P host f what faulty (inl lacks) = absurd cc
 check_stopped P host f what faulty (inr h) = faulty h
 
--- the same where a section is no script
-pub script_stopped : (P : Outcome → Type 0) (f : ScriptFault) (what : Type 0)
-    → (what → P (Refuses (status.Script f) [])) → (f ≡ script.NoMemory) ⊎ what
-    → Makes P (Err (script_stop f))
-script_stopped P script.NoMemory what faulty h = tt {0}
-script_stopped P f what faulty (inl lacks) = absurd cc
-script_stopped P f what faulty (inr h) = faulty h
+-- a section that is no script stops it
+pub script_stops_it : (rounds : ℕ) (sections : List (List ℕ)) (host : Host) (f : ScriptFault)
+    → IsHostText (host_section sections) host
+    → (f ≡ script.NoMemory) ⊎ IsFirstFault (names_of host.vcpus) rounds (statements_of (script_section sections)) f
+    → IsScriptStop rounds sections (script_stop f)
+script_stops_it rounds sections host script.NoMemory is h = tt {0}
+script_stops_it rounds sections host f is (inl lacks) = absurd cc
+script_stops_it rounds sections host f is (inr faulty) = (host, is, faulty, refl)
+
+-- where the first two sections are no host and script, any command P that refuses them so makes the stop
+pub script_stopped : (P : Outcome → Type 0) (rounds : ℕ) (sections : List (List ℕ)) (why : Stop)
+    → ((bad : HostFault) → IsHostFault (host_section sections) bad → P (Refuses (status.Host bad) []))
+    → ((host : Host) (bad : ScriptFault) → IsHostText (host_section sections) host
+    → IsFirstFault (names_of host.vcpus) rounds (statements_of (script_section sections)) bad
+    → P (Refuses (status.Script bad) []))
+    → IsScriptStop rounds sections why → Makes P (Err why)
+script_stopped P rounds sections stop.NoMemory no_host no_script is = tt {0}
+script_stopped P rounds sections (stop.Refused (status.Host bad) host) no_host no_script is =
+    subst (λ o. P (Refuses (status.Host bad) (names_in o))) (sym is.1) (no_host bad is.0)
+script_stopped P rounds sections (stop.Refused (status.Script bad) named) no_host no_script is =
+    subst (λ o. P (Refuses (status.Script bad) (names_in o))) (sym is.3) (no_script is.0 bad is.1 is.2)
+script_stopped P rounds sections (stop.Refused other host) no_host no_script is = absurd is

@@ -1,9 +1,10 @@
 ghost use Rattle.std.specs.Prelude.{◌≡◌};
 ghost use Rattle.tab_io.specs.Sinks.{Writes};
+ghost use Rattle.tab_io.specs.Views.{SinkView};
 ghost use Rattle.vcpu_names.specs.Names.{names_of};
 ghost use Rattle.tableau_sim.specs.Inside.Reply.{CanBeWritten, IsWritable, bytes_of, names_in, outcome_in};
 ghost use Rattle.tableau_sim.specs.Frame.{WritesReply};
-ghost use Rattle.tableau_sim.specs.Outcomes.{status_of, text_of};
+ghost use Rattle.tableau_sim.specs.Outcomes.{Outcome, status_of, text_of};
 
 use crate::help::{HELP, VERSION};
 use crate::line::put_line;
@@ -20,11 +21,20 @@ pub(crate) fn write_reply<K: Sink>(output: &mut K, reply: Reply) -> Status
     requires { CanBeWritten reply }
     ensures { WritesReply (K.state output.old) (K.state output.new) (outcome_in reply) result }
 {
-    if let Err(_fault) = put_reply(output, &reply) {
+    let put = put_reply(output, &reply);
+    settle(output, put, status_in(reply))
+}
+
+// Settles a text that was put, if that came whole, and says how it ended: done, or with a write fault.
+pub(crate) fn settle<K: Sink>(output: &mut K, put: Result<(), WriteFault>, done: Status) -> Status
+    ensures { (before : SinkView) (due : Outcome) → Writes before (K.state output.old) (text_of due) put
+        → done ≡ status_of due → WritesReply before (K.state output.new) due result }
+{
+    if let Err(_fault) = put {
         return Status::WriteFault;
     }
     match output.finish() {
-        Put::Took(_) => status_in(reply),
+        Put::Took(_) => done,
         Put::Failed => Status::WriteFault,
     }
 }

@@ -10,9 +10,9 @@ ghost use Rattle.tableau_sim.specs.declared.input.TheConstants.{INPUT_LIMIT};
 use crate::input::cut;
 use crate::reply::{Reply, Stop, Text, stopped};
 use crate::status::Status;
-use crate::stops::{host_of, stop_of_plan, stop_of_script};
+use crate::stops::{script_of, stop_of_plan};
 use plan_book::make_book;
-use script_doc::{Script, StepList, StepsFault, read_script, read_steps};
+use script_doc::{Script, StepList, StepsFault, read_steps};
 use std::alloc::Global;
 use std::thread::Threads;
 use step_machine::{ReplayFault, replay};
@@ -42,13 +42,9 @@ fn replay_of<R: Threads + Sync>(rt: &R, alloc: Global, rounds: u32, sections: &S
     requires rounds { IsRoundCount rounds }
     ensures { Makes (Replays rounds sections.now) result }
 {
-    let host = match host_of(alloc, sections.part(0)) {
-        Ok(host) => host,
+    let (host, script) = match script_of(alloc, rounds, sections) {
+        Ok(read) => read,
         Err(stop) => return Err(stop),
-    };
-    let script = match read_script(alloc, sections.part(1), &host, rounds) {
-        Ok(script) => script,
-        Err(fault) => return Err(stop_of_script(fault)),
     };
     let list = match read_steps(alloc, sections.part(2), host.cores) {
         Ok(list) => list,

@@ -1,4 +1,4 @@
-ghost use Rattle.std.specs.Prelude.{◌≡◌, ◌<◌, ◌≤◌, ◌^◌, ℕ, [], List, IfErr, IfOk, length, slice_index_or};
+ghost use Rattle.std.specs.Prelude.{◌≡◌, ◌<◌, ◌≤◌, ◌^◌, ℕ, [], List, length, slice_index_or};
 ghost use Rattle.tab_core.specs.declared.TheConstants.{MAX_ROUNDS};
 ghost use Rattle.tab_words.specs.Commands.{IsCommand};
 ghost use Rattle.tab_words.specs.declared.command.Command.TheVariants as called;
@@ -9,7 +9,6 @@ ghost use Rattle.course_run.specs.RunText.{run_text};
 ghost use Rattle.course_run.specs.Runs.{CanBeTold, kept_stints};
 ghost use Rattle.tableau_sim.specs.Frame.{Answers, WritesReply};
 ghost use Rattle.tableau_sim.specs.Inside.Running.{AnswersBy};
-ghost use Rattle.tableau_sim.specs.Inside.Stops.{IsScriptStop};
 ghost use Rattle.tableau_sim.specs.Outcomes.Outcome.{Writes};
 ghost use Rattle.tableau_sim.specs.Replay.{HasScript};
 ghost use Rattle.tableau_sim.specs.Run.{Runs};
@@ -17,19 +16,19 @@ ghost use Rattle.tableau_sim.specs.Seats.{OnSeat};
 
 use crate::call::Done;
 use crate::input::{cut, read_input};
-use crate::output::write_reply;
+use crate::output::{settle, write_reply};
 use crate::reply::Stop;
 use crate::status::Status;
-use crate::stops::{host_of, stop_of_plan, stop_of_run, stop_of_script};
+use crate::stops::{script_of, stop_of_plan, stop_of_run};
 use core_workers::Gate;
 use course_run::{Ran, changes_of, run_course, write_run};
 use plan_book::{Outcome, make_book};
 use round_words::{RoundBoard, RoundSeat};
-use script_doc::{Script, read_script};
+use script_doc::Script;
 use std::alloc::Global;
 use std::thread::Threads;
 use tab_core::Host;
-use tab_io::{Put, Sink, Source};
+use tab_io::{Sink, Source};
 use tab_words::{RunMode, Sections};
 
 // Answers `run`: reads its input, runs the host's cores on a board that isn't started, and writes the text.
@@ -106,25 +105,6 @@ fn run_sections<R: Threads + Sync, K: Sink, G: Gate>(
     }
 }
 
-// The host and the script of the first two sections.
-fn script_of(alloc: Global, rounds: u32, sections: &Sections) -> Result<(Host, Script), Stop>
-    requires two { 2 ≤ length sections.now }
-    requires short { (i : ℕ) → length (slice_index_or sections.now i []) < 2 ^ 32 }
-    ensures ok { IfOk result (λ read. HasScript rounds sections.now read.0 read.1) }
-    ensures within { IfOk result (λ read. AreWithin (length read.0.vcpus) read.1) }
-    ensures in_run { IfOk result (λ read. AreInRun rounds read.1) }
-    ensures stop { IfErr result (IsScriptStop rounds sections.now) }
-{
-    let host = match host_of(alloc, sections.part(0)) {
-        Ok(host) => host,
-        Err(stop) => return Err(stop),
-    };
-    match read_script(alloc, sections.part(1), &host, rounds) {
-        Ok(script) => Ok((host, script)),
-        Err(fault) => Err(stop_of_script(fault)),
-    }
-}
-
 // Answers `run` for a host and a script.
 fn run_script<R: Threads + Sync, K: Sink, G: Gate>(
     rt: &R,
@@ -191,11 +171,6 @@ fn write_ran<K: Sink>(
         (Writes (run_text mode host.now changes.now ran.now.crew.course rounds (kept_stints ran.now) ran.now.report))
         result }
 {
-    if let Err(_fault) = write_run(output, mode, host, changes, rounds, ran) {
-        return Status::WriteFault;
-    }
-    match output.finish() {
-        Put::Took(_) => Status::Ok,
-        Put::Failed => Status::WriteFault,
-    }
+    let put = write_run(output, mode, host, changes, rounds, ran);
+    settle(output, put, Status::Ok)
 }

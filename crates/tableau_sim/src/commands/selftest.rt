@@ -15,19 +15,20 @@ ghost use Rattle.tableau_sim.specs.Seats.{OnSeat};
 ghost use Rattle.tableau_sim.specs.Selftest.{Selftests, selftest_line};
 
 use crate::call::Done;
-use crate::output::write_reply;
+use crate::output::{settle, write_reply};
 use crate::reply::Stop;
 use crate::status::Status;
 use core_workers::Gate;
-use course_run::{Ran, run_course, write_run};
+use course_run::{Ran, RunFault, run_course, write_run};
 use host_gen::generate;
 use plan_book::{PlanBook, make_book};
+use plan_make::PlanFault;
 use round_words::{RoundBoard, RoundSeat};
 use script_doc::Script;
 use std::alloc::{AllocError, Global};
 use std::thread::Threads;
 use tab_core::{Host, NoMemory};
-use tab_io::{Put, Sink, WriteFault};
+use tab_io::{Sink, WriteFault};
 use tab_words::{RunMode, TextPiece, put_pieces};
 
 // Answers `selftest`: runs the cores of the seed's host on a board that isn't started, and writes the text.
@@ -86,15 +87,17 @@ fn run_test<R: Threads + Sync, K: Sink, G: Gate>(
             status: write_test(output, seed, &host, &ran),
             seat,
         },
-        Err((seat, _)) => Done {
+        Err((seat, RunFault::NoMemory)) => Done {
             status: write_reply(output, Err(Stop::NoMemory)),
             seat,
         },
+        // (no trace is asked for)
+        Err((_, RunFault::TraceTooLong { .. })) => unreachable!(),
     }
 }
 
-// The seed's host of 8 cores and 64 vCPUs, and its book without an event. A generated host is always
-// planned (`host_gen::a_generated_host_is_within_the_bound`): so where there is no book, memory was wanting.
+// The seed's host of 8 cores and 64 vCPUs, and its book without an event. A generated host lacks neither
+// a period nor room (`host_gen::a_generated_host_is_within_the_bound`).
 fn test_host<R: Threads + Sync>(
     rt: &R,
     alloc: Global,
@@ -106,7 +109,9 @@ fn test_host<R: Threads + Sync>(
     let script = Script::of(Vec::new(alloc));
     match make_book(rt, alloc, &host, &script) {
         Ok(book) => Ok((host, book)),
-        Err(_) => Err(AllocError),
+        Err(PlanFault::NoMemory) => Err(AllocError),
+        Err(PlanFault::NoPeriod { .. }) => unreachable!(),
+        Err(PlanFault::NoRoom { .. }) => unreachable!(),
     }
 }
 
@@ -116,13 +121,8 @@ fn write_test<K: Sink>(output: &mut K, seed: u64, host: &Host, ran: &Ran<'_>) ->
     ensures { WritesReply (K.state output.old) (K.state output.new) (Writes (selftest_line seed
         ++ run_text Report host.now [] ran.now.crew.course 4 (kept_stints ran.now) ran.now.report)) result }
 {
-    if let Err(_fault) = put_test(output, seed, host, ran) {
-        return Status::WriteFault;
-    }
-    match output.finish() {
-        Put::Took(_) => Status::Ok,
-        Put::Failed => Status::WriteFault,
-    }
+    let put = put_test(output, seed, host, ran);
+    settle(output, put, Status::Ok)
 }
 
 // The line of the seed, and the report.

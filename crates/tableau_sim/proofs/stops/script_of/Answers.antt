@@ -1,5 +1,5 @@
-use Rattle.tableau_sim.proofs.RunLemmas.{script_stops_it}
-use Rattle.tableau_sim.proofs.commands.run.script_of.Goals as goal
+use Rattle.tableau_sim.proofs.StopsLemmas.{script_stops_it}
+use Rattle.tableau_sim.proofs.stops.script_of.Goals as goal
 
 pub returns-in-Err-read_script-clause-stop : goal.returns-in-Err-read_script-clause-stop
 returns-in-Err-read_script-clause-stop c = rw c.stop_of_script.ensures
