@@ -5,38 +5,39 @@ use Rattle.std.proofs.lemmas.Bool.Decides.{nat_tests}
 use Rattle.std.proofs.lemmas.Fmt.{IsAscii-decimal}
 use Rattle.std.proofs.lemmas.Str.{IsAscii-append}
 use Rattle.std.proofs.lemmas.Str.Ascii.{IsAscii-cons, IsAscii-nil}
-use Rattle.std.specs.List.{AllByRecursion, list_all}
+use Rattle.std.specs.List.{list_all}
 use Rattle.std.specs.Str.{IsAscii}
 use Rattle.tab_core.specs.Name.{IsName, is_byte_of_name}
 use Rattle.tab_core.specs.declared.host.Host.{Host}
 use Rattle.tab_words.specs.Texts.{text_of}
 use Rattle.host_gen.specs.HostText.{head_lines, host_text, truth_word, vcpu_text}
 use Rattle.host_gen.proofs.HostTextLemmas.{head_pieces, vcpu_pieces}
-use Rattle.host_text.proofs.Statements.{Statement, vcpu_of}
+use Rattle.host_text.proofs.ByteLemmas.{name_bytes, weaker}
+use Rattle.host_text.proofs.Statements.{AreNamed, Statement, vcpu_of}
 
--- bytes that pass a test that only ASCII passes
-passing : (test : ℕ → Bool) → ((b : ℕ) → test b ≡ true → b < 128) → (bs : List ℕ) → list_all test bs ≡ true
-    → IsAscii bs
-passing test low [] all = IsAscii-nil
-passing test low (b ∷ bs) all =
-    let (here, more) = and_parts (test b) (list_all test bs) all in
-    IsAscii-cons b bs (low b here) (passing test low bs more)
+-- a byte of ASCII
+abbrev is_low : ℕ → Bool
+is_low byte = nat_lt byte 128
 
--- the bytes of a literal
-literal : (bs : List ℕ) → list_all (λ b. nat_lt b 128) bs ≡ true → IsAscii bs
-literal = passing (λ b. nat_lt b 128) (λ b h. grind (arith, nat_tests))
+-- such bytes, as those of a literal
+literal : (bs : List ℕ) → list_all is_low bs ≡ true → IsAscii bs
+literal [] all = IsAscii-nil
+literal (b ∷ bs) all =
+    let (here, more) = and_parts (is_low b) (list_all is_low bs) all in
+    IsAscii-cons b bs (grind (arith, nat_tests)) (literal bs more)
 
 -- a name
 name : (bs : List ℕ) → IsName bs → IsAscii bs
 name bs good =
-    passing is_byte_of_name (λ b h. grind (arith, nat_tests)) bs (and_parts _ (list_all is_byte_of_name bs) good).1
+    literal bs (weaker is_byte_of_name is_low (λ b h. grind (arith, nat_tests)) bs (name_bytes bs good))
 
+-- a truth value
 truth : (b : Bool) → IsAscii (truth_word b)
 truth true = literal (codes "true") refl
 truth false = literal (codes "false") refl
 
 -- a literal and a number, before other bytes
-numbered : (bs : List ℕ) (n : ℕ) (rest : List ℕ) → list_all (λ b. nat_lt b 128) bs ≡ true → n < 2 ^ 64
+numbered : (bs : List ℕ) (n : ℕ) (rest : List ℕ) → list_all is_low bs ≡ true → n < 2 ^ 64
     → IsAscii rest → IsAscii (bs ++ (decimal n ++ rest))
 numbered bs n rest all low more =
     IsAscii-append bs (decimal n ++ rest) (literal bs all)
@@ -61,7 +62,7 @@ statement s good = subst IsAscii (sym (vcpu_pieces (vcpu_of s) s.reservation ref
     (IsAscii-append (truth_word s.runnable) (codes "\n") (truth s.runnable) (literal (codes "\n") refl)))))))
 
 -- those of all vCPUs
-statements : (ss : List Statement) → AllByRecursion (λ s. IsName s.name) ss
+statements : (ss : List Statement) → AreNamed ss
     → IsAscii (flat_map vcpu_text (map vcpu_of ss))
 statements [] good = IsAscii-nil
 statements (s ∷ ss) good =
@@ -70,7 +71,7 @@ statements (s ∷ ss) good =
 
 -- the whole text
 pub host_ascii : (host : Host) (ss : List Statement) → map vcpu_of ss ≡ host.vcpus
-    → AllByRecursion (λ s. IsName s.name) ss → IsAscii (host_text host)
+    → AreNamed ss → IsAscii (host_text host)
 unfolding host_text
 host_ascii host ss are good =
     IsAscii-append (text_of (head_lines host)) (flat_map vcpu_text host.vcpus) (head host)

@@ -5,7 +5,7 @@ use Rattle.std.proofs.lemmas.Bool.Decides.{nat_tests}
 use Rattle.std.proofs.lemmas.Fmt.{decimal_digit}
 use Rattle.std.proofs.lemmas.Int.{fits_signed_from_abs}
 use Rattle.std.specs.Int.{w64}
-use Rattle.std.specs.List.{AllByRecursion, list_all, list_any}
+use Rattle.std.specs.List.{list_all, list_any}
 use Rattle.tab_core.specs.Name.{IsName, is_byte_of_name}
 use Rattle.tab_core.specs.declared.host.Host.{Host}
 use Rattle.tab_words.specs.Texts.{line_of, text_of}
@@ -16,7 +16,8 @@ use Rattle.toml.specs.Text.{IsLineText, IsLinesText, IsValueText}
 use Rattle.toml.proofs.Lines.{IsLinesText-append}
 use Rattle.host_gen.specs.HostText.{Line, head_lines, host_text, key_words, quoted, truth_word, vcpu_text}
 use Rattle.host_gen.proofs.HostTextLemmas.{key_line}
-use Rattle.host_text.proofs.Statements.{Statement, head_expressions, settings_expressions, settings_lines, vcpu_expressions, vcpu_of, vcpus_expressions}
+use Rattle.host_text.proofs.ByteLemmas.{name_bytes}
+use Rattle.host_text.proofs.Statements.{AreNamed, Statement, head_expressions, settings_expressions, settings_lines, vcpu_expressions, vcpu_of, vcpus_expressions}
 
 -- ---- values
 
@@ -46,7 +47,7 @@ no_control (c ∷ cs) all =
     let first : is_control c ≡ false = grind (arith, nat_tests) in
     rw (first, no_control cs more)
 
--- and is no other byte
+-- none of them is a byte that no name has
 lacks : (b : ℕ) (s : List ℕ) → is_byte_of_name b ≡ false → list_all is_byte_of_name s ≡ true → has b s ≡ false
 lacks b [] other all = refl
 lacks b (c ∷ cs) other all =
@@ -58,7 +59,7 @@ lacks b (c ∷ cs) other all =
 pub name_text : (s : List ℕ) → IsName s → string_text s ≡ quoted s
 unfolding string_text encoding_of
 name_text s good =
-    let all = (and_parts _ (list_all is_byte_of_name s) good).1 in
+    let all = name_bytes s good in
     rw (
       no_control s all,
       lacks 92 s refl all,
@@ -138,7 +139,7 @@ statement_text s good =
     (codes "\n[[vcpu]]\n", text_of (settings_lines s), refl, refl, (settings_text s good).text)
 
 -- those of all vCPUs
-statements_text : (ss : List Statement) → AllByRecursion (λ s. IsName s.name) ss
+statements_text : (ss : List Statement) → AreNamed ss
     → IsLinesText false true (vcpus_expressions ss) (flat_map vcpu_text (map vcpu_of ss))
 statements_text [] good = refl
 statements_text (s ∷ ss) good =
@@ -147,7 +148,7 @@ statements_text (s ∷ ss) good =
 
 -- so the text of a host is the lines of its expressions
 pub host_lines : (host : Host) (ss : List Statement) → map vcpu_of ss ≡ host.vcpus
-    → AllByRecursion (λ s. IsName s.name) ss
+    → AreNamed ss
     → IsLinesText false false (head_expressions host ++ vcpus_expressions ss) (host_text host)
 unfolding host_text
 host_lines host ss are good =

@@ -22,7 +22,7 @@ use Rattle.host_doc.specs.Vcpus.{AreVcpusOf, IsVcpuOf}
 use Rattle.host_doc.specs.declared.fault.Key.TheVariants.{Cores, Lag, Latency, Quantum, Share, Sliver, Unknown, Vcpu as VcpuKey}
 use Rattle.host_doc.specs.declared.fault.Path.{Path}
 use Rattle.host_doc.proofs.VcpusLemmas.{fault_named, names_named}
-use Rattle.host_text.proofs.Statements.{Statement, host_members, vcpu_items, vcpu_members, vcpu_of}
+use Rattle.host_text.proofs.Statements.{AreNamed, Statement, host_members, vcpu_items, vcpu_members, vcpu_of}
 
 -- ---- values
 
@@ -32,13 +32,16 @@ taken path least most n low high = grind (arith, nat_tests)
 
 -- ---- one vCPU
 
+-- its name is taken
 named : (number : ℕ) (s : Statement) → IsName s.name → name_of number (vcpu_members s) ≡ Ok s.name
 named number s good = rw good
 
+-- so is its share
 shared : (number : ℕ) (s : Statement) → share_of number (vcpu_members s) ≡ Ok s.reservation.share_ppm
 shared number s =
     taken (of_vcpu number Share) 1 WHOLE_PPM s.reservation.share_ppm s.reservation.shares s.reservation.whole
 
+-- and its latency
 waits : (number : ℕ) (s : Statement) → latency_of number (vcpu_members s) ≡ Ok s.reservation.latency_ns
 waits number s =
     taken (of_vcpu number Latency) 0 MAX_LATENCY_NS s.reservation.latency_ns (omega arith) s.reservation.bounded
@@ -66,10 +69,12 @@ Apart (s ∷ ss) = AllByRecursion (λ u. u.name ≡ s.name → ⊥) ss × Apart 
 abbrev AreNew : List (List ℕ) → List Statement → Type 0
 AreNew earlier ss = AllByRecursion (λ s. list_any (bytes_eq s.name) earlier ≡ false) ss
 
+-- no name is an earlier one where there is none
 all_new : (ss : List Statement) → AreNew [] ss
 all_new [] = tt
 all_new (s ∷ ss) = (refl, all_new ss)
 
+-- nor where one more is there, which they aren't
 new_beside : (earlier : List (List ℕ)) (u : Statement) (ss : List Statement) → AreNew earlier ss
     → AllByRecursion (λ s. s.name ≡ u.name → ⊥) ss → AreNew (earlier ++ u.name ∷ []) ss
 new_beside earlier u [] new apart = tt
@@ -77,8 +82,9 @@ new_beside earlier u (s ∷ ss) new apart =
     let other : bytes_eq s.name u.name ≡ false = grind (arith, nat_tests, bytes_eq-Decides s.name u.name) in
     (list_any-append (bytes_eq s.name) earlier (u.name ∷ []) ∙ rw (new.0, other), new_beside earlier u ss new.1 apart.1)
 
+-- so no member has a fault
 faultless : (earlier : List (List ℕ)) (number : ℕ) (ss : List Statement)
-    → AllByRecursion (λ s. IsName s.name) ss → AreNew earlier ss → Apart ss
+    → AreNamed ss → AreNew earlier ss → Apart ss
     → vcpus_fault earlier number (vcpu_items ss) ≡ None
 unfolding vcpus_fault
 faultless earlier number [] good new apart = refl
@@ -90,12 +96,14 @@ faultless earlier number (s ∷ ss) good new apart =
     rw (first, names)
     (faultless (earlier ++ s.name ∷ []) (number + 1) ss good.1 (new_beside earlier s ss new.1 apart.0) apart.1)
 
+-- the array has as many values
 count : (ss : List Statement) → count_of (vcpu_items ss) ≡ length ss
 count [] = refl
 count (s ∷ ss) = ap suc (count ss)
 
+-- and the value of each number stands for the vCPU of that number
 each : (ss : List Statement) (k number : ℕ) (keys : Members) (vcpu : Vcpu)
-    → AllByRecursion (λ s. IsName s.name) ss → get_item k (vcpu_items ss) ≡ Some (table keys)
+    → AreNamed ss → get_item k (vcpu_items ss) ≡ Some (table keys)
     → slice_get (map vcpu_of ss) k ≡ Some vcpu → IsVcpuOf number keys vcpu
 each [] k number keys vcpu good at_item at_vcpu = absurd cc
 each (s ∷ ss) zero number keys vcpu good at_item at_vcpu =
@@ -107,7 +115,7 @@ each (s ∷ ss) (suc k) number keys vcpu good at_item at_vcpu =
     each ss k number keys vcpu good.1 at_item at_vcpu
 
 -- the members stand for the vCPUs
-all_stand : (ss : List Statement) → AllByRecursion (λ s. IsName s.name) ss
+all_stand : (ss : List Statement) → AreNamed ss
     → AreVcpusOf (vcpu_items ss) (map vcpu_of ss)
 all_stand ss good = record {
   count = length-map ss vcpu_of ∙ sym (count ss);
@@ -116,15 +124,18 @@ all_stand ss good = record {
 
 -- ---- the host
 
+-- an array of few values is taken
 few_taken : (path : Path) (items : Items) → count_of items ≤ MAX_VCPUS → limited path (Some items) ≡ Ok items
 few_taken path items few = grind (arith, nat_tests)
 
+-- so the one of the document is
 array_taken : (host : Host) (ss : List Statement) → length ss ≤ MAX_VCPUS
     → vcpus_of (host_members host ss) ≡ Ok (vcpu_items ss)
 array_taken host [] few = refl
 array_taken host (s ∷ ss) few =
     few_taken (of_document VcpuKey) (vcpu_items (s ∷ ss)) (omega (arith, count (s ∷ ss)))
 
+-- the document has no other keys
 known : (host : Host) (ss : List Statement)
     → unknown_key (of_document Unknown) document_keys (host_members host ss) ≡ None
 known host [] = refl
@@ -133,7 +144,7 @@ known host (s ∷ ss) = refl
 -- what the statements keep
 pub record AreGood (ss : List Statement) : Type 0 where
   pub few : length ss ≤ MAX_VCPUS
-  pub named : AllByRecursion (λ s. IsName s.name) ss
+  pub named : AreNamed ss
   pub apart : Apart ss
 
 -- the members stand for the host of these vCPUs
@@ -163,12 +174,14 @@ members_stand host ss good are =
 
 -- ---- what the statements of a host keep
 
+-- no vCPU has a name that none has at its number
 others : (name : List ℕ) (ss : List Statement)
     → ((k : ℕ) (v : Vcpu) → slice_get (map vcpu_of ss) k ≡ Some v → v.name ≡ name → ⊥)
     → AllByRecursion (λ u. u.name ≡ name → ⊥) ss
 others name [] h = tt
 others name (u ∷ us) h = (h 0 (vcpu_of u) refl, others name us (λ k v at. h (suc k) v at))
 
+-- so distinct names are apart
 pub are_apart : (ss : List Statement) → HaveDistinctNames (map vcpu_of ss) → Apart ss
 are_apart [] distinct = tt
 are_apart (s ∷ ss) distinct = (

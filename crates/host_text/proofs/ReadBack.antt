@@ -1,10 +1,10 @@
 -- The text of a host is read back as that host.
-use Rattle.std.proofs.Common.{◌≡◌, ℕ, ◌≤◌, suc, false, List, [], ◌∷◌, ◌++◌, length, map, get_or, Some, refl, sym, ap, subst, ◌∙◌, arith}
+use Rattle.std.proofs.Common.{◌≡◌, ℕ, ◌+◌, ◌*◌, ◌≤◌, suc, false, List, [], ◌∷◌, ◌++◌, length, map, get_or, Some, refl, sym, ap, subst, ◌∙◌, arith}
 use Rattle.std.proofs.lemmas.List.{length-map}
 use Rattle.std.proofs.lemmas.List.Elements.{All-tail}
 use Rattle.std.proofs.lemmas.Option.{slice_get-get_or}
 use Rattle.std.proofs.lemmas.Str.{IsUtf8-from_ascii}
-use Rattle.std.specs.List.{All, AllByRecursion}
+use Rattle.std.specs.List.{All}
 use Rattle.tab_core.specs.Name.{IsName}
 use Rattle.tab_core.specs.Vcpus.{HaveDistinctNames}
 use Rattle.tab_core.specs.declared.TheConstants.{MAX_VCPUS}
@@ -26,7 +26,8 @@ use Rattle.host_text.proofs.Lines.{host_lines}
 use Rattle.host_text.proofs.Members.{AreGood, are_apart, members_stand}
 use Rattle.host_text.proofs.Running.{all_run}
 use Rattle.host_text.proofs.SectionLemmas.{host_section}
-use Rattle.host_text.proofs.Statements.{Statement, head_expressions, host_members, stated, vcpu_of, vcpus_expressions}
+use Rattle.host_text.proofs.SizeLemmas.{host_size}
+use Rattle.host_text.proofs.Statements.{AreNamed, Statement, head_expressions, host_members, stated, vcpu_of, vcpus_expressions}
 
 -- the expressions are of the kinds that a printed document has
 all_printed : (ss : List Statement) → AllPrinted (vcpus_expressions ss)
@@ -64,7 +65,7 @@ no_mark host = refl
 
 -- the text is a document of the host's members
 document : (host : Host) (ss : List Statement) → map vcpu_of ss ≡ host.vcpus
-    → AllByRecursion (λ s. IsName s.name) ss
+    → AreNamed ss
     → parse_document (host_text host) ≡ Some (host_members host ss)
 document host ss are good =
     let text = host_text host in
@@ -76,13 +77,14 @@ document host ss are good =
 
 -- what the statements keep
 all_named : (ss : List Statement) → All (λ (v : Vcpu). IsName v.name) (map vcpu_of ss)
-    → AllByRecursion (λ s. IsName s.name) ss
+    → AreNamed ss
 all_named [] good = tt
 all_named (s ∷ ss) good = (
   good 0 (vcpu_of s) (omega arith),
   all_named ss (All-tail (λ (v : Vcpu). IsName v.name) (vcpu_of s) (map vcpu_of ss) good),
 )
 
+-- and all that the members need
 are_good : (ss : List Statement) (vcpus : List Vcpu) → map vcpu_of ss ≡ vcpus → length vcpus ≤ MAX_VCPUS
     → All (λ (v : Vcpu). IsName v.name) vcpus → HaveDistinctNames vcpus → AreGood ss
 are_good ss vcpus are few good distinct = record {
@@ -90,6 +92,12 @@ are_good ss vcpus are few good distinct = record {
   named = all_named ss (rw (← are) at good);
   apart = are_apart ss (subst HaveDistinctNames (sym are) distinct);
 }
+
+-- the names of an admitted host's statements
+are_named : (host : Host) (ss : List Statement) → map vcpu_of ss ≡ host.vcpus → IsAdmittedHost host
+    → AreNamed ss
+are_named host ss are is =
+    (are_good ss host.vcpus are is.few is.good is.distinct).named
 
 -- the text of a host whose vCPUs are all admitted
 pub read_back : (host : Host) → IsAdmittedHost host → IsHostText (host_text host) host
@@ -122,17 +130,29 @@ pub generated_read_back : (seed cores vcpus : ℕ) (host : Host) → vcpus ≤ M
 generated_read_back seed cores vcpus host few is =
     read_back host (generated_admitted seed cores vcpus host few is)
 
--- ---- sections
+-- ---- the text as a command's input
 
 -- such a text is one section
 pub one_section : (host : Host) → IsAdmittedHost host → sections_of (host_text host) ≡ host_text host ∷ []
 one_section host is =
     let s = stated host.vcpus is.admitted in
-    let good = are_good s.statements host.vcpus s.are is.few is.good is.distinct in
-    host_section host s.statements s.are good.named
+    host_section host s.statements s.are (are_named host s.statements s.are is)
 
--- and so is that of a generated host
+-- and short
+pub short : (host : Host) → IsAdmittedHost host → length (host_text host) ≤ 100 + 120 * length host.vcpus
+short host is =
+    let s = stated host.vcpus is.admitted in
+    host_size host s.statements s.are (are_named host s.statements s.are is)
+
+-- so is that of a generated host
 pub generated_one_section : (seed cores vcpus : ℕ) (host : Host) → vcpus ≤ MAX_VCPUS
     → IsGenerated seed cores vcpus host → sections_of (host_text host) ≡ host_text host ∷ []
 generated_one_section seed cores vcpus host few is =
     one_section host (generated_admitted seed cores vcpus host few is)
+
+-- in both
+pub generated_short : (seed cores vcpus : ℕ) (host : Host) → vcpus ≤ MAX_VCPUS
+    → IsGenerated seed cores vcpus host → length (host_text host) ≤ 100 + 120 * vcpus
+generated_short seed cores vcpus host few is =
+    let long = short host (generated_admitted seed cores vcpus host few is) in
+    omega (arith, long, is.as_many)

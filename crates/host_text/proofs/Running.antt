@@ -32,16 +32,19 @@ abbrev after_vcpu : Host → Items → Statement → Document
 after_vcpu host done s =
     (head_nodes host (node (codes "vcpu") (open_array done (vcpu_nodes s)) no_nodes), codes "vcpu" ∷ [])
 
+-- the host's own numbers go into the root table
 head_run : (host : Host) (es : List Expression)
     → run (no_nodes, []) (head_expressions host ++ es) ≡ run (after_head host) es
 unfolding define along_header along_dots at_key
 head_run host es = refl
 
+-- the first vCPU makes the array
 first_run : (host : Host) (s : Statement) (es : List Expression)
     → run (after_head host) (vcpu_expressions s ++ es) ≡ run (after_vcpu host no_items s) es
 unfolding define along_header along_dots at_key
 first_run host s es = refl
 
+-- and each other adds a value to it
 next_run : (host : Host) (done : Items) (u s : Statement) (es : List Expression)
     → run (after_vcpu host done u) (vcpu_expressions s ++ es)
     ≡ run (after_vcpu host (push_item done (table (vcpu_members u))) s) es

@@ -3,7 +3,7 @@ use Rattle.std.proofs.Common.{◌≡◌, ℕ, ◌^◌, ◌<◌, Bool, true, fals
 use Rattle.std.proofs.lemmas.Bool.{and_parts}
 use Rattle.std.proofs.lemmas.Bool.Decides.{nat_tests}
 use Rattle.std.proofs.lemmas.List.Folds.{list_all-append}
-use Rattle.std.specs.List.{AllByRecursion, list_all, onto_first}
+use Rattle.std.specs.List.{list_all, onto_first}
 use Rattle.tab_core.specs.Name.{IsName, is_byte_of_name}
 use Rattle.tab_core.specs.declared.host.Host.{Host}
 use Rattle.tab_words.specs.Sections.{is_separator, raw_lines_of, sections_of}
@@ -12,7 +12,8 @@ use Rattle.tab_words.proofs.SectionLemmas.{extend, sections_of-nil, sections_of-
 use Rattle.tab_words.proofs.TextLemmas.{decimal_word, is_plain}
 use Rattle.host_gen.specs.HostText.{Line, head_lines, host_text, key_words, quoted, truth_word, vcpu_text}
 use Rattle.host_gen.proofs.HostTextLemmas.{key_line}
-use Rattle.host_text.proofs.Statements.{Statement, settings_lines, vcpu_of}
+use Rattle.host_text.proofs.ByteLemmas.{name_bytes, weaker}
+use Rattle.host_text.proofs.Statements.{AreNamed, Statement, settings_lines, vcpu_of}
 
 -- ---- bytes without a line feed
 
@@ -20,26 +21,17 @@ use Rattle.host_text.proofs.Statements.{Statement, settings_lines, vcpu_of}
 abbrev is_inside : ℕ → Bool
 is_inside byte = not (byte == 10)
 
--- bytes that pass a test that no line feed passes
-inside : (test : ℕ → Bool) → ((b : ℕ) → test b ≡ true → is_inside b ≡ true) → (bs : List ℕ)
-    → list_all test bs ≡ true → list_all is_inside bs ≡ true
-inside test apart [] all = refl
-inside test apart (b ∷ bs) all =
-    let (here, more) = and_parts (test b) (list_all test bs) all in
-    rw (apart b here) (inside test apart bs more)
-
 -- the digits of a number
 digits_inside : (n : ℕ) → n < 2 ^ 64 → list_all is_inside (decimal n) ≡ true
 digits_inside n low =
-    inside is_plain (λ b h. grind (arith, nat_tests)) (decimal n)
+    weaker is_plain is_inside (λ b h. grind (arith, nat_tests)) (decimal n)
     (and_parts (nat_lt 0 (length (decimal n))) (list_all is_plain (decimal n)) (decimal_word n low)).1
 
 -- a name between quotation marks
 name_inside : (name : List ℕ) → IsName name → list_all is_inside (quoted name) ≡ true
 name_inside name good =
-    let all = (and_parts _ (list_all is_byte_of_name name) good).1 in
     list_all-append is_inside name (34 ∷ [])
-    ∙ rw (inside is_byte_of_name (λ b h. grind (arith, nat_tests)) name all)
+    ∙ rw (weaker is_byte_of_name is_inside (λ b h. grind (arith, nat_tests)) name (name_bytes name good))
 
 -- a truth value
 truth_inside : (truth : Bool) → list_all is_inside (truth_word truth) ≡ true
@@ -134,7 +126,7 @@ statement_keeps s good rest one =
     (line_more (codes "[[vcpu]]") _ refl refl ((settings_keep s good).more rest one))
 
 -- those of all vCPUs
-statements_keep : (ss : List Statement) → AllByRecursion (λ s. IsName s.name) ss
+statements_keep : (ss : List Statement) → AreNamed ss
     → IsOneSection (flat_map vcpu_text (map vcpu_of ss))
 statements_keep [] good = sections_of-nil
 statements_keep (s ∷ ss) good =
@@ -142,7 +134,7 @@ statements_keep (s ∷ ss) good =
 
 -- the whole text
 pub host_section : (host : Host) (ss : List Statement) → map vcpu_of ss ≡ host.vcpus
-    → AllByRecursion (λ s. IsName s.name) ss → sections_of (host_text host) ≡ host_text host ∷ []
+    → AreNamed ss → sections_of (host_text host) ≡ host_text host ∷ []
 unfolding host_text
 host_section host ss are good =
     (head_keeps host).more (flat_map vcpu_text host.vcpus)

@@ -2,7 +2,9 @@
 use Rattle.std.proofs.Common.{◌≡◌, ℕ, pos, Bool, false, true, List, [], ◌∷◌, ◌++◌, codes, decimal, map, Option, Some, None, refl, sym, ap, ◌∙◌, arith}
 use Rattle.std.specs.Prelude.{IsSome}
 use Rattle.std.proofs.lemmas.List.Elements.{All-tail}
+use Rattle.std.specs.List.{AllByRecursion}
 use Rattle.tab_core.proofs.Alike.{same_vcpu}
+use Rattle.tab_core.specs.Name.{IsName}
 use Rattle.tab_core.specs.declared.host.Host.{Host}
 use Rattle.tab_core.specs.declared.reservation.Reservation.{Reservation}
 use Rattle.tab_core.specs.declared.vcpu.Vcpu.{Vcpu}
@@ -20,11 +22,12 @@ pub record Statement : Type 0 where
 abbrev pub vcpu_of : Statement → Vcpu
 vcpu_of s = record { name = s.name; reservation = Some s.reservation; runnable = s.runnable }
 
--- where all are admitted, each has its statement
+-- what is stated of all of these
 pub record Stated (vcpus : List Vcpu) : Type 0 where
   pub statements : List Statement
   pub are : map vcpu_of statements ≡ vcpus
 
+-- the statements are there
 pub stated : (vcpus : List Vcpu) → AreAdmitted vcpus → Stated vcpus
 stated [] all = record { statements = []; are = refl }
 stated (vcpu ∷ vcpus) all =
@@ -41,6 +44,10 @@ stated (vcpu ∷ vcpus) all =
           statements = first ∷ more.statements;
           are = ap (λ v. v ∷ map vcpu_of more.statements) same ∙ ap (λ vs. vcpu ∷ vs) more.are;
         }
+
+-- each has a name of the form of names
+abbrev pub AreNamed : List Statement → Type 0
+AreNamed ss = AllByRecursion (λ s. IsName s.name) ss
 
 -- ---- the members
 
