@@ -90,7 +90,8 @@ number_line started key n bare low =
 
 -- the line of a truth value
 truth_line : (started : Bool) (key : List ℕ) (truth : Bool) → key_text key ≡ key
-    → IsLineText false started ([], key) (key_value (boolean truth)) (line_of (key_words key (truth_word truth)))
+    → IsLineText false started ([], key) (key_value (boolean truth))
+    (line_of (key_words key (truth_word truth)))
 truth_line started key true bare = pair_line started key (codes "true") (boolean true) bare refl
 truth_line started key false bare = pair_line started key (codes "false") (boolean false) bare refl
 

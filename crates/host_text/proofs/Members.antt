@@ -27,7 +27,8 @@ use Rattle.host_text.proofs.Statements.{AreNamed, Statement, host_members, vcpu_
 -- ---- values
 
 -- a number within the bounds is taken
-taken : (path : Path) (least most n : ℕ) → least ≤ n → n ≤ most → in_range path least most (Some (pos n)) ≡ Ok n
+taken : (path : Path) (least most n : ℕ) → least ≤ n → n ≤ most
+    → in_range path least most (Some (pos n)) ≡ Ok n
 taken path least most n low high = grind (arith, nat_tests)
 
 -- ---- one vCPU
@@ -44,7 +45,8 @@ shared number s =
 -- and its latency
 waits : (number : ℕ) (s : Statement) → latency_of number (vcpu_members s) ≡ Ok s.reservation.latency_ns
 waits number s =
-    taken (of_vcpu number Latency) 0 MAX_LATENCY_NS s.reservation.latency_ns (omega arith) s.reservation.bounded
+    taken (of_vcpu number Latency) 0 MAX_LATENCY_NS s.reservation.latency_ns (omega arith)
+    s.reservation.bounded
 
 -- its members stand for it
 stands : (number : ℕ) (s : Statement) → IsName s.name → IsVcpuOf number (vcpu_members s) (vcpu_of s)
@@ -74,13 +76,14 @@ all_new : (ss : List Statement) → AreNew [] ss
 all_new [] = tt
 all_new (s ∷ ss) = (refl, all_new ss)
 
--- nor where one more is there, which they aren't
+-- new names stay new behind a further name that is none of them
 new_beside : (earlier : List (List ℕ)) (u : Statement) (ss : List Statement) → AreNew earlier ss
     → AllByRecursion (λ s. s.name ≡ u.name → ⊥) ss → AreNew (earlier ++ u.name ∷ []) ss
 new_beside earlier u [] new apart = tt
 new_beside earlier u (s ∷ ss) new apart =
     let other : bytes_eq s.name u.name ≡ false = grind (arith, nat_tests, bytes_eq-Decides s.name u.name) in
-    (list_any-append (bytes_eq s.name) earlier (u.name ∷ []) ∙ rw (new.0, other), new_beside earlier u ss new.1 apart.1)
+    let more = new_beside earlier u ss new.1 apart.1 in
+    (list_any-append (bytes_eq s.name) earlier (u.name ∷ []) ∙ rw (new.0, other), more)
 
 -- so no member has a fault
 faultless : (earlier : List (List ℕ)) (number : ℕ) (ss : List Statement)
@@ -94,7 +97,8 @@ faultless earlier number (s ∷ ss) good new apart =
     let names = names_named number (Some (vcpu_members s)) (vcpu_members s) s.name refl
     (named number s good.0) in
     rw (first, names)
-    (faultless (earlier ++ s.name ∷ []) (number + 1) ss good.1 (new_beside earlier s ss new.1 apart.0) apart.1)
+    (faultless (earlier ++ s.name ∷ []) (number + 1) ss good.1
+    (new_beside earlier s ss new.1 apart.0) apart.1)
 
 -- the array has as many values
 count : (ss : List Statement) → count_of (vcpu_items ss) ≡ length ss

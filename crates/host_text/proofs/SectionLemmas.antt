@@ -98,7 +98,8 @@ head_keeps host =
     line_and _ _ (pair_line (codes "format") (codes "1") refl refl refl)
     (line_and _ _
     (pair_line (codes "cores") (decimal host.cores) refl (digits_inside host.cores (omega arith)) refl)
-    (line_and _ _ (pair_line (codes "lag") (decimal host.lag) refl (digits_inside host.lag (omega arith)) refl)
+    (line_and _ _
+    (pair_line (codes "lag") (decimal host.lag) refl (digits_inside host.lag (omega arith)) refl)
     (line_and _ _
     (pair_line (codes "sliver") (decimal host.sliver) refl (digits_inside host.sliver (omega arith)) refl)
     (line_and _ _
@@ -111,7 +112,8 @@ settings_keep s good =
     let share = s.reservation.share_ppm in
     let latency = s.reservation.latency_ns in
     line_and _ _ (pair_line (codes "name") (quoted s.name) refl (name_inside s.name good) refl)
-    (line_and _ _ (pair_line (codes "share_ppm") (decimal share) refl (digits_inside share (omega arith)) refl)
+    (line_and _ _
+    (pair_line (codes "share_ppm") (decimal share) refl (digits_inside share (omega arith)) refl)
     (line_and _ _
     (pair_line (codes "latency_ns") (decimal latency) refl (digits_inside latency (omega arith)) refl)
     (line_and _ _

@@ -51,7 +51,8 @@ pub host_size : (host : Host) (ss : List Statement) → map vcpu_of ss ≡ host.
     → AreNamed ss → length (host_text host) ≤ 100 + 120 * length host.vcpus
 unfolding host_text
 host_size host ss are good =
-    let vcpus : length (flat_map vcpu_text host.vcpus) ≤ 120 * length ss = rw are at (statements_size ss good) in
+    let vcpus : length (flat_map vcpu_text host.vcpus) ≤ 120 * length ss =
+    rw are at (statements_size ss good) in
     omega (
       arith,
       length-append (text_of (head_lines host)) (flat_map vcpu_text host.vcpus),
