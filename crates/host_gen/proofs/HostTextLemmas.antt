@@ -7,7 +7,7 @@ use Rattle.tab_words.specs.Texts.{line_of, text_of}
 use Rattle.host_gen.specs.HostText.{Line, head_lines, key_words, quoted, truth_word, vcpu_text}
 
 -- the line of a key and its value, and what follows it
-key_line : (key value rest : List ℕ)
+pub key_line : (key value rest : List ℕ)
     → line_of (key_words key value) ++ rest ≡ key ++ (codes " = " ++ (value ++ 10 ∷ rest))
 unfolding line_of
 key_line key value rest = simp append_assoc

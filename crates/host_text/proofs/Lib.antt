@@ -1,0 +1,9 @@
+pub mod AsciiLemmas
+pub mod ByteLemmas
+pub mod Lines
+pub mod Members
+pub mod ReadBack
+pub mod Running
+pub mod SectionLemmas
+pub mod SizeLemmas
+pub mod Statements

@@ -1,0 +1,196 @@
+-- The document's members stand for the host.
+use Rattle.std.proofs.Common.{◌≡◌, ℕ, zero, suc, ◌+◌, ◌≤◌, pos, false, List, [], ◌∷◌, ◌++◌, length, map, slice_get, Some, None, Ok, refl, sym, ap, subst, ◌∙◌, arith, bytes_eq}
+use Rattle.std.proofs.lemmas.Bool.Decides.{nat_tests}
+use Rattle.std.proofs.lemmas.List.{length-map}
+use Rattle.std.proofs.lemmas.List.Folds.{list_any-append}
+use Rattle.std.proofs.lemmas.Slice.Eq.{bytes_eq-Decides}
+use Rattle.std.specs.List.{AllByRecursion, list_any}
+use Rattle.tab_core.specs.Name.{IsName}
+use Rattle.tab_core.specs.Vcpus.{HaveDistinctNames}
+use Rattle.tab_core.specs.declared.TheConstants.{MAX_CORES, MAX_LATENCY_NS, MAX_SLIVER, MAX_VCPUS, ROUND, WHOLE_PPM}
+use Rattle.tab_core.specs.declared.host.Host.{Host}
+use Rattle.tab_core.specs.declared.vcpu.Vcpu.{Vcpu}
+use Rattle.toml.specs.Data.{Items, Members, get_item, table}
+use Rattle.host_doc.specs.Array.{count_of, limited}
+use Rattle.host_doc.specs.Document.{IsHostOf, first_fault}
+use Rattle.host_doc.specs.KeyTable.{cores_of, document_keys, lag_of, latency_of, name_of, quantum_of, share_of, sliver_of, vcpus_of}
+use Rattle.host_doc.specs.OtherKeys.{unknown_key}
+use Rattle.host_doc.specs.Path.{of_document, of_vcpu}
+use Rattle.host_doc.specs.Value.{in_range}
+use Rattle.host_doc.specs.VcpuFaults.{settings_fault, vcpus_fault}
+use Rattle.host_doc.specs.Vcpus.{AreVcpusOf, IsVcpuOf}
+use Rattle.host_doc.specs.declared.fault.Key.TheVariants.{Cores, Lag, Latency, Quantum, Share, Sliver, Unknown, Vcpu as VcpuKey}
+use Rattle.host_doc.specs.declared.fault.Path.{Path}
+use Rattle.host_doc.proofs.VcpusLemmas.{fault_named, names_named}
+use Rattle.host_text.proofs.Statements.{AreNamed, Statement, host_members, vcpu_items, vcpu_members, vcpu_of}
+
+-- ---- values
+
+-- a number within the bounds is taken
+taken : (path : Path) (least most n : ℕ) → least ≤ n → n ≤ most
+    → in_range path least most (Some (pos n)) ≡ Ok n
+taken path least most n low high = grind (arith, nat_tests)
+
+-- ---- one vCPU
+
+-- its name is taken
+named : (number : ℕ) (s : Statement) → IsName s.name → name_of number (vcpu_members s) ≡ Ok s.name
+named number s good = rw good
+
+-- so is its share
+shared : (number : ℕ) (s : Statement) → share_of number (vcpu_members s) ≡ Ok s.reservation.share_ppm
+shared number s =
+    taken (of_vcpu number Share) 1 WHOLE_PPM s.reservation.share_ppm s.reservation.shares s.reservation.whole
+
+-- and its latency
+waits : (number : ℕ) (s : Statement) → latency_of number (vcpu_members s) ≡ Ok s.reservation.latency_ns
+waits number s =
+    taken (of_vcpu number Latency) 0 MAX_LATENCY_NS s.reservation.latency_ns (omega arith)
+    s.reservation.bounded
+
+-- its members stand for it
+stands : (number : ℕ) (s : Statement) → IsName s.name → IsVcpuOf number (vcpu_members s) (vcpu_of s)
+stands number s good = record {
+  name = named number s good;
+  reservation = (refl, shared number s, waits number s);
+  runnable = refl;
+}
+
+-- and have no fault behind the name
+settled : (number : ℕ) (s : Statement) → settings_fault number (vcpu_members s) ≡ None
+settled number s = rw (shared number s, waits number s)
+
+-- ---- all vCPUs
+
+-- each has the name of none behind it
+abbrev Apart : List Statement → Type 0
+Apart [] = Unit {0}
+Apart (s ∷ ss) = AllByRecursion (λ u. u.name ≡ s.name → ⊥) ss × Apart ss
+
+-- and of none of these
+abbrev AreNew : List (List ℕ) → List Statement → Type 0
+AreNew earlier ss = AllByRecursion (λ s. list_any (bytes_eq s.name) earlier ≡ false) ss
+
+-- no name is an earlier one where there is none
+all_new : (ss : List Statement) → AreNew [] ss
+all_new [] = tt
+all_new (s ∷ ss) = (refl, all_new ss)
+
+-- new names stay new behind a further name that is none of them
+new_beside : (earlier : List (List ℕ)) (u : Statement) (ss : List Statement) → AreNew earlier ss
+    → AllByRecursion (λ s. s.name ≡ u.name → ⊥) ss → AreNew (earlier ++ u.name ∷ []) ss
+new_beside earlier u [] new apart = tt
+new_beside earlier u (s ∷ ss) new apart =
+    let other : bytes_eq s.name u.name ≡ false = grind (arith, nat_tests, bytes_eq-Decides s.name u.name) in
+    let more = new_beside earlier u ss new.1 apart.1 in
+    (list_any-append (bytes_eq s.name) earlier (u.name ∷ []) ∙ rw (new.0, other), more)
+
+-- so no member has a fault
+faultless : (earlier : List (List ℕ)) (number : ℕ) (ss : List Statement)
+    → AreNamed ss → AreNew earlier ss → Apart ss
+    → vcpus_fault earlier number (vcpu_items ss) ≡ None
+unfolding vcpus_fault
+faultless earlier number [] good new apart = refl
+faultless earlier number (s ∷ ss) good new apart =
+    let first = fault_named earlier number (Some (vcpu_members s)) (vcpu_members s) s.name refl
+    (named number s good.0) new.0 ∙ settled number s in
+    let names = names_named number (Some (vcpu_members s)) (vcpu_members s) s.name refl
+    (named number s good.0) in
+    rw (first, names)
+    (faultless (earlier ++ s.name ∷ []) (number + 1) ss good.1
+    (new_beside earlier s ss new.1 apart.0) apart.1)
+
+-- the array has as many values
+count : (ss : List Statement) → count_of (vcpu_items ss) ≡ length ss
+count [] = refl
+count (s ∷ ss) = ap suc (count ss)
+
+-- and the value of each number stands for the vCPU of that number
+each : (ss : List Statement) (k number : ℕ) (keys : Members) (vcpu : Vcpu)
+    → AreNamed ss → get_item k (vcpu_items ss) ≡ Some (table keys)
+    → slice_get (map vcpu_of ss) k ≡ Some vcpu → IsVcpuOf number keys vcpu
+each [] k number keys vcpu good at_item at_vcpu = absurd cc
+each (s ∷ ss) zero number keys vcpu good at_item at_vcpu =
+    let found : vcpu_members s ≡ keys = cc in
+    let same : vcpu_of s ≡ vcpu = cc in
+    subst (λ m. IsVcpuOf number m vcpu) found
+    (subst (λ v. IsVcpuOf number (vcpu_members s) v) same (stands number s good.0))
+each (s ∷ ss) (suc k) number keys vcpu good at_item at_vcpu =
+    each ss k number keys vcpu good.1 at_item at_vcpu
+
+-- the members stand for the vCPUs
+all_stand : (ss : List Statement) → AreNamed ss
+    → AreVcpusOf (vcpu_items ss) (map vcpu_of ss)
+all_stand ss good = record {
+  count = length-map ss vcpu_of ∙ sym (count ss);
+  each = λ number keys vcpu. each ss number number keys vcpu good;
+}
+
+-- ---- the host
+
+-- an array of few values is taken
+few_taken : (path : Path) (items : Items) → count_of items ≤ MAX_VCPUS → limited path (Some items) ≡ Ok items
+few_taken path items few = grind (arith, nat_tests)
+
+-- so the one of the document is
+array_taken : (host : Host) (ss : List Statement) → length ss ≤ MAX_VCPUS
+    → vcpus_of (host_members host ss) ≡ Ok (vcpu_items ss)
+array_taken host [] few = refl
+array_taken host (s ∷ ss) few =
+    few_taken (of_document VcpuKey) (vcpu_items (s ∷ ss)) (omega (arith, count (s ∷ ss)))
+
+-- the document has no other keys
+known : (host : Host) (ss : List Statement)
+    → unknown_key (of_document Unknown) document_keys (host_members host ss) ≡ None
+known host [] = refl
+known host (s ∷ ss) = refl
+
+-- what the statements keep
+pub record AreGood (ss : List Statement) : Type 0 where
+  pub few : length ss ≤ MAX_VCPUS
+  pub named : AreNamed ss
+  pub apart : Apart ss
+
+-- the members stand for the host of these vCPUs
+pub members_stand : (host : Host) (ss : List Statement) → AreGood ss → map vcpu_of ss ≡ host.vcpus
+    → IsHostOf (host_members host ss) host
+unfolding first_fault
+members_stand host ss good are =
+    let members = host_members host ss in
+    let cores : cores_of members ≡ Ok host.cores =
+    taken (of_document Cores) 1 MAX_CORES host.cores host.some_core host.few_cores in
+    let lag : lag_of members ≡ Ok host.lag =
+    taken (of_document Lag) 1 ROUND host.lag host.some_lag host.lag_in_round in
+    let sliver : sliver_of members ≡ Ok host.sliver =
+    taken (of_document Sliver) 0 MAX_SLIVER host.sliver (omega arith) host.small_sliver in
+    let quantum : quantum_of members ≡ Ok host.quantum =
+    taken (of_document Quantum) 1 ROUND host.quantum host.some_quantum host.quantum_in_round in
+    let array = array_taken host ss good.few in
+    record {
+      faultless = rw (cores, lag, sliver, quantum, array, known host ss)
+          (rw (faultless [] 0 ss good.named (all_new ss) good.apart));
+      cores = cores;
+      lag = lag;
+      sliver = sliver;
+      quantum = quantum;
+      vcpus = rw (array, ← are) (all_stand ss good.named);
+    }
+
+-- ---- what the statements of a host keep
+
+-- no vCPU has a name that none has at its number
+others : (name : List ℕ) (ss : List Statement)
+    → ((k : ℕ) (v : Vcpu) → slice_get (map vcpu_of ss) k ≡ Some v → v.name ≡ name → ⊥)
+    → AllByRecursion (λ u. u.name ≡ name → ⊥) ss
+others name [] h = tt
+others name (u ∷ us) h = (h 0 (vcpu_of u) refl, others name us (λ k v at. h (suc k) v at))
+
+-- so distinct names are apart
+pub are_apart : (ss : List Statement) → HaveDistinctNames (map vcpu_of ss) → Apart ss
+are_apart [] distinct = tt
+are_apart (s ∷ ss) distinct = (
+  others s.name ss (λ k v at same.
+      let e = distinct (suc k) 0 v (vcpu_of s) at refl same in omega (arith, e)),
+  are_apart ss (λ j k a b at_j at_k same.
+      let e = distinct (suc j) (suc k) a b at_j at_k same in omega (arith, e)),
+)

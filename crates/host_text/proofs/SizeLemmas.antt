@@ -1,0 +1,63 @@
+-- The text of a host is short.
+use Rattle.std.proofs.Common.{◌≡◌, ◌+◌, ◌*◌, ◌≤◌, Bool, true, false, List, [], ◌∷◌, flat_map, length, map, refl, ap, arith, length-append}
+use Rattle.std.proofs.lemmas.Bool.Decides.{nat_tests}
+use Rattle.std.proofs.lemmas.Fmt.{length-decimal-le}
+use Rattle.std.proofs.lemmas.List.{length-map}
+use Rattle.tab_core.specs.Name.{IsName}
+use Rattle.tab_core.specs.declared.host.Host.{Host}
+use Rattle.tab_words.specs.Texts.{text_of}
+use Rattle.host_gen.specs.HostText.{head_lines, host_text, truth_word, vcpu_text}
+use Rattle.host_gen.proofs.HostTextLemmas.{head_pieces, vcpu_pieces}
+use Rattle.host_text.proofs.Statements.{AreNamed, Statement, vcpu_of}
+
+-- the lines of the host's own numbers
+head_size : (host : Host) → length (text_of (head_lines host)) ≤ 100
+head_size host =
+    let cores = length-decimal-le 6 host.cores (omega arith) (omega arith) (omega arith) in
+    let lag = length-decimal-le 6 host.lag (omega arith) (omega arith) (omega arith) in
+    let sliver = length-decimal-le 6 host.sliver (omega arith) (omega arith) (omega arith) in
+    let quantum = length-decimal-le 6 host.quantum (omega arith) (omega arith) (omega arith) in
+    rw (head_pieces host) (simp length-append (omega (arith, cores, lag, sliver, quantum)))
+
+-- a truth value
+truth_size : (truth : Bool) → length (truth_word truth) ≤ 5
+truth_size true = omega arith
+truth_size false = omega arith
+
+-- the lines of a vCPU
+statement_size : (s : Statement) → IsName s.name → length (vcpu_text (vcpu_of s)) ≤ 120
+statement_size s good =
+    let name : length s.name ≤ 32 = grind (arith, nat_tests) in
+    let share = length-decimal-le 7 s.reservation.share_ppm (omega arith) (omega arith) (omega arith) in
+    let latency = length-decimal-le 13 s.reservation.latency_ns (omega arith) (omega arith) (omega arith) in
+    let truth = truth_size s.runnable in
+    rw (vcpu_pieces (vcpu_of s) s.reservation refl)
+    (simp length-append (omega (arith, name, share, latency, truth)))
+
+-- those of all vCPUs
+statements_size : (ss : List Statement) → AreNamed ss
+    → length (flat_map vcpu_text (map vcpu_of ss)) ≤ 120 * length ss
+statements_size [] good = omega arith
+statements_size (s ∷ ss) good =
+    omega (
+      arith,
+      length-append (vcpu_text (vcpu_of s)) (flat_map vcpu_text (map vcpu_of ss)),
+      statement_size s good.0,
+      statements_size ss good.1,
+    )
+
+-- the whole text
+pub host_size : (host : Host) (ss : List Statement) → map vcpu_of ss ≡ host.vcpus
+    → AreNamed ss → length (host_text host) ≤ 100 + 120 * length host.vcpus
+unfolding host_text
+host_size host ss are good =
+    let vcpus : length (flat_map vcpu_text host.vcpus) ≤ 120 * length ss =
+    rw are at (statements_size ss good) in
+    omega (
+      arith,
+      length-append (text_of (head_lines host)) (flat_map vcpu_text host.vcpus),
+      head_size host,
+      vcpus,
+      length-map ss vcpu_of,
+      ap length are,
+    )
