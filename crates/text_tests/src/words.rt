@@ -1,8 +1,8 @@
 use std::test::Fail;
 use tab_io::{MemSink, WriteFault};
 use tab_words::{
-    Command, Lines, TextPiece, Usage, Words, cut_sections, put_line, put_number, put_pieces,
-    read_number, read_words,
+    Command, Lines, RunMode, TextPiece, Usage, Words, cut_sections, put_line, put_number,
+    put_pieces, read_number, read_words,
 };
 
 #[test]
@@ -139,7 +139,34 @@ fn reads_commands_and_places_faults(rt: HostRuntime) -> Result<(), Fail> {
         ("check", Ok(Command::Check)),
         ("replay 1", Ok(Command::Replay { rounds: 1 })),
         ("replay 20", Ok(Command::Replay { rounds: 20 })),
-        ("replay 64", Ok(Command::Replay { rounds: 64 })),
+        ("replay 10000", Ok(Command::Replay { rounds: 10_000 })),
+        ("plan whole", Ok(Command::PlanWhole)),
+        (
+            "run 7",
+            Ok(Command::Run {
+                rounds: 7,
+                mode: RunMode::Report,
+            }),
+        ),
+        (
+            "run 10000 trace",
+            Ok(Command::Run {
+                rounds: 10_000,
+                mode: RunMode::Trace,
+            }),
+        ),
+        (
+            "gen 0 1 100",
+            Ok(Command::Gen {
+                seed: 0,
+                cores: 1,
+                vcpus: 100,
+            }),
+        ),
+        (
+            "selftest 18446744073709551615",
+            Ok(Command::Selftest { seed: u64::MAX }),
+        ),
         ("--help", Ok(Command::Help)),
         ("--version", Ok(Command::Version)),
         ("plan plan", fault(1)),
@@ -156,7 +183,7 @@ fn reads_commands_and_places_faults(rt: HostRuntime) -> Result<(), Fail> {
         ("replay 4294967297", fault(1)),
         ("replay 18446744073709551617", fault(1)),
         ("replay 1 x", fault(2)),
-        ("replay 64 1", fault(2)),
+        ("replay 10000 1", fault(2)),
         ("replay 1 2 3", fault(2)),
         ("plan --help", fault(1)),
         ("--help plan", fault(1)),
@@ -168,8 +195,15 @@ fn reads_commands_and_places_faults(rt: HostRuntime) -> Result<(), Fail> {
         ("1 replay", fault(0)),
         ("plans x", fault(0)),
         ("", fault(0)),
-        ("run 1", fault(0)),
-        ("gen 1 1 1", fault(0)),
+        ("run", fault(1)),
+        ("run 10001", fault(1)),
+        ("run 1 traces", fault(2)),
+        ("run 1 trace x", fault(3)),
+        ("gen 1 33 1", fault(2)),
+        ("gen 1 1 101", fault(3)),
+        ("gen 1 1 1 1", fault(4)),
+        ("selftest 18446744073709551616", fault(1)),
+        ("plan whole x", fault(2)),
         ("plan --version x", fault(1)),
     ];
     for (line, expected) in cases {
