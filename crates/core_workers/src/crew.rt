@@ -23,6 +23,9 @@ use std::thread::{Threads, available_parallelism};
 use tab_core::{CoreNo, NoMemory};
 use table_form::Course;
 
+// The most threads that carry cores: more of them wait for each other longer than they work.
+const MOST_THREADS: u32 = 2;
+
 // how many turns in a row a thread that has a processor of its own tries before it lets others have it
 const SPINS: u32 = 64;
 
@@ -62,9 +65,8 @@ impl<'a> Crew<'a> {
         ensures keeps { IfOk result (λ c. (core : ℕ) (a : StateView) → actor_of c core ≡ Some a
             → a.keep ≡ slice_index keep.now core) }
     {
-        let processors = processors(rt);
-        let threads = threads_for(course.cores(), processors);
-        let spins = if threads < processors { SPINS } else { 0 };
+        let threads = course.cores().min(MOST_THREADS);
+        let spins = if threads < processors(rt) { SPINS } else { 0 };
         let groups = make_groups(alloc, course, threads, rounds, keep)?;
         let lead = Lead {
             control: ControlState::new(),
@@ -113,13 +115,6 @@ fn processors<R: Threads>(rt: &R) -> u32 {
         Ok(count) => u32::try_from(count.get()).unwrap_or(u32::MAX),
         Err(_) => 1,
     }
-}
-
-// A thread for each core where there are as many processors, otherwise one for each processor, but two at least.
-fn threads_for(cores: u32, processors: u32) -> u32
-    ensures { result ≡ min cores (max processors 2) }
-{
-    cores.min(processors.max(2))
 }
 
 fn make_groups(

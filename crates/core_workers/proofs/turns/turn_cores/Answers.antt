@@ -1,5 +1,4 @@
-use Rattle.std.proofs.Common.{◌≤◌, Bool, false, subst}
-use Rattle.round_words.specs.declared.view.View.{View}
+use Rattle.std.proofs.Common.{Bool, subst}
 use Rattle.round_words.specs.Seats.{view_of}
 use Rattle.core_workers.specs.Groups.{CrewView, crew_view}
 use Rattle.core_workers.specs.Inside.Turns.{GuessTold}
