@@ -42,6 +42,7 @@ pub struct Next {
 /// one a quantum after it. All that is said of it holds in each course of the outline whose plan there
 /// shows the core this span. The rules are this project's, `IsDispatch` in
 /// `table_form/specs/Running/Choice.antt`.
+#[inline(always)]
 pub fn next_stint(outline: &Outline, core: CoreNo, begin: &Begin, span: &Span<'_>) -> Next
     requires from { begin.now.from ≤ 2 ^ 31 }
     requires seen { begin.now.seen ≤ length outline.now.ticks }
