@@ -2,6 +2,7 @@
 use Rattle.std.proofs.Common.{◌≡◌, ℕ, List, [], ◌∷◌, ◌++◌, length, length-append, ap, subst, sym, ◌∙◌, arith}
 use Rattle.tab_core.specs.declared.host.Host.{Host}
 use Rattle.tab_core.specs.declared.over.Over.{Over}
+use Rattle.flow_net.specs.Allotments.{demands}
 use Rattle.period_choice.proofs.Unique.{tasks_unique}
 use Rattle.worst_fit.specs.Bound.{IsWithinBound}
 use Rattle.worst_fit.proofs.PlacesEach.{placement_within_bound}
@@ -9,7 +10,9 @@ use Rattle.plan_make.specs.Planned.{IsFirstWithoutRoom}
 use Rattle.plan_make.proofs.TasksOfPlan.{none_without_period}
 use Rattle.host_doc.proofs.OneHost.{one_host}
 use Rattle.tableau_sim.specs.declared.status.Status.{Status}
-use Rattle.tableau_sim.specs.Bounds.{HasBoundedTasks, IsBounded}
+use Rattle.tableau_sim.specs.Bounds.{HasBoundedTasks, HasFittingTasks, IsBounded, IsFitting}
+use Rattle.tableau_sim.specs.PlanWhole.{PlansWhole}
+use Rattle.wrap_table.specs.Whole.{IsBeyondRoom}
 use Rattle.tab_words.specs.Sections.{sections_of}
 use Rattle.tab_words.specs.declared.command.Command.TheVariants as called
 use Rattle.tableau_sim.specs.Clauses.{IsFaultless}
@@ -53,3 +56,27 @@ pub bounded_is_faultless : (input : List ℕ) → length (sections_of input) ≡
     → IsBounded (host_section (sections_of input)) → IsFaultless Replies called.Plan input
 bounded_is_faultless input one bounded refusal names h =
     no_refusal 1 Plans input one (bounded_is_planned (sections_of input) bounded) refusal names h
+
+-- a host whose demands fit isn't beyond its room
+none_beyond_room : (host : Host) (demand room : ℕ) → HasFittingTasks host → IsBeyondRoom host demand room → ⊥
+none_beyond_room host demand room has beyond =
+    let same = ap demands (tasks_unique host.vcpus beyond.tasks has.tasks beyond.tasks_are has.tasks_are) in
+    omega (arith, beyond.demand_is, beyond.room_is, beyond.beyond, has.fits, same)
+
+-- so `plan whole` doesn't refuse it
+fitting_is_planned : (sections : List (List ℕ)) → IsFitting (host_section sections)
+    → (refusal : Status) (names : List (List ℕ)) → PlansWhole sections (Refuses refusal names) → ⊥
+fitting_is_planned sections fitting refusal names (PlansWhole.BadHost fault is) =
+    no_host_fault _ fault fitting.host is fitting.is_host
+fitting_is_planned sections fitting refusal names (PlansWhole.NoPeriod host vcpu is lacks) =
+    let has = subst HasFittingTasks (one_host _ fitting.host host fitting.is_host is) fitting.fitting in
+    none_without_period host.vcpus has.tasks vcpu has.tasks_are lacks
+fitting_is_planned sections fitting refusal names (PlansWhole.NoFit host demand room is beyond) =
+    let has = subst HasFittingTasks (one_host _ fitting.host host fitting.is_host is) fitting.fitting in
+    none_beyond_room host demand room has beyond
+
+-- the same of the whole input
+pub fitting_is_faultless : (input : List ℕ) → length (sections_of input) ≡ 1
+    → IsFitting (host_section (sections_of input)) → IsFaultless Replies called.PlanWhole input
+fitting_is_faultless input one fitting refusal names h =
+    no_refusal 1 PlansWhole input one (fitting_is_planned (sections_of input) fitting) refusal names h
