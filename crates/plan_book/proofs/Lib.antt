@@ -8,6 +8,5 @@ pub mod NextState
 pub mod OneCourse
 pub mod OneState
 pub mod PlannedAfter
-pub mod RunnableFlags
 pub mod SameShape
 pub mod WaitsLemmas

@@ -16,7 +16,8 @@ use Rattle.plan_make.specs.declared.fault.PlanFault.{PlanFault}
 use Rattle.plan_make.specs.declared.fault.PlanFault.TheVariants as plan
 use Rattle.plan_book.specs.Changes.{IsChangeRefused, IsChangeTaken, IsUnplanned}
 use Rattle.plan_book.specs.Inside.Making.{known_of, outcome_of_fault, plan_of}
-use Rattle.plan_book.specs.States.{BookState, IsKnownAtFirst, runnable_at_first}
+use Rattle.tab_core.specs.Vcpus.{runnable_at_first}
+use Rattle.plan_book.specs.States.{BookState, IsKnownAtFirst}
 use Rattle.plan_book.specs.declared.book_so_far.BookSoFar.{BookSoFar}
 use Rattle.plan_book.specs.declared.outcome.Outcome.{Outcome}
 use Rattle.plan_book.specs.declared.outcome.Outcome.TheVariants as outcome

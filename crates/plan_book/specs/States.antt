@@ -1,8 +1,7 @@
 -- What is known of a host between two events of a script.
-use Rattle.std.specs.Prelude.{◌≡◌, ℕ, ◌-◌, Bool, false, List, [], ◌++◌, length, map, replicate}
-use Rattle.tab_core.specs.declared.TheConstants.{MAX_VCPUS}
+use Rattle.std.specs.Prelude.{◌≡◌, ℕ, Bool, List, []}
+use Rattle.tab_core.specs.Vcpus.{runnable_at_first}
 use Rattle.tab_core.specs.declared.host.Host.{Host}
-use Rattle.tab_core.specs.declared.vcpu.Vcpu.{Vcpu}
 use Rattle.table_form.specs.Tables.Plans.{PlanView}
 use Rattle.plan_make.specs.Planned.{IsPlanned}
 use Rattle.plan_book.specs.declared.outcome.Outcome.{Outcome}
@@ -14,10 +13,6 @@ pub record BookState : Type 0 where
   pub number : ℕ
   pub runnable : List Bool
   pub outcomes : List Outcome
-
--- the vCPUs that want to run as the run begins
-abbrev pub runnable_at_first : List Vcpu → List Bool
-runnable_at_first vcpus = map (λ vcpu. vcpu.runnable) vcpus ++ replicate (MAX_VCPUS - length vcpus) false
 
 -- before the first event there are the host and its plan, which is number 0
 pub record IsKnownAtFirst (host : Host) (known : BookState) : Type 0 where

@@ -1,4 +1,4 @@
-ghost use Rattle.std.specs.Prelude.{◌≡◌, ◌⊎◌, ◌<◌, ◌≤◌, ◌^◌, [], ◌∷◌, ◌++◌, IfErr, IfOk, List, OnOk, Option, length, slice_set};
+ghost use Rattle.std.specs.Prelude.{◌≡◌, ◌⊎◌, ◌<◌, ◌≤◌, ◌^◌, [], ◌∷◌, ◌++◌, IfErr, IfOk, List, OnOk, Option, length};
 ghost use Rattle.tab_core.specs.Edits.{AreEditsOf, IsEdited};
 ghost use Rattle.tab_core.specs.declared.TheConstants.{MAX_VCPUS};
 ghost use Rattle.tab_core.specs.declared.periodic.Periodic.{Periodic};
@@ -11,14 +11,14 @@ ghost use Rattle.script_doc.specs.Events.{IsActWithin};
 ghost use Rattle.plan_book.specs.After.{Applies};
 ghost use Rattle.plan_book.specs.Changes.{IsChangeRefused, IsChangeTaken, IsUnplanned};
 ghost use Rattle.plan_book.specs.Inside.Making.{IsHostFault, KeepsPlans, known_of, outcome_of_fault};
-ghost use Rattle.plan_book.specs.States.{IsKnownAtFirst, runnable_at_first};
+ghost use Rattle.plan_book.specs.States.{IsKnownAtFirst};
 
 use crate::outcome::Outcome;
 use plan_make::{PlanFault, plan};
 use script_doc::Act;
 use std::alloc::{AllocError, Global};
 use std::thread::Threads;
-use tab_core::{Edit, Host, NoMemory, Vcpu, VcpuNo, VcpuSet};
+use tab_core::{Edit, Host, NoMemory, VcpuSet};
 use table_form::Plan;
 
 // What is known after some events: the host, the plans up to its own, which is the last, the
@@ -49,7 +49,7 @@ impl BookSoFar {
         Ok(BookSoFar {
             host: host.copy(alloc)?,
             plans: only(alloc, plan)?,
-            runnable: runnable_of(host.vcpus.items()),
+            runnable: host.vcpus.runnable(),
             outcomes: Vec::new(alloc),
         })
     }
@@ -163,28 +163,5 @@ fn outcome_of(fault: &PlanFault) -> Option<Outcome>
         PlanFault::NoPeriod { vcpu } => Some(Outcome::NoPeriod { vcpu: *vcpu }),
         PlanFault::NoRoom { vcpu, .. } => Some(Outcome::NoRoom { vcpu: *vcpu }),
         PlanFault::NoMemory => None,
-    }
-}
-
-// The vCPUs that want to run as the run begins.
-fn runnable_of(vcpus: &[Vcpu]) -> VcpuSet
-    requires { length vcpus.now ≤ MAX_VCPUS }
-    ensures { result ≡ runnable_at_first vcpus.now }
-{
-    let mut set = VcpuSet::empty();
-    for (number, vcpu) in vcpus.iter().enumerate() {
-        set_flag(&mut set, VcpuNo(number as u32), vcpu.runnable);
-    }
-    set
-}
-
-// Makes the vCPU a member, or no member.
-fn set_flag(set: &mut VcpuSet, vcpu: VcpuNo, member: bool)
-    ensures { set.new ≡ slice_set set.old vcpu member }
-{
-    if member {
-        set.put(vcpu);
-    } else {
-        set.take(vcpu);
     }
 }

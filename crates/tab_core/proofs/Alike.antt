@@ -82,16 +82,22 @@ same_reservation a b share latency =
 -- ---- vCPUs
 
 -- a vCPU made of its parts, which keeps no fact of its own
-abbrev vcpu_with : List ℕ → Option Reservation → Bool → Vcpu
-vcpu_with name reservation runnable = record { name = name; reservation = reservation; runnable = runnable }
+abbrev vcpu_with : List ℕ → Option Reservation → Bool → Bool → Vcpu
+vcpu_with name reservation runnable capped = record {
+  name = name;
+  reservation = reservation;
+  runnable = runnable;
+  capped = capped;
+}
 
 -- vCPUs are compared by their parts
 pub same_vcpu : (a b : Vcpu) → a.name ≡ b.name → a.reservation ≡ b.reservation → a.runnable ≡ b.runnable
-    → a ≡ b
-same_vcpu a b name reservation runnable =
-    ap (λ n. vcpu_with n a.reservation a.runnable) name
-    ∙ ap (λ r. vcpu_with b.name r a.runnable) reservation
-    ∙ ap (vcpu_with b.name b.reservation) runnable
+    → a.capped ≡ b.capped → a ≡ b
+same_vcpu a b name reservation runnable capped =
+    ap (λ n. vcpu_with n a.reservation a.runnable a.capped) name
+    ∙ ap (λ r. vcpu_with b.name r a.runnable a.capped) reservation
+    ∙ ap (λ r. vcpu_with b.name b.reservation r a.capped) runnable
+    ∙ ap (vcpu_with b.name b.reservation b.runnable) capped
 
 -- ---- hosts
 

@@ -4,3 +4,4 @@ pub mod Edited
 pub mod Lists
 pub mod Periods
 pub mod TimelineLemmas
+pub mod VcpusLemmas

@@ -39,4 +39,5 @@ pub record IsEdited (old : Host) (edits : List Edit) (new : Host) : Type 0 where
   pub quantum : new.quantum ≡ old.quantum
   pub names : map (λ vcpu. vcpu.name) new.vcpus ≡ map (λ vcpu. vcpu.name) old.vcpus
   pub runnable : map (λ vcpu. vcpu.runnable) new.vcpus ≡ map (λ vcpu. vcpu.runnable) old.vcpus
+  pub capped : map (λ vcpu. vcpu.capped) new.vcpus ≡ map (λ vcpu. vcpu.capped) old.vcpus
   pub reservations : reservations_of new.vcpus ≡ edited (reservations_of old.vcpus) edits

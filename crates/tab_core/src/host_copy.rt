@@ -31,6 +31,7 @@ fn copies_of(alloc: Global, vcpus: &[Vcpu]) -> Result<Vec<Vcpu>, NoMemory>
             name: vcpu.name.copy(alloc)?,
             reservation: vcpu.reservation,
             runnable: vcpu.runnable,
+            capped: vcpu.capped,
         })?;
     }
     Ok(made)

@@ -66,6 +66,8 @@ fn with_reservations(
         ≡ map (λ vcpu. vcpu.name) vcpus.now) }
     ensures runnable { IfOk result (λ made. map (λ vcpu. vcpu.runnable) made.items
         ≡ map (λ vcpu. vcpu.runnable) vcpus.now) }
+    ensures capped { IfOk result (λ made. map (λ vcpu. vcpu.capped) made.items
+        ≡ map (λ vcpu. vcpu.capped) vcpus.now) }
     ensures reservations { IfOk result (λ made. reservations_of made.items ≡ reservations.now) }
 {
     let mut made = Vec::with_capacity(alloc, vcpus.len())?;
@@ -75,6 +77,7 @@ fn with_reservations(
             name,
             reservation: reservations[number],
             runnable: vcpu.runnable,
+            capped: vcpu.capped,
         })?;
     }
     Ok(made)

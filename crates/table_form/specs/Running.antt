@@ -1,5 +1,6 @@
 -- Cores that run on their tables: courses, the state of a run, its steps, what they keep, and what it promises.
 pub mod Busy
+pub mod Capped
 pub mod Choice
 pub mod CourseViews
 pub mod Courses

@@ -19,7 +19,7 @@ pub record CourseView : Type 0 where
 
 -- stands for the plan of a count that the course doesn't have
 abbrev pub no_plan : PlanView
-no_plan = record { tasks = []; homes = []; rows = [] }
+no_plan = record { tasks = []; homes = []; rows = []; capped = [] }
 
 -- the tick of event i, from 0
 abbrev pub tick_at : CourseView → ℕ → ℕ

@@ -4,14 +4,15 @@ use Rattle.tab_core.specs.declared.host.Host.{Host}
 use Rattle.tab_core.specs.declared.vcpu.Vcpu.{Vcpu}
 use Rattle.tab_core.specs.declared.periodic.Periodic.{Periodic}
 use Rattle.table_form.specs.Tables.Rows.{Row}
-use Rattle.table_form.specs.Tables.Serves.{Serves, Apart, OwnersHaveTasks, has_task}
+use Rattle.table_form.specs.Tables.Serves.{Serves, ServesExactly, Apart, OwnersHaveTasks, has_task}
 use Rattle.table_form.specs.Tables.Homes.{HaveHomes}
 
--- each vCPU's task and home by its number, and each core's row
+-- each vCPU's task and home by its number, each core's row, and the vCPUs that run in their slots alone
 pub record PlanView : Type 0 where
   pub tasks : List (Option Periodic)
   pub homes : List (Option ℕ)
   pub rows : List Row
+  pub capped : List Bool
 
 -- what each plan keeps
 pub record IsPlan (plan : PlanView) : Type 0 where
@@ -19,6 +20,7 @@ pub record IsPlan (plan : PlanView) : Type 0 where
   pub apart : Apart plan.rows
   pub housed : HaveHomes plan.tasks plan.homes plan.rows
   pub owned : OwnersHaveTasks plan.tasks plan.rows
+  pub exact : ServesExactly plan.tasks plan.capped plan.rows
 
 -- the vCPU has a reservation
 abbrev pub is_reserved : Option Vcpu → Bool

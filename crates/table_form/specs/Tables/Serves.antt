@@ -2,8 +2,9 @@
 -- Source: the two promises of a reservation in M. Vanga, A. Gujarati, B. B. Brandenburg, "Tableau:
 -- a high-throughput and predictable VM scheduler for high-density workloads", EuroSys 2018, in
 -- ticks and periods of this project.
-use Rattle.std.specs.Prelude.{◌≡◌, ℕ, ◌+◌, ◌-◌, ◌*◌, ◌/◌, ◌<◌, ◌≤◌, ◌==◌, Bool, false, true, List, Option, Some, None, take, drop, count_by, slice_get}
+use Rattle.std.specs.Prelude.{◌≡◌, ℕ, ◌+◌, ◌-◌, ◌*◌, ◌/◌, ◌<◌, ◌≤◌, ◌==◌, Bool, false, true, List, Option, Some, None, take, drop, count_by, slice_get, IsTrue}
 use Rattle.std.specs.List.{sum_by}
+use Rattle.tab_core.specs.VcpuSets.{has_vcpu}
 use Rattle.tab_core.specs.declared.TheConstants.{ROUND}
 use Rattle.tab_core.specs.declared.periodic.Periodic.{Periodic}
 use Rattle.table_form.specs.Tables.Rows.{Row}
@@ -25,6 +26,12 @@ abbrev pub Serves : List (Option Periodic) → List Row → Type 0
 Serves tasks rows = (v : ℕ) (task : Periodic) → slice_get tasks v ≡ Some (Some task) → (k : ℕ)
     → k < ROUND / task.period →
     task.cost ≤ supply v rows (k * task.period) ((k + 1) * task.period)
+
+-- each of these vCPUs that has a task gets exactly its cost in each of its periods
+abbrev pub ServesExactly : List (Option Periodic) → List Bool → List Row → Type 0
+ServesExactly tasks capped rows = (v : ℕ) (task : Periodic) → slice_get tasks v ≡ Some (Some task)
+    → IsTrue (has_vcpu capped v) → (k : ℕ) → k < ROUND / task.period →
+    supply v rows (k * task.period) ((k + 1) * task.period) ≡ task.cost
 
 abbrev pub flat : {T : Type 0} → Option (Option T) → Option T
 flat None = None

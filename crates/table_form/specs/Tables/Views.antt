@@ -3,4 +3,9 @@ use Rattle.table_form.specs.Tables.Plans.{PlanView}
 use Rattle.table_form.specs.declared.plan.Plan.{Plan}
 
 abbrev pub plan_view : Plan → PlanView
-plan_view plan = record { tasks = plan.tasks; homes = plan.tables.homes; rows = plan.tables.rows }
+plan_view plan = record {
+  tasks = plan.tasks;
+  homes = plan.tables.homes;
+  rows = plan.tables.rows;
+  capped = plan.capped;
+}

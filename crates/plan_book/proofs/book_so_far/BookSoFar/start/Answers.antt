@@ -1,5 +1,3 @@
-use Rattle.std.proofs.Common.{ap, ◌∙◌}
-use Rattle.plan_book.specs.States.{runnable_at_first}
 use Rattle.plan_book.specs.declared.book_so_far.BookSoFar.{BookSoFar}
 use Rattle.plan_book.proofs.NextState.{fits_first, known_first}
 use Rattle.plan_book.proofs.book_so_far.BookSoFar.start.Goals as goal
@@ -10,12 +8,12 @@ returns-clause-first g c =
     record {
       host = c.in_ok-copy.field-0;
       plans = c.in_ok-only.field-0;
-      runnable = c.runnable_of.result;
+      runnable = c.runnable.result;
       outcomes = c.new.result;
     } in
     known_first c.args.host.now so_far c.in_ok-plan.plan c.in_ok-copy.ensures
     c.in_ok-plan.ensures.ok c.in_ok-only.ensures
-    (c.runnable_of.ensures ∙ ap runnable_at_first c.items.ensures.same) c.new.ensures.items
+    c.runnable.ensures c.new.ensures.items
 
 pub returns-clause-fits : goal.returns-clause-fits
 returns-clause-fits g c =
@@ -23,7 +21,7 @@ returns-clause-fits g c =
     record {
       host = c.in_ok-copy.field-0;
       plans = c.in_ok-only.field-0;
-      runnable = c.runnable_of.result;
+      runnable = c.runnable.result;
       outcomes = c.new.result;
     } in
     fits_first c.args.host.now so_far c.in_ok-plan.plan c.in_ok-copy.ensures
