@@ -1,7 +1,7 @@
 -- The second rule gives idle cells away, and only to vCPUs that may have more and have a cell in the row.
-use Rattle.std.proofs.Common.{◌≡◌, ℕ, zero, suc, ◌+◌, ◌-◌, ◌<◌, ◌≤◌, Bool, true, false, cond, ltb, List, [], ◌∷◌, ◌++◌, replicate, take, drop, slice_get, Option, Some, None, ◌⊎◌, refl, ap, subst, sym, ◌∙◌, inl, inr, arith}
+use Rattle.std.proofs.Common.{◌≡◌, ℕ, zero, suc, ◌+◌, ◌-◌, ◌<◌, ◌≤◌, Bool, true, false, cond, ltb, List, [], ◌∷◌, ◌++◌, replicate, take, drop, slice_get, Option, Some, None, refl, ap, subst, sym, ◌∙◌, inl, inr, arith}
 use Rattle.std.specs.List.{count_by}
-use Rattle.std.proofs.lemmas.Bool.{and_parts, cases_lt, false≢true}
+use Rattle.std.proofs.lemmas.Bool.{and_parts, cases_lt, false≢true, ne_eqb}
 use Rattle.std.proofs.lemmas.List.{length-replicate}
 use Rattle.std.proofs.lemmas.List.Sums.{sum_by-cons}
 use Rattle.table_form.specs.Tables.Rows.{Row}
@@ -12,62 +12,96 @@ use Rattle.coalesce.proofs.Filled.{filled_after_maximal, given_end}
 use Rattle.coalesce.proofs.Moved.{get_behind, get_front, get_replicate}
 use Rattle.table_form.proofs.SegmentLemmas.{cells_of, cells_of-cons, cells_of-nil, cells_of_front}
 
+-- what a cell becomes: it stays, or it was idle and is now of a vCPU that may have more
+pub data IsGrown (may_grow : ℕ → Bool) (c d : Option ℕ) : Type 0 where
+  Stays : d ≡ c → IsGrown may_grow c d
+  Gets : c ≡ None → (v : ℕ) → may_grow v ≡ true → d ≡ Some v → IsGrown may_grow c d
+
 -- only idle cells differ
-pub Grows : Row → Row → Type 0
-Grows [] [] = Unit {0}
-Grows [] (d ∷ ds) = ⊥
-Grows (c ∷ cs) [] = ⊥
-Grows (c ∷ cs) (d ∷ ds) = ((c ≡ None) ⊎ (d ≡ c)) × Grows cs ds
+pub Grows : (ℕ → Bool) → Row → Row → Type 0
+Grows may_grow [] [] = Unit {0}
+Grows may_grow [] (d ∷ ds) = ⊥
+Grows may_grow (c ∷ cs) [] = ⊥
+Grows may_grow (c ∷ cs) (d ∷ ds) = IsGrown may_grow c d × Grows may_grow cs ds
 
 -- rows without cells, where inductions end
-grows_nil : Grows [] []
+grows_nil : (may_grow : ℕ → Bool) → Grows may_grow [] []
 unfolding Grows
-grows_nil = tt
+grows_nil may_grow = tt
 
 -- a run whose owner stays, or that was idle, in front of rows that grow
-grows_run : (n : ℕ) (o p : Option ℕ) (cs ds : Row) → (o ≡ None) ⊎ (p ≡ o) → Grows cs ds
-    → Grows (replicate n o ++ cs)
-    (replicate n p ++ ds)
+grows_run : (may_grow : ℕ → Bool) (n : ℕ) (o p : Option ℕ) (cs ds : Row) → IsGrown may_grow o p
+    → Grows may_grow cs ds
+    → Grows may_grow (replicate n o ++ cs) (replicate n p ++ ds)
 unfolding Grows
-grows_run zero o p cs ds same rest = rest
-grows_run (suc n) o p cs ds same rest = (same, grows_run n o p cs ds same rest)
+grows_run may_grow zero o p cs ds same rest = rest
+grows_run may_grow (suc n) o p cs ds same rest = (same, grows_run may_grow n o p cs ds same rest)
 
 -- an interval's cells are a part of those behind its start
-grows_drop : (n : ℕ) (cs ds : Row) → Grows cs ds → Grows (drop n cs) (drop n ds)
+grows_drop : (may_grow : ℕ → Bool) (n : ℕ) (cs ds : Row) → Grows may_grow cs ds
+    → Grows may_grow (drop n cs) (drop n ds)
 unfolding Grows
-grows_drop zero cs ds g = g
-grows_drop (suc n) [] [] g = tt
-grows_drop (suc n) [] (d ∷ ds) g = absurd g
-grows_drop (suc n) (c ∷ cs) [] g = absurd g
-grows_drop (suc n) (c ∷ cs) (d ∷ ds) g = grows_drop n cs ds g.1
+grows_drop may_grow zero cs ds g = g
+grows_drop may_grow (suc n) [] [] g = tt
+grows_drop may_grow (suc n) [] (d ∷ ds) g = absurd g
+grows_drop may_grow (suc n) (c ∷ cs) [] g = absurd g
+grows_drop may_grow (suc n) (c ∷ cs) (d ∷ ds) g = grows_drop may_grow n cs ds g.1
 
 -- no vCPU loses a cell
-count_grows : (v n : ℕ) (cs ds : Row) → Grows cs ds
+count_grows : (may_grow : ℕ → Bool) (v n : ℕ) (cs ds : Row) → Grows may_grow cs ds
     → count_by (λ cell. is_cell_of v cell) (take n cs) ≤ count_by
     (λ cell. is_cell_of v cell) (take n ds)
 unfolding Grows
-count_grows v zero cs ds g = omega arith
-count_grows v (suc n) [] [] g = omega arith
-count_grows v (suc n) [] (d ∷ ds) g = absurd g
-count_grows v (suc n) (c ∷ cs) [] g = absurd g
-count_grows v (suc n) (c ∷ cs) (d ∷ ds) g =
-    let rest = count_grows v n cs ds g.1 in
+count_grows may_grow v zero cs ds g = omega arith
+count_grows may_grow v (suc n) [] [] g = omega arith
+count_grows may_grow v (suc n) [] (d ∷ ds) g = absurd g
+count_grows may_grow v (suc n) (c ∷ cs) [] g = absurd g
+count_grows may_grow v (suc n) (c ∷ cs) (d ∷ ds) g =
+    let rest = count_grows may_grow v n cs ds g.1 in
     let one : Option ℕ → ℕ = λ cell. cond (is_cell_of v cell) 1 0 in
     omega (arith, sum_by-cons one c (take n cs), sum_by-cons one d (take n ds), rest, no_less c d g.0)
   where
-    no_less : (c d : Option ℕ) → (c ≡ None) ⊎ (d ≡ c) → cond (is_cell_of v c) 1 0 ≤ cond (is_cell_of v d) 1 0
-    no_less c d (inl idle) =
+    no_less : (c d : Option ℕ) → IsGrown may_grow c d
+        → cond (is_cell_of v c) 1 0 ≤ cond (is_cell_of v d) 1 0
+    no_less c d (Gets idle w may is) =
         let none : ◌≡◌ {A = ℕ} (cond (is_cell_of v c) 1 0) 0 = rw idle refl in omega arith
-    no_less c d (inr same) =
+    no_less c d (Stays same) =
         let e : ◌≡◌ {A = ℕ} (cond (is_cell_of v d) 1 0) (cond (is_cell_of v c) 1 0) = ap {B = ℕ}
         (λ o. cond (is_cell_of v o) 1 0) same in omega arith
 
 -- so no vCPU has fewer cells in any interval
-pub within_grows : (v from to : ℕ) (row joined : Row) → Grows row joined
+pub within_grows : (may_grow : ℕ → Bool) (v from to : ℕ) (row joined : Row) → Grows may_grow row joined
     → cells_within v row from to ≤ cells_within v joined from to
 unfolding cells_within
-within_grows v from to row joined g = count_grows v (to - from) (drop from row) (drop from joined)
-    (grows_drop from row joined g)
+within_grows may_grow v from to row joined g = count_grows may_grow v (to - from) (drop from row)
+    (drop from joined) (grows_drop may_grow from row joined g)
+
+-- and one that may not have more gets no cell
+count_stays : (may_grow : ℕ → Bool) (v n : ℕ) (cs ds : Row) → may_grow v ≡ false → Grows may_grow cs ds
+    → count_by (λ cell. is_cell_of v cell) (take n ds) ≡ count_by (λ cell. is_cell_of v cell) (take n cs)
+unfolding Grows
+count_stays may_grow v zero cs ds no_more g = refl
+count_stays may_grow v (suc n) [] [] no_more g = refl
+count_stays may_grow v (suc n) [] (d ∷ ds) no_more g = absurd g
+count_stays may_grow v (suc n) (c ∷ cs) [] no_more g = absurd g
+count_stays may_grow v (suc n) (c ∷ cs) (d ∷ ds) no_more g =
+    let rest = count_stays may_grow v n cs ds no_more g.1 in
+    let one : Option ℕ → ℕ = λ cell. cond (is_cell_of v cell) 1 0 in
+    omega (arith, sum_by-cons one c (take n cs), sum_by-cons one d (take n ds), rest, no_other c d g.0)
+  where
+    no_other : (c d : Option ℕ) → IsGrown may_grow c d
+        → ◌≡◌ {A = ℕ} (cond (is_cell_of v d) 1 0) (cond (is_cell_of v c) 1 0)
+    no_other c d (Stays same) = ap {B = ℕ} (λ o. cond (is_cell_of v o) 1 0) same
+    no_other c d (Gets idle w may is) =
+        rw (idle, is) (ap {B = ℕ} (λ b. cond b 1 0) (ne_eqb v w (λ same. false≢true
+        (sym no_more ∙ ap may_grow same ∙ may))))
+
+-- so it has as many cells as before in each interval
+pub within_stays : (may_grow : ℕ → Bool) (v from to : ℕ) (row joined : Row) → may_grow v ≡ false
+    → Grows may_grow row joined → cells_within v joined from to ≡ cells_within v row from to
+unfolding cells_within
+within_stays may_grow v from to row joined no_more g = count_stays may_grow v (to - from) (drop from row)
+    (drop from joined) no_more (grows_drop may_grow from row joined g)
 
 -- what a segment becomes
 pub data IsGift (may_grow : ℕ → Bool) (x y : SegmentView) (owner : Option ℕ) : Type 0 where
@@ -95,10 +129,9 @@ gift_of may_grow sliver x y = by_test (is_given may_grow sliver x.owner y.owner 
 
 -- in both only an idle segment changes its owner
 gift_grows : (may_grow : ℕ → Bool) (x y : SegmentView) (owner : Option ℕ) → IsGift may_grow x y owner
-    → (y.owner ≡ None) ⊎
-    (owner ≡ y.owner)
-gift_grows may_grow x y owner (Kept same) = inr same
-gift_grows may_grow x y owner (Gift v of_x of_y may is) = inl of_y
+    → IsGrown may_grow y.owner owner
+gift_grows may_grow x y owner (Kept same) = Stays same
+gift_grows may_grow x y owner (Gift v of_x of_y may is) = Gets of_y v may (is ∙ of_x)
 
 -- the cells of the segments behind the first
 filled_cells : (may_grow : ℕ → Bool) (sliver start : ℕ) (x y : SegmentView) (ts : List SegmentView) (end : ℕ)
@@ -117,14 +150,15 @@ filled_cells may_grow sliver start x y ts end m =
 pub filled_grows : (may_grow : ℕ
     → Bool) (sliver start : ℕ) (x : SegmentView) (ts : List SegmentView) (end : ℕ)
     → AreMaximal start ts end
-    → Grows (cells_of start ts) (cells_of start (filled_after may_grow sliver x ts))
+    → Grows may_grow (cells_of start ts) (cells_of start (filled_after may_grow sliver x ts))
 filled_grows may_grow sliver start x [] end m =
-    subst (λ row. Grows row row) (sym (cells_of-nil start)) grows_nil
+    subst (λ row. Grows may_grow row row) (sym (cells_of-nil start)) (grows_nil may_grow)
 filled_grows may_grow sliver start x (y ∷ ts) end m =
-    subst (Grows (cells_of start (y ∷ ts))) (sym (filled_cells may_grow sliver start x y ts end m))
-    (subst (λ row. Grows row (replicate (y.end - start) (given may_grow sliver x y).owner ++ cells_of y.end
-    (filled_after may_grow sliver y ts))) (sym (cells_of-cons start y ts))
-    (grows_run (y.end - start) y.owner (given may_grow sliver x y).owner (cells_of y.end ts)
+    subst (Grows may_grow (cells_of start (y ∷ ts)))
+    (sym (filled_cells may_grow sliver start x y ts end m))
+    (subst (λ row. Grows may_grow row (replicate (y.end - start) (given may_grow sliver x y).owner
+    ++ cells_of y.end (filled_after may_grow sliver y ts))) (sym (cells_of-cons start y ts))
+    (grows_run may_grow (y.end - start) y.owner (given may_grow sliver x y).owner (cells_of y.end ts)
     (cells_of y.end (filled_after may_grow sliver y ts))
     (gift_grows may_grow x y (given may_grow sliver x y).owner (gift_of may_grow sliver x y))
     (filled_grows may_grow sliver y.end y ts end m.2)))

@@ -33,7 +33,7 @@ abbrev pub AreInWindows : List Piece → Row → Type 0
 AreInWindows pieces row = (vcpu tick : ℕ) → slice_get row tick ≡ Some (Some vcpu) → InWindow pieces vcpu tick
 
 -- pieces of one vCPU on a core are one
-one_piece : (pieces : List Piece) (i j : ℕ) (p q : Piece) → DistinctVcpus pieces → slice_get pieces i ≡ Some p
+pub one_piece : (pieces : List Piece) (i j : ℕ) (p q : Piece) → DistinctVcpus pieces → slice_get pieces i ≡ Some p
     → slice_get pieces j ≡ Some q → p.vcpu ≡ q.vcpu → p ≡ q
 one_piece pieces i j p q distinct at at' same = same_Some p q
     (sym at ∙ ap (slice_get pieces) (distinct i j p q at at' same) ∙ at')

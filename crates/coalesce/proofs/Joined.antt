@@ -7,7 +7,7 @@ use Rattle.table_form.specs.Planning.Drafts.{pieces_at}
 use Rattle.table_form.specs.Tables.Rows.{Row, cells_from}
 use Rattle.table_form.specs.Tables.Segments.{AreMaximal, SegmentView, put_front, segment_view, segments_from}
 use Rattle.table_form.specs.declared.segment.Segment.{Segment}
-use Rattle.coalesce.specs.Joining.{AreJoined, IsJoined, SwapsTo, filled, filled_after, given, has_single_piece, is_given}
+use Rattle.coalesce.specs.Joining.{AreJoined, IsJoined, SwapsTo, filled, filled_after, given, is_given, may_have_more}
 use Rattle.coalesce.proofs.Filled.{filled_after_length, filled_maximal}
 use Rattle.coalesce.proofs.Swapping.{swaps_shorten}
 use Rattle.table_form.proofs.SegmentLemmas.{segments_are, segments_of_cells}
@@ -63,29 +63,29 @@ joined_by pieces f g sliver row joined same is = record {
 }
 
 -- the rows of the first cores are joined
-pub record JoinedSoFar (pieces : List Piece) (sliver : ℕ) (rows : List Row) (core : ℕ)
-    (joined : List Row) : Type 0 where
+pub record JoinedSoFar (pieces : List Piece) (capped : List Bool) (sliver : ℕ) (rows : List Row)
+    (core : ℕ) (joined : List Row) : Type 0 where
   pub size : length joined ≡ core
   pub each : (c : ℕ) (row new : Row) → slice_get rows c ≡ Some row → slice_get joined c ≡ Some new → IsJoined
-      (pieces_at pieces c) (has_single_piece pieces) sliver row new
+      (pieces_at pieces c) (may_have_more pieces capped) sliver row new
 
 -- one row more
-pub one_joined : (pieces : List Piece) (sliver : ℕ) (rows : List Row) (core : ℕ) (joined : List Row)
+pub one_joined : (pieces : List Piece) (capped : List Bool) (sliver : ℕ) (rows : List Row) (core : ℕ) (joined : List Row)
     (row new : Row)
     → slice_get rows core ≡ Some row
-    → IsJoined (pieces_at pieces core) (has_single_piece pieces) sliver row new
-    → JoinedSoFar pieces sliver rows core joined
-    → JoinedSoFar pieces sliver rows (core + 1) (joined ++ new ∷ [])
-one_joined pieces sliver rows core joined row new at is so_far = record {
+    → IsJoined (pieces_at pieces core) (may_have_more pieces capped) sliver row new
+    → JoinedSoFar pieces capped sliver rows core joined
+    → JoinedSoFar pieces capped sliver rows (core + 1) (joined ++ new ∷ [])
+one_joined pieces capped sliver rows core joined row new at is so_far = record {
   size = omega (arith, length-append joined (new ∷ []), so_far.size);
   each = λ c row' new' row_at new_at. elim (last_cases joined c new' new_at) [
     | inl old ↦ so_far.each c row' new' row_at old
     | inr last ↦
         let here : c ≡ core = last.0 ∙ so_far.size in
         let same_row : row ≡ row' = same_Some row row' (sym at ∙ ap (slice_get rows) (sym here) ∙ row_at) in
-        subst (λ r. IsJoined (pieces_at pieces c) (has_single_piece pieces) sliver r new') same_row
-        (subst (λ n. IsJoined (pieces_at pieces c) (has_single_piece pieces) sliver row n) last.1
-        (subst (λ k. IsJoined (pieces_at pieces k) (has_single_piece pieces) sliver row new) (sym here) is))
+        subst (λ r. IsJoined (pieces_at pieces c) (may_have_more pieces capped) sliver r new') same_row
+        (subst (λ n. IsJoined (pieces_at pieces c) (may_have_more pieces capped) sliver row n) last.1
+        (subst (λ k. IsJoined (pieces_at pieces k) (may_have_more pieces capped) sliver row new) (sym here) is))
   ];
 }
   where
@@ -114,11 +114,14 @@ no_more_segments pieces may_grow sliver row joined is =
     )
 
 -- the same of what equals them
-pub joined_as : (pieces pieces' : List Piece) (sliver : ℕ) (rows rows' joined joined' : List Row)
-    → pieces' ≡ pieces
-    → rows' ≡ rows → joined ≡ joined' → AreJoined pieces' sliver rows' joined'
-    → AreJoined pieces sliver rows joined
-joined_as pieces pieces' sliver rows rows' joined joined' of_pieces of_rows of_joined are =
-    subst (λ ps. AreJoined ps sliver rows joined) of_pieces
-    (subst (λ rs. AreJoined pieces' sliver rs joined) of_rows
-    (subst (AreJoined pieces' sliver rows') (sym of_joined) are))
+pub joined_as : (pieces pieces' : List Piece) (capped capped' : List Bool) (sliver : ℕ)
+    (rows rows' joined joined' : List Row)
+    → pieces' ≡ pieces → capped' ≡ capped
+    → rows' ≡ rows → joined ≡ joined' → AreJoined pieces' capped' sliver rows' joined'
+    → AreJoined pieces capped sliver rows joined
+joined_as pieces pieces' capped capped' sliver rows rows' joined joined' of_pieces of_capped of_rows of_joined
+    are =
+    subst (λ ps. AreJoined ps capped sliver rows joined) of_pieces
+    (subst (λ set. AreJoined pieces' set sliver rows joined) of_capped
+    (subst (λ rs. AreJoined pieces' capped' sliver rs joined) of_rows
+    (subst (AreJoined pieces' capped' sliver rows') (sym of_joined) are)))

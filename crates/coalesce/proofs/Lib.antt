@@ -1,6 +1,7 @@
 pub mod Built
 pub mod Counts
 pub mod Ends
+pub mod Exact
 pub mod Filled
 pub mod Grown
 pub mod Inside

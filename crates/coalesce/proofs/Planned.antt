@@ -1,15 +1,16 @@
 -- The joined rows of a draft make a plan.
-use Rattle.std.proofs.Common.{◌≡◌, ◌≢◌, ℕ, zero, suc, ◌+◌, ◌-◌, ◌*◌, ◌/◌, ◌%◌, ◌<◌, ◌≤◌, cond, eqb, List, [], ◌∷◌, length, get_or, slice_get, Option, Some, None, refl, ap, subst, sym, ◌∙◌, inl, inr, arith}
+use Rattle.std.proofs.Common.{◌≡◌, ◌≢◌, ℕ, zero, suc, ◌+◌, ◌-◌, ◌*◌, ◌/◌, ◌%◌, ◌<◌, ◌≤◌, Bool, true, false, ◌&&◌, not, cond, eqb, List, [], ◌∷◌, length, get_or, slice_get, Option, Some, None, refl, ap, subst, sym, ◌∙◌, inl, inr, arith}
 use Rattle.std.specs.List.{count_by}
 use Rattle.std.specs.Prelude.{IsTrue}
 use Rattle.std.proofs.Math.Nat.{add-mul-mod_self_right, mod-add-div', mod-eq_of_lt}
-use Rattle.std.proofs.lemmas.Bool.{cases_eq, eq-eqb, eqb-true, ne_eqb}
+use Rattle.std.proofs.lemmas.Bool.{and_parts, cases_eq, eq-eqb, eqb-true, ne_eqb}
 use Rattle.std.proofs.lemmas.List.Sums.{sum_by-cons}
 use Rattle.std.proofs.lemmas.Option.{same_Some, slice_get-get_or, slice_get_within}
+use Rattle.tab_core.specs.VcpuSets.{has_vcpu}
 use Rattle.tab_core.specs.declared.TheConstants.{ROUND}
 use Rattle.tab_core.specs.declared.periodic.Periodic.{Periodic}
 use Rattle.tab_core.specs.declared.piece.Piece.{Piece}
-use Rattle.table_form.specs.Planning.Drafts.{HaveOwnCores, IsDraft, KeepInWindows, has_in_window, pieces_at}
+use Rattle.table_form.specs.Planning.Drafts.{HaveOwnCores, HavePeriods, IsDraft, KeepInWindows, has_in_window, pieces_at}
 use Rattle.table_form.specs.Tables.Homes.{are_housed}
 use Rattle.table_form.specs.Tables.Plans.{IsPlan}
 use Rattle.table_form.specs.Tables.Rows.{Row}
@@ -18,9 +19,10 @@ use Rattle.table_form.specs.Tables.Segments.{segments_from}
 use Rattle.table_form.proofs.Drafting.{distinct_at, found_in, on_core, window_of}
 use Rattle.table_form.proofs.Filters.{slice_get-filter}
 use Rattle.table_form.proofs.Supplies.{cells_within-le}
-use Rattle.table_form.proofs.Serving.{GiveCosts, IsPlaceOf, KeepPlaces, rows_apart, rows_owned, rows_serve}
-use Rattle.coalesce.specs.Joining.{AreJoined, IsJoined, filled, has_single_piece}
-use Rattle.coalesce.proofs.Grown.{Grows, IsGrownCell, filled_grows, grown_cell, within_grows}
+use Rattle.table_form.proofs.Serving.{GiveCosts, GiveExactly, IsPlaceOf, KeepPlaces, period_of_task, rows_apart, rows_owned, rows_serve, rows_serve_exactly}
+use Rattle.coalesce.specs.Joining.{AreJoined, IsJoined, filled, has_single_piece, may_have_more}
+use Rattle.coalesce.proofs.Exact.{exact_in_row}
+use Rattle.coalesce.proofs.Grown.{Grows, IsGrownCell, filled_grows, grown_cell, within_grows, within_stays}
 use Rattle.coalesce.proofs.Grown.IsGrownCell.{HasBefore, HasCell, Was}
 use Rattle.coalesce.proofs.Inside.{AreInWindows, AreServed, swaps_serve}
 use Rattle.coalesce.proofs.Swapping.{swaps_keep}
@@ -45,22 +47,22 @@ draft_row_inside pieces rows core row inside at vcpu tick cell =
     }
 
 -- a joined row: after the swaps it serves each job in its window, and then only idle cells are given away
-pub record IsGrownRow (pieces : List Piece) (core : ℕ) (new : Row) : Type 0 where
+pub record IsGrownRow (pieces : List Piece) (capped : List Bool) (core : ℕ) (new : Row) : Type 0 where
   pub swapped : Row
   pub served : AreServed (pieces_at pieces core) swapped
-  pub grows : Grows swapped new
+  pub grows : Grows (may_have_more pieces capped) swapped new
   pub cells : (place v : ℕ) → slice_get new place ≡ Some (Some v) → IsGrownCell
-      (has_single_piece pieces) None swapped place v
+      (may_have_more pieces capped) None swapped place v
 
 -- both rules, one after the other, on one core's row
-joined_row : (pieces : List Piece) (sliver core : ℕ) (row new : Row) → HaveOwnCores pieces → AreServed
-    (pieces_at pieces core) row → IsJoined (pieces_at pieces core) (has_single_piece pieces) sliver row new
-    → IsGrownRow pieces core new
-joined_row pieces sliver core row new own served is =
+joined_row : (pieces : List Piece) (capped : List Bool) (sliver core : ℕ) (row new : Row) → HaveOwnCores pieces → AreServed
+    (pieces_at pieces core) row → IsJoined (pieces_at pieces core) (may_have_more pieces capped) sliver row new
+    → IsGrownRow pieces capped core new
+joined_row pieces capped sliver core row new own served is =
     let m = maximal_of_row 0 row (length row) (omega arith) in
     let m' = swaps_keep (pieces_at pieces core) sliver 0 (length row) is.end
     (segments_from 0 row) is.swaps m in
-    let new_is : new ≡ cells_of 0 (filled (has_single_piece pieces) sliver is.end) =
+    let new_is : new ≡ cells_of 0 (filled (may_have_more pieces capped) sliver is.end) =
     sym (cells_of_segments 0 new)
     ∙ ap (cells_of 0) is.fills in
     record {
@@ -68,47 +70,47 @@ joined_row pieces sliver core row new own served is =
       served = swaps_serve (pieces_at pieces core) sliver (length row) is.end (segments_from 0 row)
           (distinct_at pieces core own) is.swaps m
           (subst (AreServed (pieces_at pieces core)) (sym (cells_of_segments 0 row)) served);
-      grows = subst (Grows (cells_of 0 is.end)) (sym new_is)
-          (filled_grows (has_single_piece pieces) sliver 0 (record { owner = None; end = 0 }) is.end
+      grows = subst (Grows (may_have_more pieces capped) (cells_of 0 is.end)) (sym new_is)
+          (filled_grows (may_have_more pieces capped) sliver 0 (record { owner = None; end = 0 }) is.end
           (length row) m');
-      cells = λ place v at. grown_cell (has_single_piece pieces) sliver 0
+      cells = λ place v at. grown_cell (may_have_more pieces capped) sliver 0
           (record { owner = None; end = 0 }) is.end
           (length row) place v m' (ap (λ r. slice_get r place) (sym new_is) ∙ at);
     }
 
 -- each row of the plan is such
-pub grown_rows : (tasks : List (Option Periodic)) (pieces : List Piece) (homes : List (Option ℕ)) (sliver : ℕ)
-    (rows joined : List Row) → IsDraft tasks pieces homes rows → AreJoined pieces sliver rows joined
-    → (core : ℕ) (new : Row) → slice_get joined core ≡ Some new → IsGrownRow pieces core new
-grown_rows tasks pieces homes sliver rows joined draft are core new at =
+pub grown_rows : (tasks : List (Option Periodic)) (pieces : List Piece) (homes : List (Option ℕ)) (capped : List Bool) (sliver : ℕ)
+    (rows joined : List Row) → IsDraft tasks pieces homes rows → AreJoined pieces capped sliver rows joined
+    → (core : ℕ) (new : Row) → slice_get joined core ≡ Some new → IsGrownRow pieces capped core new
+grown_rows tasks pieces homes capped sliver rows joined draft are core new at =
     let lt = slice_get_within joined core new at in
     let row = get_or rows core [] in
     let row_at = slice_get-get_or rows core [] (omega (arith, lt, are.size)) in
-    joined_row pieces sliver core row new draft.own_cores
+    joined_row pieces capped sliver core row new draft.own_cores
     (record {
       serves = draft.serves core row row_at;
       inside = draft_row_inside pieces rows core row draft.inside row_at;
     }) (are.each core row new row_at at)
 
 -- so each job has at least its cost inside its window
-pub jobs_served : (pieces : List Piece) (core : ℕ) (new : Row) → IsGrownRow pieces core new
+pub jobs_served : (pieces : List Piece) (capped : List Bool) (core : ℕ) (new : Row) → IsGrownRow pieces capped core new
     → (i k : ℕ) (p : Piece)
     → slice_get (pieces_at pieces core) i ≡ Some p → k < ROUND / p.period
     → p.cost ≤ cells_within p.vcpu new (k * p.period + p.from) (k * p.period + p.to)
-jobs_served pieces core new grown i k p at lt =
+jobs_served pieces capped core new grown i k p at lt =
     omega (
       arith,
       grown.served.serves i k p at lt,
-      within_grows p.vcpu (k * p.period + p.from)
+      within_grows (may_have_more pieces capped) p.vcpu (k * p.period + p.from)
           (k * p.period + p.to) grown.swapped new grown.grows,
     )
 
 -- so each period has the cost, since the window lies in it
-costs_given : (pieces : List Piece) (joined : List Row) →
-    ((core : ℕ) (new : Row) → slice_get joined core ≡ Some new → IsGrownRow pieces core new)
+costs_given : (pieces : List Piece) (capped : List Bool) (joined : List Row) →
+    ((core : ℕ) (new : Row) → slice_get joined core ≡ Some new → IsGrownRow pieces capped core new)
     → GiveCosts pieces joined
-costs_given pieces joined grown core new new_at i k p at lt =
-    let served = jobs_served pieces core new (grown core new new_at) i k p at lt in
+costs_given pieces capped joined grown core new new_at i k p at lt =
+    let served = jobs_served pieces capped core new (grown core new new_at) i k p at lt in
     let more = cells_within-le p.vcpu new (k * p.period) (k * p.period + p.from) (k * p.period + p.to)
     ((k + 1) * p.period) (omega arith) (omega (arith, p.begins)) (omega (arith, p.within)) in
     omega (arith, served, more)
@@ -172,11 +174,11 @@ single_is_one v (r ∷ ps) one i j p q at at' own own' =
     both_later other rest (suc i) (suc j) at at' = rest i j at at'
 
 -- each cell is at a place of its vCPU
-cell_at_place : (pieces : List Piece) (core tick v : ℕ) (new : Row) → IsGrownRow pieces core new
+cell_at_place : (pieces : List Piece) (capped : List Bool) (core tick v : ℕ) (new : Row) → IsGrownRow pieces capped core new
     → slice_get new tick ≡ Some (Some v) → IsPlaceOf pieces v tick core
-cell_at_place pieces core tick v new grown at = by_cell (grown.cells tick v at)
+cell_at_place pieces capped core tick v new grown at = by_cell (grown.cells tick v at)
   where
-    by_cell : IsGrownCell (has_single_piece pieces) None grown.swapped tick v → IsPlaceOf pieces v tick core
+    by_cell : IsGrownCell (may_have_more pieces capped) None grown.swapped tick v → IsPlaceOf pieces v tick core
     by_cell (Was was) =
         let w = grown.served.inside v tick was in
         let kept = slice_get-filter (λ (p : Piece). eqb p.core core) pieces w.at w.piece w.listed in
@@ -195,7 +197,8 @@ cell_at_place pieces core tick v new grown at = by_cell (grown.cells tick v at)
         let kept = slice_get-filter (λ (p : Piece). eqb p.core core) pieces w.at w.piece w.listed in
         let p = w.piece in
         let on = on_core pieces core w.at p w.listed in
-        let one = eqb-true (count_by (λ (q : Piece). eqb q.vcpu v) pieces) 1 may in
+        let one = eqb-true (count_by (λ (q : Piece). eqb q.vcpu v) pieces) 1
+        (and_parts (has_single_piece pieces v) (not (has_vcpu capped v)) may).0 in
         record {
           place = kept.place;
           piece = p;
@@ -222,25 +225,49 @@ owner_in_row rows core tick v owned = in_row (slice_get rows core) refl owned
     in_row (Some row) is e = (row, is, in_cell row (slice_get row tick) refl e)
 
 -- so the owners of all cells are, which keeps the rows apart
-places_kept : (pieces : List Piece) (joined : List Row) →
-    ((core : ℕ) (new : Row) → slice_get joined core ≡ Some new → IsGrownRow pieces core new)
+places_kept : (pieces : List Piece) (capped : List Bool) (joined : List Row) →
+    ((core : ℕ) (new : Row) → slice_get joined core ≡ Some new → IsGrownRow pieces capped core new)
     → KeepPlaces pieces joined
-places_kept pieces joined grown v tick core owned =
+places_kept pieces capped joined grown v tick core owned =
     let row = owner_in_row joined core tick v owned in
-    cell_at_place pieces core tick v row.0 (grown core row.0 row.1) row.2
+    cell_at_place pieces capped core tick v row.0 (grown core row.0 row.1) row.2
+
+-- and a capped vCPU gets exactly what its pieces cost
+capped_exactly : (tasks : List (Option Periodic)) (pieces : List Piece) (capped : List Bool)
+    (joined : List Row) (v : ℕ) (task : Periodic) → HavePeriods tasks pieces → HaveOwnCores pieces
+    → ((core : ℕ) (new : Row) → slice_get joined core ≡ Some new → IsGrownRow pieces capped core new)
+    → slice_get tasks v ≡ Some (Some task) → IsTrue (has_vcpu capped v) → GiveExactly pieces joined v task
+capped_exactly tasks pieces capped joined v task periods own grown has capped_v core new at k lt =
+    let is = grown core new at in
+    let no_more : may_have_more pieces capped v ≡ false =
+    ap (λ b. has_single_piece pieces v && not b) capped_v ∙ and_false (has_single_piece pieces v) in
+    exact_in_row (pieces_at pieces core) is.swapped v k task.period (distinct_at pieces core own) is.served
+    (λ i p listed own_v.
+    let kept = slice_get-filter (λ (q : Piece). eqb q.core core) pieces i p listed in
+    period_of_task tasks pieces kept.place p task periods kept.at (ap (slice_get tasks) own_v ∙ has)) lt
+    ∙ sym (within_stays (may_have_more pieces capped) v (k * task.period) ((k + 1) * task.period) is.swapped
+    new no_more is.grows)
+  where
+    and_false : (b : Bool) → (b && false) ≡ false
+    and_false true = refl
+    and_false false = refl
 
 -- the plan of a draft
 pub joined_is_plan : (tasks : List (Option Periodic)) (pieces : List Piece)
-    (homes : List (Option ℕ)) (sliver : ℕ)
-    (rows joined : List Row) → IsDraft tasks pieces homes rows → AreJoined pieces sliver rows joined
-    → IsPlan (record { tasks = tasks; homes = homes; rows = joined })
-joined_is_plan tasks pieces homes sliver rows joined draft are =
-    let grown = grown_rows tasks pieces homes sliver rows joined draft are in
-    let keep = places_kept pieces joined grown in
+    (homes : List (Option ℕ)) (capped : List Bool) (sliver : ℕ)
+    (rows joined : List Row) → IsDraft tasks pieces homes rows → AreJoined pieces capped sliver rows joined
+    → IsPlan (record { tasks = tasks; homes = homes; rows = joined; capped = capped })
+joined_is_plan tasks pieces homes capped sliver rows joined draft are =
+    let grown = grown_rows tasks pieces homes capped sliver rows joined draft are in
+    let keep = places_kept pieces capped joined grown in
     record {
       serves = rows_serve tasks pieces joined draft.periods draft.costs draft.own_cores
-          (λ i p at. omega (arith, draft.on_rows i p at, are.size)) (costs_given pieces joined grown);
+          (λ i p at. omega (arith, draft.on_rows i p at, are.size)) (costs_given pieces capped joined grown);
       apart = rows_apart tasks pieces joined draft.periods draft.own_windows keep;
       housed = subst (λ n. IsTrue (are_housed n tasks homes)) (sym are.size) draft.housed;
       owned = rows_owned tasks pieces joined draft.periods keep;
+      exact = rows_serve_exactly tasks pieces joined capped draft.costs
+          (λ i p at. omega (arith, draft.on_rows i p at, are.size))
+          (λ v task has capped_v. capped_exactly tasks pieces capped joined v task draft.periods
+          draft.own_cores grown has capped_v);
     }

@@ -6,7 +6,7 @@ use Rattle.tab_core.specs.declared.piece.Piece.{Piece}
 use Rattle.table_form.specs.Planning.Drafts.{pieces_at}
 use Rattle.table_form.specs.Tables.Rows.{Row}
 use Rattle.table_form.specs.Tables.Segments.{SegmentView, segments_from}
-use Rattle.coalesce.specs.Joining.{AreJoined, CanSwap, IsJoined, NoSwap, has_single_piece, SwapsLeftmost, SwapsTo, filled, swapped}
+use Rattle.coalesce.specs.Joining.{AreJoined, CanSwap, IsJoined, NoSwap, may_have_more, SwapsLeftmost, SwapsTo, filled, swapped}
 use Rattle.coalesce.specs.Joining.SwapsTo.{Again, Done}
 use Rattle.table_form.proofs.SegmentLemmas.{same_row}
 
@@ -109,14 +109,14 @@ joined_unique pieces may_grow sliver row a b s t =
     same_row a b (s.fills ∙ ap (filled may_grow sliver) same ∙ sym t.fills)
 
 -- so the rows of all cores are determined
-pub rows_unique : (pieces : List Piece) (sliver : ℕ) (rows a b : List Row) → AreJoined pieces sliver rows a
-    → AreJoined pieces sliver rows b → a ≡ b
-rows_unique pieces sliver rows a b s t = ext_get_or [] a b (s.size ∙ sym t.size) (λ core lt. (
+pub rows_unique : (pieces : List Piece) (capped : List Bool) (sliver : ℕ) (rows a b : List Row) → AreJoined pieces capped sliver rows a
+    → AreJoined pieces capped sliver rows b → a ≡ b
+rows_unique pieces capped sliver rows a b s t = ext_get_or [] a b (s.size ∙ sym t.size) (λ core lt. (
     let lt_row : core < length rows = omega (arith, s.size, lt) in
     let lt_b : core < length b = omega (arith, t.size, lt_row) in
     let row = get_or rows core [] in
     let at = slice_get-get_or rows core [] lt_row in
-    joined_unique (pieces_at pieces core) (has_single_piece pieces) sliver row (get_or a core [])
+    joined_unique (pieces_at pieces core) (may_have_more pieces capped) sliver row (get_or a core [])
     (get_or b core [])
     (s.each core row (get_or a core []) at (slice_get-get_or a core [] lt))
     (t.each core row (get_or b core []) at (slice_get-get_or b core [] lt_b))))

@@ -2,7 +2,8 @@
 -- Source: the coalescing of allocations too short to be of use in M. Vanga, A. Gujarati, B. B.
 -- Brandenburg, "Tableau: a high-throughput and predictable VM scheduler for high-density
 -- workloads", EuroSys 2018; the two rules are this project's own.
-use Rattle.std.specs.Prelude.{◌≡◌, ℕ, ◌+◌, ◌-◌, ◌*◌, ◌<◌, ◌==◌, ◌&&◌, Bool, false, nat_lt, if◌then◌else◌, List, [], ◌∷◌, ◌++◌, Option, Some, None, count_by, length, slice_get}
+use Rattle.std.specs.Prelude.{◌≡◌, ℕ, ◌+◌, ◌-◌, ◌*◌, ◌<◌, ◌==◌, ◌&&◌, Bool, false, not, nat_lt, if◌then◌else◌, List, [], ◌∷◌, ◌++◌, Option, Some, None, count_by, length, slice_get}
+use Rattle.tab_core.specs.VcpuSets.{has_vcpu}
 use Rattle.tab_core.specs.declared.piece.Piece.{Piece}
 use Rattle.table_form.specs.Planning.Drafts.{pieces_at}
 use Rattle.table_form.specs.Tables.Rows.{Row}
@@ -96,8 +97,13 @@ pub record IsJoined (pieces : List Piece) (may_grow : ℕ → Bool) (sliver : �
 abbrev pub has_single_piece : List Piece → ℕ → Bool
 has_single_piece pieces vcpu = count_by (λ p. p.vcpu == vcpu) pieces == 1
 
+-- the vCPU may have more ticks than its cost: it has a single piece, and doesn't run in its slots alone
+abbrev pub may_have_more : List Piece → List Bool → ℕ → Bool
+may_have_more pieces capped vcpu = has_single_piece pieces vcpu && not (has_vcpu capped vcpu)
+
 -- the rows of a plan after joining, core by core
-pub record AreJoined (pieces : List Piece) (sliver : ℕ) (rows joined : List Row) : Type 0 where
+pub record AreJoined (pieces : List Piece) (capped : List Bool) (sliver : ℕ)
+    (rows joined : List Row) : Type 0 where
   pub size : length joined ≡ length rows
   pub each : (core : ℕ) (row new : Row) → slice_get rows core ≡ Some row → slice_get joined core ≡ Some new
-      → IsJoined (pieces_at pieces core) (has_single_piece pieces) sliver row new
+      → IsJoined (pieces_at pieces core) (may_have_more pieces capped) sliver row new

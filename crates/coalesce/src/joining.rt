@@ -38,13 +38,14 @@ fn join_rows(
     alloc: Global,
     rows: &[CoreTable],
     pieces: &[Piece],
+    capped: &VcpuSet,
     sliver: u32,
 ) -> Result<Vec<CoreTable>, NoMemory>
     requires own_cores { HaveOwnCores pieces.now }
     requires few { length rows.now ≤ MAX_CORES }
-    ensures { IfOk result (λ joined. AreJoined pieces.now sliver rows.now joined.items) }
+    ensures { IfOk result (λ joined. AreJoined pieces.now capped.now sliver rows.now joined.items) }
 {
-    let may_grow = single_vcpus(pieces);
+    let may_grow = single_vcpus(pieces).without(capped);
     let mut joined = Vec::with_capacity(alloc, rows.len())?;
     for core in 0..rows.len() {
         let table = table_of(alloc, pieces, CoreNo(core as u32))?;
@@ -59,21 +60,24 @@ fn join_rows(
 /// First, of three neighbouring segments A, B, A of two vCPUs, of which B's is such a sliver, the
 /// third comes before B's, if strictly between B's begin and the end of the three no window of A's
 /// piece on the core begins and none of B's ends. That is done at the leftmost place until it can
-/// be done nowhere. Then each idle sliver behind a segment of a vCPU with a single piece becomes
-/// that vCPU's.
+/// be done nowhere. Then each idle sliver behind a segment of a vCPU that isn't capped and has a
+/// single piece becomes that vCPU's.
 ///
-/// So each job has at least its cost of ticks inside its window, and no row has more segments than
-/// before. Only want of memory prevents it.
+/// So each job has at least its cost of ticks inside its window, a capped vCPU has exactly its cost
+/// in each of its periods, and no row has more segments than before. Only want of memory prevents
+/// it.
 ///
 /// Source: the coalescing of M. Vanga, A. Gujarati and B. B. Brandenburg, EuroSys 2018.
 pub fn join_slivers(alloc: Global, draft: &Draft, sliver: u32) -> Result<Plan, NoMemory>
     ensures joined { IfOk result
-        (λ plan. AreJoined draft.now.pieces sliver draft.now.tables.rows plan.tables.rows) }
+        (λ plan. AreJoined draft.now.pieces draft.now.capped sliver draft.now.tables.rows
+        plan.tables.rows) }
     ensures only { IfOk result (λ plan. (rows : List Row)
-        → AreJoined draft.now.pieces sliver draft.now.tables.rows rows
+        → AreJoined draft.now.pieces draft.now.capped sliver draft.now.tables.rows rows
         → rows ≡ plan.tables.rows) }
     ensures tasks { IfOk result (λ plan. plan.tasks ≡ draft.now.tasks) }
     ensures homes { IfOk result (λ plan. plan.tables.homes ≡ draft.now.tables.homes) }
+    ensures capped { IfOk result (λ plan. plan.capped ≡ draft.now.capped) }
     ensures jobs { IfOk result (λ plan. (core i k : ℕ) (row : Row) (p : Piece)
         → slice_get plan.tables.rows core ≡ Some row → slice_get (pieces_at draft.now.pieces core) i ≡ Some p
         → k < ROUND / p.period
@@ -87,6 +91,7 @@ pub fn join_slivers(alloc: Global, draft: &Draft, sliver: u32) -> Result<Plan, N
         alloc,
         draft.tables.rows.items(),
         draft.pieces.items(),
+        &draft.capped,
         sliver,
     )?;
     let homes = Vec::from_slice(alloc, draft.tables.homes.items())?;
@@ -97,5 +102,6 @@ pub fn join_slivers(alloc: Global, draft: &Draft, sliver: u32) -> Result<Plan, N
             homes: Homes::of(homes),
             rows: Rows::of(joined),
         },
+        capped: draft.capped.copy(),
     })
 }

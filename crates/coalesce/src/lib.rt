@@ -1,5 +1,5 @@
 //! Coalescing: of a core's row short segments, its slivers, are moved together where no window
-//! forbids it, and short idle ones go to the vCPU before them.
+//! forbids it, and short idle ones go to the vCPU before them, if that may have more.
 //!
 //! `AreJoined` in `specs/Joining.antt` says which rows the joined rows are: on each core the first
 //! rule is applied at its leftmost place until it applies nowhere, and then the second everywhere.

@@ -166,6 +166,7 @@ fn idle_draft(alloc: Global) -> Result<Draft, Fail> {
             homes: Homes::of(Vec::new(alloc)),
             rows: Rows::of(rows),
         },
+        capped: VcpuSet::empty(),
     })
 }
 

@@ -1,8 +1,8 @@
-use Rattle.std.proofs.Common.{Some, ap, subst, sym, ◌+◌, ◌∙◌}
+use Rattle.std.proofs.Common.{◌≡◌, ℕ, Some, ◌&&◌, not, ap, subst, sym, ◌+◌, ◌∙◌}
 use Rattle.std.proofs.lemmas.Option.{slice_get-get_or}
 use Rattle.tab_core.specs.VcpuSets.{has_vcpu}
 use Rattle.table_form.specs.Planning.Drafts.{pieces_at}
-use Rattle.coalesce.specs.Joining.{has_single_piece}
+use Rattle.coalesce.specs.Joining.{may_have_more}
 use Rattle.coalesce.specs.Inside.Passing.{IsTableOf}
 use Rattle.coalesce.proofs.Joined.{JoinedSoFar, joined_by, one_joined}
 use Rattle.coalesce.proofs.joining.join_rows.Goals as goal
@@ -15,9 +15,12 @@ loop-core-preserved c =
     let at = slice_get-get_or c.args.rows.now core row c.loop-core-test.true
     ∙ ap Some (sym c.index-rows-core.is) in
     let of = subst (IsTableOf (pieces_at pieces core)) (sym c.deref.ensures.value) c.in_ok-table.ensures in
-    let made = joined_by (pieces_at pieces core) (has_vcpu c.single_vcpus-may_grow.result)
-    (has_single_piece pieces) c.args.sliver row c.in_ok-join_row.field-0 c.single_vcpus-may_grow.ensures
+    let may_grow : (vcpu : ℕ) → has_vcpu c.without-may_grow.result vcpu ≡ may_have_more pieces c.args.capped.now vcpu
+    = λ vcpu. c.without-may_grow.ensures vcpu
+    ∙ ap (λ b. b && not (has_vcpu c.args.capped.now vcpu)) (c.single_vcpus.ensures vcpu) in
+    let made = joined_by (pieces_at pieces core) (has_vcpu c.without-may_grow.result)
+    (may_have_more pieces c.args.capped.now) c.args.sliver row c.in_ok-join_row.field-0 may_grow
     (c.in_ok-join_row.ensures (pieces_at pieces core) of) in
-    subst (JoinedSoFar pieces c.args.sliver c.args.rows.now (core + 1)) (sym c.in_ok-push.ensures.items)
-    (one_joined pieces c.args.sliver c.args.rows.now core c.loop-core.joined.items row
+    subst (JoinedSoFar pieces c.args.capped.now c.args.sliver c.args.rows.now (core + 1)) (sym c.in_ok-push.ensures.items)
+    (one_joined pieces c.args.capped.now c.args.sliver c.args.rows.now core c.loop-core.joined.items row
     c.in_ok-join_row.field-0 at made c.loop-core.invariant)
