@@ -1,9 +1,10 @@
 -- A host has at most one plan, and none where one of its vCPUs has no room.
-use Rattle.std.proofs.Common.{◌≡◌, ℕ, ◌-◌, ◌<◌, ◌≤◌, List, [], ◌∷◌, ◌++◌, set, slice_get, map, Option, Some, refl, ap, subst, sym, ◌∙◌}
+use Rattle.std.proofs.Common.{◌≡◌, ℕ, ◌-◌, ◌<◌, ◌≤◌, Bool, List, [], ◌∷◌, ◌++◌, set, slice_get, map, Option, Some, refl, ap, subst, sym, ◌∙◌}
 use Rattle.std.proofs.Props.{props}
 use Rattle.std.specs.List.{All, AllZip}
 use Rattle.std.proofs.lemmas.List.{ext_get_or}
 use Rattle.std.proofs.lemmas.List.Elements.{All-head, All-tail}
+use Rattle.tab_core.specs.Vcpus.{capped_of}
 use Rattle.tab_core.specs.declared.TheConstants.{MAX_CORES, MAX_VCPUS}
 use Rattle.tab_core.specs.declared.host.Host.{Host}
 use Rattle.tab_core.specs.declared.over.Over.{Over}
@@ -219,11 +220,12 @@ each_or_refused tasks cores homes
     (set homes v (Some (home_of a.0))) before vcpu after end middle homes' homes'' task rest over a.2
     (went_on tasks cores homes v before a.0 b.0 middle homes'' same b.2) at refuses
 
--- what two plans of a host have in common: tasks, homes and the rows before joining
+-- what two plans of a host have in common: tasks, homes, capped vCPUs and the rows before joining
 pub record AreAlike (host : Host) (a b : PlanView) (cores : List (List Piece)) : Type 0 where
   pub tasks_same : a.tasks ≡ b.tasks
   pub homes_same : a.homes ≡ b.homes
-  pub joined : AreJoined (all_pieces cores) host.sliver
+  pub capped_same : a.capped ≡ b.capped
+  pub joined : AreJoined (all_pieces cores) b.capped host.sliver
       (map (λ pieces. edf_row (jobs_of pieces)) cores) a.rows
 
 -- a host has one plan but for the joining of its rows
@@ -244,22 +246,28 @@ planned_alike host a b of_a of_b =
     let ends = each_unique b.tasks of_b.layout.start of_b.layout.placed.core_of
     of_b.layout.placed.left of_a.cores
     of_b.cores a.homes b.homes moved of_b.layout.split in
+    let capped = of_a.capped ∙ sym of_b.capped in
     record {
       tasks_same = same.tasks_same;
       homes_same = ends.homes_same;
-      joined = subst (λ cs. AreJoined (all_pieces cs) host.sliver
-          (map (λ pieces. edf_row (jobs_of pieces)) cs) a.rows) ends.end_same of_a.joined;
+      capped_same = capped;
+      joined = subst (λ cs. AreJoined (all_pieces cs) b.capped host.sliver
+          (map (λ pieces. edf_row (jobs_of pieces)) cs) a.rows) ends.end_same
+          (subst (λ set. AreJoined (all_pieces of_a.cores) set host.sliver
+          (map (λ pieces. edf_row (jobs_of pieces)) of_a.cores) a.rows) capped of_a.joined);
     }
 
--- a plan by its three parts
-abbrev view_of : List (Option Periodic) → List (Option ℕ) → List Row → PlanView
-view_of tasks homes rows = record { tasks = tasks; homes = homes; rows = rows }
+-- a plan by its four parts
+abbrev view_of : List (Option Periodic) → List (Option ℕ) → List Row → List Bool → PlanView
+view_of tasks homes rows capped = record { tasks = tasks; homes = homes; rows = rows; capped = capped }
 
 -- plans with the same parts are one
-pub same_view : (a b : PlanView) → a.tasks ≡ b.tasks → a.homes ≡ b.homes → a.rows ≡ b.rows → a ≡ b
-same_view a b tasks homes rows = ap (λ t. view_of t a.homes a.rows) tasks
-    ∙ ap (λ h. view_of b.tasks h a.rows) homes
-    ∙ ap (view_of b.tasks b.homes) rows
+pub same_view : (a b : PlanView) → a.tasks ≡ b.tasks → a.homes ≡ b.homes → a.rows ≡ b.rows
+    → a.capped ≡ b.capped → a ≡ b
+same_view a b tasks homes rows capped = ap (λ t. view_of t a.homes a.rows a.capped) tasks
+    ∙ ap (λ h. view_of b.tasks h a.rows a.capped) homes
+    ∙ ap (λ r. view_of b.tasks b.homes r a.capped) rows
+    ∙ ap (view_of b.tasks b.homes b.rows) capped
 
 -- what the draft of a layout has, and the plan that is made of it by joining
 pub record IsMadeOf (host : Host) (tasks : List (Option Periodic)) (cores : List (List Piece))
@@ -269,18 +277,20 @@ pub record IsMadeOf (host : Host) (tasks : List (Option Periodic)) (cores : List
   pub rows_are : rows ≡ map (λ pieces. edf_row (jobs_of pieces)) cores
   pub tasks_are : plan.tasks ≡ tasks
   pub homes_are : plan.homes ≡ homes
-  pub joined : AreJoined pieces host.sliver rows plan.rows
+  pub capped_are : plan.capped ≡ capped_of host.vcpus
+  pub joined : AreJoined pieces plan.capped host.sliver rows plan.rows
 
 -- the rows of the plan are joined from those of the layout, though the draft's lists are other values
 joined_of : (host : Host) (tasks : List (Option Periodic)) (cores : List (List Piece))
     (homes : List (Option ℕ))
     (pieces : List Piece) (rows : List Row) (plan : PlanView)
     → IsMadeOf host tasks cores homes pieces rows plan
-    → AreJoined (all_pieces cores) host.sliver (map (λ pieces. edf_row (jobs_of pieces)) cores) plan.rows
+    → AreJoined (all_pieces cores) plan.capped host.sliver
+    (map (λ pieces. edf_row (jobs_of pieces)) cores) plan.rows
 joined_of host tasks cores homes pieces rows plan made =
-    subst (λ ps. AreJoined ps host.sliver
+    subst (λ ps. AreJoined ps plan.capped host.sliver
     (map (λ pieces. edf_row (jobs_of pieces)) cores) plan.rows) made.pieces_are
-    (subst (λ rs. AreJoined pieces host.sliver rs plan.rows) made.rows_are made.joined)
+    (subst (λ rs. AreJoined pieces plan.capped host.sliver rs plan.rows) made.rows_are made.joined)
 
 -- the plan is that of its layout
 pub layout_is_planned : (host : Host) (tasks : List (Option Periodic)) (cores : List (List Piece))
@@ -291,6 +301,7 @@ layout_is_planned host tasks cores homes pieces rows plan layout made = record {
   cores = cores;
   layout = subst (λ ts. IsLayout host ts cores plan.homes) (sym made.tasks_are)
       (subst (IsLayout host tasks cores) (sym made.homes_are) layout);
+  capped = made.capped_are;
   joined = joined_of host tasks cores homes pieces rows plan made;
 }
 
@@ -300,7 +311,8 @@ planned_unique host a b of_a of_b =
     let alike = planned_alike host a b of_a of_b in
     let rows = map (λ pieces. edf_row (jobs_of pieces)) of_b.cores in
     same_view a b alike.tasks_same alike.homes_same
-    (rows_unique (all_pieces of_b.cores) host.sliver rows a.rows b.rows alike.joined of_b.joined)
+    (rows_unique (all_pieces of_b.cores) b.capped host.sliver rows a.rows b.rows alike.joined of_b.joined)
+    alike.capped_same
 
 -- and none where a left-over vCPU can't be split
 pub planned_or_refused : (host : Host) (a : PlanView) (vcpu rest : ℕ) (over : List Over) → IsPlanned host a

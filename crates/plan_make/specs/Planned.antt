@@ -2,7 +2,8 @@
 -- Source: the planner of M. Vanga, A. Gujarati, B. B. Brandenburg, "Tableau: a high-throughput and
 -- predictable VM scheduler for high-density workloads", EuroSys 2018, in ticks, periods and ties of
 -- this project.
-use Rattle.std.specs.Prelude.{ℕ, List, [], ◌∷◌, ◌++◌, Option, map}
+use Rattle.std.specs.Prelude.{◌≡◌, ℕ, List, [], ◌∷◌, ◌++◌, Option, map}
+use Rattle.tab_core.specs.Vcpus.{capped_of}
 use Rattle.tab_core.specs.declared.host.Host.{Host}
 use Rattle.tab_core.specs.declared.over.Over.{Over}
 use Rattle.tab_core.specs.declared.periodic.Periodic.{Periodic}
@@ -21,11 +22,12 @@ all_pieces [] = []
 all_pieces (ps ∷ cores) = ps ++ all_pieces cores
 
 -- the host's plan: its vCPUs are laid out, each core's row is made by earliest deadline first, and
--- its slivers are joined
+-- its slivers are joined, of which the host's capped vCPUs get none
 pub record IsPlanned (host : Host) (plan : PlanView) : Type 0 where
   pub cores : List (List Piece)
   pub layout : IsLayout host plan.tasks cores plan.homes
-  pub joined : AreJoined (all_pieces cores) host.sliver
+  pub capped : plan.capped ≡ capped_of host.vcpus
+  pub joined : AreJoined (all_pieces cores) plan.capped host.sliver
       (map (λ pieces. edf_row (jobs_of pieces)) cores) plan.rows
 
 -- the host's first left-over vCPU that can't be split: so many ticks of it are left, and these are

@@ -8,7 +8,7 @@ use crate::layout::Layout;
 use crate::rows::rows_of;
 use cd_split::CorePieces;
 use std::alloc::Global;
-use tab_core::{CoreNo, NoMemory, Piece, Pieces, Tasks};
+use tab_core::{CoreNo, NoMemory, Piece, Pieces, Tasks, VcpuSet};
 use table_form::{Draft, Homes, Tables};
 
 // The pieces of all cores in one list, core by core.
@@ -22,8 +22,14 @@ fn pieces_of(alloc: Global, cores: &CorePieces) -> Result<Vec<Piece>, NoMemory>
     Ok(pieces)
 }
 
-// The draft of a layout: its pieces, and the row of each core by earliest deadline first.
-pub(crate) fn draft_of(alloc: Global, tasks: Tasks, layout: Layout) -> Result<Draft, NoMemory>
+// The draft of a layout: its pieces, the row of each core by earliest deadline first, and the
+// capped vCPUs.
+pub(crate) fn draft_of(
+    alloc: Global,
+    tasks: Tasks,
+    layout: Layout,
+    capped: VcpuSet,
+) -> Result<Draft, NoMemory>
     requires { AreLaidOut tasks layout.cores layout.homes.items [] }
     ensures tasks { IfOk result (λ draft. draft.tasks ≡ tasks) }
     ensures pieces { IfOk result (λ draft. draft.pieces ≡ all_pieces layout.cores) }
@@ -31,6 +37,7 @@ pub(crate) fn draft_of(alloc: Global, tasks: Tasks, layout: Layout) -> Result<Dr
     ensures rows { IfOk result (λ draft. draft.tables.rows
         ≡ map (λ pieces. edf_row (jobs_of pieces)) layout.cores) }
     ensures count { IfOk result (λ draft. length draft.tables.rows ≡ length layout.cores) }
+    ensures capped { IfOk result (λ draft. draft.capped ≡ capped) }
 {
     let pieces = Pieces::of(pieces_of(alloc, &layout.cores)?);
     let rows = rows_of(alloc, &layout.cores)?;
@@ -39,5 +46,6 @@ pub(crate) fn draft_of(alloc: Global, tasks: Tasks, layout: Layout) -> Result<Dr
         tasks,
         pieces,
         tables: Tables { homes, rows },
+        capped,
     })
 }

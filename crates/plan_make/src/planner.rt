@@ -18,8 +18,8 @@ use tab_core::Host;
 use table_form::Plan;
 
 /// The plan of a host: its vCPUs are placed unsplit by worst fit, the left-over ones are split, each
-/// core's row is made by earliest deadline first, and the row's slivers are joined. A host has at
-/// most one such plan.
+/// core's row is made by earliest deadline first, and the row's slivers are joined. Its capped vCPUs
+/// are the host's. A host has at most one such plan.
 ///
 /// `NoPeriod` comes where an admitted vCPU has no admissible period, and `NoRoom` where each has
 /// one but a left-over vCPU can't be split: then and only then, but that want of memory may come
@@ -50,6 +50,6 @@ pub fn plan<R: Threads + Sync>(_rt: &R, alloc: Global, host: &Host) -> Result<Pl
 {
     let tasks = tasks_of(alloc, host)?;
     let layout = lay_out(alloc, host, &tasks)?;
-    let draft = draft_of(alloc, tasks, layout)?;
+    let draft = draft_of(alloc, tasks, layout, host.vcpus.capped())?;
     Ok(join_slivers(alloc, &draft, host.sliver)?)
 }

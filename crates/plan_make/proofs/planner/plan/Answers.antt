@@ -1,7 +1,8 @@
-use Rattle.std.proofs.Common.{Err, ap, length, ◌∙◌}
+use Rattle.std.proofs.Common.{Err, ap, length, subst, sym, ◌∙◌}
 use Rattle.std.proofs.lemmas.Result.{err_from_is_err_and}
 use Rattle.table_form.specs.Tables.Serves.{has_task}
 use Rattle.table_form.specs.Tables.Views.{plan_view}
+use Rattle.coalesce.specs.Joining.{AreJoined}
 use Rattle.plan_make.proofs.OnePlan.{IsMadeOf, layout_is_planned, no_memory_for_layout, planned_or_refused, planned_unique}
 use Rattle.plan_make.proofs.TasksOfPlan.{no_memory_for_tasks, none_without_period, tasks_admit}
 use Rattle.plan_make.proofs.planner.plan.Given.{Over}
@@ -39,7 +40,10 @@ made g c = record {
   rows_are = c.in_ok-draft.ensures.rows;
   tasks_are = c.in_ok-join_slivers.ensures.tasks ∙ c.in_ok-draft.ensures.tasks;
   homes_are = c.in_ok-join_slivers.ensures.homes ∙ c.in_ok-draft.ensures.homes;
-  joined = c.in_ok-join_slivers.ensures.joined;
+  capped_are = c.in_ok-join_slivers.ensures.capped ∙ c.in_ok-draft.ensures.capped ∙ c.capped.ensures;
+  joined = subst (λ set. AreJoined c.in_ok-draft.draft.pieces set c.args.host.now.sliver
+      c.in_ok-draft.draft.tables.rows c.in_ok-join_slivers.field-0.tables.rows)
+      (sym c.in_ok-join_slivers.ensures.capped) c.in_ok-join_slivers.ensures.joined;
 }
 
 pub returns-clause-only : goal.returns-clause-only
