@@ -1,12 +1,13 @@
 -- Wrapped rows give each task its cost in each of its periods.
-use Rattle.std.proofs.Common.{◌≡◌, ℕ, zero, suc, ◌+◌, ◌-◌, ◌*◌, ◌<◌, ◌≤◌, cond, List, [], ◌∷◌, Option, Some, None, length, take, drop, get_or, slice_get, ap, refl, sym, ◌∙◌, arith, zero-add}
+use Rattle.std.proofs.Common.{◌≡◌, ℕ, zero, suc, ◌+◌, ◌-◌, ◌*◌, ◌/◌, ◌<◌, ◌≤◌, Bool, cond, List, [], ◌∷◌, Option, Some, None, length, take, drop, get_or, slice_get, ap, refl, sym, ◌∙◌, arith, zero-add}
 use Rattle.std.specs.List.{sum_by, count_by}
 use Rattle.std.proofs.lemmas.List.Sums.{sum_by-cons}
 use Rattle.std.proofs.lemmas.List.{length-map}
 use Rattle.std.proofs.lemmas.Option.{slice_get-get_or, slice_get_within, get_or_from_slice_get}
+use Rattle.tab_core.specs.declared.TheConstants.{ROUND}
 use Rattle.tab_core.specs.declared.periodic.Periodic.{Periodic}
 use Rattle.table_form.specs.Tables.Rows.{Row}
-use Rattle.table_form.specs.Tables.Serves.{Serves, owner_at, cell_of, flat, cells_within, supply, is_cell_of}
+use Rattle.table_form.specs.Tables.Serves.{Serves, ServesExactly, owner_at, cell_of, flat, cells_within, supply, is_cell_of}
 use Rattle.flow_net.specs.Sums.{total}
 use Rattle.flow_net.specs.Load.{Load, IsLoad, span, jobs, used}
 use Rattle.flow_net.specs.Rows.{row_at, ticks_at}
@@ -96,12 +97,13 @@ interval_cells tasks cores a rows v i is w h lt =
     (λ t b'. ap (λ o. one v o) (w.cells c i t b lt b')))
     ∙ laid_count row v (length_at a i) cores in_row fits ∙ ticks_is a.ticks i v
 
--- each task gets its cost in each of its periods
-pub wrapped_serves : (tasks : List (Option Periodic)) (cores : ℕ) (a : AllotmentView) (rows : List Row)
+-- each task gets exactly its cost in each of its periods
+supply_is : (tasks : List (Option Periodic)) (cores : ℕ) (a : AllotmentView) (rows : List Row)
     → IsAllotment tasks cores a
-    → AreWrapped a cores rows → Serves tasks rows
+    → AreWrapped a cores rows → (v : ℕ) (task : Periodic) → slice_get tasks v ≡ Some (Some task) → (k : ℕ)
+    → k < ROUND / task.period → supply v rows (k * task.period) ((k + 1) * task.period) ≡ task.cost
 unfolding supply
-wrapped_serves tasks cores a rows is w v task at k lt =
+supply_is tasks cores a rows is w v task at k lt =
     let l = load_of_tasks tasks a.marks cores in
     let ok = the_load tasks cores a is in
     let n = length-map tasks cost_of_task in
@@ -144,3 +146,17 @@ wrapped_serves tasks cores a rows is w v task at k lt =
     let served = is.serves v k h in_jobs in
     let sum = over_window l ok v k s.0 s.1 win (flow_of a.ticks v) in
     omega (arith, all, served, sum, cost)
+
+-- so the rows serve
+pub wrapped_serves : (tasks : List (Option Periodic)) (cores : ℕ) (a : AllotmentView) (rows : List Row)
+    → IsAllotment tasks cores a
+    → AreWrapped a cores rows → Serves tasks rows
+wrapped_serves tasks cores a rows is w v task at k lt =
+    omega (arith, supply_is tasks cores a rows is w v task at k lt)
+
+-- and those that are capped get no more
+pub wrapped_serves_exactly : (tasks : List (Option Periodic)) (capped : List Bool) (cores : ℕ)
+    (a : AllotmentView) (rows : List Row) → IsAllotment tasks cores a → AreWrapped a cores rows
+    → ServesExactly tasks capped rows
+wrapped_serves_exactly tasks capped cores a rows is w v task at capped_v k lt =
+    supply_is tasks cores a rows is w v task at k lt

@@ -2,6 +2,7 @@
 use Rattle.std.proofs.Common.{◌≡◌, ℕ, ◌+◌, ◌-◌, ◌*◌, ◌/◌, ◌<◌, ◌≤◌, List, [], Option, Some, None, is_some, length, get_or, slice_get, ap, refl, sym, subst, ◌∙◌, arith, inl, inr}
 use Rattle.std.proofs.lemmas.Bool.{cases_lt}
 use Rattle.std.proofs.lemmas.Option.{slice_get-get_or, slice_get_cases, slice_get_past, slice_get_within}
+use Rattle.tab_core.specs.Vcpus.{capped_of}
 use Rattle.tab_core.specs.declared.TheConstants.{MAX_VCPUS, ROUND}
 use Rattle.tab_core.specs.declared.host.Host.{Host}
 use Rattle.tab_core.specs.declared.periodic.Periodic.{Periodic}
@@ -143,12 +144,13 @@ not_beyond host tasks demand room are fit beyond =
 -- what the three parts of planning make is a whole-host plan
 pub whole_plan : (host : Host) (tasks : List (Option Periodic)) (a : AllotmentView) (plan : PlanView)
     → AreTasksOf host.vcpus tasks → IsAllotment tasks host.cores a → IsWrapped tasks a host.cores plan
-    → IsWholePlan host plan
-whole_plan host tasks a plan are is wrapped = record {
+    → plan.capped ≡ capped_of host.vcpus → IsWholePlan host plan
+whole_plan host tasks a plan are is wrapped capped = record {
   allotment = a;
   tasks = subst (λ (ts : List (Option Periodic)). AreTasksOf host.vcpus ts) (sym wrapped.tasks_are) are;
   is_allotment = subst (λ (ts : List (Option Periodic)). IsAllotment ts host.cores a) (sym wrapped.tasks_are)
       is;
   wrapped = subst (λ (ts : List (Option Periodic)). IsWrapped ts a host.cores plan) (sym wrapped.tasks_are)
       wrapped;
+  capped = capped;
 }

@@ -1,5 +1,5 @@
 -- Wrapped rows and homes make a plan.
-use Rattle.std.proofs.Common.{◌≡◌, ℕ, List, Option, refl, sym, subst, arith}
+use Rattle.std.proofs.Common.{◌≡◌, ℕ, Bool, List, Option, refl, sym, subst, arith}
 use Rattle.tab_core.specs.declared.periodic.Periodic.{Periodic}
 use Rattle.table_form.specs.Tables.Homes.{HaveHomes}
 use Rattle.table_form.specs.Tables.Plans.{IsPlan, PlanView}
@@ -8,7 +8,7 @@ use Rattle.flow_net.specs.Allotments.{AllotmentView, IsAllotment}
 use Rattle.wrap_table.specs.Inside.Homing.{AreHomesOf}
 use Rattle.wrap_table.specs.Wrapping.{AreWrapped, IsWrapped}
 use Rattle.wrap_table.proofs.HomingLemmas.{home_is_most, homes_are_housed}
-use Rattle.wrap_table.proofs.Serving.{wrapped_serves}
+use Rattle.wrap_table.proofs.Serving.{wrapped_serves, wrapped_serves_exactly}
 use Rattle.wrap_table.proofs.WholeLemmas.{some_core}
 use Rattle.wrap_table.proofs.Wraps.{wrapped_apart, wrapped_owned}
 
@@ -23,22 +23,23 @@ housed tasks cores a rows homes is wrapped are =
 
 -- what a plan of them keeps
 pub keeps : (tasks : List (Option Periodic)) (cores : ℕ) (a : AllotmentView) (rows : List Row)
-    (homes : List (Option ℕ))
+    (homes : List (Option ℕ)) (capped : List Bool)
     → IsAllotment tasks cores a → AreWrapped a cores rows → AreHomesOf tasks rows homes
-    → IsPlan (record { tasks = tasks; homes = homes; rows = rows })
-keeps tasks cores a rows homes is wrapped are = record {
+    → IsPlan (record { tasks = tasks; homes = homes; rows = rows; capped = capped })
+keeps tasks cores a rows homes capped is wrapped are = record {
   serves = wrapped_serves tasks cores a rows is wrapped;
   apart = wrapped_apart tasks cores a rows is wrapped;
   housed = housed tasks cores a rows homes is wrapped are;
   owned = wrapped_owned tasks cores a rows is wrapped;
+  exact = wrapped_serves_exactly tasks capped cores a rows is wrapped;
 }
 
 -- and it is the plan of the allotment
 pub is_wrapped : (tasks : List (Option Periodic)) (cores : ℕ) (a : AllotmentView) (rows : List Row)
-    (homes : List (Option ℕ))
+    (homes : List (Option ℕ)) (capped : List Bool)
     → IsAllotment tasks cores a → AreWrapped a cores rows → AreHomesOf tasks rows homes
-    → IsWrapped tasks a cores (record { tasks = tasks; homes = homes; rows = rows })
-is_wrapped tasks cores a rows homes is wrapped are = record {
+    → IsWrapped tasks a cores (record { tasks = tasks; homes = homes; rows = rows; capped = capped })
+is_wrapped tasks cores a rows homes capped is wrapped are = record {
   tasks_are = refl;
   rows_are = wrapped;
   housed = housed tasks cores a rows homes is wrapped are;
@@ -61,10 +62,11 @@ made_keeps tasks cores a plan is made =
     subst (λ (ts : List (Option Periodic)). IsPlan (record {
       tasks = ts;
       homes = plan.homes;
-      rows =
-          plan.rows;
+      rows = plan.rows;
+      capped = plan.capped;
     }))
-    (sym made.tasks_are) (keeps tasks cores a plan.rows plan.homes is made.rows_are made.homes_are)
+    (sym made.tasks_are)
+    (keeps tasks cores a plan.rows plan.homes plan.capped is made.rows_are made.homes_are)
 
 -- and the allotment's
 pub made_is_wrapped : (tasks : List (Option Periodic)) (cores : ℕ) (a : AllotmentView) (plan : PlanView)
@@ -72,8 +74,9 @@ pub made_is_wrapped : (tasks : List (Option Periodic)) (cores : ℕ) (a : Allotm
 made_is_wrapped tasks cores a plan is made =
     subst (λ (ts : List (Option Periodic)). IsWrapped tasks a cores (record {
       tasks = ts;
-      homes =
-          plan.homes;
+      homes = plan.homes;
       rows = plan.rows;
+      capped = plan.capped;
     }))
-    (sym made.tasks_are) (is_wrapped tasks cores a plan.rows plan.homes is made.rows_are made.homes_are)
+    (sym made.tasks_are)
+    (is_wrapped tasks cores a plan.rows plan.homes plan.capped is made.rows_are made.homes_are)

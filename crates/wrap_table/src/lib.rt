@@ -14,7 +14,9 @@ mod refusal;
 mod wrapping;
 
 pub use fault::WholeFault;
-pub use laws::{wrapped_rows_are_apart, wrapped_rows_are_owned, wrapped_rows_serve};
+pub use laws::{
+    wrapped_rows_are_apart, wrapped_rows_are_owned, wrapped_rows_serve, wrapped_rows_serve_exactly,
+};
 pub use planner::plan_whole;
 pub use refusal::put_no_fit;
 pub use wrapping::wrap;

@@ -18,7 +18,7 @@ use tab_core::{Host, ROUND, Steps};
 use table_form::Plan;
 
 /// A plan of the whole host: the vCPUs' ticks are allotted to the intervals between the ends of
-/// periods, for all cores together, and laid along the cores.
+/// periods, for all cores together, and laid along the cores. Its capped vCPUs are the host's.
 ///
 /// `NoPeriod` comes where an admitted vCPU has no admissible period, and `NoFit` where each has one
 /// but their demands sum to more than the cores have: then and only then, but that want of memory
@@ -58,5 +58,5 @@ pub fn plan_whole<L: Ledger>(
         return Err(WholeFault::NoFit { demand, room });
     }
     let allotment = allot(alloc, &tasks, host.cores, steps)?;
-    Ok(wrap(alloc, &tasks, &allotment, host.cores)?)
+    Ok(wrap(alloc, &tasks, &allotment, host.cores, host.vcpus.capped())?)
 }

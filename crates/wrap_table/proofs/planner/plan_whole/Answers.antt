@@ -1,4 +1,4 @@
-use Rattle.std.proofs.Common.{◌≡◌, ℕ, ◌+◌, ◌*◌, ◌≤◌, Err, List, Option, ap, map, subst, sym}
+use Rattle.std.proofs.Common.{◌≡◌, ℕ, ◌+◌, ◌*◌, ◌≤◌, Err, List, Option, ap, map, subst, sym, ◌∙◌}
 use Rattle.std.proofs.lemmas.Result.{err_from_is_err_and}
 use Rattle.tab_core.specs.declared.periodic.Periodic.{Periodic}
 use Rattle.table_form.specs.Tables.Views.{plan_view}
@@ -19,7 +19,8 @@ returns-clause-fits_host g c =
     fits_host c.args.host.now (plan_view c.in_ok-wrap.field-0)
     (whole_plan c.args.host.now c.in_ok-tasks.tasks (allotment_view c.in_ok-allotment.allotment)
     (plan_view c.in_ok-wrap.field-0)
-    c.in_ok-tasks.ensures.ok c.in_ok-allotment.ensures.allotment c.in_ok-wrap.ensures)
+    c.in_ok-tasks.ensures.ok c.in_ok-allotment.ensures.allotment c.in_ok-wrap.ensures.wrapped
+    (c.in_ok-wrap.ensures.capped ∙ c.capped.ensures))
 
 pub returns-clause-without_period : goal.returns-clause-without_period
 returns-clause-without_period g c = λ vcpu first.

@@ -1,4 +1,4 @@
-use Rattle.std.proofs.Common.{◌≡◌, ℕ, ◌∙◌, List, Option, subst, sym}
+use Rattle.std.proofs.Common.{◌≡◌, ℕ, ◌∙◌, Bool, List, Option, subst, sym}
 use Rattle.tab_core.specs.declared.periodic.Periodic.{Periodic}
 use Rattle.table_form.specs.Tables.Rows.{Row}
 use Rattle.flow_net.specs.Allotments.{AllotmentView}
@@ -16,11 +16,11 @@ rows_of-requires-clause-intervals c =
 
 -- what the calls made, by the lists that they were given and gave
 made : (tasks items copy of_tasks : List (Option Periodic)) (cores : ℕ) (a : AllotmentView)
-    (rows read of_rows : List Row) (homes of_homes : List (Option ℕ)) → items ≡ tasks → copy ≡ items
+    (rows read of_rows : List Row) (homes of_homes : List (Option ℕ)) (capped : List Bool) → items ≡ tasks → copy ≡ items
     → of_tasks ≡ copy
     → AreWrapped a cores rows → read ≡ rows → of_rows ≡ rows → AreHomesOf items read homes → of_homes ≡ homes
-    → IsMade tasks cores a (record { tasks = of_tasks; homes = of_homes; rows = of_rows })
-made tasks items copy of_tasks cores a rows read of_rows homes of_homes same copied of_t wrapped reads of_r
+    → IsMade tasks cores a (record { tasks = of_tasks; homes = of_homes; rows = of_rows; capped = capped })
+made tasks items copy of_tasks cores a rows read of_rows homes of_homes capped same copied of_t wrapped reads of_r
     housed of_h = record {
       tasks_are = of_t ∙ copied ∙ same;
       rows_are = subst (λ (r : List Row). AreWrapped a cores r) (sym of_r) wrapped;
@@ -35,16 +35,22 @@ invariant_of-result c =
     c.requires.allotment
     (made c.args.tasks.now c.items-tasks.result.now c.in_ok-tasks.tasks.items c.of.result c.args.cores
     (allotment_view c.args.allotment.now) c.in_ok-rows.rows.items c.deref.result.now c.of-3.result
-    c.in_ok-homes.homes.items c.of-2.result c.items-tasks.ensures.same c.in_ok-tasks.ensures.items
+    c.in_ok-homes.homes.items c.of-2.result c.args.capped c.items-tasks.ensures.same c.in_ok-tasks.ensures.items
     c.of.ensures
     c.in_ok-rows.ensures c.deref.ensures.value c.of-3.ensures c.in_ok-homes.ensures c.of-2.ensures) in
-    record { serves = kept.serves; apart = kept.apart; housed = kept.housed; owned = kept.owned }
+    record {
+      serves = kept.serves;
+      apart = kept.apart;
+      housed = kept.housed;
+      owned = kept.owned;
+      exact = kept.exact;
+    }
 
-pub returns : goal.returns
-returns c =
+pub returns-clause-wrapped : goal.returns-clause-wrapped
+returns-clause-wrapped c =
     made_is_wrapped c.args.tasks.now c.args.cores (allotment_view c.args.allotment.now) _ c.requires.allotment
     (made c.args.tasks.now c.items-tasks.result.now c.in_ok-tasks.tasks.items c.of.result c.args.cores
     (allotment_view c.args.allotment.now) c.in_ok-rows.rows.items c.deref.result.now c.of-3.result
-    c.in_ok-homes.homes.items c.of-2.result c.items-tasks.ensures.same c.in_ok-tasks.ensures.items
+    c.in_ok-homes.homes.items c.of-2.result c.args.capped c.items-tasks.ensures.same c.in_ok-tasks.ensures.items
     c.of.ensures
     c.in_ok-rows.ensures c.deref.ensures.value c.of-3.ensures c.in_ok-homes.ensures c.of-2.ensures)
