@@ -1,4 +1,4 @@
-ghost use Rattle.std.specs.Prelude.{◌≡◌, ◌⊎◌, ◌≤◌, IfErr, IfNone, IfOk, IfSome, IsErr, IsTrue, length};
+ghost use Rattle.std.specs.Prelude.{◌≡◌, ◌⊎◌, ◌≤◌, IfErr, IfNone, IfOk, IfSome, IsErr, IsTrue, false, length, replicate};
 ghost use Rattle.tab_core.specs.declared.TheConstants.{MAX_CORES, MAX_VCPUS};
 ghost use Rattle.table_form.specs.Tables.Homes.{are_housed};
 ghost use Rattle.table_form.specs.Tables.Views.{plan_view};
@@ -10,7 +10,7 @@ use crate::fault::CheckFault;
 use crate::shape::{build_rows, find_bad_shape};
 use crate::shortage::find_shortage;
 use std::alloc::Global;
-use tab_core::{NoMemory, Periodic, Tasks};
+use tab_core::{NoMemory, Periodic, Tasks, VcpuSet};
 use table_form::{Homes, Plan, RawTables, Segments, Tables};
 
 // The first fault of the tables, if they have one. No table is copied.
@@ -36,7 +36,8 @@ fn first_fault(
     Ok(None)
 }
 
-/// The plan of these tasks with these tables, or the first fault of the tables.
+/// The plan of these tasks with these tables, in which no vCPU is capped, or the first fault of the
+/// tables.
 ///
 /// There are at most 32 rows, each task has one home below their count and no other vCPU has one,
 /// and each owner of a segment has a task. Neighbouring segments may have one owner.
@@ -50,7 +51,12 @@ pub fn check(alloc: Global, tasks: &Tasks, raw: &RawTables) -> Result<Plan, Chec
     requires housed { IsTrue (are_housed (length raw.now.rows) tasks.now raw.now.homes) }
     requires owned { AreOwnedByTasks tasks.now raw.now.rows }
     ensures plan { IfOk result (λ plan. plan_view plan
-        ≡ record { tasks = tasks.now; homes = raw.now.homes; rows = rows_of raw.now.rows }) }
+        ≡ record {
+          tasks = tasks.now;
+          homes = raw.now.homes;
+          rows = rows_of raw.now.rows;
+          capped = replicate MAX_VCPUS false;
+        }) }
     ensures good { IfOk result (λ _. AreGood tasks.now raw.now.rows) }
     ensures fault { IfErr result (λ fault. (fault ≡ CheckFault.NoMemory)
         ⊎ HasCheckFault tasks.now raw.now.rows fault) }
@@ -67,5 +73,6 @@ pub fn check(alloc: Global, tasks: &Tasks, raw: &RawTables) -> Result<Plan, Chec
     Ok(Plan {
         tasks: Tasks::of(Vec::from_slice(alloc, tasks.items())?),
         tables: Tables { homes, rows },
+        capped: VcpuSet::empty(),
     })
 }

@@ -1,6 +1,10 @@
-use Rattle.std.proofs.Common.{◌≡◌, subst, sym, ap, ◌∙◌, IsTrue, length, ℕ, List, Option}
+use Rattle.std.proofs.Common.{◌≡◌, false, subst, sym, ap, ◌∙◌, IsTrue, length, ℕ, List, Option}
 use Rattle.std.specs.Prelude.{IfNone}
+use Rattle.std.proofs.lemmas.Bool.{false≢true}
 use Rattle.std.proofs.lemmas.List.{length-map}
+use Rattle.tab_core.specs.VcpuSets.{has_vcpu}
+use Rattle.tab_core.specs.declared.TheConstants.{MAX_VCPUS}
+use Rattle.tab_core.proofs.Lists.{get_or-replicate_same}
 use Rattle.tab_core.specs.declared.periodic.Periodic.{Periodic}
 use Rattle.table_form.specs.Tables.Homes.{HaveHomes, are_housed}
 use Rattle.table_form.specs.Tables.Rows.{Row, cells_from}
@@ -45,4 +49,7 @@ invariant_of-result c =
       owned = subst (λ (ts : List (Option Periodic)). OwnersHaveTasks ts c.in_ok-rows.rows) (sym tasks)
           (subst (OwnersHaveTasks c.args.tasks.now) (sym rows)
           (owners_have_tasks c.args.tasks.now raw c.requires.owned));
+      exact = λ v task at capped k lt. absurd (false≢true
+          (sym (ap (λ set. has_vcpu set v) c.empty.ensures ∙ get_or-replicate_same MAX_VCPUS v false)
+          ∙ capped));
     }
