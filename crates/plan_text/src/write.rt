@@ -1,4 +1,4 @@
-ghost use Rattle.std.specs.Prelude.{◌≡◌, ◌≤◌, length};
+ghost use Rattle.std.specs.Prelude.{◌≡◌, ◌≤◌, Bool, List, length};
 ghost use Rattle.tab_core.specs.declared.TheConstants.{MAX_CORES, MAX_VCPUS};
 ghost use Rattle.tab_io.specs.Sinks.{Writes};
 ghost use Rattle.table_form.specs.Tables.Plans.{IsPlanFor};
@@ -30,7 +30,7 @@ pub fn write_plan<K: Sink>(sink: &mut K, host: &Host, plan: &Plan) -> Result<(),
     put_plan(sink, vcpus, tasks, homes, rows)
 }
 
-// Writes the text of a plan that is given by its parts.
+// Writes the text of a plan that is given by its parts. It doesn't tell which vCPUs are capped.
 fn put_plan<K: Sink>(
     sink: &mut K,
     vcpus: &[Vcpu],
@@ -42,9 +42,9 @@ fn put_plan<K: Sink>(
     requires few { length tasks.now ≤ MAX_VCPUS }
     requires housed { length homes.now ≡ length tasks.now }
     requires few_rows { length rows.now ≤ MAX_CORES }
-    ensures { Writes (K.state sink.old) (K.state sink.new)
+    ensures { (capped : List Bool) → Writes (K.state sink.old) (K.state sink.new)
         (plan_text (names_of vcpus.now)
-        (record { tasks = tasks.now; homes = homes.now; rows = rows.now })) result }
+        (record { tasks = tasks.now; homes = homes.now; rows = rows.now; capped = capped })) result }
 {
     put_head(sink, rows.len() as u32, count_admitted(tasks))?;
     put_vcpus(sink, vcpus, tasks, homes)?;

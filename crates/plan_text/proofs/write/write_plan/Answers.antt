@@ -23,4 +23,4 @@ returns g c = rw (
   c.items-tasks.ensures.same,
   c.items-homes.ensures.same,
   c.items-rows.ensures.same,
-) at c.put_plan.ensures
+) at (c.put_plan.ensures c.args.plan.now.capped)
