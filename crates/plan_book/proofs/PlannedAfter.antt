@@ -1,12 +1,18 @@
--- What is known after the first n events is a host with its plan, for the same vCPUs.
-use Rattle.std.proofs.Common.{inl, inr, ℕ, zero, suc, List}
+-- What is known after the first n events is a host with its plan, for the same vCPUs, of which the same
+-- are capped.
+use Rattle.std.proofs.Common.{◌≡◌, ◌≤◌, inl, inr, ℕ, zero, suc, List, length, ap, ◌∙◌}
+use Rattle.tab_core.specs.Vcpus.{capped_of}
 use Rattle.tab_core.specs.declared.host.Host.{Host}
+use Rattle.table_form.specs.Running.Courses.{CourseView, plan_after}
+use Rattle.table_form.specs.Tables.Plans.{PlanView}
 use Rattle.plan_make.specs.Planned.{IsPlanned}
 use Rattle.script_doc.specs.declared.event.Act.{Act}
 use Rattle.script_doc.specs.declared.event.Act.TheVariants.{Wake, Block, Change}
 use Rattle.script_doc.specs.declared.event.Event.{Event}
 use Rattle.plan_book.specs.After.{Applies, IsKnownAfter}
+use Rattle.plan_book.specs.Courses.{IsCourseOf}
 use Rattle.plan_book.specs.States.{BookState}
+use Rattle.plan_book.proofs.EditedLemmas.{edited_capped}
 
 -- an event leaves a host with its plan
 applied_planned : (before : BookState) (act : Act) (next : BookState) → IsPlanned before.host before.plan
@@ -22,3 +28,30 @@ pub known_planned : (host : Host) (events : List Event) (n : ℕ) (known : BookS
 known_planned host events zero known is = rw is.host_is is.planned
 known_planned host events (suc n) known is =
     applied_planned is.0 is.1.act known (known_planned host events n is.0 is.2) is.4
+
+-- an event leaves the capped vCPUs as they are
+applied_capped : (before : BookState) (act : Act) (next : BookState) → Applies before act next
+    → capped_of next.host.vcpus ≡ capped_of before.host.vcpus
+applied_capped before (Wake vcpu) next is = ap (λ (k : BookState). capped_of k.host.vcpus) is
+applied_capped before (Block vcpu) next is = ap (λ (k : BookState). capped_of k.host.vcpus) is
+applied_capped before (Change edits) next (inl taken) =
+    edited_capped before.host edits next.host taken.edited
+applied_capped before (Change edits) next (inr refused) =
+    ap (λ (k : BookState). capped_of k.host.vcpus) refused.becomes
+
+-- so those of each known host are the first host's
+known_capped : (host : Host) (events : List Event) (n : ℕ) (known : BookState)
+    → IsKnownAfter host events n known → capped_of known.host.vcpus ≡ capped_of host.vcpus
+known_capped host events zero known is = ap (λ (h : Host). capped_of h.vcpus) is.host_is
+known_capped host events (suc n) known is =
+    applied_capped is.0 is.1.act known is.4 ∙ known_capped host events n is.0 is.2
+
+-- and so are those of each plan of a course
+pub course_capped : (host : Host) (events : List Event) (course : CourseView) (n : ℕ)
+    → IsCourseOf host events course → n ≤ length events
+    → (plan_after course n).capped ≡ capped_of host.vcpus
+course_capped host events course n of le =
+    let after = of.after n le in
+    ap (λ (p : PlanView). p.capped) after.shows.plan
+    ∙ (known_planned host events n after.known after.is).capped
+    ∙ known_capped host events n after.known after.is

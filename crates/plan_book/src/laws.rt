@@ -1,6 +1,7 @@
-ghost use Rattle.std.specs.Prelude.{◌≡◌, List, ℕ};
+ghost use Rattle.std.specs.Prelude.{◌≡◌, ◌≤◌, List, ℕ, length};
+ghost use Rattle.tab_core.specs.Vcpus.{capped_of};
 ghost use Rattle.tab_core.specs.declared.host.Host.{Host};
-ghost use Rattle.table_form.specs.Running.Courses.{CourseView, IsCourseForm};
+ghost use Rattle.table_form.specs.Running.Courses.{CourseView, IsCourseForm, plan_after};
 ghost use Rattle.table_form.specs.Running.Invariant.{StateInvariant};
 ghost use Rattle.table_form.specs.Running.Gaps.{HasShortGaps};
 ghost use Rattle.table_form.specs.Running.State.{State};
@@ -14,6 +15,13 @@ pub fn every_wait_is_within_latency()
     ensures { (host : Host) (events : List Event) (course : CourseView) (rounds : ℕ) (state : State)
         → IsCourseOf host events course → StateInvariant course rounds state → HasShortGaps course state
         → WaitsWithinLatency host events course state }
+{}
+
+/// Each plan of a course has the capped vCPUs of the course's host, whatever the changes.
+pub fn the_capped_stay_capped()
+    ensures { (host : Host) (events : List Event) (course : CourseView) (n : ℕ)
+        → IsCourseOf host events course → n ≤ length events
+        → (plan_after course n).capped ≡ capped_of host.vcpus }
 {}
 
 /// A script makes at most one course of a host.

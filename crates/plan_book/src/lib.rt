@@ -17,6 +17,6 @@ mod outcome;
 
 pub use book::PlanBook;
 pub use fault::BookFault;
-pub use laws::{a_script_makes_one_course, every_wait_is_within_latency};
+pub use laws::{a_script_makes_one_course, every_wait_is_within_latency, the_capped_stay_capped};
 pub use make::make_book;
 pub use outcome::Outcome;
