@@ -8,14 +8,14 @@ use Rattle.tab_core.specs.declared.TheConstants.{MAX_CORES, MAX_LATENCY_NS, MAX_
 use Rattle.toml.specs.Data.{Data, Items, no_items, item, Members, as_integer, as_table}
 use Rattle.host_doc.specs.Document.{first_fault, members_fault}
 use Rattle.host_doc.specs.Array.{items_or}
-use Rattle.host_doc.specs.KeyTable.{admitted_of, cores_of, document_keys, format_of, lag_of, latency_of, name_of, quantum_of, runnable_of, share_of, sliver_of, vcpu_keys, vcpus_of}
+use Rattle.host_doc.specs.KeyTable.{admitted_of, capped_of, cores_of, document_keys, format_of, lag_of, latency_of, name_of, quantum_of, runnable_of, share_of, sliver_of, vcpu_keys, vcpus_of}
 use Rattle.host_doc.specs.OtherKeys.{unknown_key}
 use Rattle.host_doc.specs.Text.{text_in, well_formed}
 use Rattle.host_doc.specs.Value.{found_at, in_range, integer_or, truth_or}
 use Rattle.host_doc.specs.VcpuFaults.{first_of, member_names, reservation_fault, same_name, settings_fault, vcpu_fault, vcpus_fault, where_admitted}
 use Rattle.host_doc.specs.Path.{of_document, of_vcpu}
 use Rattle.host_doc.specs.declared.fault.Key.{Key}
-use Rattle.host_doc.specs.declared.fault.Key.TheVariants.{Format, Cores, Lag, Sliver, Quantum, Vcpu, Name, Admitted, Runnable, Share, Latency, Unknown}
+use Rattle.host_doc.specs.declared.fault.Key.TheVariants.{Format, Cores, Lag, Sliver, Quantum, Vcpu, Name, Admitted, Runnable, Share, Latency, Capped, Unknown}
 use Rattle.host_doc.specs.declared.fault.Path.{Path}
 use Rattle.host_doc.specs.declared.fault.HostFault.{HostFault}
 use Rattle.host_doc.specs.declared.fault.HostFault.TheVariants.{NotToml, BadKey, OutOfRange, SameName, TooMany, NoMemory}
@@ -102,8 +102,10 @@ settings number ms =
     (either (result_err (runnable_of number ms)) _
     (truth (of_vcpu number Runnable) true (found_at (of_vcpu number Runnable) ms))
     (either (reservation_fault number ms) _ (admitted (admitted_of number ms) _ (reservation number ms))
+    (either (result_err (capped_of number ms)) _
+    (truth (of_vcpu number Capped) false (found_at (of_vcpu number Capped) ms))
     (either (unknown_key (of_vcpu number Unknown) vcpu_keys ms) None
-    (unknown (of_vcpu number Unknown) vcpu_keys ms) refl)))
+    (unknown (of_vcpu number Unknown) vcpu_keys ms) refl))))
 
 -- the first fault of a member is that of a key
 vcpu : (earlier : List (List ℕ)) (number : ℕ) (found : Option Members)

@@ -75,11 +75,14 @@ one_vcpu number keys a b of_a of_b =
     let names : ◌≡◌ {A = Result (List ℕ) HostFault} (Ok a.name) (Ok b.name) = sym of_a.name ∙ of_b.name in
     let runs : ◌≡◌ {A = Result Bool HostFault} (Ok a.runnable) (Ok b.runnable) =
     sym of_a.runnable ∙ of_b.runnable in
+    let caps : ◌≡◌ {A = Result Bool HostFault} (Ok a.capped) (Ok b.capped) =
+    sym of_a.capped ∙ of_b.capped in
     let name : a.name ≡ b.name = cc in
     let runnable : a.runnable ≡ b.runnable = cc in
+    let capped : a.capped ≡ b.capped = cc in
     same_vcpu a b name
     (one_reservation number keys a.reservation b.reservation of_a.reservation of_b.reservation)
-    runnable
+    runnable capped
 
 -- members without a fault state one list of vCPUs
 one_list : (items : Items) (us ws : List Vcpu) → vcpus_fault [] 0 items ≡ None → AreVcpusOf items us

@@ -1,6 +1,6 @@
 -- The table of keys of a host document: for each key its value or its fault. A whole number has its
 -- least and its greatest value and its default; a key without a default is required.
-use Rattle.std.specs.Prelude.{ℕ, Bool, true, List, [], ◌∷◌, Some, None, Result}
+use Rattle.std.specs.Prelude.{ℕ, Bool, false, true, List, [], ◌∷◌, Some, None, Result}
 use Rattle.tab_core.specs.declared.TheConstants.{MAX_CORES, MAX_LATENCY_NS, MAX_SLIVER, ROUND, WHOLE_PPM}
 use Rattle.toml.specs.Data.{Items, no_items, Members}
 use Rattle.host_doc.specs.Path.{of_document, of_vcpu}
@@ -8,7 +8,7 @@ use Rattle.host_doc.specs.Array.{items_at}
 use Rattle.host_doc.specs.Text.{name_text_at}
 use Rattle.host_doc.specs.Value.{integer_at, truth_at}
 use Rattle.host_doc.specs.declared.fault.Key.{Key}
-use Rattle.host_doc.specs.declared.fault.Key.TheVariants.{Format, Cores, Lag, Sliver, Quantum, Vcpu, Name, Admitted, Runnable, Share, Latency}
+use Rattle.host_doc.specs.declared.fault.Key.TheVariants.{Format, Cores, Lag, Sliver, Quantum, Vcpu, Name, Admitted, Runnable, Share, Latency, Capped}
 use Rattle.host_doc.specs.declared.fault.HostFault.{HostFault}
 
 -- the format of the document, of which there is one
@@ -59,6 +59,10 @@ share_of number = integer_at (of_vcpu number Share) 1 WHOLE_PPM None
 abbrev pub latency_of : ℕ → Members → Result ℕ HostFault
 latency_of number = integer_at (of_vcpu number Latency) 0 MAX_LATENCY_NS None
 
+-- whether it runs in its slots alone
+abbrev pub capped_of : ℕ → Members → Result Bool HostFault
+capped_of number = truth_at (of_vcpu number Capped) false
+
 -- the keys of a vCPU
 abbrev pub vcpu_keys : List Key
-vcpu_keys = Name ∷ Admitted ∷ Runnable ∷ Share ∷ Latency ∷ []
+vcpu_keys = Name ∷ Admitted ∷ Runnable ∷ Share ∷ Latency ∷ Capped ∷ []

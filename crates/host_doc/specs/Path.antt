@@ -1,7 +1,7 @@
 -- The keys of a host document, and where a fault of it stands.
 use Rattle.std.specs.Prelude.{ℕ, List, Some, None, codes}
 use Rattle.host_doc.specs.declared.fault.Key.{Key}
-use Rattle.host_doc.specs.declared.fault.Key.TheVariants.{Format, Cores, Lag, Sliver, Quantum, Vcpu, Name, Admitted, Runnable, Share, Latency, Unknown}
+use Rattle.host_doc.specs.declared.fault.Key.TheVariants.{Format, Cores, Lag, Sliver, Quantum, Vcpu, Name, Admitted, Runnable, Share, Latency, Capped, Unknown}
 use Rattle.host_doc.specs.declared.fault.Path.{Path}
 
 -- the key as it is written
@@ -17,6 +17,7 @@ word_of Admitted = codes "admitted"
 word_of Runnable = codes "runnable"
 word_of Share = codes "share_ppm"
 word_of Latency = codes "latency_ns"
+word_of Capped = codes "capped"
 word_of Unknown = codes "unknown key"
 
 -- a key of the document

@@ -4,7 +4,7 @@ use Rattle.std.specs.List.{list_any}
 use Rattle.std.specs.Option.{option_or}
 use Rattle.std.specs.Result.{result_err, result_ok}
 use Rattle.toml.specs.Data.{as_table, Items, no_items, item, Members}
-use Rattle.host_doc.specs.KeyTable.{admitted_of, latency_of, name_of, runnable_of, share_of, vcpu_keys}
+use Rattle.host_doc.specs.KeyTable.{admitted_of, capped_of, latency_of, name_of, runnable_of, share_of, vcpu_keys}
 use Rattle.host_doc.specs.OtherKeys.{unknown_key}
 use Rattle.host_doc.specs.Path.{of_vcpu}
 use Rattle.host_doc.specs.declared.fault.Key.TheVariants.{Vcpu as VcpuKey, Unknown}
@@ -38,6 +38,7 @@ settings_fault number members =
     first_of (result_err (admitted_of number members)
     ∷ result_err (runnable_of number members)
     ∷ reservation_fault number members
+    ∷ result_err (capped_of number members)
     ∷ unknown_key (of_vcpu number Unknown) vcpu_keys members
     ∷ [])
 

@@ -4,7 +4,7 @@ use Rattle.tab_core.specs.declared.reservation.Reservation.{Reservation}
 use Rattle.tab_core.specs.declared.vcpu.Vcpu.{Vcpu}
 use Rattle.toml.specs.Data.{table, get_item, Items, Members}
 use Rattle.host_doc.specs.Array.{count_of}
-use Rattle.host_doc.specs.KeyTable.{admitted_of, latency_of, name_of, runnable_of, share_of}
+use Rattle.host_doc.specs.KeyTable.{admitted_of, capped_of, latency_of, name_of, runnable_of, share_of}
 
 -- the vCPU has this reservation: none where it isn't admitted
 abbrev pub IsReservationOf : ℕ → Members → Option Reservation → Type 0
@@ -19,6 +19,7 @@ pub record IsVcpuOf (number : ℕ) (members : Members) (vcpu : Vcpu) : Type 0 wh
   pub name : name_of number members ≡ Ok vcpu.name
   pub reservation : IsReservationOf number members vcpu.reservation
   pub runnable : runnable_of number members ≡ Ok vcpu.runnable
+  pub capped : capped_of number members ≡ Ok vcpu.capped
 
 -- each vCPU is the one that the member of its number stands for
 abbrev pub EachIsVcpuOf : Items → List Vcpu → Type 0

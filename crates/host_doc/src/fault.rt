@@ -20,6 +20,7 @@ pub enum Key {
     Runnable,
     Share,
     Latency,
+    Capped,
     /// A key that isn't in the table of keys.
     Unknown,
 }
@@ -41,6 +42,7 @@ impl Key {
             Key::Runnable => "runnable",
             Key::Share => "share_ppm",
             Key::Latency => "latency_ns",
+            Key::Capped => "capped",
             Key::Unknown => "unknown key",
         }
     }

@@ -3,7 +3,7 @@ ghost use Rattle.std.specs.Result.{result_err};
 ghost use Rattle.tab_core.specs.declared.TheConstants.{MAX_LATENCY_NS, MAX_VCPUS};
 ghost use Rattle.toml.specs.Data.{as_table};
 ghost use Rattle.toml.specs.View.{items_view, table_view, view};
-ghost use Rattle.host_doc.specs.KeyTable.{admitted_of, runnable_of};
+ghost use Rattle.host_doc.specs.KeyTable.{admitted_of, capped_of, runnable_of};
 ghost use Rattle.host_doc.specs.Value.{integer_at};
 ghost use Rattle.host_doc.specs.VcpuFaults.{reservation_fault, settings_fault, vcpus_fault};
 ghost use Rattle.host_doc.specs.Vcpus.{AreVcpusOf, IsReservationOf};
@@ -16,12 +16,13 @@ use std::collections::BTreeSet;
 use tab_core::{MAX_LATENCY_NS, Name, Reservation, Vcpu, Vcpus, WHOLE_PPM};
 use toml::{Table, Value};
 
-const VCPU_KEYS: [Key; 5] = [
+const VCPU_KEYS: [Key; 6] = [
     Key::Name,
     Key::Admitted,
     Key::Runnable,
     Key::Share,
     Key::Latency,
+    Key::Capped,
 ];
 
 // The vCPUs that the members of `vcpu` stand for.
@@ -69,11 +70,13 @@ fn vcpu_of(table: &Table, number: u32, name: Name) -> Result<Vcpu, HostFault>
     ensures reservation { IfOk result (λ vcpu.
         IsReservationOf number (table_view table.now) vcpu.reservation) }
     ensures runnable { IfOk result (λ vcpu. runnable_of number (table_view table.now) ≡ Ok vcpu.runnable) }
+    ensures capped { IfOk result (λ vcpu. capped_of number (table_view table.now) ≡ Ok vcpu.capped) }
     ensures fault { result_err result ≡ settings_fault number (table_view table.now) }
 {
     let admitted = truth_at(table, Path::of_vcpu(number, Key::Admitted), true)?;
     let runnable = truth_at(table, Path::of_vcpu(number, Key::Runnable), true)?;
     let reservation = reservation_of(table, number, admitted)?;
+    let capped = truth_at(table, Path::of_vcpu(number, Key::Capped), false)?;
     if has_other_key(table, &VCPU_KEYS) {
         return Err(HostFault::BadKey {
             path: Path::of_vcpu(number, Key::Unknown),
@@ -83,6 +86,7 @@ fn vcpu_of(table: &Table, number: u32, name: Name) -> Result<Vcpu, HostFault>
         name,
         reservation,
         runnable,
+        capped,
     })
 }
 

@@ -70,7 +70,7 @@ loop-index-preserved c =
     let absent : has_text c.loop-index.names vcpu.name ≡ false = grind (arith, common_steps) in
     let settled : settings_fault number found ≡ None = grind (arith, common_steps) in
     let this : IsVcpuOf number found vcpu =
-    record { name = named; reservation = search rules; runnable = search rules } in
+    record { name = named; reservation = search rules; runnable = search rules; capped = search rules } in
     let adds : (text : List ℕ) → has_text c.add_text.new.texts text
     ≡ (bytes_eq text vcpu.name || has_text c.loop-index.names text) =
     grind (arith, common_steps) in
