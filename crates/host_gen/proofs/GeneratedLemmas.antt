@@ -1,11 +1,12 @@
 -- The vCPUs of a generated host, one after the other, and their names.
-use Rattle.std.proofs.Common.{◌≡◌, ℕ, suc, ◌+◌, ◌%◌, ◌^◌, ◌<◌, ◌≤◌, true, List, [], ◌∷◌, ◌++◌, length, decimal, get_or, slice_get, Option, Some, None, IsSomeAnd, inl, inr, refl, ap, subst, sym, ◌∙◌, arith}
+use Rattle.std.proofs.Common.{◌≡◌, ℕ, suc, ◌+◌, ◌%◌, ◌^◌, ◌<◌, ◌≤◌, true, false, cond, List, [], ◌∷◌, ◌++◌, length, decimal, get_or, slice_get, Option, Some, None, IsSomeAnd, inl, inr, refl, ap, subst, sym, ◌∙◌, arith}
 use Rattle.std.specs.Prelude.{IsSome}
-use Rattle.std.specs.List.{list_all}
+use Rattle.std.specs.List.{count_by, list_all}
 use Rattle.std.proofs.lemmas.Bool.Decides.{nat_tests}
 use Rattle.std.proofs.lemmas.Fmt.{decimal_by_steps, decimal_injective, decimal_nonempty, length-decimal-le}
 use Rattle.std.proofs.lemmas.List.{same_lists}
 use Rattle.std.proofs.lemmas.List.Folds.{list_all-append}
+use Rattle.std.proofs.lemmas.List.Sums.{sum_by-cons}
 use Rattle.std.proofs.lemmas.Option.{slice_get-get_or, slice_get_cases}
 use Rattle.tab_core.proofs.Alike.{same_host, same_reservation, same_vcpu}
 use Rattle.tab_core.proofs.Lists.{push_split}
@@ -110,6 +111,23 @@ admitted seed most vcpus are = λ k d low.
     some percent period None is = absurd is
     some percent period (Some r) is = refl
 
+-- and none is capped
+pub none_capped : (seed most : ℕ) (vcpus : List Vcpu) → AreGenerated seed most vcpus
+    → count_by (λ vcpu. vcpu.capped) vcpus ≡ 0
+none_capped seed most vcpus are = uncapped vcpus (λ k vcpu at. (are k vcpu at).capped)
+  where
+    uncapped : (vs : List Vcpu) → ((k : ℕ) (v : Vcpu) → slice_get vs k ≡ Some v → v.capped ≡ false)
+        → count_by (λ v. v.capped) vs ≡ 0
+    uncapped [] none = refl
+    uncapped (v ∷ vs) none =
+        let first : ◌≡◌ {A = ℕ} (cond v.capped 1 0) 0 = ap {B = ℕ} (λ b. cond b 1 0) (none 0 v refl) in
+        omega (
+          arith,
+          sum_by-cons (λ (w : Vcpu). cond w.capped 1 0) v vs,
+          first,
+          uncapped vs (λ k. none (suc k)),
+        )
+
 -- ---- one host
 
 -- two reservations of the same numbers are one
@@ -126,7 +144,7 @@ one_vcpu : (most number first second : ℕ) (a b : Vcpu) → IsGeneratedVcpu mos
 one_vcpu most number first second a b of_a of_b = same_vcpu a b (of_a.name ∙ sym of_b.name)
     (one_reservation (percent_of most first) (period_of second) a.reservation b.reservation of_a.reservation
     of_b.reservation)
-    (of_a.runnable ∙ sym of_b.runnable)
+    (of_a.runnable ∙ sym of_b.runnable) (of_a.capped ∙ sym of_b.capped)
 
 -- the law of one host, vCPU by vCPU
 pub one_host : (seed cores vcpus : ℕ) (host other : Host) → IsGenerated seed cores vcpus host

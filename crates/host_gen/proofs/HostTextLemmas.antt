@@ -4,7 +4,7 @@ use Rattle.tab_core.specs.declared.host.Host.{Host}
 use Rattle.tab_core.specs.declared.reservation.Reservation.{Reservation}
 use Rattle.tab_core.specs.declared.vcpu.Vcpu.{Vcpu}
 use Rattle.tab_words.specs.Texts.{line_of, text_of}
-use Rattle.host_gen.specs.HostText.{Line, head_lines, key_words, quoted, truth_word, vcpu_text}
+use Rattle.host_gen.specs.HostText.{Line, capped_lines, head_lines, key_words, quoted, truth_word, vcpu_text}
 
 -- the line of a key and its value, and what follows it
 pub key_line : (key value rest : List ℕ)
@@ -37,23 +37,23 @@ head_pieces host =
     (key_first (codes "sliver") (decimal host.sliver) quantum _
     (key_first (codes "quantum") (decimal host.quantum) [] [] refl))))
 
--- a vCPU's lines, piece by piece
-admitted_pieces : (name : List ℕ) (r : Reservation) (truth : List ℕ)
+-- a vCPU's lines, piece by piece, in front of others
+admitted_pieces : (name : List ℕ) (r : Reservation) (truth : List ℕ) (lines : List Line)
     → text_of (key_words (codes "name") (quoted name) ∷ key_words (codes "share_ppm") (decimal r.share_ppm)
-    ∷ key_words (codes "latency_ns") (decimal r.latency_ns) ∷ key_words (codes "runnable") truth ∷ [])
+    ∷ key_words (codes "latency_ns") (decimal r.latency_ns) ∷ key_words (codes "runnable") truth ∷ lines)
     ≡ codes "name = \""
     ++ (name
     ++ (codes "\"\nshare_ppm = " ++ (decimal r.share_ppm
     ++ (codes "\nlatency_ns = " ++ (decimal r.latency_ns
-    ++ (codes "\nrunnable = " ++ (truth ++ codes "\n")))))))
-admitted_pieces name r truth =
-    let runnable : List Line = key_words (codes "runnable") truth ∷ [] in
+    ++ (codes "\nrunnable = " ++ (truth ++ (codes "\n" ++ text_of lines))))))))
+admitted_pieces name r truth lines =
+    let runnable : List Line = key_words (codes "runnable") truth ∷ lines in
     let latency : List Line = key_words (codes "latency_ns") (decimal r.latency_ns) ∷ runnable in
     let share : List Line = key_words (codes "share_ppm") (decimal r.share_ppm) ∷ latency in
     key_first (codes "name") (quoted name) share _
     (key_first (codes "share_ppm") (decimal r.share_ppm) latency _
     (key_first (codes "latency_ns") (decimal r.latency_ns) runnable _
-    (key_first (codes "runnable") truth [] [] refl)))
+    (key_first (codes "runnable") truth lines (text_of lines) refl)))
     ∙ ap (λ rest. codes "name = \"" ++ rest) (append_assoc name (34 ∷ []) _)
 
 -- those of an admitted vCPU
@@ -63,10 +63,12 @@ pub vcpu_pieces : (vcpu : Vcpu) (r : Reservation) → vcpu.reservation ≡ Some 
     ++ (vcpu.name
     ++ (codes "\"\nshare_ppm = " ++ (decimal r.share_ppm
     ++ (codes "\nlatency_ns = " ++ (decimal r.latency_ns
-    ++ (codes "\nrunnable = " ++ (truth_word vcpu.runnable ++ codes "\n")))))))
+    ++ (codes "\nrunnable = " ++ (truth_word vcpu.runnable
+    ++ (codes "\n" ++ text_of (capped_lines vcpu.capped)))))))))
 unfolding vcpu_text line_of
 vcpu_pieces vcpu r is = rw is
-    (ap (λ rest. codes "\n[[vcpu]]\n" ++ rest) (admitted_pieces vcpu.name r (truth_word vcpu.runnable)))
+    (ap (λ rest. codes "\n[[vcpu]]\n" ++ rest)
+    (admitted_pieces vcpu.name r (truth_word vcpu.runnable) (capped_lines vcpu.capped)))
 
 -- one that isn't admitted has none
 pub vcpu_without : (vcpu : Vcpu) → vcpu.reservation ≡ None → vcpu_text vcpu ≡ []

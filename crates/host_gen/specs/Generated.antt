@@ -2,7 +2,7 @@
 -- Source: the rule is this project's own. A share is a whole percent of a core, which costs a whole
 -- number of ticks in each period below. The most percent is such that all vCPUs lie within the bound of
 -- worst fit.
-use Rattle.std.specs.Prelude.{◌≡◌, ℕ, ◌+◌, ◌-◌, ◌*◌, ◌/◌, ◌%◌, ◌==◌, min, not, Bool, if◌then◌else◌, List, [], ◌∷◌, ◌++◌, codes, decimal, length, slice_get, slice_index, Some, IsSomeAnd}
+use Rattle.std.specs.Prelude.{◌≡◌, ℕ, ◌+◌, ◌-◌, ◌*◌, ◌/◌, ◌%◌, ◌==◌, min, not, Bool, false, if◌then◌else◌, List, [], ◌∷◌, ◌++◌, codes, decimal, length, slice_get, slice_index, Some, IsSomeAnd}
 use Rattle.tab_core.specs.declared.TheConstants.{TICK_NS}
 use Rattle.tab_core.specs.declared.host.Host.{Host}
 use Rattle.tab_core.specs.declared.reservation.Reservation.{Reservation}
@@ -47,6 +47,7 @@ pub record IsGeneratedVcpu (most number first second : ℕ) (vcpu : Vcpu) : Type
   pub name : vcpu.name ≡ name_of number
   pub reservation : IsSomeAnd vcpu.reservation (IsReservationOf (percent_of most first) (period_of second))
   pub runnable : vcpu.runnable ≡ is_runnable second
+  pub capped : vcpu.capped ≡ false
 
 -- each of the vCPUs is that of its number
 abbrev pub AreGenerated : ℕ → ℕ → List Vcpu → Type 0

@@ -33,25 +33,30 @@ head_lines host =
     ∷ key_words (codes "quantum") (decimal host.quantum)
     ∷ []
 
+-- the line of a capped vCPU; one that isn't has none
+abbrev pub capped_lines : Bool → List Line
+capped_lines true = key_words (codes "capped") (truth_word true) ∷ []
+capped_lines false = []
+
 -- the lines of an admitted vCPU, behind an empty one
-abbrev pub admitted_lines : List ℕ → Reservation → Bool → List Line
-admitted_lines name r runnable =
+abbrev pub admitted_lines : List ℕ → Reservation → Bool → Bool → List Line
+admitted_lines name r runnable capped =
     []
     ∷ (codes "[[vcpu]]" ∷ [])
     ∷ key_words (codes "name") (quoted name)
     ∷ key_words (codes "share_ppm") (decimal r.share_ppm)
     ∷ key_words (codes "latency_ns") (decimal r.latency_ns)
     ∷ key_words (codes "runnable") (truth_word runnable)
-    ∷ []
+    ∷ capped_lines capped
 
 -- a vCPU that isn't admitted has no lines
-abbrev pub vcpu_lines : List ℕ → Option Reservation → Bool → List Line
-vcpu_lines name None runnable = []
-vcpu_lines name (Some r) runnable = admitted_lines name r runnable
+abbrev pub vcpu_lines : List ℕ → Option Reservation → Bool → Bool → List Line
+vcpu_lines name None runnable capped = []
+vcpu_lines name (Some r) runnable capped = admitted_lines name r runnable capped
 
 -- a vCPU's lines as they are written
 unfoldable pub vcpu_text : Vcpu → List ℕ
-vcpu_text vcpu = text_of (vcpu_lines vcpu.name vcpu.reservation vcpu.runnable)
+vcpu_text vcpu = text_of (vcpu_lines vcpu.name vcpu.reservation vcpu.runnable vcpu.capped)
 
 -- the text of a host whose vCPUs are all admitted
 unfoldable pub host_text : Host → List ℕ

@@ -13,7 +13,7 @@ use tab_core::{Host, Name, NameFault, NoMemory, Reservation, TICK_NS, Vcpu, Vcpu
 // The periods that latencies are made of, in ticks.
 const WHOLE_PERIODS: [u32; 6] = [100, 300, 900, 2700, 5700, 11_400];
 
-/// The host of a seed, of so many cores and vCPUs. Each vCPU is admitted.
+/// The host of a seed, of so many cores and vCPUs. Each vCPU is admitted, and none is capped.
 ///
 /// There are 1 to 32 cores, and at most 256 vCPUs and at most 99 to each core and one more. The lag is
 /// 1000 ticks, the sliver 30 and the quantum 1000. A vCPU's share is a whole percent of a core, such
@@ -84,6 +84,7 @@ fn vcpu_of(alloc: Global, most: u32, number: u32, first: u64, second: u64) -> Re
         name: name_of(alloc, number)?,
         reservation: Some(reservation_of(percent, period)),
         runnable: second / 6 % 4 != 0,
+        capped: false,
     })
 }
 

@@ -1,7 +1,7 @@
 ghost use Rattle.std.specs.Prelude.{◌≡◌, ◌++◌, IsSome, flat_map};
 ghost use Rattle.tab_io.specs.Sinks.{Writes};
 ghost use Rattle.tab_words.specs.Texts.{text_of};
-ghost use Rattle.host_gen.specs.HostText.{AreAdmitted, head_lines, host_text, truth_word, vcpu_text};
+ghost use Rattle.host_gen.specs.HostText.{AreAdmitted, capped_lines, head_lines, host_text, truth_word, vcpu_text};
 
 use tab_core::{Host, Vcpu};
 use tab_io::{Sink, WriteFault};
@@ -67,6 +67,7 @@ fn put_vcpu<K: Sink>(sink: &mut K, vcpu: &Vcpu) -> Result<(), WriteFault>
             TextPiece::Text(b"\nrunnable = "),
             TextPiece::Text(word_of(vcpu.runnable)),
             TextPiece::Text(b"\n"),
+            TextPiece::Text(capped_line(vcpu.capped)),
         ],
     )
 }
@@ -76,4 +77,11 @@ fn word_of(truth: bool) -> &'static [u8]
     ensures { result.now ≡ truth_word truth }
 {
     if truth { b"true" } else { b"false" }
+}
+
+// The line of a capped vCPU, or nothing.
+fn capped_line(capped: bool) -> &'static [u8]
+    ensures { result.now ≡ text_of (capped_lines capped) }
+{
+    if capped { b"capped = true\n" } else { b"" }
 }

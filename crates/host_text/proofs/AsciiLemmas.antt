@@ -9,8 +9,8 @@ use Rattle.std.specs.List.{list_all}
 use Rattle.std.specs.Str.{IsAscii}
 use Rattle.tab_core.specs.Name.{IsName, is_byte_of_name}
 use Rattle.tab_core.specs.declared.host.Host.{Host}
-use Rattle.tab_words.specs.Texts.{text_of}
-use Rattle.host_gen.specs.HostText.{head_lines, host_text, truth_word, vcpu_text}
+use Rattle.tab_words.specs.Texts.{line_of, text_of}
+use Rattle.host_gen.specs.HostText.{capped_lines, head_lines, host_text, truth_word, vcpu_text}
 use Rattle.host_gen.proofs.HostTextLemmas.{head_pieces, vcpu_pieces}
 use Rattle.host_text.proofs.ByteLemmas.{name_bytes, weaker}
 use Rattle.host_text.proofs.Statements.{AreNamed, Statement, vcpu_of}
@@ -36,6 +36,12 @@ truth : (b : Bool) → IsAscii (truth_word b)
 truth true = literal (codes "true") refl
 truth false = literal (codes "false") refl
 
+-- the line of a capped vCPU
+capped : (b : Bool) → IsAscii (text_of (capped_lines b))
+unfolding line_of
+capped true = literal (codes "capped = true\n") refl
+capped false = IsAscii-nil
+
 -- a literal and a number, before other bytes
 numbered : (bs : List ℕ) (n : ℕ) (rest : List ℕ) → list_all is_low bs ≡ true → n < 2 ^ 64
     → IsAscii rest → IsAscii (bs ++ (decimal n ++ rest))
@@ -59,7 +65,9 @@ statement s good = subst IsAscii (sym (vcpu_pieces (vcpu_of s) s.reservation ref
     (numbered (codes "\"\nshare_ppm = ") s.reservation.share_ppm _ refl (omega arith)
     (numbered (codes "\nlatency_ns = ") s.reservation.latency_ns _ refl (omega arith)
     (IsAscii-append (codes "\nrunnable = ") _ (literal (codes "\nrunnable = ") refl)
-    (IsAscii-append (truth_word s.runnable) (codes "\n") (truth s.runnable) (literal (codes "\n") refl)))))))
+    (IsAscii-append (truth_word s.runnable) _ (truth s.runnable)
+    (IsAscii-append (codes "\n") (text_of (capped_lines s.capped)) (literal (codes "\n") refl)
+    (capped s.capped))))))))
 
 -- those of all vCPUs
 statements : (ss : List Statement) → AreNamed ss

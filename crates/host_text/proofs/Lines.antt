@@ -14,10 +14,10 @@ use Rattle.toml.specs.Data.{Data, string, integer, boolean}
 use Rattle.toml.specs.Tables.{Expression, key_value}
 use Rattle.toml.specs.Text.{IsLineText, IsLinesText, IsValueText}
 use Rattle.toml.proofs.Lines.{IsLinesText-append}
-use Rattle.host_gen.specs.HostText.{Line, head_lines, host_text, key_words, quoted, truth_word, vcpu_text}
+use Rattle.host_gen.specs.HostText.{Line, capped_lines, head_lines, host_text, key_words, quoted, truth_word, vcpu_text}
 use Rattle.host_gen.proofs.HostTextLemmas.{key_line}
 use Rattle.host_text.proofs.ByteLemmas.{name_bytes}
-use Rattle.host_text.proofs.Statements.{AreNamed, Statement, head_expressions, settings_expressions, settings_lines, vcpu_expressions, vcpu_of, vcpus_expressions}
+use Rattle.host_text.proofs.Statements.{AreNamed, Statement, capped_expressions, head_expressions, settings_expressions, settings_lines, vcpu_expressions, vcpu_of, vcpus_expressions}
 
 -- ---- values
 
@@ -121,6 +121,12 @@ head_text host =
     (line_and true _ _ _ _ (number_line true (codes "sliver") host.sliver refl (omega arith))
     (line_and true _ _ _ _ (number_line true (codes "quantum") host.quantum refl (omega arith)) no_line))))
 
+-- the line of a capped vCPU
+capped_text : (capped : Bool) → AreLines true (capped_expressions capped) (capped_lines capped)
+unfolding key_text
+capped_text true = line_and true _ _ _ _ (truth_line true (codes "capped") true refl) no_line
+capped_text false = no_line
+
 -- the lines of an admitted vCPU behind its header
 settings_text : (s : Statement) → IsName s.name → AreLines true (settings_expressions s) (settings_lines s)
 unfolding key_text
@@ -130,7 +136,7 @@ settings_text s good =
     (line_and true _ _ _ _ (number_line true (codes "share_ppm") s.reservation.share_ppm refl (omega arith))
     (line_and true _ _ _ _
     (number_line true (codes "latency_ns") s.reservation.latency_ns refl (omega arith))
-    (line_and true _ _ _ _ (truth_line true (codes "runnable") s.runnable refl) no_line)))
+    (line_and true _ _ _ _ (truth_line true (codes "runnable") s.runnable refl) (capped_text s.capped))))
 
 -- and with it
 statement_text : (s : Statement) → IsName s.name

@@ -1,5 +1,5 @@
 -- The document's members stand for the host.
-use Rattle.std.proofs.Common.{◌≡◌, ℕ, zero, suc, ◌+◌, ◌≤◌, pos, false, List, [], ◌∷◌, ◌++◌, length, map, slice_get, Some, None, Ok, refl, sym, ap, subst, ◌∙◌, arith, bytes_eq}
+use Rattle.std.proofs.Common.{◌≡◌, ℕ, zero, suc, ◌+◌, ◌≤◌, pos, true, false, List, [], ◌∷◌, ◌++◌, length, map, slice_get, Some, None, Ok, refl, sym, ap, subst, ◌∙◌, arith, bytes_eq}
 use Rattle.std.proofs.lemmas.Bool.Decides.{nat_tests}
 use Rattle.std.proofs.lemmas.List.{length-map}
 use Rattle.std.proofs.lemmas.List.Folds.{list_any-append}
@@ -9,11 +9,12 @@ use Rattle.tab_core.specs.Name.{IsName}
 use Rattle.tab_core.specs.Vcpus.{HaveDistinctNames}
 use Rattle.tab_core.specs.declared.TheConstants.{MAX_CORES, MAX_LATENCY_NS, MAX_SLIVER, MAX_VCPUS, ROUND, WHOLE_PPM}
 use Rattle.tab_core.specs.declared.host.Host.{Host}
+use Rattle.tab_core.specs.declared.reservation.Reservation.{Reservation}
 use Rattle.tab_core.specs.declared.vcpu.Vcpu.{Vcpu}
 use Rattle.toml.specs.Data.{Items, Members, get_item, table}
 use Rattle.host_doc.specs.Array.{count_of, limited}
 use Rattle.host_doc.specs.Document.{IsHostOf, first_fault}
-use Rattle.host_doc.specs.KeyTable.{cores_of, document_keys, lag_of, latency_of, name_of, quantum_of, share_of, sliver_of, vcpus_of}
+use Rattle.host_doc.specs.KeyTable.{admitted_of, capped_of, cores_of, document_keys, lag_of, latency_of, name_of, quantum_of, runnable_of, share_of, sliver_of, vcpu_keys, vcpus_of}
 use Rattle.host_doc.specs.OtherKeys.{unknown_key}
 use Rattle.host_doc.specs.Path.{of_document, of_vcpu}
 use Rattle.host_doc.specs.Value.{in_range}
@@ -22,7 +23,7 @@ use Rattle.host_doc.specs.Vcpus.{AreVcpusOf, IsVcpuOf}
 use Rattle.host_doc.specs.declared.fault.Key.TheVariants.{Cores, Lag, Latency, Quantum, Share, Sliver, Unknown, Vcpu as VcpuKey}
 use Rattle.host_doc.specs.declared.fault.Path.{Path}
 use Rattle.host_doc.proofs.VcpusLemmas.{fault_named, names_named}
-use Rattle.host_text.proofs.Statements.{AreNamed, Statement, host_members, vcpu_items, vcpu_members, vcpu_of}
+use Rattle.host_text.proofs.Statements.{AreNamed, Statement, either_way, host_members, vcpu_items, vcpu_members, vcpu_of}
 
 -- ---- values
 
@@ -35,30 +36,62 @@ taken path least most n low high = grind (arith, nat_tests)
 
 -- its name is taken
 named : (number : ℕ) (s : Statement) → IsName s.name → name_of number (vcpu_members s) ≡ Ok s.name
-named number s good = rw good
+named number = either_way (λ s. IsName s.name → name_of number (vcpu_members s) ≡ Ok s.name)
+    (λ s good. rw good refl) (λ s good. rw good refl)
 
 -- so is its share
 shared : (number : ℕ) (s : Statement) → share_of number (vcpu_members s) ≡ Ok s.reservation.share_ppm
-shared number s =
-    taken (of_vcpu number Share) 1 WHOLE_PPM s.reservation.share_ppm s.reservation.shares s.reservation.whole
+shared number = either_way (λ s. share_of number (vcpu_members s) ≡ Ok s.reservation.share_ppm)
+    (λ s. share s.reservation) (λ s. share s.reservation)
+  where
+    share : (r : Reservation) → in_range (of_vcpu number Share) 1 WHOLE_PPM (Some (pos r.share_ppm))
+        ≡ Ok r.share_ppm
+    share r = taken (of_vcpu number Share) 1 WHOLE_PPM r.share_ppm r.shares r.whole
 
 -- and its latency
 waits : (number : ℕ) (s : Statement) → latency_of number (vcpu_members s) ≡ Ok s.reservation.latency_ns
-waits number s =
-    taken (of_vcpu number Latency) 0 MAX_LATENCY_NS s.reservation.latency_ns (omega arith)
-    s.reservation.bounded
+waits number = either_way (λ s. latency_of number (vcpu_members s) ≡ Ok s.reservation.latency_ns)
+    (λ s. latency s.reservation) (λ s. latency s.reservation)
+  where
+    latency : (r : Reservation)
+        → in_range (of_vcpu number Latency) 0 MAX_LATENCY_NS (Some (pos r.latency_ns)) ≡ Ok r.latency_ns
+    latency r = taken (of_vcpu number Latency) 0 MAX_LATENCY_NS r.latency_ns (omega arith) r.bounded
+
+-- its other settings are truth values
+admits : (number : ℕ) (s : Statement) → admitted_of number (vcpu_members s) ≡ Ok true
+admits number = either_way (λ s. admitted_of number (vcpu_members s) ≡ Ok true) (λ s. refl) (λ s. refl)
+
+runs : (number : ℕ) (s : Statement) → runnable_of number (vcpu_members s) ≡ Ok s.runnable
+runs number = either_way (λ s. runnable_of number (vcpu_members s) ≡ Ok s.runnable) (λ s. refl) (λ s. refl)
+
+caps : (number : ℕ) (s : Statement) → capped_of number (vcpu_members s) ≡ Ok s.capped
+caps number = either_way (λ s. capped_of number (vcpu_members s) ≡ Ok s.capped) (λ s. refl) (λ s. refl)
 
 -- its members stand for it
 stands : (number : ℕ) (s : Statement) → IsName s.name → IsVcpuOf number (vcpu_members s) (vcpu_of s)
 stands number s good = record {
   name = named number s good;
-  reservation = (refl, shared number s, waits number s);
-  runnable = refl;
+  reservation = (admits number s, shared number s, waits number s);
+  runnable = runs number s;
+  capped = caps number s;
 }
 
--- and have no fault behind the name
+-- none is of another key
+only_keys : (number : ℕ) (s : Statement)
+    → unknown_key (of_vcpu number Unknown) vcpu_keys (vcpu_members s) ≡ None
+only_keys number = either_way (λ s. unknown_key (of_vcpu number Unknown) vcpu_keys (vcpu_members s) ≡ None)
+    (λ s. refl) (λ s. refl)
+
+-- and they have no fault behind the name
 settled : (number : ℕ) (s : Statement) → settings_fault number (vcpu_members s) ≡ None
-settled number s = rw (shared number s, waits number s)
+settled number s = rw (
+  admits number s,
+  runs number s,
+  shared number s,
+  waits number s,
+  caps number s,
+  only_keys number s,
+) refl
 
 -- ---- all vCPUs
 

@@ -1,10 +1,10 @@
 -- The text of a host is read back as that host.
-use Rattle.std.proofs.Common.{◌≡◌, ℕ, ◌+◌, ◌*◌, ◌≤◌, suc, false, List, [], ◌∷◌, ◌++◌, length, map, get_or, Some, refl, sym, ap, subst, ◌∙◌, arith}
+use Rattle.std.proofs.Common.{◌≡◌, ℕ, ◌+◌, ◌*◌, ◌≤◌, suc, Bool, true, false, List, [], ◌∷◌, ◌++◌, length, map, get_or, Some, refl, sym, ap, subst, ◌∙◌, arith}
 use Rattle.std.proofs.lemmas.List.{length-map}
 use Rattle.std.proofs.lemmas.List.Elements.{All-tail}
 use Rattle.std.proofs.lemmas.Option.{slice_get-get_or}
 use Rattle.std.proofs.lemmas.Str.{IsUtf8-from_ascii}
-use Rattle.std.specs.List.{All}
+use Rattle.std.specs.List.{All, count_by}
 use Rattle.tab_core.specs.Name.{IsName}
 use Rattle.tab_core.specs.Vcpus.{HaveDistinctNames}
 use Rattle.tab_core.specs.declared.TheConstants.{MAX_VCPUS}
@@ -13,13 +13,13 @@ use Rattle.tab_core.specs.declared.vcpu.Vcpu.{Vcpu}
 use Rattle.tab_words.specs.Sections.{sections_of}
 use Rattle.tab_words.specs.Texts.{line_of}
 use Rattle.toml.specs.Parse.{parse_document, skip_bom}
-use Rattle.toml.specs.Tables.{no_nodes}
+use Rattle.toml.specs.Tables.{Expression, no_nodes}
 use Rattle.toml.proofs.ReadLines.{AllPrinted, read_lines}
 use Rattle.toml.proofs.Turns.{document_some}
 use Rattle.host_doc.specs.Document.{IsHostText}
 use Rattle.host_gen.specs.Generated.{IsGenerated, most_percent}
 use Rattle.host_gen.specs.HostText.{host_text}
-use Rattle.host_gen.proofs.GeneratedLemmas.{admitted, distinct, is_good_name}
+use Rattle.host_gen.proofs.GeneratedLemmas.{admitted, distinct, is_good_name, none_capped}
 use Rattle.host_text.specs.Admitted.{IsAdmittedHost}
 use Rattle.host_text.proofs.AsciiLemmas.{host_ascii}
 use Rattle.host_text.proofs.Lines.{host_lines}
@@ -27,9 +27,15 @@ use Rattle.host_text.proofs.Members.{AreGood, are_apart, members_stand}
 use Rattle.host_text.proofs.Running.{all_run}
 use Rattle.host_text.proofs.SectionLemmas.{host_section}
 use Rattle.host_text.proofs.SizeLemmas.{host_size}
-use Rattle.host_text.proofs.Statements.{AreNamed, Statement, head_expressions, host_members, stated, vcpu_of, vcpus_expressions}
+use Rattle.host_text.proofs.Statements.{AreNamed, Statement, capped_expressions, head_expressions, host_members, stated, vcpu_of, vcpus_expressions}
 
--- the expressions are of the kinds that a printed document has
+-- that of a capped vCPU is of the kinds that a printed document has, in front of others
+capped_printed : (capped : Bool) (es : List Expression) → AllPrinted es
+    → AllPrinted (capped_expressions capped ++ es)
+capped_printed true es rest = ((refl, omega arith, refl), rest)
+capped_printed false es rest = rest
+
+-- so are all of them
 all_printed : (ss : List Statement) → AllPrinted (vcpus_expressions ss)
 all_printed [] = tt
 all_printed (s ∷ ss) = (
@@ -40,7 +46,7 @@ all_printed (s ∷ ss) = (
       (refl, omega arith, refl),
       (
         (refl, omega arith, refl),
-        ((refl, omega arith, refl), all_printed ss),
+        ((refl, omega arith, refl), capped_printed s.capped (vcpus_expressions ss) (all_printed ss)),
       ),
     ),
   ),
@@ -139,7 +145,8 @@ one_section host is =
     host_section host s.statements s.are (are_named host s.statements s.are is)
 
 -- and short
-pub short : (host : Host) → IsAdmittedHost host → length (host_text host) ≤ 100 + 120 * length host.vcpus
+pub short : (host : Host) → IsAdmittedHost host → length (host_text host)
+    ≤ 100 + 120 * length host.vcpus + 14 * count_by (λ vcpu. vcpu.capped) host.vcpus
 short host is =
     let s = stated host.vcpus is.admitted in
     host_size host s.statements s.are (are_named host s.statements s.are is)
@@ -155,4 +162,4 @@ pub generated_short : (seed cores vcpus : ℕ) (host : Host) → vcpus ≤ MAX_V
     → IsGenerated seed cores vcpus host → length (host_text host) ≤ 100 + 120 * vcpus
 generated_short seed cores vcpus host few is =
     let long = short host (generated_admitted seed cores vcpus host few is) in
-    omega (arith, long, is.as_many)
+    omega (arith, long, is.as_many, none_capped seed (most_percent cores vcpus) host.vcpus is.each)

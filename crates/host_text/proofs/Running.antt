@@ -1,10 +1,10 @@
 -- What the expressions of a host's text define: the document's members.
-use Rattle.std.proofs.Common.{◌≡◌, pos, List, [], ◌∷◌, ◌++◌, codes, Some, refl, ap, ◌∙◌, append_assoc}
+use Rattle.std.proofs.Common.{◌≡◌, pos, Bool, true, false, List, [], ◌∷◌, ◌++◌, codes, Some, refl, ap, ◌∙◌, append_assoc}
 use Rattle.tab_core.specs.declared.host.Host.{Host}
 use Rattle.toml.specs.Data.{string, integer, boolean, array, table, Items, no_items, item, push_item, Members, no_members, member}
 use Rattle.toml.specs.Tables.{Nodes, no_nodes, node, value, open_array, close, Document, Expression, at_key, along_dots, along_header, define}
 use Rattle.toml.proofs.ReadLines.{run}
-use Rattle.host_text.proofs.Statements.{Statement, head_expressions, head_members, host_members, vcpu_expressions, vcpu_items, vcpu_members, vcpus_expressions}
+use Rattle.host_text.proofs.Statements.{Statement, either_way, head_expressions, head_members, host_members, vcpu_expressions, vcpu_items, vcpu_members, vcpus_expressions}
 
 -- the nodes of the host's own numbers, in front of others
 abbrev head_nodes : Host → Nodes → Nodes
@@ -15,13 +15,19 @@ head_nodes host rest =
     (node (codes "quantum") (value (integer (pos host.quantum)))
     (node (codes "sliver") (value (integer (pos host.sliver))) rest))))
 
+-- that of a capped vCPU, in front of others
+abbrev capped_node : Bool → Nodes → Nodes
+capped_node true rest = node (codes "capped") (value (boolean true)) rest
+capped_node false rest = rest
+
 -- those of an admitted vCPU
 abbrev vcpu_nodes : Statement → Nodes
 vcpu_nodes s =
-    node (codes "latency_ns") (value (integer (pos s.reservation.latency_ns)))
+    capped_node s.capped
+    (node (codes "latency_ns") (value (integer (pos s.reservation.latency_ns)))
     (node (codes "name") (value (string s.name))
     (node (codes "runnable") (value (boolean s.runnable))
-    (node (codes "share_ppm") (value (integer (pos s.reservation.share_ppm))) no_nodes)))
+    (node (codes "share_ppm") (value (integer (pos s.reservation.share_ppm))) no_nodes))))
 
 -- the document behind the host's own numbers
 abbrev after_head : Host → Document
@@ -42,14 +48,22 @@ head_run host es = refl
 first_run : (host : Host) (s : Statement) (es : List Expression)
     → run (after_head host) (vcpu_expressions s ++ es) ≡ run (after_vcpu host no_items s) es
 unfolding define along_header along_dots at_key
-first_run host s es = refl
+first_run host s es =
+    either_way (λ s. run (after_head host) (vcpu_expressions s ++ es) ≡ run (after_vcpu host no_items s) es)
+    (λ s. refl) (λ s. refl) s
 
 -- and each other adds a value to it
 next_run : (host : Host) (done : Items) (u s : Statement) (es : List Expression)
     → run (after_vcpu host done u) (vcpu_expressions s ++ es)
     ≡ run (after_vcpu host (push_item done (table (vcpu_members u))) s) es
 unfolding define along_header along_dots at_key
-next_run host done u s es = refl
+next_run host done u s es =
+    either_way (λ u. Goes u s) (λ u. either_way (Goes (record u { capped = true })) (λ s. refl) (λ s. refl) s)
+    (λ u. either_way (Goes (record u { capped = false })) (λ s. refl) (λ s. refl) s) u
+  where
+    Goes : Statement → Statement → Type 0
+    Goes u s = run (after_vcpu host done u) (vcpu_expressions s ++ es)
+        ≡ run (after_vcpu host (push_item done (table (vcpu_members u))) s) es
 
 -- the members of a document of some vCPUs
 abbrev with_vcpus : Host → List Statement → Members
@@ -60,6 +74,15 @@ items_last : (before : List Statement) (u : Statement)
     → push_item (vcpu_items before) (table (vcpu_members u)) ≡ vcpu_items (before ++ u ∷ [])
 items_last [] u = refl
 items_last (s ∷ before) u = ap (item (table (vcpu_members s))) (items_last before u)
+
+-- at the end of the text the last vCPU's value is added
+last_closes : (host : Host) (done : Items) (u : Statement)
+    → close (after_vcpu host done u).0
+    ≡ head_members host (member (codes "vcpu") (array (push_item done (table (vcpu_members u)))) no_members)
+last_closes host done = either_way (λ u. close (after_vcpu host done u).0
+    ≡ head_members host
+    (member (codes "vcpu") (array (push_item done (table (vcpu_members u)))) no_members))
+    (λ u. refl) (λ u. refl)
 
 -- the expressions lead to a document of these members
 pub record Defines (doc : Document) (es : List Expression) (members : Members) : Type 0 where
@@ -74,7 +97,8 @@ rest_run : (host : Host) (before : List Statement) (u : Statement) (ss : List St
 rest_run host before u [] = record {
   last = after_vcpu host (vcpu_items before) u;
   runs = refl;
-  closes = ap (λ items. head_members host (member (codes "vcpu") (array items) no_members))
+  closes = last_closes host (vcpu_items before) u
+      ∙ ap (λ items. head_members host (member (codes "vcpu") (array items) no_members))
       (items_last before u);
 }
 rest_run host before u (s ∷ ss) =

@@ -10,7 +10,7 @@ use Rattle.tab_words.specs.Sections.{is_separator, raw_lines_of, sections_of}
 use Rattle.tab_words.specs.Texts.{line_of, text_of}
 use Rattle.tab_words.proofs.SectionLemmas.{extend, sections_of-nil, sections_of-row}
 use Rattle.tab_words.proofs.TextLemmas.{decimal_word, is_plain}
-use Rattle.host_gen.specs.HostText.{Line, head_lines, host_text, key_words, quoted, truth_word, vcpu_text}
+use Rattle.host_gen.specs.HostText.{Line, capped_lines, head_lines, host_text, key_words, quoted, truth_word, vcpu_text}
 use Rattle.host_gen.proofs.HostTextLemmas.{key_line}
 use Rattle.host_text.proofs.ByteLemmas.{name_bytes, weaker}
 use Rattle.host_text.proofs.Statements.{AreNamed, Statement, settings_lines, vcpu_of}
@@ -106,6 +106,11 @@ head_keeps host =
     (pair_line (codes "quantum") (decimal host.quantum) refl (digits_inside host.quantum (omega arith)) refl)
     no_line))))
 
+-- the line of a capped vCPU
+capped_keeps : (capped : Bool) → KeepsSection (capped_lines capped)
+capped_keeps true = line_and _ _ (pair_line (codes "capped") (truth_word true) refl refl refl) no_line
+capped_keeps false = no_line
+
 -- the lines of an admitted vCPU behind its header
 settings_keep : (s : Statement) → IsName s.name → KeepsSection (settings_lines s)
 settings_keep s good =
@@ -117,7 +122,8 @@ settings_keep s good =
     (line_and _ _
     (pair_line (codes "latency_ns") (decimal latency) refl (digits_inside latency (omega arith)) refl)
     (line_and _ _
-    (pair_line (codes "runnable") (truth_word s.runnable) refl (truth_inside s.runnable) refl) no_line)))
+    (pair_line (codes "runnable") (truth_word s.runnable) refl (truth_inside s.runnable) refl)
+    (capped_keeps s.capped))))
 
 -- and with it
 statement_keeps : (s : Statement) → IsName s.name → (rest : List ℕ) → IsOneSection rest

@@ -1,12 +1,15 @@
 -- The text of a host is short.
-use Rattle.std.proofs.Common.{◌≡◌, ◌+◌, ◌*◌, ◌≤◌, Bool, true, false, List, [], ◌∷◌, flat_map, length, map, refl, ap, arith, length-append}
+use Rattle.std.proofs.Common.{◌≡◌, ℕ, ◌+◌, ◌*◌, ◌≤◌, Bool, true, false, cond, List, [], ◌∷◌, flat_map, length, map, refl, ap, arith, length-append}
 use Rattle.std.proofs.lemmas.Bool.Decides.{nat_tests}
 use Rattle.std.proofs.lemmas.Fmt.{length-decimal-le}
 use Rattle.std.proofs.lemmas.List.{length-map}
+use Rattle.std.proofs.lemmas.List.Sums.{sum_by-cons}
+use Rattle.std.specs.List.{count_by}
 use Rattle.tab_core.specs.Name.{IsName}
 use Rattle.tab_core.specs.declared.host.Host.{Host}
-use Rattle.tab_words.specs.Texts.{text_of}
-use Rattle.host_gen.specs.HostText.{head_lines, host_text, truth_word, vcpu_text}
+use Rattle.tab_core.specs.declared.vcpu.Vcpu.{Vcpu}
+use Rattle.tab_words.specs.Texts.{line_of, text_of}
+use Rattle.host_gen.specs.HostText.{capped_lines, head_lines, host_text, truth_word, vcpu_text}
 use Rattle.host_gen.proofs.HostTextLemmas.{head_pieces, vcpu_pieces}
 use Rattle.host_text.proofs.Statements.{AreNamed, Statement, vcpu_of}
 
@@ -24,19 +27,31 @@ truth_size : (truth : Bool) → length (truth_word truth) ≤ 5
 truth_size true = omega arith
 truth_size false = omega arith
 
+-- a vCPU that is capped, as a number
+abbrev one : Vcpu → ℕ
+one vcpu = cond vcpu.capped 1 0
+
+-- the line of a capped vCPU
+capped_size : (capped : Bool) → length (text_of (capped_lines capped)) ≡ 14 * cond capped 1 0
+unfolding line_of
+capped_size true = refl
+capped_size false = refl
+
 -- the lines of a vCPU
-statement_size : (s : Statement) → IsName s.name → length (vcpu_text (vcpu_of s)) ≤ 120
+statement_size : (s : Statement) → IsName s.name
+    → length (vcpu_text (vcpu_of s)) ≤ 120 + 14 * one (vcpu_of s)
 statement_size s good =
     let name : length s.name ≤ 32 = grind (arith, nat_tests) in
     let share = length-decimal-le 7 s.reservation.share_ppm (omega arith) (omega arith) (omega arith) in
     let latency = length-decimal-le 13 s.reservation.latency_ns (omega arith) (omega arith) (omega arith) in
     let truth = truth_size s.runnable in
     rw (vcpu_pieces (vcpu_of s) s.reservation refl)
-    (simp length-append (omega (arith, name, share, latency, truth)))
+    (simp length-append (omega (arith, name, share, latency, truth, capped_size s.capped)))
 
 -- those of all vCPUs
 statements_size : (ss : List Statement) → AreNamed ss
-    → length (flat_map vcpu_text (map vcpu_of ss)) ≤ 120 * length ss
+    → length (flat_map vcpu_text (map vcpu_of ss))
+    ≤ 120 * length ss + 14 * count_by (λ vcpu. vcpu.capped) (map vcpu_of ss)
 statements_size [] good = omega arith
 statements_size (s ∷ ss) good =
     omega (
@@ -44,14 +59,17 @@ statements_size (s ∷ ss) good =
       length-append (vcpu_text (vcpu_of s)) (flat_map vcpu_text (map vcpu_of ss)),
       statement_size s good.0,
       statements_size ss good.1,
+      sum_by-cons one (vcpu_of s) (map vcpu_of ss),
     )
 
 -- the whole text
 pub host_size : (host : Host) (ss : List Statement) → map vcpu_of ss ≡ host.vcpus
-    → AreNamed ss → length (host_text host) ≤ 100 + 120 * length host.vcpus
+    → AreNamed ss → length (host_text host)
+    ≤ 100 + 120 * length host.vcpus + 14 * count_by (λ vcpu. vcpu.capped) host.vcpus
 unfolding host_text
 host_size host ss are good =
-    let vcpus : length (flat_map vcpu_text host.vcpus) ≤ 120 * length ss =
+    let vcpus : length (flat_map vcpu_text host.vcpus)
+    ≤ 120 * length ss + 14 * count_by (λ (vcpu : Vcpu). vcpu.capped) host.vcpus =
     rw are at (statements_size ss good) in
     omega (
       arith,

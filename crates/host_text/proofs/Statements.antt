@@ -10,17 +10,32 @@ use Rattle.tab_core.specs.declared.reservation.Reservation.{Reservation}
 use Rattle.tab_core.specs.declared.vcpu.Vcpu.{Vcpu}
 use Rattle.toml.specs.Data.{Data, string, integer, boolean, array, table, Items, no_items, item, Members, no_members, member}
 use Rattle.toml.specs.Tables.{Expression, key_value, array_table}
-use Rattle.host_gen.specs.HostText.{AreAdmitted, Line, key_words, quoted, truth_word}
+use Rattle.host_gen.specs.HostText.{AreAdmitted, Line, capped_lines, key_words, quoted, truth_word}
 
 -- what is stated of an admitted vCPU
 pub record Statement : Type 0 where
   pub name : List ℕ
   pub reservation : Reservation
   pub runnable : Bool
+  pub capped : Bool
 
 -- the vCPU of which this is stated
 abbrev pub vcpu_of : Statement → Vcpu
-vcpu_of s = record { name = s.name; reservation = Some s.reservation; runnable = s.runnable }
+vcpu_of s = record {
+  name = s.name;
+  reservation = Some s.reservation;
+  runnable = s.runnable;
+  capped = s.capped;
+}
+
+-- what holds where the vCPU is capped, and where it isn't, holds of each statement
+pub either_way : (P : Statement → Type 0) → ((s : Statement) → P (record s { capped = true }))
+    → ((s : Statement) → P (record s { capped = false })) → (s : Statement) → P s
+either_way P if_capped if_not s = by_flag s.capped
+  where
+    by_flag : (b : Bool) → P (record s { capped = b })
+    by_flag true = if_capped s
+    by_flag false = if_not s
 
 -- what is stated of all of these
 pub record Stated (vcpus : List Vcpu) : Type 0 where
@@ -38,8 +53,13 @@ stated (vcpu ∷ vcpus) all =
         → Stated (vcpu ∷ vcpus)
     here None is some more = let none : false ≡ true = rw is at some in absurd cc
     here (Some r) is some more =
-        let first : Statement = record { name = vcpu.name; reservation = r; runnable = vcpu.runnable } in
-        let same : vcpu_of first ≡ vcpu = same_vcpu (vcpu_of first) vcpu refl (sym is) refl in
+        let first : Statement = record {
+          name = vcpu.name;
+          reservation = r;
+          runnable = vcpu.runnable;
+          capped = vcpu.capped;
+        } in
+        let same : vcpu_of first ≡ vcpu = same_vcpu (vcpu_of first) vcpu refl (sym is) refl refl in
         record {
           statements = first ∷ more.statements;
           are = ap (λ v. v ∷ map vcpu_of more.statements) same ∙ ap (λ vs. vcpu ∷ vs) more.are;
@@ -51,13 +71,19 @@ AreNamed ss = AllByRecursion (λ s. IsName s.name) ss
 
 -- ---- the members
 
+-- the member of a capped vCPU, in front of others
+abbrev pub capped_member : Bool → Members → Members
+capped_member true rest = member (codes "capped") (boolean true) rest
+capped_member false rest = rest
+
 -- the members of an admitted vCPU, by their keys
 abbrev pub vcpu_members : Statement → Members
 vcpu_members s =
-    member (codes "latency_ns") (integer (pos s.reservation.latency_ns))
+    capped_member s.capped
+    (member (codes "latency_ns") (integer (pos s.reservation.latency_ns))
     (member (codes "name") (string s.name)
     (member (codes "runnable") (boolean s.runnable)
-    (member (codes "share_ppm") (integer (pos s.reservation.share_ppm)) no_members)))
+    (member (codes "share_ppm") (integer (pos s.reservation.share_ppm)) no_members))))
 
 -- the array of them
 abbrev pub vcpu_items : List Statement → Items
@@ -98,6 +124,11 @@ head_expressions host =
     ∷ pair (codes "quantum") (integer (pos host.quantum))
     ∷ []
 
+-- that of a capped vCPU
+abbrev pub capped_expressions : Bool → List Expression
+capped_expressions true = pair (codes "capped") (boolean true) ∷ []
+capped_expressions false = []
+
 -- those of an admitted vCPU, behind its header
 abbrev pub settings_expressions : Statement → List Expression
 settings_expressions s =
@@ -105,7 +136,7 @@ settings_expressions s =
     ∷ pair (codes "share_ppm") (integer (pos s.reservation.share_ppm))
     ∷ pair (codes "latency_ns") (integer (pos s.reservation.latency_ns))
     ∷ pair (codes "runnable") (boolean s.runnable)
-    ∷ []
+    ∷ capped_expressions s.capped
 
 -- and with it
 abbrev pub vcpu_expressions : Statement → List Expression
@@ -125,4 +156,4 @@ settings_lines s =
     ∷ key_words (codes "share_ppm") (decimal s.reservation.share_ppm)
     ∷ key_words (codes "latency_ns") (decimal s.reservation.latency_ns)
     ∷ key_words (codes "runnable") (truth_word s.runnable)
-    ∷ []
+    ∷ capped_lines s.capped
