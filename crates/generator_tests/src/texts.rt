@@ -1,10 +1,11 @@
+ghost use Rattle.std.specs.Prelude.{IfOk};
 ghost use Rattle.host_gen.specs.HostText.{AreAdmitted};
 
 use host_doc::read_host;
 use host_gen::{generate, write_host};
 use std::alloc::{AllocError, Global};
 use std::test::Fail;
-use tab_core::{Host, Vcpu};
+use tab_core::{Host, Name, NameFault, Reservation, Vcpu, Vcpus};
 use tab_io::{MemSink, WriteFault};
 
 // What seed 1234567 makes for one core and one vCPU. Its words are 6457827717110365317 and
@@ -62,7 +63,7 @@ fn describe_host(alloc: Global, host: &Host) -> Result<String, AllocError> {
     )?;
     for vcpu in host.vcpus.items() {
         let numbers = numbers_of(alloc, vcpu)?;
-        let part = format!(in alloc; "; {:?} {numbers}", vcpu.name.bytes())?;
+        let part = format!(in alloc; "; {:?} {numbers} {}", vcpu.name.bytes(), vcpu.capped)?;
         text.push_str(&part)?;
     }
     Ok(text)
@@ -86,17 +87,53 @@ fn is_read_back(alloc: Global, host: &Host) -> Result<bool, AllocError>
     }
 }
 
+// A host of one vCPU, which is capped.
+fn capped_host(alloc: Global) -> Result<Host, NameFault>
+    ensures { IfOk result (λ host. AreAdmitted host.vcpus) }
+{
+    let mut vcpus = Vec::with_capacity(alloc, 1)?;
+    vcpus.push_reserved(Vcpu {
+        name: Name::of(alloc, b"v0")?,
+        reservation: Some(Reservation {
+            share_ppm: 180_000,
+            latency_ns: 492_492,
+        }),
+        runnable: true,
+        capped: true,
+    });
+    Ok(Host {
+        cores: 1,
+        lag: 1000,
+        sliver: 30,
+        quantum: 1000,
+        vcpus: Vcpus::of(vcpus),
+    })
+}
+
+#[test]
+fn the_text_of_a_capped_vcpu(rt: HostRuntime) -> Result<(), Fail> {
+    let host = capped_host(rt.alloc())?;
+    let mut sink = MemSink::with_room(rt.alloc(), 200)?;
+    assert_eq!(rt; write_host(&mut sink, &host), Ok(()));
+    let (front, line) = sink.bytes().split_at(TEXT.len());
+    assert_eq!(rt; front, TEXT);
+    assert_eq!(rt; line, b"capped = true\n".as_slice());
+    Ok(())
+}
+
 #[test]
 fn written_hosts_are_read_back(rt: HostRuntime) -> Result<(), Fail> {
+    let capped = capped_host(rt.alloc())?;
     let one = generate(rt.alloc(), 1_234_567, 1, 1)?;
     let none = generate(rt.alloc(), 5, 32, 0)?;
     let many = generate(rt.alloc(), 42, 32, 256)?;
     let read_back = [
+        is_read_back(rt.alloc(), &capped)?,
         is_read_back(rt.alloc(), &one)?,
         is_read_back(rt.alloc(), &none)?,
         is_read_back(rt.alloc(), &many)?,
     ];
-    assert_eq!(rt; read_back, [true; 3]);
+    assert_eq!(rt; read_back, [true; 4]);
     Ok(())
 }
 

@@ -6,7 +6,7 @@ use plan_make::{PlanFault, plan};
 use std::alloc::Global;
 use std::test::Fail;
 use std::thread::Threads;
-use tab_core::{Host, Name, Reservation, Vcpus};
+use tab_core::{Host, Name, Reservation, Vcpu, VcpuNo, Vcpus};
 use table_form::{CoreTable, Plan};
 
 // The vCPUs a, b and c.
@@ -178,6 +178,31 @@ fn a_short_idle_end_goes_to_the_vcpu_before_it(rt: HostRuntime) -> Result<(), Fa
     let host = host_with(rt.alloc(), 1, 513, [Some(nearly_whole), None, None])?;
     let made = plan(&rt, rt.alloc(), &host)?;
     assert!(rt; core_has(&made, 0, &[(Some(0), 102_087), (None, 102_600)]));
+    Ok(())
+}
+
+// The vCPU a, which runs in its slots alone.
+fn one_capped(alloc: Global, reservation: Reservation) -> Result<Vcpus, Fail> {
+    let mut vcpus = Vec::new(alloc);
+    vcpus.push(Vcpu {
+        name: Name::of(alloc, b"a")?,
+        reservation: Some(reservation),
+        runnable: true,
+        capped: true,
+    })?;
+    Ok(Vcpus::of(vcpus))
+}
+
+#[test]
+fn a_short_idle_end_stays_behind_a_capped_vcpu(rt: HostRuntime) -> Result<(), Fail> {
+    let nearly_whole = Reservation {
+        share_ppm: 995_000,
+        latency_ns: 102_702_600,
+    };
+    let host = host_of(1, 1000, one_capped(rt.alloc(), nearly_whole)?);
+    let made = plan(&rt, rt.alloc(), &host)?;
+    assert!(rt; core_has(&made, 0, &[(Some(0), 102_087), (None, 102_600)]));
+    assert!(rt; made.capped.has(VcpuNo(0)));
     Ok(())
 }
 

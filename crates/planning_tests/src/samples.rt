@@ -4,7 +4,7 @@ ghost use Rattle.tab_core.specs.declared.TheConstants.{MAX_CORES, MAX_SLIVER};
 use tab_core::{Host, Name, Reservation, Vcpu, VcpuNo, Vcpus};
 use table_form::CoreTable;
 
-// A vCPU of this name, which is runnable.
+// A vCPU of this name, which is runnable and isn't capped.
 pub(crate) fn vcpu_of(name: Name, reservation: Option<Reservation>) -> Vcpu
     ensures { result.name ≡ name }
 {
@@ -12,6 +12,7 @@ pub(crate) fn vcpu_of(name: Name, reservation: Option<Reservation>) -> Vcpu
         name,
         reservation,
         runnable: true,
+        capped: false,
     }
 }
 

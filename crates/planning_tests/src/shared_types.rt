@@ -105,6 +105,7 @@ fn one_vcpu_host(alloc: Global) -> Result<Host, NameFault>
         name: Name::of(alloc, b"a")?,
         reservation: None,
         runnable: true,
+        capped: true,
     });
     Ok(Host {
         cores: 2,
@@ -124,6 +125,7 @@ fn a_copy_has_the_same_vcpus(rt: HostRuntime) -> Result<(), Fail> {
     );
     assert_eq!(rt; copy.vcpus.items()[0].name.bytes(), b"a".as_slice());
     assert!(rt; copy.vcpus.items()[0].runnable);
+    assert!(rt; copy.vcpus.items()[0].capped);
     Ok(())
 }
 
@@ -158,6 +160,7 @@ fn the_last_edit_prevails(rt: HostRuntime) -> Result<(), Fail> {
     assert_eq!(rt; back.vcpus.items()[0].reservation, Some(half()));
     assert_eq!(rt; back.vcpus.items()[0].name.bytes(), b"a".as_slice());
     assert!(rt; back.vcpus.items()[0].runnable);
+    assert!(rt; back.vcpus.items()[0].capped);
     assert_eq!(rt;
         (back.cores, back.lag, back.sliver, back.quantum),
         (2, 3, 4, 5)

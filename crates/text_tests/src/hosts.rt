@@ -220,13 +220,61 @@ fn second_vcpus(rt: HostRuntime) -> Result<(), Fail> {
     Ok(())
 }
 
+// The key `capped` is examined behind the reservation, and of each vCPU.
+#[test]
+fn capped_vcpus(rt: HostRuntime) -> Result<(), Fail> {
+    let cases: [(&str, &str); 9] = [
+        (
+            "name = \"b\"\nadmitted = false\ncapped = true",
+            "2 1000 30 1000",
+        ),
+        (
+            "name = \"b\"\nadmitted = false\ncapped = false",
+            "2 1000 30 1000",
+        ),
+        (
+            "name = \"b\"\nshare_ppm = 1\nlatency_ns = 0\ncapped = true",
+            "2 1000 30 1000",
+        ),
+        (
+            "name = \"b\"\nadmitted = false\ncapped = \"yes\"",
+            "host key vcpu 1 capped",
+        ),
+        (
+            "name = \"b\"\nshare_ppm = 1\nlatency_ns = 0\ncapped = 1",
+            "host key vcpu 1 capped",
+        ),
+        (
+            "name = \"b\"\ncapped = 1\nshare_ppm = 0",
+            "host value vcpu 1 share_ppm",
+        ),
+        (
+            "name = \"b\"\ncapped = 1\nshare_ppm = 1",
+            "host key vcpu 1 latency_ns",
+        ),
+        (
+            "name = \"b\"\nadmitted = false\ncap = true\ncapped = 1",
+            "host key vcpu 1 capped",
+        ),
+        (
+            "name = \"b\"\nadmitted = false\ncap = true",
+            "host key vcpu 1 unknown key",
+        ),
+    ];
+    for (lines, expected) in cases {
+        let line = second(rt.alloc(), lines)?;
+        assert_eq!(rt; line.as_str(), expected, "of {lines}");
+    }
+    Ok(())
+}
+
 fn describe(alloc: Global, vcpu: &Vcpu) -> Result<String, AllocError> {
     match vcpu.reservation {
         Some(reservation) => format!(in alloc;
-            "{} {} {}",
-            reservation.share_ppm, reservation.latency_ns, vcpu.runnable
+            "{} {} {} {}",
+            reservation.share_ppm, reservation.latency_ns, vcpu.runnable, vcpu.capped
         ),
-        None => format!(in alloc; "none {}", vcpu.runnable),
+        None => format!(in alloc; "none {} {}", vcpu.runnable, vcpu.capped),
     }
 }
 
@@ -241,11 +289,26 @@ latency_ns = 20000000
 name = \"db\"
 admitted = false
 runnable = false
-share_ppm = 1";
-    let expected: [(&[u8], &str); 2] = [(b"web", "250000 20000000 true"), (b"db", "none false")];
+share_ppm = 1
+capped = true
+[[vcpu]]
+name = \"batch\"
+share_ppm = 100000
+latency_ns = 1000000
+capped = true
+[[vcpu]]
+name = \"log\"
+admitted = false
+capped = false";
+    let expected: [(&[u8], &str); 4] = [
+        (b"web", "250000 20000000 true false"),
+        (b"db", "none false true"),
+        (b"batch", "100000 1000000 true true"),
+        (b"log", "none true false"),
+    ];
     match read_host(rt.alloc(), document) {
         Ok(host) => {
-            assert_eq!(rt; host.vcpus.items().len(), 2);
+            assert_eq!(rt; host.vcpus.items().len(), 4);
             for (vcpu, (name, rest)) in host.vcpus.items().iter().zip(&expected) {
                 let line = describe(rt.alloc(), vcpu)?;
                 assert_eq!(rt; vcpu.name.bytes(), *name);

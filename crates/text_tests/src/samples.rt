@@ -3,7 +3,7 @@ ghost use Rattle.tab_core.specs.declared.TheConstants.{MAX_CORES};
 
 use tab_core::{Host, Name, Vcpu, Vcpus};
 
-// A vCPU of this name, which is runnable and isn't admitted.
+// A vCPU of this name, which is runnable, and neither admitted nor capped.
 pub(crate) fn vcpu_of(name: Name) -> Vcpu
     ensures { result.name ≡ name }
 {
@@ -11,6 +11,7 @@ pub(crate) fn vcpu_of(name: Name) -> Vcpu
         name,
         reservation: None,
         runnable: true,
+        capped: false,
     }
 }
 

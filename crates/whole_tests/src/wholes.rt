@@ -7,7 +7,7 @@ use std::alloc::Global;
 use std::marker::Brand;
 use std::sync::ledger::{Blank, Ledger};
 use std::test::Fail;
-use tab_core::Host;
+use tab_core::{Host, VcpuNo};
 
 // Whether a host has a whole-host plan which the check of tables takes.
 fn has_whole<L: Ledger>(alloc: Global, host: &Host, blank: Blank) -> Result<bool, Fail>
@@ -38,6 +38,20 @@ fn generated_hosts_have_whole_plans(rt: HostRuntime) -> Result<(), Fail> {
         let has = has_whole::<Brand>(rt.alloc(), &host, Blank::new(1))?;
         assert!(rt; has, "at seed {seed}");
     }
+    Ok(())
+}
+
+#[test]
+fn a_whole_plan_has_its_host_s_capped_vcpus(rt: HostRuntime) -> Result<(), Fail> {
+    let document = "cores = 1
+        vcpu = [
+            {name = \"a\", share_ppm = 300000, latency_ns = 700000},
+            {name = \"b\", share_ppm = 300000, latency_ns = 1100000, capped = true},
+        ]";
+    let host = host_of(rt.alloc(), document)?;
+    let plan = planned::<Brand>(rt.alloc(), &host, Blank::new(1))?;
+    let capped = [plan.capped.has(VcpuNo(0)), plan.capped.has(VcpuNo(1))];
+    assert_eq!(rt; capped, [false, true]);
     Ok(())
 }
 
