@@ -65,7 +65,7 @@ pub part_shown : (plan : PlanView) (scope : Scope) (place : ℕ) (spot : Spot) (
     → IsScope plan scope
     → IsPart plan scope.core place spot → span.owner ≡ spot.owner → span.away ≡ spot.away
     → ((v : ℕ) → (IsTrue (has_vcpu span.sharers v)
-    ↔ (IsTrue (has_vcpu scope.home v) × (IsTrue (has_vcpu spot.away v) → ⊥) × (spot.owner ≢ Some v))))
+    ↔ (IsTrue (has_vcpu scope.sharers v) × (IsTrue (has_vcpu spot.away v) → ⊥) × (spot.owner ≢ Some v))))
     → IsShown plan scope.core place span
 part_shown plan scope place spot span is part owner away sharers = record {
   owner = owner ∙ part.owner;
@@ -74,19 +74,20 @@ part_shown plan scope place spot span is part owner away sharers = record {
   sharers = λ v small. (
     λ has.
         (let is_one = (sharers v).0 has in
-        let home = (is.home v small).0 is_one.0 in
+        let shares = (is.sharers v small).0 is_one.0 in
         record {
-          home = home;
+          home = shares.0;
+          uncapped = shares.1;
           no_owner = λ owns. is_one.2 (part.owner ∙ owns);
           here = λ d other stands. is_one.1 ((part.away v small).1 (record {
-            home = home;
+            home = shares.0;
             other = d;
             elsewhere = other;
             stands = stands;
           }));
         }),
     λ sharer. (sharers v).1 (
-      (is.home v small).1 sharer.home,
+      (is.sharers v small).1 (sharer.home, sharer.uncapped),
       λ gone. (let at = (part.away v small).0 gone in sharer.here at.other at.elsewhere at.stands),
       λ owns. sharer.no_owner (sym part.owner ∙ owns),
     ),
@@ -100,7 +101,7 @@ pub span_added : (plan : PlanView) (scope : Scope) (from : ℕ) (spans : List Fu
     → IsSpanEnd plan scope.core from spot.end → span.owner ≡ spot.owner → span.away ≡ spot.away
     → span.end ≡ spot.end
     → ((v : ℕ) → (IsTrue (has_vcpu span.sharers v)
-    ↔ (IsTrue (has_vcpu scope.home v) × (IsTrue (has_vcpu spot.away v) → ⊥) × (spot.owner ≢ Some v))))
+    ↔ (IsTrue (has_vcpu scope.sharers v) × (IsTrue (has_vcpu spot.away v) → ⊥) × (spot.owner ≢ Some v))))
     → AreSpansOf plan scope.core 0 (spans ++ span ∷ []) spot.end
 span_added plan scope from spans spot span is done part ends owner away end sharers =
     subst (λ (to : ℕ). AreSpansOf plan scope.core 0 (spans ++ span ∷ []) to) end

@@ -23,6 +23,7 @@ sharer_moves : (plan : PlanView) (c x y v : ℕ) → SameSpot plan c x y → IsS
     → IsSharer plan c y v
 sharer_moves plan c x y v same sharer = record {
   home = sharer.home;
+  uncapped = sharer.uncapped;
   no_owner = λ owns. sharer.no_owner (same.owner ∙ owns);
   here = λ d other stands.
       (let away = same.back v (record {

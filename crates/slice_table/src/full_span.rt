@@ -19,15 +19,15 @@ pub struct FullSpan {
 }
 
 impl FullSpan {
-    /// The spot with its sharers: of those at home on the core who are neither away nor the owner.
-    pub(crate) fn of(spot: Spot, home: &VcpuSet) -> FullSpan
+    /// The spot with its sharers: of those on the core who are neither away nor the owner.
+    pub(crate) fn of(spot: Spot, core_sharers: &VcpuSet) -> FullSpan
         ensures owner { result.owner ≡ spot.owner }
         ensures away { result.away ≡ spot.away }
         ensures end { result.end ≡ spot.end }
         ensures sharers { (v : ℕ) → (IsTrue (has_vcpu result.sharers v)
-            ↔ (IsTrue (has_vcpu home.now v) × (IsTrue (has_vcpu spot.away v) → ⊥) × (spot.owner ≢ Some v))) }
+            ↔ (IsTrue (has_vcpu core_sharers.now v) × (IsTrue (has_vcpu spot.away v) → ⊥) × (spot.owner ≢ Some v))) }
     {
-        let sharers = sharers_of(home, &spot.away, spot.owner);
+        let sharers = sharers_there(core_sharers, &spot.away, spot.owner);
         FullSpan {
             owner: spot.owner,
             away: spot.away,
@@ -37,12 +37,12 @@ impl FullSpan {
     }
 }
 
-// The vCPUs at home who are neither away nor the owner.
-fn sharers_of(home: &VcpuSet, away: &VcpuSet, owner: Option<VcpuNo>) -> VcpuSet
+// The core's sharers who are neither away nor the owner.
+fn sharers_there(core_sharers: &VcpuSet, away: &VcpuSet, owner: Option<VcpuNo>) -> VcpuSet
     ensures { (v : ℕ) → (IsTrue (has_vcpu result v)
-        ↔ (IsTrue (has_vcpu home.now v) × (IsTrue (has_vcpu away.now v) → ⊥) × (owner ≢ Some v))) }
+        ↔ (IsTrue (has_vcpu core_sharers.now v) × (IsTrue (has_vcpu away.now v) → ⊥) × (owner ≢ Some v))) }
 {
-    let mut sharers = home.without(away);
+    let mut sharers = core_sharers.without(away);
     if let Some(vcpu) = owner {
         sharers.take(vcpu);
     }

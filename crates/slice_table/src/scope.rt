@@ -15,6 +15,8 @@ pub(crate) struct Scope {
     pub core: CoreNo,
     /// The vCPUs whose home is the core.
     pub home: VcpuSet,
+    /// Those of them that may run beyond their slots.
+    pub sharers: VcpuSet,
     /// The numbers of the other rows that have some of these vCPUs.
     pub others: Vec<usize>,
 }
@@ -39,7 +41,13 @@ pub(crate) fn scope_of(
             others.push(number)?;
         }
     }
-    Ok(Scope { core, home, others })
+    let sharers = plan.sharers_of(core);
+    Ok(Scope {
+        core,
+        home,
+        sharers,
+        others,
+    })
 }
 
 // Whether the row of the number is another one than the core's, and has one of the vCPUs.

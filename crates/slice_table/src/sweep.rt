@@ -42,11 +42,11 @@ fn sweep(alloc: Global, plan: &Plan, scope: &Scope) -> Result<SpanList, AllocErr
         if is_alike(&spot, &next) {
             spot.end = next.end;
         } else {
-            add(&mut spans, &mut pairs, FullSpan::of(spot, &scope.home))?;
+            add(&mut spans, &mut pairs, FullSpan::of(spot, &scope.sharers))?;
             spot = next;
         }
     }
-    add(&mut spans, &mut pairs, FullSpan::of(spot, &scope.home))?;
+    add(&mut spans, &mut pairs, FullSpan::of(spot, &scope.sharers))?;
     Ok(spans)
 }
 

@@ -1,6 +1,6 @@
 -- What a sweep over rows knows: which rows matter to a core, how far it has come in each, and what
 -- the place shows up to the next end of a segment.
-use Rattle.std.specs.Prelude.{◌≡◌, ◌≢◌, ◌↔◌, ℕ, ◌<◌, ◌≤◌, IsTrue, List, Some, length, slice_get, slice_index}
+use Rattle.std.specs.Prelude.{◌≡◌, ◌≢◌, ◌↔◌, ℕ, ◌<◌, ◌≤◌, false, IsTrue, List, Some, length, slice_get, slice_index}
 use Rattle.tab_core.specs.declared.TheConstants.{MAX_VCPUS, ROUND}
 use Rattle.tab_core.specs.VcpuSets.{has_vcpu}
 use Rattle.table_form.specs.declared.spot.Spot.{Spot}
@@ -29,10 +29,13 @@ pub record AreOthers (plan : PlanView) (c count : ℕ) (others : List ℕ) : Typ
   pub listed : (d v x : ℕ) → d < count → d ≢ c → IsHome plan.homes c v → owner_at plan.rows d x ≡ Some v
       → (k : ℕ) × (k < length others) × (slice_index others k ≡ d)
 
--- the core, the vCPUs at home on it, and the other rows that have some of these
+-- the core, the vCPUs at home on it, those of them that aren't capped, and the other rows that have some of
+-- those at home
 pub record IsScope (plan : PlanView) (scope : Scope) : Type 0 where
   pub core : scope.core < length plan.rows
   pub home : (v : ℕ) → v < MAX_VCPUS → (IsTrue (has_vcpu scope.home v) ↔ IsHome plan.homes scope.core v)
+  pub sharers : (v : ℕ) → v < MAX_VCPUS → (IsTrue (has_vcpu scope.sharers v)
+      ↔ (IsHome plan.homes scope.core v × (has_vcpu plan.capped v ≡ false)))
   pub few : length plan.homes ≤ MAX_VCPUS
   pub others : AreOthers plan scope.core (length plan.rows) scope.others.items
 

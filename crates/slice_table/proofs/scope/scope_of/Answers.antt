@@ -40,6 +40,7 @@ pub returns-clause-scope : goal.returns-clause-scope
 returns-clause-scope c = record {
   core = c.requires.core;
   home = c.homes_of-home.ensures;
+  sharers = c.sharers_of-sharers.ensures;
   few = c.items.ensures.few;
   others = subst (λ (n : ℕ). AreOthers (plan_view c.args.plan.now) c.args.core n c.loop-number.others.items)
       (omega (arith, c.requires.owners.count, c.rows-number-end.ensures, c.loop-number-test.false, c.loop-number.auto.number-end))
