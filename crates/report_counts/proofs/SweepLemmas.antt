@@ -2,13 +2,14 @@
 use Rattle.std.proofs.Common.{◌≡◌, ◌≢◌, ℕ, zero, suc, ◌+◌, ◌-◌, ◌<◌, ◌≤◌, Bool, true, false, not, List, [], ◌∷◌, length, get_or-set_same, get_or-set_other, set, take, is_some, Option, Some, None, inl, inr, refl, ap, sym, subst, ◌∙◌, arith}
 use Rattle.std.specs.Prelude.{slice_get, ◌||◌, ◌&&◌}
 use Rattle.std.proofs.Math.Bool.{false-or, or-false, or_assoc}
-use Rattle.std.proofs.lemmas.Bool.{and_left, and_right, cases_eq, cases_lt, eq-eqb, eqb-true, not_from_true, or_left, or_right}
+use Rattle.std.proofs.lemmas.Bool.{and_left, and_right, cases_eq, cases_lt, eq-eqb, not_from_true, or_right}
 use Rattle.tab_core.specs.declared.TheConstants.{ROUND}
 use Rattle.tab_core.specs.declared.periodic.Periodic.{Periodic}
 use Rattle.table_form.specs.Running.Offered.{some_row_has}
 use Rattle.table_form.specs.Tables.Plans.{PlanView}
 use Rattle.table_form.specs.Tables.Rows.{Row}
 use Rattle.table_form.specs.Tables.Serves.{Apart, OwnersHaveTasks, flat, has_task, is_cell_of, owner_at}
+use Rattle.table_form.proofs.OfferedLemmas.{cell_is, row_has}
 use Rattle.report_counts.specs.declared.stretch.Stretch.{Stretch}
 use Rattle.report_counts.specs.Inside.Sweeps.{IsToldTo, closed, swept}
 use Rattle.report_counts.specs.Inside.Tells.{IsToldRound, waits_in}
@@ -16,22 +17,6 @@ use Rattle.report_counts.specs.Stretches.{all_wait, no_ticks, offered_to, stretc
 use Rattle.report_counts.proofs.JoinLemmas.{tells_both}
 use Rattle.report_counts.proofs.ReportLemmas.{and_not}
 use Rattle.report_counts.proofs.StretchLemmas.{tells_neither, tells_offer, tells_wait}
-
--- a row that has the vCPU is one of some
-row_has : (rows : List Row) (v place c : ℕ) → owner_at rows c place ≡ Some v
-    → some_row_has rows v place ≡ true
-row_has [] v place c h = absurd cc
-row_has (row ∷ rows) v place zero h =
-    let is : is_cell_of v (flat (slice_get row place)) ≡ true = rw h (eq-eqb v v refl) in
-    or_left (is_cell_of v (flat (slice_get row place))) (some_row_has rows v place) is
-row_has (row ∷ rows) v place (suc c) h =
-    or_right (is_cell_of v (flat (slice_get row place))) (some_row_has rows v place)
-    (row_has rows v place c h)
-
--- a cell of the vCPU is its own
-cell_is : (v : ℕ) (o : Option ℕ) → is_cell_of v o ≡ true → o ≡ Some v
-cell_is v None h = absurd cc
-cell_is v (Some w) h = ap Some (sym (eqb-true v w h))
 
 -- where some row has the vCPU one does
 has_row : (rows : List Row) (v place : ℕ) → some_row_has rows v place ≡ true

@@ -55,6 +55,7 @@ pub sharer_alike : (plan : PlanView) (c x y v : ℕ) → SameSpot plan c x y →
     → IsSharer plan c y v
 sharer_alike plan c x y v alike s = record {
   home = s.home;
+  uncapped = s.uncapped;
   no_owner = λ q. s.no_owner (alike.owner ∙ q);
   here = λ d ne q.
       let away = alike.back v (record { home = s.home; other = d; elsewhere = ne; stands = q }) in

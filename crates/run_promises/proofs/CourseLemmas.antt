@@ -2,7 +2,7 @@
 use Rattle.std.proofs.Common.{ℕ, inl, inr}
 use Rattle.std.specs.Prelude.{slice_index}
 use Rattle.table_form.specs.Running.Courses.{CourseView, IsCourse, plan_after, no_plan}
-use Rattle.table_form.specs.Tables.Serves.{Apart, Serves}
+use Rattle.table_form.specs.Tables.Serves.{Apart, Serves, ServesExactly}
 use Rattle.run_promises.proofs.Lists.{either}
 
 -- after each count no vCPU stands in two rows at one place
@@ -18,4 +18,12 @@ pub serves_after : (course : CourseView) → IsCourse course → (n : ℕ)
 serves_after course ok n = elim (either course.plans (slice_index course.numbers n) no_plan) [
   | inl at ↦ (ok.plans_kept (slice_index course.numbers n) (plan_after course n) at).serves
   | inr none ↦ rw none (λ v task h k lt. absurd cc)
+]
+
+-- and the capped ones exactly that
+pub exact_after : (course : CourseView) → IsCourse course → (n : ℕ)
+    → ServesExactly (plan_after course n).tasks (plan_after course n).capped (plan_after course n).rows
+exact_after course ok n = elim (either course.plans (slice_index course.numbers n) no_plan) [
+  | inl at ↦ (ok.plans_kept (slice_index course.numbers n) (plan_after course n) at).exact
+  | inr none ↦ rw none (λ v task h capped k lt. absurd cc)
 ]

@@ -1,5 +1,6 @@
 pub mod Blocks
 pub mod BusyLemmas
+pub mod CappedLemmas
 pub mod ChoiceLemmas
 pub mod CourseLemmas
 pub mod GapLemmas

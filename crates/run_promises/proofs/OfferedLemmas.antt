@@ -1,15 +1,15 @@
 -- The ticks that a plan offers in a period are at least its cells, since no vCPU stands in two rows
 -- at one place.
-use Rattle.std.proofs.Common.{◌≡◌, ℕ, zero, suc, ◌+◌, ◌-◌, ◌*◌, ◌/◌, ◌%◌, ◌≤◌, Bool, true, false, cond, List, [], ◌∷◌, take, drop, Option, Some, None, refl, ap, sym, ◌∙◌, arith}
+use Rattle.std.proofs.Common.{◌≡◌, ℕ, zero, suc, ◌+◌, ◌-◌, ◌*◌, ◌/◌, ◌%◌, ◌≤◌, Bool, true, false, cond, List, [], ◌∷◌, take, drop, Option, Some, refl, ap, ◌∙◌, arith}
 use Rattle.std.specs.Prelude.{slice_get, count_by, ◌||◌}
 use Rattle.std.proofs.Math.Seq.{take-nil}
-use Rattle.std.proofs.lemmas.Bool.{eqb-true}
 use Rattle.std.proofs.lemmas.List.Sums.{sum_by-cons}
 use Rattle.tab_core.specs.declared.TheConstants.{ROUND}
 use Rattle.table_form.specs.Running.Courses.{CourseView, plan_after}
 use Rattle.table_form.specs.Running.Offered.{some_row_has, is_offered, offers}
 use Rattle.table_form.specs.Tables.Rows.{Row}
 use Rattle.table_form.specs.Tables.Serves.{Apart, cells_within, supply, owner_at, flat, is_cell_of}
+use Rattle.table_form.proofs.OfferedLemmas.{cell_is}
 use Rattle.run_promises.proofs.Totals.{total}
 
 -- 1 where the test passes
@@ -91,11 +91,6 @@ supply_step v (row ∷ rows) from n =
       supply_step v rows from n,
     )
 
--- a cell that has the vCPU names it
-is_cell : (v : ℕ) (o : Option ℕ) → is_cell_of v o ≡ true → o ≡ Some v
-is_cell v None h = absurd cc
-is_cell v (Some w) h = ap Some (sym (eqb-true v w h))
-
 -- no row counts where none has the vCPU
 nowhere : (v : ℕ) (rows : List Row) (place : ℕ) → ((d : ℕ) → owner_at rows d place ≡ Some v → ⊥)
     → rows_with v rows place ≡ 0
@@ -104,7 +99,7 @@ nowhere v (row ∷ rows) place none =
     omega (
       arith,
       not_here (stands v row place)
-          (λ is. none 0 (is_cell v (flat (slice_get row place)) is)),
+          (λ is. none 0 (cell_is v (flat (slice_get row place)) is)),
       nowhere v rows place (λ d h. none (suc d) h),
     )
   where
@@ -125,7 +120,19 @@ at_most_one v (row ∷ rows) place apart =
     one_more (stands v row place) (some_row_has rows v place) (rows_with v rows place)
     (at_most_one v rows place (λ w p c d h g. (let e = apart w p (suc c) (suc d) h g in omega arith)))
     (λ is. nowhere v rows place
-    (λ d h. (let e = apart v place 0 (suc d) (is_cell v (flat (slice_get row place)) is) h in omega arith)))
+    (λ d h. (let e = apart v place 0 (suc d) (cell_is v (flat (slice_get row place)) is) h in omega arith)))
+
+-- one row more; for `one_at_least`
+one_less : (a b : Bool) (n : ℕ) → one b ≤ n → one (a || b) ≤ one a + n
+one_less true b n le = omega arith
+one_less false b n le = omega arith
+
+-- where some row has the vCPU at a place, one row at least does
+pub one_at_least : (v : ℕ) (rows : List Row) (place : ℕ) → one (some_row_has rows v place) ≤ rows_with v rows place
+one_at_least v [] place = omega arith
+one_at_least v (row ∷ rows) place =
+    one_less (stands v row place) (some_row_has rows v place) (rows_with v rows place)
+    (one_at_least v rows place)
 
 -- the offered ticks are counted one by one
 pub offers_total : (course : CourseView) (decided : List ℕ) (v from n : ℕ)

@@ -5,6 +5,7 @@ use Rattle.table_form.specs.Running.Invariant.{StateInvariant}
 use Rattle.table_form.specs.Running.Promises.{KeepsPromises}
 use Rattle.table_form.specs.Running.State.{State}
 use Rattle.run_promises.proofs.BusyLemmas.{is_busy}
+use Rattle.run_promises.proofs.CappedLemmas.{keeps_caps}
 use Rattle.run_promises.proofs.GapLemmas.{short_gaps}
 use Rattle.run_promises.proofs.ServedLemmas.{served}
 use Rattle.run_promises.proofs.TogetherLemmas.{one_core}
@@ -19,4 +20,5 @@ promised course rounds s ok kept = record {
   served = served course s ok;
   short_gaps = short_gaps course s ok;
   work_conserving = is_busy course rounds s ok kept;
+  caps = keeps_caps course rounds s ok kept;
 }

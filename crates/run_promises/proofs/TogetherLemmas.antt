@@ -17,7 +17,7 @@ use Rattle.run_promises.proofs.CourseLemmas.{apart_after}
 use Rattle.run_promises.proofs.Lists.{same}
 
 -- how a vCPU comes to run on a core: it owns the place, or it may share it
-data Stands (plan : PlanView) (c place v : ℕ) : Type 0 where
+pub data Stands (plan : PlanView) (c place v : ℕ) : Type 0 where
   owns : owner_at plan.rows c place ≡ Some v → Stands plan c place v
   fills : IsSharer plan c place v → Stands plan c place v
 
@@ -36,7 +36,7 @@ apart_stands plan c d place v apart (fills s) (fills s') =
     same_home a b o h g = cc
 
 -- whom a stint runs stands there at each of its ticks
-stint_stands : (course : CourseView) (c : ℕ) (earlier : List Stint) (s : Stint) (x v : ℕ)
+pub stint_stands : (course : CourseView) (c : ℕ) (earlier : List Stint) (s : Stint) (x v : ℕ)
     → IsDispatch course c earlier s → s.from ≤ x → x < s.end → s.ran ≡ Some v
     → (s.from / ROUND ≡ x / ROUND) × Stands (plan_after course s.used) c (x % ROUND) v
 stint_stands course c earlier s x v f low lt ran = (

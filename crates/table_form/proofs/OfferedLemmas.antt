@@ -1,0 +1,23 @@
+-- Cells that have a vCPU, and places that some row has for it.
+use Rattle.std.proofs.Common.{◌≡◌, ℕ, zero, suc, Bool, true, List, [], ◌∷◌, Option, Some, None, refl, ap, sym}
+use Rattle.std.specs.Prelude.{slice_get}
+use Rattle.std.proofs.lemmas.Bool.{eq-eqb, eqb-true, or_left, or_right}
+use Rattle.table_form.specs.Running.Offered.{some_row_has}
+use Rattle.table_form.specs.Tables.Rows.{Row}
+use Rattle.table_form.specs.Tables.Serves.{flat, is_cell_of, owner_at}
+
+-- a cell that has the vCPU names it
+pub cell_is : (v : ℕ) (o : Option ℕ) → is_cell_of v o ≡ true → o ≡ Some v
+cell_is v None h = absurd cc
+cell_is v (Some w) h = ap Some (sym (eqb-true v w h))
+
+-- a row that has the vCPU is one of some
+pub row_has : (rows : List Row) (v place c : ℕ) → owner_at rows c place ≡ Some v
+    → some_row_has rows v place ≡ true
+row_has [] v place c h = absurd cc
+row_has (row ∷ rows) v place zero h =
+    let is : is_cell_of v (flat (slice_get row place)) ≡ true = rw h (eq-eqb v v refl) in
+    or_left (is_cell_of v (flat (slice_get row place))) (some_row_has rows v place) is
+row_has (row ∷ rows) v place (suc c) h =
+    or_right (is_cell_of v (flat (slice_get row place))) (some_row_has rows v place)
+    (row_has rows v place c h)
