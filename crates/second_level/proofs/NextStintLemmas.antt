@@ -3,7 +3,7 @@
 use Rattle.std.proofs.Common.{◌≡◌, ◌≢◌, ◌⊎◌, ℕ, zero, suc, ◌+◌, ◌-◌, ◌%◌, ◌<◌, ◌≤◌, inl, inr, Bool, true, false, List, length, Option, Some, None, refl, ap, sym, ◌∙◌, arith}
 use Rattle.std.specs.Prelude.{IsTrue, slice_get}
 use Rattle.std.specs.Option.{ForSome}
-use Rattle.std.proofs.lemmas.Bool.{cases_lt}
+use Rattle.std.proofs.lemmas.Bool.{cases_lt, false_from_ne_true, true≢false}
 use Rattle.std.proofs.lemmas.Option.{slice_get_within}
 use Rattle.tab_core.specs.declared.TheConstants.{MAX_VCPUS, ROUND}
 use Rattle.tab_core.specs.declared.stint.Stint.{Stint}
@@ -97,11 +97,15 @@ is_sharer plan c place v = elim (is_home (slice_get plan.homes v) c) [
     | inl owns ↦ inr (λ s. s.no_owner owns)
     | inr no_owner ↦ elim (is_away plan c place v) [
       | inl a ↦ inr (λ s. s.here a.other a.elsewhere a.stands)
-      | inr here ↦ inl (record {
-        home = home;
-        no_owner = no_owner;
-        here = λ d ne is. here (record { home = home; other = d; elsewhere = ne; stands = is });
-      })
+      | inr here ↦ elim (is_true (has_vcpu plan.capped v)) [
+        | inl capped ↦ inr (λ s. true≢false (sym capped ∙ s.uncapped))
+        | inr isnt ↦ inl (record {
+          home = home;
+          uncapped = false_from_ne_true (has_vcpu plan.capped v) isnt;
+          no_owner = no_owner;
+          here = λ d ne is. here (record { home = home; other = d; elsewhere = ne; stands = is });
+        })
+      ]
     ]
   ]
 ]
