@@ -2,7 +2,7 @@
 use crate::pictures::{Look, NOBODY, Picture, Setting, bit, number_of};
 use crate::running::Shown;
 use dispatch_core::CoreAccount;
-use tab_core::{ROUND, Stint};
+use tab_core::{Periodic, ROUND, Stint};
 
 // What is broken.
 #[derive(Clone, Copy, Debug, PartialEq, Eq, Drop)]
@@ -31,6 +31,8 @@ pub(crate) enum Broken {
     TooShort,
     // a vCPU runs on two cores at one tick
     TwoCores,
+    // a capped vCPU runs at more ticks of a period than its cost
+    OverCap,
     // a core's account isn't the sum of its stints
     Account,
     // there is no such number
@@ -107,16 +109,16 @@ fn least_from(set: u64, from: u32) -> Option<u32> {
     None
 }
 
-// The cell's vCPU if it is runnable, otherwise the next in turn of those at home that are runnable and not
-// away.
-fn due_at(look: &Look, home: u64, runnable: u64, last: Option<u32>) -> Due {
+// The cell's vCPU if it is runnable, otherwise the next in turn of those that share the core, are runnable and
+// aren't away.
+fn due_at(look: &Look, sharers: u64, runnable: u64, last: Option<u32>) -> Due {
     if runnable & bit(look.owner) != 0 {
         return Due {
             vcpu: look.owner,
             shared: false,
         };
     }
-    let eligible = home & runnable & !look.away & !bit(look.owner);
+    let eligible = sharers & runnable & !look.away & !bit(look.owner);
     let next = match last {
         None => None,
         Some(last) => least_from(eligible, last.saturating_add(1)),
@@ -163,7 +165,7 @@ fn judge_choice(setting: &Setting, core: usize, left: &Left, stint: &Stint) -> R
     let look = picture
         .look(core, (stint.from % ROUND) as usize)
         .ok_or(Broken::Number)?;
-    let due = due_at(&look, home, runnable, left.last);
+    let due = due_at(&look, home & !setting.capped, runnable, left.last);
     hold(number_of(stint.ran) == due.vcpu, Broken::OtherVcpu)?;
     judge_end(setting, picture, core, stint, due.shared)?;
     Ok(due)
@@ -268,7 +270,46 @@ fn mark_core(marks: &mut [u64], stints: &[Stint]) -> Result<(), Broken> {
     Ok(())
 }
 
-// The rules of all cores, and that no two of them run one vCPU at one tick. The marks are one for each tick.
+// Whether the vCPU of the bit runs at no more ticks of each of its periods than its cost. The marks of the round say
+// who runs at each of its ticks.
+fn is_within(marks: &[u64], own: u64, task: &Periodic) -> bool {
+    let mut ran: u32 = 0;
+    let mut left = task.period;
+    for mark in marks {
+        if left == 0 {
+            ran = 0;
+            left = task.period;
+        }
+        left = left.saturating_sub(1);
+        if *mark & own != 0 {
+            ran = ran.saturating_add(1);
+        }
+        if ran > task.cost {
+            return false;
+        }
+    }
+    true
+}
+
+// In each round each capped vCPU that the plan has keeps to its cost.
+fn judge_caps(setting: &Setting, marks: &[u64], used: &[u32]) -> Result<(), Broken> {
+    for (round, count) in used.iter().enumerate() {
+        let picture = setting.picture_after(*count).ok_or(Broken::Number)?;
+        let from = round.saturating_mul(ROUND as usize);
+        let end = from.saturating_add(ROUND as usize);
+        let marks = marks.get(from..end).ok_or(Broken::Number)?;
+        for (vcpu, task) in picture.tasks.iter().enumerate() {
+            let own = setting.capped & bit(vcpu as u32);
+            if let Some(task) = task {
+                hold(own == 0 || is_within(marks, own, task), Broken::OverCap)?;
+            }
+        }
+    }
+    Ok(())
+}
+
+// The rules of all cores, that no two of them run one vCPU at one tick, and that the capped ones keep to their
+// costs. The marks are one for each tick.
 pub(crate) fn judge(setting: &Setting, marks: &mut [u64], shown: &Shown) -> Result<(), Broken> {
     judge_counts(setting, shown)?;
     for (core, stints) in shown.stints.iter().enumerate() {
@@ -277,5 +318,6 @@ pub(crate) fn judge(setting: &Setting, marks: &mut [u64], shown: &Shown) -> Resu
         judge_core(setting, core, used, stints, account)?;
         mark_core(marks, stints)?;
     }
-    Ok(())
+    let used = shown.used.first().ok_or(Broken::Counts)?;
+    judge_caps(setting, marks, used)
 }

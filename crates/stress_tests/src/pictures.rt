@@ -3,7 +3,7 @@
 ghost use Rattle.std.specs.Prelude.{◌≤◌, length};
 
 use std::alloc::Global;
-use tab_core::{CoreNo, NoMemory, ROUND, VcpuNo};
+use tab_core::{CoreNo, NoMemory, Periodic, ROUND, VcpuNo};
 use table_form::{CoreTable, Course, Plan};
 
 // stands for the vCPU of a cell that has none
@@ -14,11 +14,12 @@ pub(crate) fn bit(vcpu: u32) -> u64 {
     if vcpu < 64 { 1 << vcpu } else { 0 }
 }
 
-// By core the vCPU of each of its cells, and who is at home there.
+// By core the vCPU of each of its cells, and who is at home there; and the tasks by vCPU.
 #[derive(Drop)]
 pub(crate) struct Picture {
     pub(crate) rows: Vec<Vec<u32>>,
     pub(crate) homes: Vec<u64>,
+    pub(crate) tasks: Vec<Option<Periodic>>,
 }
 
 // What a core meets at a place: the cell's vCPU, and who of those at home there stands on another core.
@@ -63,13 +64,14 @@ impl Picture {
     }
 }
 
-// What is known of a course and a run of it: times in ticks, the events' ticks, and by count of first events
-// the number of the plan and the runnable vCPUs.
+// What is known of a course and a run of it: times in ticks, the capped vCPUs, the events' ticks, and by count
+// of first events the number of the plan and the runnable vCPUs.
 #[derive(Drop)]
 pub(crate) struct Setting {
     pub(crate) lag: u32,
     pub(crate) quantum: u32,
     pub(crate) rounds: u32,
+    pub(crate) capped: u64,
     pub(crate) ticks: Vec<u32>,
     pub(crate) numbers: Vec<u32>,
     pub(crate) runnable: Vec<u64>,
@@ -84,7 +86,13 @@ impl Setting {
     }
 }
 
-pub(crate) fn setting_of(alloc: Global, course: &Course, rounds: u32) -> Result<Setting, NoMemory> {
+// The capped vCPUs are told from outside, since the course's plans would be believed for them.
+pub(crate) fn setting_of(
+    alloc: Global,
+    course: &Course,
+    rounds: u32,
+    capped: u64,
+) -> Result<Setting, NoMemory> {
     let mut ticks = Vec::new(alloc);
     let mut numbers = Vec::new(alloc);
     let mut runnable = Vec::new(alloc);
@@ -103,6 +111,7 @@ pub(crate) fn setting_of(alloc: Global, course: &Course, rounds: u32) -> Result<
         lag: course.lag(),
         quantum: course.quantum(),
         rounds,
+        capped,
         ticks,
         numbers,
         runnable,
@@ -132,7 +141,8 @@ fn picture_of(alloc: Global, plan: &Plan, cores: u32) -> Result<Picture, NoMemor
     for core in 0..cores {
         homes.push(home_of(plan.tables.homes.items(), core))?;
     }
-    Ok(Picture { rows, homes })
+    let tasks = Vec::from_slice(alloc, plan.tasks.items())?;
+    Ok(Picture { rows, homes, tasks })
 }
 
 fn cells_of(alloc: Global, row: &CoreTable) -> Result<Vec<u32>, NoMemory> {

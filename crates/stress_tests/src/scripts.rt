@@ -1,8 +1,9 @@
 //! Hosts and scripts from a seed.
-ghost use Rattle.std.specs.Prelude.{◌≤◌, ◌+◌, ◌*◌, IfOk};
+ghost use Rattle.std.specs.Prelude.{◌≡◌, ◌≤◌, ◌+◌, ◌*◌, IfOk, map};
 ghost use Rattle.tab_core.specs.declared.TheConstants.{MAX_CORES, MAX_SLIVER, ROUND};
 ghost use Rattle.table_form.specs.Running.Courses.{FitsRounds};
 
+use crate::pictures::bit;
 use host_gen::generate;
 use plan_book::{PlanBook, make_book};
 use rand_core::SeedableRng;
@@ -12,7 +13,7 @@ use script_doc::read_script;
 use std::alloc::Global;
 use std::test::Fail;
 use std::thread::Threads;
-use tab_core::{Host, MAX_CORES, MAX_SLIVER, NoMemory, ROUND};
+use tab_core::{Host, MAX_CORES, MAX_SLIVER, NoMemory, ROUND, Vcpu, Vcpus};
 
 // Cores, vCPUs, lag, quantum, sliver, rounds and events.
 pub(crate) type Row = (u32, u32, u32, u32, u32, u32, u32);
@@ -65,14 +66,38 @@ pub(crate) fn case_of(seed: u64, row: Row) -> Option<Case> {
     })
 }
 
+impl Case {
+    // The capped vCPUs, as the bits of a word: nobody in the first case, and about half of them in the others.
+    pub(crate) fn capped(&self) -> u64 {
+        self.seed.wrapping_mul(0x9E37_79B9_7F4A_7C15)
+    }
+}
+
+// The vCPUs, of which those of the word's bits are capped.
+fn with_caps(alloc: Global, vcpus: &[Vcpu], capped: u64) -> Result<Vec<Vcpu>, NoMemory>
+    ensures { IfOk result (λ made. map (λ vcpu. vcpu.name) made.items ≡ map (λ vcpu. vcpu.name) vcpus.now) }
+{
+    let mut made = Vec::with_capacity(alloc, vcpus.len())?;
+    for (number, vcpu) in vcpus.iter().enumerate() {
+        made.push(Vcpu {
+            name: vcpu.name.copy(alloc)?,
+            reservation: vcpu.reservation,
+            runnable: vcpu.runnable,
+            capped: number < 64 && capped & bit(number as u32) != 0,
+        })?;
+    }
+    Ok(made)
+}
+
 fn host_of(alloc: Global, case: &Case) -> Result<Host, NoMemory> {
     let host = generate(alloc, case.seed, case.cores, case.vcpus)?;
+    let vcpus = with_caps(alloc, host.vcpus.items(), case.capped())?;
     Ok(Host {
         cores: case.cores,
         lag: case.lag,
         sliver: case.sliver,
         quantum: case.quantum,
-        vcpus: host.vcpus,
+        vcpus: Vcpus::of(vcpus),
     })
 }
 

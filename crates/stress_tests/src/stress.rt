@@ -3,7 +3,7 @@ ghost use Rattle.table_form.specs.Running.Courses.{FitsRounds};
 
 use crate::judging::judge;
 use crate::ordering::order_of;
-use crate::pictures::{Setting, setting_of};
+use crate::pictures::{Setting, bit, setting_of};
 use crate::replaying::{is_same, is_won_once};
 use crate::running::{Shown, Stumbling, run_course};
 use crate::scripts::{Case, Row, book_of, case_of};
@@ -14,7 +14,7 @@ use std::process::Abort;
 use std::test::Fail;
 use std::thread::Threads;
 use step_machine::replay;
-use tab_core::ROUND;
+use tab_core::{ROUND, Stint};
 use table_form::Course;
 
 // Hosts that are run by threads twice, and in one thread.
@@ -53,7 +53,8 @@ const ALONE: [Row; 6] = [
 ];
 
 // What the cases have met, by how often: plans that split a vCPU, changes that are planned and that aren't,
-// runs that use several plans, and cores with shared and with idle ticks.
+// runs that use several plans, cores with shared and with idle ticks, and cores that idle where a capped vCPU is
+// runnable at home.
 #[derive(Clone, Copy, Debug)]
 struct Met {
     splits: u32,
@@ -62,6 +63,7 @@ struct Met {
     switches: u32,
     shared: u32,
     idle: u32,
+    capped: u32,
 }
 
 #[test]
@@ -73,6 +75,7 @@ fn short_runs_follow_the_rules(rt: HostRuntime) -> Result<(), Fail> {
         switches: 0,
         shared: 0,
         idle: 0,
+        capped: 0,
     };
     for (seed, row) in TWICE.iter().enumerate() {
         try_row(&rt, rt.alloc(), seed as u64, row, 2, &mut met)?;
@@ -88,7 +91,7 @@ fn short_runs_follow_the_rules(rt: HostRuntime) -> Result<(), Fail> {
         "{met:?}"
     );
     assert!(rt;
-        met.switches > 0 && met.shared > 0 && met.idle > 0,
+        met.switches > 0 && met.shared > 0 && met.idle > 0 && met.capped > 0,
         "{met:?}"
     );
     Ok(())
@@ -106,7 +109,7 @@ fn try_row<R: Threads + Sync + Abort>(
     let case = case_of(seed, *row).ok_or("numbers out of bounds")?;
     let book = book_of(rt, alloc, &case)?;
     let course = book.course();
-    let setting = setting_of(alloc, course, case.rounds)?;
+    let setting = setting_of(alloc, course, case.rounds, case.capped())?;
     note_plans(met, &setting, book.outcomes());
     if by_threads > 0 {
         try_run(rt, alloc, course, &setting, true, &FreeGate, &case, met)?;
@@ -181,4 +184,24 @@ fn note_run(met: &mut Met, setting: &Setting, shown: &Shown) {
         met.shared = met.shared.saturating_add(u32::from(shared));
         met.idle = met.idle.saturating_add(u32::from(account.idle > 0));
     }
+    for (core, stints) in shown.stints.iter().enumerate() {
+        let held = stints.iter().any(|stint| is_held(setting, core, stint));
+        met.capped = met.capped.saturating_add(u32::from(held));
+    }
+}
+
+// Whether the core idles in the stint, though a capped vCPU that is runnable is at home there and not away.
+fn is_held(setting: &Setting, core: usize, stint: &Stint) -> bool {
+    let place = (stint.from % ROUND) as usize;
+    let Some(picture) = setting.picture_after(stint.used) else {
+        return false;
+    };
+    let (Some(look), Some(home)) = (picture.look(core, place), picture.homes.get(core)) else {
+        return false;
+    };
+    let Some(runnable) = setting.runnable.get(stint.seen as usize) else {
+        return false;
+    };
+    let held = *home & *runnable & setting.capped & !look.away & !bit(look.owner);
+    stint.ran.is_none() && held != 0
 }

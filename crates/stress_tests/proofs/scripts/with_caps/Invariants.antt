@@ -1,0 +1,6 @@
+use Rattle.std.proofs.Common.{◌≡◌, map, take}
+use Rattle.stress_tests.proofs.scripts.with_caps.Given as goal
+
+abbrev pub invariant-loop-number : goal.invariant-loop-number
+invariant-loop-number l =
+    map (λ vcpu. vcpu.name) l.made.items ≡ map (λ vcpu. vcpu.name) (take l.number l.vcpus)
