@@ -165,7 +165,7 @@ fn agrees<L: Ledger>(
     let spot = plan.spot(core, tick);
     let found = table.look_up(tick, steps);
     let span = table.span_at(tick, steps);
-    let mut sharers = plan.homes_of(core).without(&spot.away);
+    let mut sharers = plan.sharers_of(core).without(&spot.away);
     if let Some(vcpu) = spot.owner {
         sharers.take(vcpu);
     }

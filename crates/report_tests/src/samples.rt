@@ -26,6 +26,7 @@ pub(crate) fn halved_host(alloc: Global) -> Result<Host, Fail> {
             latency_ns: 102_702_600,
         }),
         runnable: true,
+        capped: false,
     })?;
     Ok(host_of(Vcpus::of(vcpus)))
 }

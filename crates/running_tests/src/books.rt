@@ -1,22 +1,14 @@
-ghost use Rattle.std.specs.Prelude.{◌≡◌, ◌<◌, ◌≤◌, length};
+ghost use Rattle.std.specs.Prelude.{◌<◌, ◌≤◌, IfOk, length};
 ghost use Rattle.tab_core.specs.declared.TheConstants.{WHOLE_PPM};
+ghost use Rattle.table_form.specs.Running.Courses.{FitsRounds};
 
+use crate::samples::vcpu_of;
 use plan_book::{BookFault, Outcome, PlanBook, make_book};
 use script_doc::{Script, read_script};
 use std::alloc::Global;
 use std::test::Fail;
 use std::thread::Threads;
-use tab_core::{Host, Name, Reservation, Vcpu, VcpuNo, Vcpus};
-
-fn vcpu_of(name: Name, reservation: Option<Reservation>, runnable: bool) -> Vcpu
-    ensures { result.name ≡ name }
-{
-    Vcpu {
-        name,
-        reservation,
-        runnable,
-    }
-}
+use tab_core::{Host, Name, Reservation, VcpuNo, Vcpus};
 
 // A share in ppm of a core that may wait a round.
 fn patient(share_ppm: u32) -> Option<Reservation>
@@ -38,8 +30,8 @@ fn host_of(
     let a = Name::of(alloc, b"a")?;
     let b = Name::of(alloc, b"b")?;
     let mut vcpus = Vec::new(alloc);
-    vcpus.push(vcpu_of(a, first, true))?;
-    vcpus.push(vcpu_of(b, second, false))?;
+    vcpus.push(vcpu_of(a, first, true, false))?;
+    vcpus.push(vcpu_of(b, second, false, false))?;
     Ok(Host {
         cores: 1,
         lag: 1000,
@@ -49,14 +41,15 @@ fn host_of(
     })
 }
 
-// The book of the host and the script of this text.
-fn book_of<R: Threads + Sync>(
+// The book of the host and the script of this text, for one round.
+pub(crate) fn book_of<R: Threads + Sync>(
     rt: &R,
     alloc: Global,
     host: &Host,
     text: &[u8],
 ) -> Result<PlanBook, Fail>
     requires { length text.now < 1000 }
+    ensures { IfOk result (λ book. FitsRounds book.course 1) }
 {
     let script = read_script(alloc, text, host, 1)?;
     make_book(rt, alloc, host, &script).map_err(|fault| told(&fault))

@@ -5,6 +5,8 @@
 #[cfg(test)]
 mod books;
 #[cfg(test)]
+mod capping;
+#[cfg(test)]
 mod machine;
 #[cfg(test)]
 mod samples;

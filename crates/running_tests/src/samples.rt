@@ -3,8 +3,24 @@ ghost use Rattle.tab_core.specs.declared.TheConstants.{MAX_CORES};
 ghost use Rattle.table_form.specs.Tables.Serves.{owner_at};
 
 use std::alloc::Global;
-use tab_core::{NoMemory, ROUND, Tasks};
+use tab_core::{Name, NoMemory, ROUND, Reservation, Tasks, Vcpu, VcpuSet};
 use table_form::{CoreTable, Homes, Plan, RowBuilder, Rows, Tables};
+
+pub(crate) fn vcpu_of(
+    name: Name,
+    reservation: Option<Reservation>,
+    runnable: bool,
+    capped: bool,
+) -> Vcpu
+    ensures { result.name ≡ name }
+{
+    Vcpu {
+        name,
+        reservation,
+        runnable,
+        capped,
+    }
+}
 
 fn idle_row(alloc: Global) -> Result<CoreTable, NoMemory>
     ensures { IfOk result (λ row. (x v : ℕ) → slice_get row x ≡ Some (Some v) → ⊥) }
@@ -38,5 +54,6 @@ pub(crate) fn idle_plan(alloc: Global, cores: u32) -> Result<Plan, NoMemory>
             homes: Homes::of(Vec::new(alloc)),
             rows,
         },
+        capped: VcpuSet::empty(),
     })
 }

@@ -29,6 +29,7 @@ fn book_of<R: Threads + Sync>(rt: &R, alloc: Global, cores: u32) -> Result<PlanB
             latency_ns: 102_702_600,
         }),
         runnable: false,
+        capped: false,
     })?;
     let host = Host {
         cores,
