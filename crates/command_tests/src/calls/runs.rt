@@ -47,6 +47,16 @@ latency_ns = 102702600
 102600 change set a 250000 102702600
 ";
 
+// A capped vCPU, which gets none of the half that is left.
+const CAPPED: &str = "cores = 1
+[[vcpu]]
+name = \"a\"
+share_ppm = 500000
+latency_ns = 102702600
+capped = true
+%%
+";
+
 const THREE_CHANGES: &str = "20000 change set a 250000 102702600
 40000 change set a 1000 0
 60000 change set a 1000000 0
@@ -74,6 +84,17 @@ round 0 plan 0
 round 1 plan 2
 vcpu a offered 153900 slots 153900 shared 51300 gap 51300
 core 0 slots 153900 shared 51300 idle 0
+done
+",
+        ),
+        (
+            "run 1",
+            CAPPED,
+            0,
+            "run 1 rounds 1 cores 0 events
+round 0 plan 0
+vcpu a offered 51300 slots 51300 shared 0 gap 51300
+core 0 slots 51300 shared 0 idle 51300
 done
 ",
         ),
