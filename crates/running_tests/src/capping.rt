@@ -209,7 +209,8 @@ fn joined_slots_are_no_more_than_the_cost(rt: HostRuntime) -> Result<(), Fail> {
     try_all(&rt, rt.alloc(), &JOINED)
 }
 
-// a has 102087 ticks and b 103, and the sliver behind them is given to an uncapped vCPU alone.
+// a has 102087 ticks and b 52 in each half of the round, the second behind a's. The sliver of 409 ticks behind those
+// goes to b where that isn't capped.
 const LAST: [Case<'static>; 5] = [
     (
         1,
@@ -237,14 +238,14 @@ const LAST: [Case<'static>; 5] = [
         1000,
         [(995_000, LATE, false), (1_000, LATE, true), (0, 0, false)],
         b"",
-        ([(102_087, 410), (103, 0), (0, 0)], 0),
+        ([(102_087, 409), (104, 0), (0, 0)], 0),
     ),
     (
         1,
         1000,
         [(995_000, LATE, true), (1_000, LATE, true), (0, 0, false)],
         b"",
-        ([(102_087, 0), (103, 0), (0, 0)], 410),
+        ([(102_087, 0), (104, 0), (0, 0)], 409),
     ),
 ];
 

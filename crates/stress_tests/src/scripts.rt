@@ -13,7 +13,7 @@ use script_doc::read_script;
 use std::alloc::Global;
 use std::test::Fail;
 use std::thread::Threads;
-use tab_core::{Host, MAX_CORES, MAX_SLIVER, NoMemory, ROUND, Vcpu, Vcpus};
+use tab_core::{Host, MAX_CORES, MAX_SLIVER, Name, NoMemory, ROUND, Vcpu, Vcpus};
 
 // Cores, vCPUs, lag, quantum, sliver, rounds and events.
 pub(crate) type Row = (u32, u32, u32, u32, u32, u32, u32);
@@ -74,13 +74,13 @@ impl Case {
 }
 
 // The vCPUs, of which those of the word's bits are capped.
-fn with_caps(alloc: Global, vcpus: &[Vcpu], capped: u64) -> Result<Vec<Vcpu>, NoMemory>
+fn with_caps(alloc: Global, vcpus: &[Vcpu], capped: u64) -> Result<Vec<Vcpu>, Fail>
     ensures { IfOk result (λ made. map (λ vcpu. vcpu.name) made.items ≡ map (λ vcpu. vcpu.name) vcpus.now) }
 {
     let mut made = Vec::with_capacity(alloc, vcpus.len())?;
     for (number, vcpu) in vcpus.iter().enumerate() {
         made.push(Vcpu {
-            name: vcpu.name.copy(alloc)?,
+            name: Name::of(alloc, vcpu.name.bytes())?,
             reservation: vcpu.reservation,
             runnable: vcpu.runnable,
             capped: number < 64 && capped & bit(number as u32) != 0,
@@ -89,7 +89,7 @@ fn with_caps(alloc: Global, vcpus: &[Vcpu], capped: u64) -> Result<Vec<Vcpu>, No
     Ok(made)
 }
 
-fn host_of(alloc: Global, case: &Case) -> Result<Host, NoMemory> {
+fn host_of(alloc: Global, case: &Case) -> Result<Host, Fail> {
     let host = generate(alloc, case.seed, case.cores, case.vcpus)?;
     let vcpus = with_caps(alloc, host.vcpus.items(), case.capped())?;
     Ok(Host {
