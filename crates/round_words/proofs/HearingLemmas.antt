@@ -13,7 +13,7 @@ use Rattle.round_words.specs.Hearing.HearsCore.{itself, well_known, asked}
 use Rattle.round_words.specs.Inside.Held.{HasSeenTo}
 use Rattle.round_words.proofs.ChangesLemmas.{part_with, changes_with, changes_more}
 use Rattle.std.proofs.lemmas.List.{get_or-set_other}
-use Rattle.round_words.proofs.ListLemmas.{word_here, word_else}
+use Rattle.round_words.proofs.ListLemmas.{each_set, last_of-push, word_here, word_else}
 
 -- the parts are the same but for what was heard
 pub record SamePart (p q : Part) : Type 0 where
@@ -84,6 +84,13 @@ knows_heard known p d clock lt knows keeps k = dite (ℕ_discrete k d)
 -- what the actor heard of other cores stays
 heard_else : (p : Part) (d k clock : ℕ) → k ≢ d → last_heard (hears p d clock) k ≡ last_heard p k
 heard_else p d k clock away = ap last_of (get_or-set_other p.heard d k (heard_of p d ++ clock ∷ []) [] away)
+
+-- and what it heard last never falls
+pub heard_rises : (p : Part) (d clock k : ℕ) → last_heard p d ≤ clock → last_heard p k ≤ last_heard (hears p d clock) k
+heard_rises p d clock k le = each_set (λ l. last_heard p k ≤ last_of l) p.heard d k (heard_of p d ++ clock ∷ []) []
+    (λ e. let last = last_of-push (heard_of p d) clock in
+    subst (λ (j : ℕ). last_heard p j ≤ last_of (heard_of p d ++ clock ∷ [])) (sym e) (omega arith))
+    (omega arith)
 
 -- the next core is asked, and its clock is enough
 pub seen_to_asked : (v u w : View) (c lag tick n clock : ℕ) (known : List ℕ) → u.lag ≡ lag → holds u c ≡ true

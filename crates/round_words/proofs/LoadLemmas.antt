@@ -9,7 +9,7 @@ use Rattle.tab_core.specs.declared.entry.Entry.{Entry}
 use Rattle.tab_core.specs.declared.stint.Stint.{Stint}
 use Rattle.round_words.specs.declared.view.Part.{Part}
 use Rattle.round_words.specs.declared.view.View.{View}
-use Rattle.round_words.specs.Views.{controller, holds, part, with_part, heard_of, last_of, sees, hears}
+use Rattle.round_words.specs.Views.{controller, holds, part, with_part, heard_of, last_heard, last_of, sees, hears}
 use Rattle.round_words.specs.Rule.{Board, AreWordsOf, HasCountsUpTo, CoversEarlier, EntryFits, CoreFits, NeverFalls, HeardFits, PartsFit, IsRunning, KeepsRule}
 use Rattle.round_words.specs.Inside.Claims.{SeeClaim, HearClaim, MeetClaim, StepKeepsRule}
 use Rattle.round_words.specs.Shown.{HasOneCount, KeepsFloors, ViewInvariant}
@@ -155,18 +155,17 @@ hearing g a c n p f = record {
   won = f.won;
 }
 
--- the heard clocks with one more, which is the core's
-pub heard_more : (g : Board) (c n : ℕ) (p : Part) → c < g.cores → n ≡ g.clocks c → HeardFits g p
+-- the heard clocks with one more, which isn't above the core's
+pub heard_more : (g : Board) (c n : ℕ) (p : Part) → c < g.cores → last_heard p c ≤ n → n ≤ g.clocks c → HeardFits g p
     → HeardFits g (hears p c n)
-heard_more g c n p within is fits =
-    let old : All (λ h. h ≤ n) (heard_of p c) =
-    subst (λ (k : ℕ). All (λ h. h ≤ k) (heard_of p c)) (sym is) (fits.low c within) in record {
+heard_more g c n p within above below fits =
+    record {
       lists = length-set p.heard c (heard_of p c ++ n ∷ []) ∙ fits.lists;
       rises = λ d h. each_set NeverFalls p.heard c d (heard_of p c ++ n ∷ []) []
-          (λ e. rises_push (heard_of p c) n (fits.rises c within) (last_below (heard_of p c) n old))
+          (λ e. rises_push (heard_of p c) n (fits.rises c within) above)
           (fits.rises d h);
       low = λ d h. each_set (All (λ y. y ≤ g.clocks d)) p.heard c d (heard_of p c ++ n ∷ []) []
-          (λ e. let near : n ≤ g.clocks d = subst (λ (k : ℕ). n ≤ g.clocks k) (sym e) (omega arith) in
+          (λ e. let near : n ≤ g.clocks d = subst (λ (k : ℕ). n ≤ g.clocks k) (sym e) below in
           All-push (λ y. y ≤ g.clocks d) (heard_of p c) n
           (subst (λ (k : ℕ). All (λ y. y ≤ g.clocks k) (heard_of p c)) (sym e)
           (fits.low c within)) near)
@@ -189,7 +188,7 @@ hear_keeps id a c v on live has core words views ruled at small =
       with_part v a (hears p c n),
       loads words views id a (suc c) v (hears p c n) r at has
           (λ h. hearing g a c n p (m.core (subst (λ (k : ℕ). a < k) (sym m.settings.1) h)).1)
-          (heard_more g c n p within is m.heard)
+          (heard_more g c n p within (last_below (heard_of p c) n old) (omega arith) m.heard)
           m.floors,
       (
         refl,

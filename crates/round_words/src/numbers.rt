@@ -1,21 +1,25 @@
 //! The plain numbers of a seat, from which its calls work. They agree with its view.
-ghost use Rattle.std.specs.Prelude.{◌≡◌, ◌<◌, ◌≤◌, ◌-◌, ◌/◌, ℕ, suc, cond, length, replicate, slice_index, true};
+ghost use Rattle.std.specs.Prelude.{◌≡◌, ◌<◌, ◌≤◌, ◌-◌, ◌/◌, ℕ, suc, cond, length, replicate, slice_index, true, false};
 ghost use Rattle.tab_core.specs.declared.TheConstants.{MAX_CORES, MAX_EVENTS};
 ghost use Rattle.tab_core.specs.declared.entry.Entry.{Entry};
 ghost use Rattle.tab_core.specs.declared.stint.Stint.{Stint};
-ghost use Rattle.round_words.specs.Inside.Held.{AreHere, TakesClocks};
+ghost use Rattle.round_words.specs.Inside.Held.{AreKnown, TakesClocks};
 ghost use Rattle.round_words.specs.Inside.Numbers.{NumbersAgree};
-ghost use Rattle.round_words.specs.Views.{both, controller, enters, holds, just_started, names, only, part, posts, runs, sees, with_part, without};
+ghost use Rattle.round_words.specs.Views.{both, controller, enters, hears, holds, just_started, names, only, part, posts, runs, sees, with_part, without};
+ghost use Rattle.round_words.specs.Shown.{IsHeardClock};
 ghost use Rattle.round_words.specs.declared.view.View.{View};
 
-/// What stands here of an actor whose part the seat doesn't hold means nothing.
+/// What stands here of an actor whose part the seat doesn't hold means nothing, but for a core's clock.
 #[derive(Drop)]
 pub(crate) struct Numbers {
     /// A bit for each actor that the seat holds.
     pub(crate) held: u64,
+    /// How many cores the board has.
+    pub(crate) cores: u32,
     /// How many events the controller has posted.
     pub(crate) posted: u32,
-    /// The clock of each core.
+    /// The clock of each core that the seat holds. Of another the last clock that one of the seat's actors heard, or 0
+    /// where none heard it since the core or that actor was in another seat.
     pub(crate) clocks: [u32; 32],
     /// What each core saw last, or 0 where it has seen nothing since its last stint.
     pub(crate) sights: [u32; 32],
@@ -116,17 +120,19 @@ fn first_clocks(cores: u32) -> [u32; 32]
 }
 
 impl Numbers {
-    // Those of new parts, of the actors whose bit is set.
-    pub(crate) fn new(held: u64) -> Numbers
+    // Those of new parts, of the actors whose bit is set, at a board with so many cores.
+    pub(crate) fn new(held: u64, cores: u32) -> Numbers
         ensures held { result.held ≡ held }
+        ensures cores { result.cores ≡ cores }
         ensures posted { result.posted ≡ 0 }
-        ensures clocks { result.clocks ≡ replicate 32 0 }
+        ensures clocks { (c : ℕ) → c < cores → slice_index result.clocks c ≡ 0 }
         ensures sights { result.sights ≡ replicate 32 0 }
     {
         Numbers {
             held,
+            cores,
             posted: 0,
-            clocks: [0; 32],
+            clocks: first_clocks(cores),
             sights: [0; 32],
             useds: [0; 128],
         }
@@ -137,9 +143,7 @@ impl Numbers {
         requires cores { cores ≤ MAX_CORES }
         ensures { (lag events : ℕ) → 0 < lag → events ≤ MAX_EVENTS → NumbersAgree result (just_started lag cores events) }
     {
-        let mut numbers = Numbers::new(((1 << cores) - 1) | (1 << 32));
-        numbers.clocks = first_clocks(cores);
-        numbers
+        Numbers::new(((1 << cores) - 1) | (1 << 32), cores)
     }
 
     // Gives the parts of these actors away.
@@ -147,14 +151,27 @@ impl Numbers {
         ensures kept { (v : View) → NumbersAgree self.old v → NumbersAgree self.new (without actors v) }
         ensures given { (v : View) → ((a : ℕ) → names actors a ≡ true → holds v a ≡ true) → NumbersAgree self.old v → NumbersAgree result (only actors v) }
     {
-        self.held &= !actors;
-        Numbers {
+        let mut given = Numbers {
             held: actors,
+            cores: self.cores,
             posted: self.posted,
             clocks: self.clocks,
             sights: self.sights,
             useds: self.useds,
-        }
+        };
+        given.forget_others();
+        self.held &= !actors;
+        self.forget_others();
+        given
+    }
+
+    // Of the cores that the seat doesn't hold no clock is known from then on.
+    fn forget_others(&mut self)
+        ensures same { (self.new.held ≡ self.old.held) × (self.new.cores ≡ self.old.cores) × (self.new.posted ≡ self.old.posted) × (self.new.sights ≡ self.old.sights) × (self.new.useds ≡ self.old.useds) }
+        ensures held { (c : ℕ) → c < 32 → names self.new.held c ≡ true → slice_index self.new.clocks c ≡ slice_index self.old.clocks c }
+        ensures others { (c : ℕ) → c < 32 → c < self.new.cores → names self.new.held c ≡ false → slice_index self.new.clocks c ≡ 0 }
+    {
+        take_over(&mut self.clocks, &first_clocks(self.cores), self.held);
     }
 
     // Takes in the parts of another seat.
@@ -166,6 +183,7 @@ impl Numbers {
         take_over(&mut self.sights, &theirs.sights, self.held);
         take_rows(&mut self.useds, &theirs.useds, self.held);
         self.held |= theirs.held;
+        self.forget_others();
     }
 
     // The controller has posted one event more.
@@ -183,14 +201,20 @@ impl Numbers {
         self.sights[core] = count;
     }
 
-    // Whether the seat holds the first so many cores, and none of their clocks is below the tick.
+    // Whether no clock is known below the tick.
     #[inline(always)]
-    pub(crate) fn reach(&self, cores: u32, tick: u32) -> bool
-        requires { cores ≤ MAX_CORES }
-        ensures { result ≡ true → (v : View) → NumbersAgree self.now v → AreHere v cores tick }
+    pub(crate) fn reach(&self, tick: u32) -> bool
+        ensures { result ≡ true → (v : View) → v.started ≡ true → NumbersAgree self.now v → AreKnown self.now.clocks v v.cores tick }
     {
-        let all = (1u64 << cores) - 1;
-        self.held & all == all && tick <= least_of(&self.clocks)
+        tick <= least_of(&self.clocks)
+    }
+
+    // An actor has heard this clock of the core.
+    pub(crate) fn note_heard(&mut self, core: usize, clock: u32)
+        requires core { core < 32 }
+        ensures { (v : View) (a : ℕ) → holds v a ≡ true → IsHeardClock v a core clock → NumbersAgree self.old v → NumbersAgree self.new (with_part v a (hears (part v a) core clock)) }
+    {
+        self.clocks[core] = clock;
     }
 
     // A core has entered this round.

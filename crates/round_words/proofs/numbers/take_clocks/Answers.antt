@@ -11,14 +11,14 @@ loop-core-init c =
     let same : slice_set known c.args.actor c.own_of-own.result ≡ known =
     ap (slice_set known c.args.actor) c.own_of-own.ensures ∙ set-get_or known c.args.actor 0 in
     subst (TakesClocks c.args.clocks.now c.args.actor c.args.least c.args.cores 0 known) (sym same)
-    (λ v tick is has long here are knows. here_none v c.args.actor v.lag tick known has knows)
+    (λ v tick is has long above knows. here_none v c.args.actor v.lag tick known has knows)
 
 pub loop-core-preserved : goal.loop-core-preserved
-loop-core-preserved c = λ v tick is has long here are knows.
+loop-core-preserved c = λ v tick is has long above knows.
     let l = c.loop-core in
     let own : ℕ = c.own_of-own.result in
-    here_more v c.args.actor c.args.least tick l.core (slice_set l.known c.args.actor own) _ _ has is
-    (let size = length-set l.known c.args.actor own in omega arith) (here l.core (omega arith)).1 long
-    (omega arith) (are l.core (omega arith))
+    here_more v c.args.actor c.args.least tick l.core c.args.clocks.now (slice_set l.known c.args.actor own) _ has is
+    (let size = length-set l.known c.args.actor own in omega arith) (above l.core (omega arith)) long
+    (omega arith)
     (ap (λ (x : ℕ). set (set l.known l.core x) c.args.actor own) c.newer.ensures
-    ∙ own_put_back l.known c.args.actor l.core own c.args.least _) (l.invariant v tick is has long here are knows)
+    ∙ own_put_back l.known c.args.actor l.core own c.args.least _) (l.invariant v tick is has long above knows)
