@@ -1,7 +1,10 @@
 -- A crew of which some actors step.
 use Rattle.std.proofs.Common.{◌≡◌, ◌≢◌, ℕ, ◌+◌, ◌-◌, ◌/◌, ◌%◌, ◌<◌, ◌≤◌, true, List, length, Option, Some, None, refl, sym, ap, ◌∙◌, subst, arith}
 use Rattle.std.specs.Prelude.{slice_get, take}
+use Rattle.std.specs.Vec.{with_item}
 use Rattle.std.proofs.lemmas.List.{length-set}
+use Rattle.std.proofs.lemmas.Option.{slice_get_within}
+use Rattle.tab_core.proofs.Lists.{set_here, set_other}
 use mathlib.Core.Logic.{dite}
 use native.Mathlib.Decide.{ℕ_discrete}
 use Rattle.table_form.specs.Running.Courses.{CourseView, outline_of}
@@ -179,19 +182,30 @@ module _ (crew crew' : CrewView) (v w : View) (c : ℕ) (answer : CoreAnswer) wh
 
 -- one member of a team has made a step
 module _ (course : CourseView) (lead : Lead) (deal : Deal) (groups : List Group) (c : ℕ) (m n : Member) (old : Group) where
-  pub team_changed : IsTeam course lead.rounds deal groups → member_of deal groups c ≡ Some m → slice_get groups (c % deal.threads - deal.first) ≡ Some old
+  pub team_changed : IsTeam course lead.rounds deal groups → member_of deal groups c ≡ Some m → slice_get groups (c / deal.per - deal.first) ≡ Some old
       → IsSameCore m.state n.state → n.slices ≡ m.slices → IsTeam course lead.rounds deal (changed deal groups c m n old)
   team_changed team h is same slices = record {
     course_kept = team.course_kept;
     fits = team.fits;
-    few = subst (λ (k : ℕ). deal.first + k ≤ deal.threads) (sym (length-set groups (c % deal.threads - deal.first) _)) team.few;
+    few = λ g x at. dite (ℕ_discrete g (c / deal.per - deal.first))
+        (λ e. let new : Group = record { members = with_item old.members (c % deal.per) n } in
+        let same : new ≡ x = cc_group (slice_get (changed deal groups c m n old) (c / deal.per - deal.first)) new x
+        (set_here groups (c / deal.per - deal.first) new (slice_get_within groups (c / deal.per - deal.first) old is))
+        (subst (λ (k : ℕ). slice_get (changed deal groups c m n old) k ≡ Some x) e at) in
+        subst (λ (y : Group). length y.members.items ≤ deal.per) same
+        (subst (λ (k : ℕ). k ≤ deal.per) (sym (length-set old.members.items (c % deal.per) n)) (team.few (c / deal.per - deal.first) old is)))
+        (λ ne. team.few g x (sym (set_other groups (c / deal.per - deal.first) g _ ne) ∙ at));
     some = team.some;
+    short = subst (λ (k : ℕ). deal.first + k ≤ 64) (sym (length-set groups (c / deal.per - deal.first) _)) team.short;
     each = λ d x at. dite (ℕ_discrete d c)
         (λ e. let one : n ≡ x = same_member (member_of deal (changed deal groups c m n old) c) n x (changed_here deal groups c m n old h is) (subst (λ (i : ℕ). member_of deal (changed deal groups c m n old) i ≡ Some x) e at) in
         subst (λ (i : ℕ). IsMemberOf course lead.rounds i x) (sym e) (subst (IsMemberOf course lead.rounds c) one new))
         (λ ne. team.each d x (sym (changed_other deal groups c m n old h is d ne) ∙ at));
   }
     where
+      cc_group : (o : Option Group) (x y : Group) → o ≡ Some x → o ≡ Some y → x ≡ y
+      cc_group o x y h k = cc
+
       same_member : (o : Option Member) (x y : Member) → o ≡ Some x → o ≡ Some y → x ≡ y
       same_member o x y h k = cc
 
@@ -203,7 +217,7 @@ module _ (course : CourseView) (lead : Lead) (deal : Deal) (groups : List Group)
         rounds_is = same.rounds ∙ was.rounds_is;
       }
 
-  pub steps_changed : (v w : View) (answer : CoreAnswer) → member_of deal groups c ≡ Some m → slice_get groups (c % deal.threads - deal.first) ≡ Some old
+  pub steps_changed : (v w : View) (answer : CoreAnswer) → member_of deal groups c ≡ Some m → slice_get groups (c / deal.per - deal.first) ≡ Some old
       → IsSameCore m.state n.state → ChangesOnly v w c → AgreesWith course n.state w → CoreStep course m.state v answer n.state
       → Steps (crew_view course lead deal groups) v c answer (crew_view course lead deal (changed deal groups c m n old)) w
   steps_changed v w answer h is same changes agrees step = record {
@@ -223,16 +237,16 @@ module _ (course : CourseView) (lead : Lead) (deal : Deal) (groups : List Group)
 
 -- where a core of a whole team stands
 pub whole_at : (course : CourseView) (team : Team) → IsWholeTeam course team → (n c : ℕ) → n ≡ c → c < course.cores
-    → (group : Group) × (slice_get team.groups.items (n % team.threads) ≡ Some group) × (m : Member) × (slice_get group.members.items (n / team.threads) ≡ Some m) × (actor_of (team_view course team) c ≡ Some m.state)
+    → (group : Group) × (slice_get team.groups.items (n / team.per) ≡ Some group) × (m : Member) × (slice_get group.members.items (n % team.per) ≡ Some m) × (actor_of (team_view course team) c ≡ Some m.state)
 whole_at course team is n c same lt =
     let a = is.whole c lt in
     let m = member (deal_of team) team.groups.items c a.0 a.1 in
     let f = found (deal_of team) team.groups.items c m.0 m.1 in
-    let first : c % team.threads - 0 ≡ n % team.threads = sub_none (c % team.threads) ∙ ap (λ (k : ℕ). k % team.threads) (sym same) in (
+    let first : c / team.per - 0 ≡ n / team.per = sub_none (c / team.per) ∙ ap (λ (k : ℕ). k / team.per) (sym same) in (
       f.group,
       subst (λ (k : ℕ). slice_get team.groups.items k ≡ Some f.group) first f.group_is,
       m.0,
-      subst (λ (k : ℕ). slice_get f.group.members.items (k / team.threads) ≡ Some m.0) (sym same) f.member_is,
+      subst (λ (k : ℕ). slice_get f.group.members.items (k % team.per) ≡ Some m.0) (sym same) f.member_is,
       ap actor_in m.1,
     )
   where

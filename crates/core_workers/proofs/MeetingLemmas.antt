@@ -1,8 +1,9 @@
 -- A team whose last group gets a seat of its own, and what comes of it when the seats meet again.
-use Rattle.std.proofs.Common.{◌≡◌, ◌⊎◌, ℕ, ◌%◌, ◌<◌, Bool, true, false, ◌||◌, true≢false, inl, inr, List, [], ◌∷◌, ◌++◌, length, Option, Some, None, refl, sym, ap, ap₂, ◌∙◌, subst, arith, get_or}
+use Rattle.std.proofs.Common.{◌≡◌, ◌⊎◌, ℕ, ◌/◌, ◌<◌, ◌≤◌, Bool, true, false, ◌||◌, true≢false, inl, inr, List, [], ◌∷◌, ◌++◌, length, Option, Some, None, refl, sym, ap, ap₂, ◌∙◌, subst, arith, get_or}
 use mathlib.Core.Logic.{dite}
 use native.Mathlib.Decide.{ℕ_discrete}
 use Rattle.round_words.proofs.ListLemmas.{length_push}
+use Rattle.tab_core.proofs.Lists.{push_new, push_old, push_split}
 use Rattle.table_form.specs.Running.Courses.{CourseView, FitsRounds, IsCourse}
 use Rattle.round_words.specs.declared.view.View.{View}
 use Rattle.round_words.specs.Views.{both, controller, holds, names, only, part, without}
@@ -17,7 +18,7 @@ use Rattle.core_workers.specs.Groups.{CrewView, actor_in, actor_of, crew_of, mem
 use Rattle.core_workers.specs.Crews.{AllAgree, HoldsAll, IsCrew, IsSameAt, IsSameCrew, IsWhole, SameActors}
 use Rattle.core_workers.specs.Inside.Teams.{GoesOn, HoldsEach, IsHeld, IsManned, IsTeam, IsWorker, Names}
 use Rattle.core_workers.proofs.CrewLemmas.{SameBoard, agrees_part, at_some, at_was, lead_part, member}
-use Rattle.core_workers.proofs.PartingLemmas.{first_of, in_first, in_last, last_of}
+use Rattle.core_workers.proofs.PartingLemmas.{first_of, in_first, in_last, in_one, last_of}
 
 board_without : (m : ℕ) (v : View) → SameBoard v (without m v)
 board_without m v = record { started = refl; lag = refl; cores = refl; events = refl }
@@ -31,70 +32,77 @@ board_both v w = record { started = refl; lag = refl; cores = refl; events = ref
 none_some : {X : Type 0} (o : Option X) (x : X) → o ≡ None → o ≡ Some x → ⊥
 none_some o x h k = cc
 
-module _ (course : CourseView) (rounds threads : ℕ) (control : ControlState) (groups : List Group) (group : Group) where
+module _ (course : CourseView) (rounds per : ℕ) (control : ControlState) (groups : List Group) (group : Group) where
   abbrev whole : CrewView
-  whole = crew_of course rounds control (first_of threads groups group) (groups ++ group ∷ [])
+  whole = crew_of course rounds control (first_of per groups group) (groups ++ group ∷ [])
 
   abbrev rest : CrewView
-  rest = crew_of course rounds control (first_of threads groups group) groups
+  rest = crew_of course rounds control (first_of per groups group) groups
 
   abbrev one : CrewView
-  one = worker_view course rounds (last_of threads groups group) group
+  one = worker_view course rounds (last_of per groups group) group
 
   -- who stands in the rest, or in the last group, stands in the whole
-  rest_whole : (c : ℕ) (m : Member) → member_of (first_of threads groups group) groups c ≡ Some m → (member_of (first_of threads groups group) (groups ++ group ∷ []) c ≡ Some m) × (member_of (last_of threads groups group) (group ∷ []) c ≡ None)
-  rest_whole c m at = dite (ℕ_discrete (c % threads) (length groups))
-      (λ e. absurd (none_some _ m (in_last threads groups group c e).1 at))
-      (λ ne. let s = in_first threads groups group c ne in (s.0 ∙ at, s.1))
+  rest_whole : (c : ℕ) (m : Member) → member_of (first_of per groups group) groups c ≡ Some m → (member_of (first_of per groups group) (groups ++ group ∷ []) c ≡ Some m) × (member_of (last_of per groups group) (group ∷ []) c ≡ None)
+  rest_whole c m at = dite (ℕ_discrete (c / per) (length groups))
+      (λ e. absurd (none_some _ m (in_last per groups group c e).1 at))
+      (λ ne. let s = in_first per groups group c ne in (s.0 ∙ at, s.1))
 
-  one_whole : (c : ℕ) (m : Member) → member_of (last_of threads groups group) (group ∷ []) c ≡ Some m → (member_of (first_of threads groups group) (groups ++ group ∷ []) c ≡ Some m) × (member_of (first_of threads groups group) groups c ≡ None)
-  one_whole c m at = dite (ℕ_discrete (c % threads) (length groups))
-      (λ e. let s = in_last threads groups group c e in (s.0 ∙ at, s.1))
-      (λ ne. absurd (none_some _ m (in_first threads groups group c ne).1 at))
+  one_whole : (c : ℕ) (m : Member) → member_of (last_of per groups group) (group ∷ []) c ≡ Some m → (member_of (first_of per groups group) (groups ++ group ∷ []) c ≡ Some m) × (member_of (first_of per groups group) groups c ≡ None)
+  one_whole c m at = dite (ℕ_discrete (c / per) (length groups))
+      (λ e. let s = in_last per groups group c e in (s.0 ∙ at, s.1))
+      (λ ne. absurd (none_some _ m (in_first per groups group c ne).1 at))
 
   -- and who stands in the whole stands in one of them
-  whole_either : (c : ℕ) (m : Member) → member_of (first_of threads groups group) (groups ++ group ∷ []) c ≡ Some m
-      → (member_of (first_of threads groups group) groups c ≡ Some m) ⊎ (member_of (last_of threads groups group) (group ∷ []) c ≡ Some m)
-  whole_either c m at = dite (ℕ_discrete (c % threads) (length groups))
-      (λ e. inr (sym (in_last threads groups group c e).0 ∙ at))
-      (λ ne. inl (sym (in_first threads groups group c ne).0 ∙ at))
+  whole_either : (c : ℕ) (m : Member) → member_of (first_of per groups group) (groups ++ group ∷ []) c ≡ Some m
+      → (member_of (first_of per groups group) groups c ≡ Some m) ⊎ (member_of (last_of per groups group) (group ∷ []) c ≡ Some m)
+  whole_either c m at = dite (ℕ_discrete (c / per) (length groups))
+      (λ e. inr (sym (in_last per groups group c e).0 ∙ at))
+      (λ ne. inl (sym (in_first per groups group c ne).0 ∙ at))
 
-  pub team_rest : IsTeam course rounds (first_of threads groups group) (groups ++ group ∷ []) → IsTeam course rounds (first_of threads groups group) groups
+  pub team_rest : IsTeam course rounds (first_of per groups group) (groups ++ group ∷ []) → IsTeam course rounds (first_of per groups group) groups
   team_rest team = record {
     course_kept = team.course_kept;
     fits = team.fits;
-    few = omega (arith, team.few, length_push groups group);
+    few = λ g x at. team.few g x (push_old groups g group x at);
     some = team.some;
+    short = omega (arith, team.short, length_push groups group);
     each = λ c m at. team.each c m (rest_whole c m at).0;
   }
 
-  pub team_one : IsTeam course rounds (first_of threads groups group) (groups ++ group ∷ []) → IsTeam course rounds (last_of threads groups group) (group ∷ [])
+  pub team_one : IsTeam course rounds (first_of per groups group) (groups ++ group ∷ []) → IsTeam course rounds (last_of per groups group) (group ∷ [])
   team_one team = record {
     course_kept = team.course_kept;
     fits = team.fits;
-    few = (let many : length (group ∷ []) ≡ 1 = refl in omega (arith, team.few, length_push groups group, many));
+    few = λ g x at. subst (λ (y : Group). length y.members.items ≤ per) (in_one (last_of per groups group) group g x at).1
+        (team.few (length groups) group (push_new groups group));
     some = team.some;
+    short = (let many : length (group ∷ []) ≡ 1 = refl in omega (arith, team.short, length_push groups group, many));
     each = λ c m at. team.each c m (one_whole c m at).0;
   }
 
-  pub team_whole : length groups < threads → IsTeam course rounds (first_of threads groups group) groups → IsTeam course rounds (last_of threads groups group) (group ∷ []) → IsTeam course rounds (first_of threads groups group) (groups ++ group ∷ [])
-  team_whole lt team one_team = record {
+  pub team_whole : IsTeam course rounds (first_of per groups group) groups → IsTeam course rounds (last_of per groups group) (group ∷ []) → IsTeam course rounds (first_of per groups group) (groups ++ group ∷ [])
+  team_whole team one_team = record {
     course_kept = team.course_kept;
     fits = team.fits;
-    few = omega (arith, lt, length_push groups group);
+    few = λ g x at. elim (push_split groups g group x at) [
+      | inl old ↦ team.few g x old
+      | inr here ↦ one_team.few 0 x (ap Some here.1)
+    ];
     some = team.some;
+    short = (let many : length (group ∷ []) ≡ 1 = refl in omega (arith, one_team.short, length_push groups group, many));
     each = λ c m at. elim (whole_either c m at) [ inl old ↦ team.each c m old | inr new ↦ one_team.each c m new ];
   }
 
   -- the seat is parted
-  module _ (mask : ℕ) (v : View) (named : Names (last_of threads groups group) group mask) (team : IsTeam course rounds (first_of threads groups group) (groups ++ group ∷ [])) (held : IsHeld whole v) where
-    core_small : (c : ℕ) (m : Member) → member_of (first_of threads groups group) (groups ++ group ∷ []) c ≡ Some m → c < 32
+  module _ (mask : ℕ) (v : View) (named : Names (last_of per groups group) group mask) (team : IsTeam course rounds (first_of per groups group) (groups ++ group ∷ [])) (held : IsHeld whole v) where
+    core_small : (c : ℕ) (m : Member) → member_of (first_of per groups group) (groups ++ group ∷ []) c ≡ Some m → c < 32
     core_small c m at = omega (arith, (team.each c m at).within, team.course_kept.form.outline.few_cores)
 
     pub mask_held : (c : ℕ) → names mask c ≡ true → holds v c ≡ true
     mask_held c on = let m = named.there c on in held.holds_each c (m.0.state, ap actor_in (one_whole c m.0 m.1).0)
 
-    off_rest : (c : ℕ) (m : Member) → member_of (first_of threads groups group) groups c ≡ Some m → names mask c ≡ false
+    off_rest : (c : ℕ) (m : Member) → member_of (first_of per groups group) groups c ≡ Some m → names mask c ≡ false
     off_rest c m at = by (names mask c) refl
       where
         by : (b : Bool) → names mask c ≡ b → names mask c ≡ false
@@ -111,19 +119,19 @@ module _ (course : CourseView) (rounds threads : ℕ) (control : ControlState) (
     pub held_rest : (w : View) → w ≡ without mask v → IsHeld rest w
     held_rest w is = subst (IsHeld rest) (sym is) (record {
       agree = record {
-        cores = λ c a at has. (let m = member (first_of threads groups group) groups c a at in
+        cores = λ c a at has. (let m = member (first_of per groups group) groups c a at in
             let big = (rest_whole c m.0 m.1).0 in
             let core : a.core ≡ c = subst (λ (x : StateView). x.core ≡ c) m.2 (team.each c m.0 big).core in
             let was = of_without mask v c has in
-            agrees_part course a v (without mask v) (held.agree.cores c a (subst (λ (x : StateView). actor_in (member_of (first_of threads groups group) (groups ++ group ∷ []) c) ≡ Some x) m.2 (ap actor_in big)) was.1) (board_without mask v)
+            agrees_part course a v (without mask v) (held.agree.cores c a (subst (λ (x : StateView). actor_in (member_of (first_of per groups group) (groups ++ group ∷ []) c) ≡ Some x) m.2 (ap actor_in big)) was.1) (board_without mask v)
             (subst (λ (i : ℕ). holds (without mask v) i ≡ true) (sym core) has) (subst (λ (i : ℕ). part (without mask v) i ≡ part v i) (sym core) was.2));
         control = λ has. (let was = of_without mask v controller has in lead_part course control v (without mask v) (held.agree.control was.1) (board_without mask v) has was.2);
       };
-      holds_each = λ c there. (let m = member (first_of threads groups group) groups c there.0 there.1 in
+      holds_each = λ c there. (let m = member (first_of per groups group) groups c there.0 there.1 in
           (without_others mask v c (off_rest c m.0 m.1)).0 ∙ held.holds_each c (m.0.state, ap actor_in (rest_whole c m.0 m.1).0));
       manned = λ c lt has. (let was = of_without mask v c has in
           let a = held.manned c lt was.1 in
-          let m = member (first_of threads groups group) (groups ++ group ∷ []) c a.0 a.1 in
+          let m = member (first_of per groups group) (groups ++ group ∷ []) c a.0 a.1 in
           elim (whole_either c m.0 m.1) [
             | inl old ↦ (m.0.state, ap actor_in old)
             | inr new ↦ absurd (true≢false (sym (named.all c m.0 new) ∙ was.0))
@@ -131,44 +139,44 @@ module _ (course : CourseView) (rounds threads : ℕ) (control : ControlState) (
       control = (without_others mask v controller off_control).0 ∙ held.control;
     })
 
-    pub worker_one : (w : View) → w ≡ only mask v → IsWorker course rounds (last_of threads groups group) group w
-    worker_one w is = subst (IsWorker course rounds (last_of threads groups group) group) (sym is) (record {
+    pub worker_one : (w : View) → w ≡ only mask v → IsWorker course rounds (last_of per groups group) group w
+    worker_one w is = subst (IsWorker course rounds (last_of per groups group) group) (sym is) (record {
       team = team_one team;
       agree = record {
-        cores = λ c a at has. (let m = member (last_of threads groups group) (group ∷ []) c a at in
+        cores = λ c a at has. (let m = member (last_of per groups group) (group ∷ []) c a at in
             let big = (one_whole c m.0 m.1).0 in
             let core : a.core ≡ c = subst (λ (x : StateView). x.core ≡ c) m.2 (team.each c m.0 big).core in
             let was = of_only mask v c has in
-            agrees_part course a v (only mask v) (held.agree.cores c a (subst (λ (x : StateView). actor_in (member_of (first_of threads groups group) (groups ++ group ∷ []) c) ≡ Some x) m.2 (ap actor_in big)) was.1) (board_only mask v)
+            agrees_part course a v (only mask v) (held.agree.cores c a (subst (λ (x : StateView). actor_in (member_of (first_of per groups group) (groups ++ group ∷ []) c) ≡ Some x) m.2 (ap actor_in big)) was.1) (board_only mask v)
             (subst (λ (i : ℕ). holds (only mask v) i ≡ true) (sym core) has) (subst (λ (i : ℕ). part (only mask v) i ≡ part v i) (sym core) was.2));
         control = λ has. absurd (true≢false (sym (of_only mask v controller has).0 ∙ off_control));
       };
-      holds_each = λ c there. (let m = member (last_of threads groups group) (group ∷ []) c there.0 there.1 in
+      holds_each = λ c there. (let m = member (last_of per groups group) (group ∷ []) c there.0 there.1 in
           (only_named mask v c (named.all c m.0 m.1)).0 ∙ mask_held c (named.all c m.0 m.1));
       manned = λ c lt has. (let was = of_only mask v c has in let m = named.there c was.0 in (m.0.state, ap actor_in m.1));
       alone = only_others mask v controller off_control;
     })
 
   -- the seats meet
-  pub held_whole : (x y w : View) → IsTeam course rounds (first_of threads groups group) (groups ++ group ∷ []) → IsHeld rest x → IsWorker course rounds (last_of threads groups group) group y → SameBoard x y
-      → ((c : ℕ) (m : Member) → member_of (last_of threads groups group) (group ∷ []) c ≡ Some m → holds x c ≡ false) → w ≡ both x y → IsHeld whole w
+  pub held_whole : (x y w : View) → IsTeam course rounds (first_of per groups group) (groups ++ group ∷ []) → IsHeld rest x → IsWorker course rounds (last_of per groups group) group y → SameBoard x y
+      → ((c : ℕ) (m : Member) → member_of (last_of per groups group) (group ∷ []) c ≡ Some m → holds x c ≡ false) → w ≡ both x y → IsHeld whole w
   held_whole x y w team held worker board off is = subst (IsHeld whole) (sym is) (record {
     agree = record {
-      cores = λ c a at has. (let m = member (first_of threads groups group) (groups ++ group ∷ []) c a at in
+      cores = λ c a at has. (let m = member (first_of per groups group) (groups ++ group ∷ []) c a at in
           let core : a.core ≡ c = subst (λ (s : StateView). s.core ≡ c) m.2 (team.each c m.0 m.1).core in
           elim (whole_either c m.0 m.1) [
             | inl old ↦ (let on = held.holds_each c (m.0.state, ap actor_in old) in
-                agrees_part course a x (both x y) (held.agree.cores c a (subst (λ (s : StateView). actor_in (member_of (first_of threads groups group) groups c) ≡ Some s) m.2 (ap actor_in old)) on) (board_both x y)
+                agrees_part course a x (both x y) (held.agree.cores c a (subst (λ (s : StateView). actor_in (member_of (first_of per groups group) groups c) ≡ Some s) m.2 (ap actor_in old)) on) (board_both x y)
                 (subst (λ (i : ℕ). holds (both x y) i ≡ true) (sym core) has) (subst (λ (i : ℕ). part (both x y) i ≡ part x i) (sym core) (both_mine x y c on)))
             | inr new ↦ (let on = worker.holds_each c (m.0.state, ap actor_in new) in
                 let theirs = both_theirs x y c (off c m.0 new) in
-                agrees_part course a y (both x y) (worker.agree.cores c a (subst (λ (s : StateView). actor_in (member_of (last_of threads groups group) (group ∷ []) c) ≡ Some s) m.2 (ap actor_in new)) on)
+                agrees_part course a y (both x y) (worker.agree.cores c a (subst (λ (s : StateView). actor_in (member_of (last_of per groups group) (group ∷ []) c) ≡ Some s) m.2 (ap actor_in new)) on)
                 (record { started = sym board.started; lag = sym board.lag; cores = sym board.cores; events = sym board.events })
                 (subst (λ (i : ℕ). holds (both x y) i ≡ true) (sym core) has) (subst (λ (i : ℕ). part (both x y) i ≡ part y i) (sym core) theirs.1))
           ]);
       control = λ has. lead_part course control x (both x y) (held.agree.control held.control) (board_both x y) has (both_mine x y controller held.control);
     };
-    holds_each = λ c there. (let m = member (first_of threads groups group) (groups ++ group ∷ []) c there.0 there.1 in
+    holds_each = λ c there. (let m = member (first_of per groups group) (groups ++ group ∷ []) c there.0 there.1 in
         elim (whole_either c m.0 m.1) [
           | inl old ↦ holds_both x y c ∙ ap (λ (b : Bool). b || holds y c) (held.holds_each c (m.0.state, ap actor_in old))
           | inr new ↦ (both_theirs x y c (off c m.0 new)).0 ∙ worker.holds_each c (m.0.state, ap actor_in new)
@@ -178,8 +186,8 @@ module _ (course : CourseView) (rounds threads : ℕ) (control : ControlState) (
   })
     where
       by : (c : ℕ) → c < course.cores → (b : Bool) → holds x c ≡ b → holds (both x y) c ≡ true → (a : StateView) × (actor_of whole c ≡ Some a)
-      by c lt true on has = let a = held.manned c lt on in let m = member (first_of threads groups group) groups c a.0 a.1 in (m.0.state, ap actor_in (rest_whole c m.0 m.1).0)
-      by c lt false none has = let a = worker.manned c lt (sym (both_theirs x y c none).0 ∙ has) in let m = member (last_of threads groups group) (group ∷ []) c a.0 a.1 in (m.0.state, ap actor_in (one_whole c m.0 m.1).0)
+      by c lt true on has = let a = held.manned c lt on in let m = member (first_of per groups group) groups c a.0 a.1 in (m.0.state, ap actor_in (rest_whole c m.0 m.1).0)
+      by c lt false none has = let a = worker.manned c lt (sym (both_theirs x y c none).0 ∙ has) in let m = member (last_of per groups group) (group ∷ []) c a.0 a.1 in (m.0.state, ap actor_in (one_whole c m.0 m.1).0)
 
 -- what the worker holds, the rest doesn't
 pub rest_off : (course : CourseView) (rounds : ℕ) (deal : Deal) (group group' : Group) (mask : ℕ) (v left own x y : View) → Names deal group mask → left ≡ without mask v → SameActors left x
@@ -216,17 +224,17 @@ board_met mask v left own x y is is' one two = record {
 }
 
 -- the same actors in the whole
-module _ (k k' : CourseView) (r r' : ℕ) (control control' : ControlState) (threads : ℕ) (groups groups' : List Group) (group group' : Group) where
-  pub same_met : length groups' ≡ length groups → IsSameCrew (crew_of k r control (first_of threads groups group) groups) (crew_of k' r' control' (first_of threads groups group) groups')
-      → IsSameCrew (worker_view k r (last_of threads groups group) group) (worker_view k r (last_of threads groups group) group')
-      → IsSameCrew (crew_of k r control (first_of threads groups group) (groups ++ group ∷ [])) (crew_of k' r' control' (first_of threads groups group) (groups' ++ group' ∷ []))
+module _ (k k' : CourseView) (r r' : ℕ) (control control' : ControlState) (per : ℕ) (groups groups' : List Group) (group group' : Group) where
+  pub same_met : length groups' ≡ length groups → IsSameCrew (crew_of k r control (first_of per groups group) groups) (crew_of k' r' control' (first_of per groups group) groups')
+      → IsSameCrew (worker_view k r (last_of per groups group) group) (worker_view k r (last_of per groups group) group')
+      → IsSameCrew (crew_of k r control (first_of per groups group) (groups ++ group ∷ [])) (crew_of k' r' control' (first_of per groups group) (groups' ++ group' ∷ []))
   same_met count rest one = record {
     course = rest.course;
     rounds = rest.rounds;
-    each = λ c. dite (ℕ_discrete (c % threads) (length groups))
-        (λ e. two (in_last threads groups group c e).0
-        (subst (λ (n : ℕ). member_of (first_of threads groups group) (groups' ++ group' ∷ []) c ≡ member_of (record { threads = threads; first = n }) (group' ∷ []) c) count (in_last threads groups' group' c (e ∙ sym count)).0) (one.each c))
-        (λ ne. two (in_first threads groups group c ne).0 (in_first threads groups' group' c (λ e. ne (e ∙ count))).0 (rest.each c));
+    each = λ c. dite (ℕ_discrete (c / per) (length groups))
+        (λ e. two (in_last per groups group c e).0
+        (subst (λ (n : ℕ). member_of (first_of per groups group) (groups' ++ group' ∷ []) c ≡ member_of (record { per = per; first = n }) (group' ∷ []) c) count (in_last per groups' group' c (e ∙ sym count)).0) (one.each c))
+        (λ ne. two (in_first per groups group c ne).0 (in_first per groups' group' c (λ e. ne (e ∙ count))).0 (rest.each c));
   }
     where
       two : {o p o' p' : Option Member} → o ≡ p → o' ≡ p' → IsSameAt (actor_in p) (actor_in p') → IsSameAt (actor_in o) (actor_in o')
@@ -284,42 +292,42 @@ worker_on course c' rounds r' k k' deal group gs v w worker team one on =
 
 -- all that comes of it
 
-module _ (k k' : CourseView) (r r' : ℕ) (control control' : ControlState) (threads : ℕ) (groups groups' : List Group) (group group' : Group) (mask : ℕ) (v left own x y w : View) where
+module _ (k k' : CourseView) (r r' : ℕ) (control control' : ControlState) (per : ℕ) (groups groups' : List Group) (group group' : Group) (mask : ℕ) (v left own x y w : View) where
   abbrev pub Met : ℕ → Type 0
-  Met t = IsTeam k' r' (record { threads = t; first = 0 }) (groups' ++ group' ∷ []) × IsHeld (crew_of k' r' control' (record { threads = t; first = 0 }) (groups' ++ group' ∷ [])) w
-      × GoesOn (crew_of k r control (first_of threads groups group) (groups ++ group ∷ [])) v (crew_of k' r' control' (record { threads = t; first = 0 }) (groups' ++ group' ∷ [])) w
+  Met t = IsTeam k' r' (record { per = t; first = 0 }) (groups' ++ group' ∷ []) × IsHeld (crew_of k' r' control' (record { per = t; first = 0 }) (groups' ++ group' ∷ [])) w
+      × GoesOn (crew_of k r control (first_of per groups group) (groups ++ group ∷ [])) v (crew_of k' r' control' (record { per = t; first = 0 }) (groups' ++ group' ∷ [])) w
 
-  met_same : Names (last_of threads groups group) group mask → IsTeam k r (first_of threads groups group) (groups ++ group ∷ []) → left ≡ without mask v → own ≡ only mask v → w ≡ both x y
-      → IsTeam k' r' (first_of threads groups group) groups' → IsHeld (crew_of k' r' control' (first_of threads groups group) groups') x
-      → GoesOn (crew_of k r control (first_of threads groups group) groups) left (crew_of k' r' control' (first_of threads groups group) groups') x
-      → IsWorker k r (last_of threads groups group) group' y → GoesOn (worker_view k r (last_of threads groups group) group) own (worker_view k r (last_of threads groups group) group') y
-      → length groups' ≡ length groups → Met threads
+  met_same : Names (last_of per groups group) group mask → IsTeam k r (first_of per groups group) (groups ++ group ∷ []) → left ≡ without mask v → own ≡ only mask v → w ≡ both x y
+      → IsTeam k' r' (first_of per groups group) groups' → IsHeld (crew_of k' r' control' (first_of per groups group) groups') x
+      → GoesOn (crew_of k r control (first_of per groups group) groups) left (crew_of k' r' control' (first_of per groups group) groups') x
+      → IsWorker k r (last_of per groups group) group' y → GoesOn (worker_view k r (last_of per groups group) group) own (worker_view k r (last_of per groups group) group') y
+      → length groups' ≡ length groups → Met per
   met_same named team is is' joined team' held on worker on1 count =
-      let one : IsWorker k' r' (last_of threads groups' group') group' y = subst (λ (n : ℕ). IsWorker k' r' (record { threads = threads; first = n }) group' y) (sym count)
-      (subst (λ (q : ℕ). IsWorker k' q (last_of threads groups group) group' y) (sym on.same.rounds) (subst (λ (q : CourseView). IsWorker q r (last_of threads groups group) group' y) (sym on.same.course) worker)) in
-      let whole : IsTeam k' r' (first_of threads groups' group') (groups' ++ group' ∷ []) = team_whole k' r' threads control' groups' group' (omega (arith, team.few, length_push groups group, count)) team' one.team in
-      let off : (c : ℕ) (m : Member) → member_of (last_of threads groups' group') (group' ∷ []) c ≡ Some m → holds x c ≡ false = λ c m at.
-      rest_off k r (last_of threads groups group) group group' mask v left own x y named is on.actors on1 c m (subst (λ (n : ℕ). member_of (record { threads = threads; first = n }) (group' ∷ []) c ≡ Some m) count at) in
-      let held' = held_whole k' r' threads control' groups' group' x y w whole held one (board_met mask v left own x y is is' on.actors on1.actors) off joined in (
+      let one : IsWorker k' r' (last_of per groups' group') group' y = subst (λ (n : ℕ). IsWorker k' r' (record { per = per; first = n }) group' y) (sym count)
+      (subst (λ (q : ℕ). IsWorker k' q (last_of per groups group) group' y) (sym on.same.rounds) (subst (λ (q : CourseView). IsWorker q r (last_of per groups group) group' y) (sym on.same.course) worker)) in
+      let whole : IsTeam k' r' (first_of per groups' group') (groups' ++ group' ∷ []) = team_whole k' r' per control' groups' group' team' one.team in
+      let off : (c : ℕ) (m : Member) → member_of (last_of per groups' group') (group' ∷ []) c ≡ Some m → holds x c ≡ false = λ c m at.
+      rest_off k r (last_of per groups group) group group' mask v left own x y named is on.actors on1 c m (subst (λ (n : ℕ). member_of (record { per = per; first = n }) (group' ∷ []) c ≡ Some m) count at) in
+      let held' = held_whole k' r' per control' groups' group' x y w whole held one (board_met mask v left own x y is is' on.actors on1.actors) off joined in (
         whole,
         held',
         record {
-          same = same_met k k' r r' control control' threads groups groups' group group' count on.same on1.same;
+          same = same_met k k' r r' control control' per groups groups' group group' count on.same on1.same;
           actors = actors_met mask v left own x y w is is' on.actors on1.actors joined;
           agree = held'.agree;
         },
       )
 
-  pub met : (threads' : ℕ) → threads' ≡ threads → Names (last_of threads groups group) group mask → IsTeam k r (first_of threads groups group) (groups ++ group ∷ []) → left ≡ without mask v → own ≡ only mask v → w ≡ both x y
-      → IsTeam k' r' (record { threads = threads'; first = 0 }) groups' → IsHeld (crew_of k' r' control' (record { threads = threads'; first = 0 }) groups') x
-      → GoesOn (crew_of k r control (first_of threads groups group) groups) left (crew_of k' r' control' (record { threads = threads'; first = 0 }) groups') x
-      → IsWorker k r (last_of threads groups group) group' y → GoesOn (worker_view k r (last_of threads groups group) group) own (worker_view k r (last_of threads groups group) group') y
-      → length groups' ≡ length groups → Met threads'
-  met threads' same named team is is' joined team' held on worker on1 count =
+  pub met : (per' : ℕ) → per' ≡ per → Names (last_of per groups group) group mask → IsTeam k r (first_of per groups group) (groups ++ group ∷ []) → left ≡ without mask v → own ≡ only mask v → w ≡ both x y
+      → IsTeam k' r' (record { per = per'; first = 0 }) groups' → IsHeld (crew_of k' r' control' (record { per = per'; first = 0 }) groups') x
+      → GoesOn (crew_of k r control (first_of per groups group) groups) left (crew_of k' r' control' (record { per = per'; first = 0 }) groups') x
+      → IsWorker k r (last_of per groups group) group' y → GoesOn (worker_view k r (last_of per groups group) group) own (worker_view k r (last_of per groups group) group') y
+      → length groups' ≡ length groups → Met per'
+  met per' same named team is is' joined team' held on worker on1 count =
       subst Met (sym same) (met_same named team is is' joined
-      (subst (λ (t : ℕ). IsTeam k' r' (record { threads = t; first = 0 }) groups') same team')
-      (subst (λ (t : ℕ). IsHeld (crew_of k' r' control' (record { threads = t; first = 0 }) groups') x) same held)
-      (subst (λ (t : ℕ). GoesOn (crew_of k r control (first_of threads groups group) groups) left (crew_of k' r' control' (record { threads = t; first = 0 }) groups') x) same on)
+      (subst (λ (t : ℕ). IsTeam k' r' (record { per = t; first = 0 }) groups') same team')
+      (subst (λ (t : ℕ). IsHeld (crew_of k' r' control' (record { per = t; first = 0 }) groups') x) same held)
+      (subst (λ (t : ℕ). GoesOn (crew_of k r control (first_of per groups group) groups) left (crew_of k' r' control' (record { per = t; first = 0 }) groups') x) same on)
       worker on1 count)
 
 -- a whole crew

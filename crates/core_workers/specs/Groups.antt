@@ -1,4 +1,5 @@
--- A run's actors, and which core's state stands where: the cores are dealt out to the threads in turn.
+-- A run's actors, and which core's state stands where: the cores are dealt out to the threads in
+-- blocks of neighbours.
 -- Source: the rules of this project.
 use Rattle.std.specs.Prelude.{ℕ, ◌-◌, ◌/◌, ◌%◌, List, [], ◌∷◌, Option, None, Some, slice_get, nat_le, if◌then◌else◌}
 use Rattle.table_form.specs.Running.Courses.{CourseView}
@@ -16,12 +17,12 @@ members_in (Some group) = group.members.items
 
 -- a team's groups are those of the threads from 0 on
 abbrev pub deal_of : Team → Deal
-deal_of team = record { threads = team.threads; first = 0 }
+deal_of team = record { per = team.per; first = 0 }
 
 -- the member of core c, if it is in one of the groups
 abbrev pub member_of : Deal → List Group → ℕ → Option Member
-member_of deal groups c = if nat_le deal.first (c % deal.threads)
-    then slice_get (members_in (slice_get groups (c % deal.threads - deal.first))) (c / deal.threads) else None
+member_of deal groups c = if nat_le deal.first (c / deal.per)
+    then slice_get (members_in (slice_get groups (c / deal.per - deal.first))) (c % deal.per) else None
 
 -- what the member keeps
 abbrev pub actor_in : Option Member → Option StateView

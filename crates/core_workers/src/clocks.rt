@@ -65,8 +65,8 @@ fn read_clock(
     if !seat.holds(core) {
         return OUT;
     }
-    let group = (core % deal.threads - deal.first) as usize;
-    let at = (core / deal.threads) as usize;
+    let group = (core / deal.per - deal.first) as usize;
+    let at = (core % deal.per) as usize;
     groups[group].members[at].state.clock()
 }
 

@@ -1,4 +1,4 @@
-ghost use Rattle.std.specs.Prelude.{◌≡◌, ◌<◌, ◌≤◌, ℕ, IfOk, Some, length, min, max, slice_index};
+ghost use Rattle.std.specs.Prelude.{◌≡◌, ◌<◌, ◌≤◌, ◌+◌, ◌-◌, ◌*◌, ◌/◌, ℕ, IfOk, Some, length, min, max, slice_index};
 ghost use Rattle.tab_core.specs.declared.TheConstants.{MAX_CORES};
 ghost use Rattle.table_form.specs.Running.Courses.{FitsRounds};
 ghost use Rattle.round_words.specs.declared.view.View.{View as ViewValue};
@@ -65,9 +65,13 @@ impl<'a> Crew<'a> {
         ensures keeps { IfOk result (λ c. (core : ℕ) (a : StateView) → actor_of c core ≡ Some a
             → a.keep ≡ slice_index keep.now core) }
     {
-        let threads = course.cores().min(MOST_THREADS);
-        let spins = if threads < processors(rt) { SPINS } else { 0 };
-        let groups = make_groups(alloc, course, threads, rounds, keep)?;
+        let per = course.cores().div_ceil(MOST_THREADS);
+        let groups = make_groups(alloc, course, per, rounds, keep)?;
+        let spins = if groups.len() < processors(rt) {
+            SPINS
+        } else {
+            0
+        };
         let lead = Lead {
             control: ControlState::new(),
             rounds,
@@ -77,7 +81,7 @@ impl<'a> Crew<'a> {
             course,
             team: Team {
                 groups,
-                threads,
+                per,
                 spins,
                 lead,
             },
@@ -104,35 +108,37 @@ impl<'a> Crew<'a> {
         ensures { actor_of self.now core ≡ Some result.now }
     {
         let number = core.index();
-        let threads = self.team.threads as usize;
-        &self.team.groups[number % threads].members[number / threads].state
+        let per = self.team.per as usize;
+        &self.team.groups[number / per].members[number % per].state
     }
 }
 
 // How many processors there are, or 1 where that can't be told.
-fn processors<R: Threads>(rt: &R) -> u32 {
+fn processors<R: Threads>(rt: &R) -> usize {
     match available_parallelism(rt) {
-        Ok(count) => u32::try_from(count.get()).unwrap_or(u32::MAX),
+        Ok(count) => count.get(),
         Err(_) => 1,
     }
 }
 
+// The groups of so many cores to a thread.
 fn make_groups(
     alloc: Global,
     course: &Course,
-    threads: u32,
+    per: u32,
     rounds: u32,
     keep: &[u32],
 ) -> Result<Vec<Group>, NoMemory>
     requires fits { FitsRounds course.now rounds }
     requires count { length keep.now ≡ course.now.cores }
-    requires threads { (0 < threads) × (threads ≤ MAX_CORES) }
-    ensures { IfOk result (λ groups. AreGroups course.now rounds keep.now threads groups.items × (length groups.items ≡ threads)) }
+    requires per { (0 < per) × (per ≤ MAX_CORES) }
+    ensures { IfOk result (λ groups. AreGroups course.now rounds keep.now per groups.items × (length groups.items ≡ (course.now.cores + per - 1) / per)) }
 {
     let owners = course_owners(alloc, course)?;
+    let threads = (course.cores() + per - 1) / per;
     let mut groups = Vec::with_capacity(alloc, threads as usize)?;
     for first in 0..threads {
-        let deal = Deal { threads, first };
+        let deal = Deal { per, first };
         let group = make_group(alloc, course, &owners, deal, rounds, keep)?;
         groups.push_reserved(group);
     }
@@ -151,12 +157,14 @@ fn make_group(
     requires fits { FitsRounds course.now rounds }
     requires count { length keep.now ≡ course.now.cores }
     requires owners { AreCourseOwners course.now owners.now }
-    requires threads { (deal.first < deal.threads) × (deal.threads ≤ MAX_CORES) }
+    requires per { deal.per ≤ MAX_CORES }
+    requires some { deal.first * deal.per < course.now.cores }
     ensures { IfOk result (λ group. AreMembers course.now rounds keep.now deal group.members.items course.now.cores) }
 {
     let mut members = Vec::new(alloc);
-    let mut core = deal.first;
-    'making: while core < course.cores() {
+    let cores = course.cores();
+    let first = deal.first * deal.per;
+    for core in first..cores.min(first + deal.per) {
         let slices = CoreSlices::make_with(alloc, course, owners, CoreNo(core))?;
         let state = CoreState::make(
             alloc,
@@ -170,7 +178,6 @@ fn make_group(
             state,
             steps: 0,
         })?;
-        core += deal.threads;
     }
     Ok(Group { members })
 }

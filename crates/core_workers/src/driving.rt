@@ -84,7 +84,7 @@ pub(crate) fn drive_team<G: Gate>(
     ensures shape { IsSameShape team.old team.new }
 {
     let deal = Deal {
-        threads: team.threads,
+        per: team.per,
         first: 0,
     };
     drive_groups(

@@ -6,7 +6,7 @@ use crate::team::{Deal, Place, Places};
 
 // Where the cores' members stand.
 pub(crate) fn places_of(deal: Deal, cores: u32) -> Places
-    requires some { 0 < deal.threads }
+    requires some { 0 < deal.per }
     requires few { cores ≤ MAX_CORES }
     ensures { ArePlaces deal cores result }
 {
@@ -15,8 +15,8 @@ pub(crate) fn places_of(deal: Deal, cores: u32) -> Places
         ats: [0; 32],
     };
     for core in 0..cores {
-        places.groups[core as usize] = (core % deal.threads).saturating_sub(deal.first);
-        places.ats[core as usize] = core / deal.threads;
+        places.groups[core as usize] = (core / deal.per).saturating_sub(deal.first);
+        places.ats[core as usize] = core % deal.per;
     }
     places
 }

@@ -1,5 +1,5 @@
 -- A crew that is being made.
-use Rattle.std.specs.Prelude.{◌≡◌, ℕ, ◌+◌, ◌*◌, ◌<◌, List, Some, length, slice_get, slice_index}
+use Rattle.std.specs.Prelude.{◌≡◌, ℕ, ◌+◌, ◌*◌, ◌<◌, ◌≤◌, List, Some, length, slice_get, slice_index}
 use Rattle.table_form.specs.Running.Courses.{CourseView, outline_of}
 use Rattle.round_words.specs.declared.view.View.{View}
 use Rattle.round_words.specs.Shown.{HoldsCore}
@@ -21,15 +21,16 @@ pub record IsNewMember (course : CourseView) (rounds : ℕ) (keeps : List ℕ) (
 -- the members are the first of the thread's cores
 abbrev pub AreNew : CourseView → ℕ → List ℕ → Deal → List Member → Type 0
 AreNew course rounds keeps deal members = (i : ℕ) (m : Member) → slice_get members i ≡ Some m
-    → IsNewMember course rounds keeps (deal.first + i * deal.threads) m
+    → IsNewMember course rounds keeps (deal.first * deal.per + i) m
 
 -- and all of those below `cores`
 pub record AreMembers (course : CourseView) (rounds : ℕ) (keeps : List ℕ) (deal : Deal) (members : List Member)
     (cores : ℕ) : Type 0 where
   pub each : AreNew course rounds keeps deal members
-  pub all : (i : ℕ) → deal.first + i * deal.threads < cores → i < length members
+  pub few : length members ≤ deal.per
+  pub all : (i : ℕ) → i < deal.per → deal.first * deal.per + i < cores → i < length members
 
 -- the groups are those of the first threads
 abbrev pub AreGroups : CourseView → ℕ → List ℕ → ℕ → List Group → Type 0
-AreGroups course rounds keeps threads groups = (g : ℕ) (group : Group) → slice_get groups g ≡ Some group
-    → AreMembers course rounds keeps (record { threads = threads; first = g }) group.members.items course.cores
+AreGroups course rounds keeps per groups = (g : ℕ) (group : Group) → slice_get groups g ≡ Some group
+    → AreMembers course rounds keeps (record { per = per; first = g }) group.members.items course.cores

@@ -6,10 +6,10 @@ use Rattle.core_workers.specs.declared.team.Places.{Places}
 
 -- the core's member, if it is in one of the groups, is in this one and at this place
 pub record IsPlace (deal : Deal) (c : ℕ) (place : Place) : Type 0 where
-  pub group_is : place.group ≡ c % deal.threads - deal.first
-  pub at_is : place.at ≡ c / deal.threads
+  pub group_is : place.group ≡ c / deal.per - deal.first
+  pub at_is : place.at ≡ c % deal.per
 
 -- of each of the first cores it is kept
 pub record ArePlaces (deal : Deal) (cores : ℕ) (places : Places) : Type 0 where
-  pub groups_are : (c : ℕ) → c < cores → slice_index places.groups c ≡ c % deal.threads - deal.first
-  pub ats_are : (c : ℕ) → c < cores → slice_index places.ats c ≡ c / deal.threads
+  pub groups_are : (c : ℕ) → c < cores → slice_index places.groups c ≡ c / deal.per - deal.first
+  pub ats_are : (c : ℕ) → c < cores → slice_index places.ats c ≡ c % deal.per

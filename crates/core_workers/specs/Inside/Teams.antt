@@ -1,5 +1,5 @@
 -- What a team keeps.
-use Rattle.std.specs.Prelude.{◌≡◌, ℕ, ◌+◌, ◌*◌, ◌<◌, ◌≤◌, true, false, List, [], ◌∷◌, Some, length, vec_capacity}
+use Rattle.std.specs.Prelude.{◌≡◌, ℕ, ◌+◌, ◌*◌, ◌<◌, ◌≤◌, true, false, List, [], ◌∷◌, Some, length, slice_get, vec_capacity}
 use Rattle.table_form.specs.Running.Courses.{CourseView, FitsRounds, IsCourse}
 use Rattle.round_words.specs.declared.view.View.{View}
 use Rattle.round_words.specs.Views.{controller, holds, names}
@@ -23,8 +23,9 @@ pub record IsMemberOf (course : CourseView) (rounds c : ℕ) (m : Member) : Type
 pub record IsTeam (course : CourseView) (rounds : ℕ) (deal : Deal) (groups : List Group) : Type 0 where
   pub course_kept : IsCourse course
   pub fits : FitsRounds course rounds
-  pub few : deal.first + length groups ≤ deal.threads
-  pub some : 0 < deal.threads
+  pub few : (g : ℕ) (group : Group) → slice_get groups g ≡ Some group → length group.members.items ≤ deal.per
+  pub some : 0 < deal.per
+  pub short : deal.first + length groups ≤ 64
   pub each : (c : ℕ) (m : Member) → member_of deal groups c ≡ Some m → IsMemberOf course rounds c m
 
 -- the core is in the crew
@@ -81,11 +82,11 @@ pub record Names (deal : Deal) (group : Group) (mask : ℕ) : Type 0 where
 
 -- the bits of the mask are the cores of the group's first members
 pub record NamesFirst (deal : Deal) (n mask : ℕ) : Type 0 where
-  pub there : (c : ℕ) → names mask c ≡ true → (i : ℕ) × (i < n) × (c ≡ deal.first + i * deal.threads)
-  pub all : (i : ℕ) → i < n → names mask (deal.first + i * deal.threads) ≡ true
+  pub there : (c : ℕ) → names mask c ≡ true → (i : ℕ) × (i < n) × (c ≡ deal.first * deal.per + i)
+  pub all : (i : ℕ) → i < n → names mask (deal.first * deal.per + i) ≡ true
 
--- as many groups, for as many threads, in as much room
+-- as many groups, of as many cores each, in as much room
 pub record IsSameShape (team team' : Team) : Type 0 where
   pub count : length team'.groups.items ≡ length team.groups.items
-  pub threads : team'.threads ≡ team.threads
+  pub per : team'.per ≡ team.per
   pub room : vec_capacity team'.groups ≡ vec_capacity team.groups

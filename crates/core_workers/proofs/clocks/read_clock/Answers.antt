@@ -1,4 +1,4 @@
-use Rattle.std.proofs.Common.{◌≡◌, ◌%◌, ◌-◌, true, inr, sym, ap, ◌∙◌, arith}
+use Rattle.std.proofs.Common.{◌≡◌, ◌/◌, ◌-◌, true, inr, sym, ap, ◌∙◌, arith}
 use Rattle.std.proofs.lemmas.Option.{slice_get_within}
 use Rattle.round_words.specs.declared.view.View.{View}
 use Rattle.round_words.specs.Seats.{view_of}
@@ -16,7 +16,7 @@ bounds-groups-group c =
     let a = c.requires.manned c.args.core c.requires.core (sym c.holds.ensures ∙ c.if-not-holds.false) in
     let m = member c.args.deal c.args.groups.now c.args.core a.0 a.1 in
     let f = found c.args.deal c.args.groups.now c.args.core m.0 m.1 in
-    slice_get_within c.args.groups.now (c.args.core % c.args.deal.threads - c.args.deal.first) f.group f.group_is
+    slice_get_within c.args.groups.now (c.args.core / c.args.deal.per - c.args.deal.first) f.group f.group_is
 
 pub index-requires : goal.index-requires
 index-requires c =
