@@ -68,9 +68,14 @@ module _ (course : CourseView) (rounds : ℕ) (keeps : List ℕ) (per : ℕ) (co
       ap (λ (x : StateView). x.keep) (sym m.2) ∙ (new_at c m.0 m.1).keep_is
 
   pub team_made : IsCourse course → FitsRounds course rounds → per ≤ 32 → IsTeam course rounds deal groups
-  team_made kept fits small = record { course_kept = kept; fits = fits; few = λ g x at. (are g x at).few; some = some;
+  team_made kept fits small = record {
+    course_kept = kept;
+    fits = fits;
+    few = λ g x at. (are g x at).few;
+    some = some;
     short = omega (arith, count, small, div-le_self (course.cores + per - 1) per, kept.form.outline.few_cores);
-    each = λ c m at. (new_at c m at).member }
+    each = λ c m at. (new_at c m at).member;
+  }
 
   pub whole_made : IsWhole (crew_of course rounds control deal groups)
   whole_made c lt =

@@ -79,7 +79,7 @@ known_keeps id a least n clocks v on live has all known words views ruled at sma
     let p : Part = part v a in
     let q : Part = hears_all_known a least clocks n p in
     let are : (d : ℕ) → d < n → (d < g.cores) × (least ≤ slice_index clocks d) × (slice_index clocks d ≤ g.clocks d)
-        = λ d lt.
+    = λ d lt.
     let within : d < g.cores = (let s = m.settings.1 in omega arith) in
     (within, (known d lt).0, known_below words views id n least d v clocks live r at all lt within known) in
     let fits = fits_all g a least n clocks p are (record {

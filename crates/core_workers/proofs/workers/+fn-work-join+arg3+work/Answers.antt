@@ -20,19 +20,21 @@ overflow_cast-deal g t c =
     omega (arith, short, ap length c.in-Some.ensures.items, long, c.len.ensures)
 
 pub mask_of-requires : goal.mask_of-requires
-mask_of-requires g t c = record { small = λ i inside.
-    let team = c.args.team in
-    let course = c.args.course.now in
-    let lead : Lead = team.lead in
-    let gs : List Group = c.pop.new.self.items in
-    let group : Group = c.in-Some.group in
-    let v : View = view_of c.args.seat in
-    let len : c.len.result ≡ length gs = omega (arith, c.len.ensures) in
-    let kept : IsTeam course lead.rounds (first_of team.per gs group) (gs ++ group ∷ []) = subst (IsTeam course lead.rounds (first_of team.per gs group)) c.in-Some.ensures.items c.requires.team.kept.groups in
-    let first : length group.members.items ≤ team.per = kept.few (length gs) group (push_new gs group) in
-    let m = place_small (last_of team.per gs group) group i first inside in
-    let small = ((team_one course lead.rounds team.per lead.control gs group kept).each (length gs * team.per + i) m.0 m.1).within in
-    subst (λ (n : ℕ). n * team.per + i < 32) (sym len) (omega (arith, small, kept.course_kept.form.outline.few_cores)) }
+mask_of-requires g t c = record {
+  small = λ i inside.
+      let team = c.args.team in
+      let course = c.args.course.now in
+      let lead : Lead = team.lead in
+      let gs : List Group = c.pop.new.self.items in
+      let group : Group = c.in-Some.group in
+      let v : View = view_of c.args.seat in
+      let len : c.len.result ≡ length gs = omega (arith, c.len.ensures) in
+      let kept : IsTeam course lead.rounds (first_of team.per gs group) (gs ++ group ∷ []) = subst (IsTeam course lead.rounds (first_of team.per gs group)) c.in-Some.ensures.items c.requires.team.kept.groups in
+      let first : length group.members.items ≤ team.per = kept.few (length gs) group (push_new gs group) in
+      let m = place_small (last_of team.per gs group) group i first inside in
+      let small = ((team_one course lead.rounds team.per lead.control gs group kept).each (length gs * team.per + i) m.0 m.1).within in
+      subst (λ (n : ℕ). n * team.per + i < 32) (sym len) (omega (arith, small, kept.course_kept.form.outline.few_cores));
+}
 
 pub part-own-requires-clause-holds : goal.part-own-requires-clause-holds
 part-own-requires-clause-holds g t c =
