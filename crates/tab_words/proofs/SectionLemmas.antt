@@ -4,45 +4,8 @@ use Rattle.std.proofs.lemmas.Bool.Decides.{nat_tests}
 use Rattle.std.proofs.lemmas.List.{append-nil, drop-drop, drop_all, drop_at, length-drop, length-take-le, take-append-drop, take_at}
 use Rattle.std.specs.Bool.{◌==◌}
 use Rattle.std.specs.List.{concat, onto_first, slice_split}
-use Rattle.tab_words.specs.Sections.{is_separator, raw_lines_of, sections_of}
-
--- the lines of no bytes: the end of the lemmas below
-raw_lines_of-nil : raw_lines_of [] ≡ []
-unfolding raw_lines_of
-raw_lines_of-nil = refl
-
--- a line feed ends its line: their step at one
-raw_lines_of-feed : (byte : ℕ) (bytes : List ℕ) → byte ≡ 10
-    → raw_lines_of (byte ∷ bytes) ≡ (byte ∷ []) ∷ raw_lines_of bytes
-unfolding raw_lines_of
-raw_lines_of-feed byte bytes is = rw is refl
-
--- another byte belongs to the line behind it: their step elsewhere
-raw_lines_of-byte : (byte : ℕ) (bytes : List ℕ) → byte ≢ 10
-    → raw_lines_of (byte ∷ bytes) ≡ onto_first byte (raw_lines_of bytes)
-unfolding raw_lines_of
-raw_lines_of-byte byte bytes other = let no : (byte == 10) ≡ false = grind (arith, nat_tests) in rw no refl
-
--- the first line ends with the first line feed
-pub first_line : (bytes : List ℕ) (end : ℕ) → end < length bytes → get_or bytes end 0 ≡ 10
-    → ((k : ℕ) → k < end → get_or bytes k 0 ≢ 10)
-    → raw_lines_of bytes ≡ take (suc end) bytes ∷ raw_lines_of (drop (suc end) bytes)
-first_line [] end low at before = absurd (omega arith)
-first_line (byte ∷ bytes) zero low at before = raw_lines_of-feed byte bytes at
-first_line (byte ∷ bytes) (suc end) low at before =
-    raw_lines_of-byte byte bytes (before 0 (omega arith))
-    ∙ ap (onto_first byte) (first_line bytes end (omega arith) at (λ k small. before (suc k) (omega arith)))
-
--- without a line feed all is one line
-pub one_line : (bytes : List ℕ) → 0 < length bytes → ((k : ℕ) → k < length bytes → get_or bytes k 0 ≢ 10)
-    → raw_lines_of bytes ≡ bytes ∷ raw_lines_of []
-one_line [] some none = absurd (omega arith)
-one_line (byte ∷ []) some none =
-    raw_lines_of-byte byte [] (none 0 (omega arith)) ∙ ap (onto_first byte) raw_lines_of-nil
-    ∙ ap (λ r. (byte ∷ []) ∷ r) (sym raw_lines_of-nil)
-one_line (byte ∷ next ∷ bytes) some none =
-    raw_lines_of-byte byte (next ∷ bytes) (none 0 (omega arith))
-    ∙ ap (onto_first byte) (one_line (next ∷ bytes) (omega arith) (λ k small. none (suc k) (omega arith)))
+use Rattle.tab_words.specs.Lines.{raw_lines_of}
+use Rattle.tab_words.specs.Sections.{is_separator, sections_of}
 
 -- bytes that come before the first of the sections, and belong to it
 abbrev pub extend : List ℕ → List (List ℕ) → List (List ℕ)

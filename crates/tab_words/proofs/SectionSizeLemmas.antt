@@ -3,7 +3,8 @@ use Rattle.std.proofs.Common.{arith, ◌+◌, ◌≡◌, ℕ, ◌≤◌, List, [
 use Rattle.std.specs.Bool.{◌==◌}
 use Rattle.std.specs.List.{concat, onto_first, slice_split}
 use Rattle.std.specs.Prelude.{slice_index_or}
-use Rattle.tab_words.specs.Sections.{is_separator, raw_lines_of, sections_of}
+use Rattle.tab_words.specs.Lines.{raw_lines_of}
+use Rattle.tab_words.specs.Sections.{is_separator, sections_of}
 use Rattle.tab_words.proofs.SectionLemmas.{extend, map_concat-onto_first}
 
 -- a byte that joins a line makes it longer by one

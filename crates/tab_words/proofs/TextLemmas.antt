@@ -14,7 +14,7 @@ use Rattle.tab_words.specs.Pieces.{piece_text, spaced}
 use Rattle.tab_words.specs.Texts.{line_of, text_of}
 use Rattle.tab_words.specs.Words.{words_of}
 use Rattle.tab_words.specs.declared.text.TextPiece.{TextPiece}
-use Rattle.tab_words.proofs.LineLemmas.{lines_of-line}
+use Rattle.tab_words.proofs.LineLemmas.{lines_of-line, lines_of-nil}
 use Rattle.tab_words.proofs.WordLemmas.{words_of-last, words_of-word}
 
 -- ---- what can be read back
@@ -91,8 +91,7 @@ line_read word words rest all =
 -- a written text is read as its lines of words: the one lemma of reading back
 pub text_read : (lines : List (List (List ℕ))) → list_all is_line lines ≡ true
     → map words_of (lines_of (text_of lines)) ≡ lines
-unfolding lines_of
-text_read [] all = refl
+text_read [] all = ap (map words_of) lines_of-nil
 text_read ([] ∷ lines) all = absurd (cc)
 text_read ((word ∷ words) ∷ lines) all =
     let parts = and_parts (is_line (word ∷ words)) (list_all is_line lines) all in

@@ -1,6 +1,6 @@
-ghost use Rattle.std.specs.Prelude.{◌≡◌, ◌<◌, ◌≤◌, ◌∷◌, length};
+ghost use Rattle.std.specs.Prelude.{◌≡◌, ◌<◌, ◌≤◌, ◌∷◌, ◌++◌, length};
 ghost use Rattle.std.specs.Iterator.{YieldsFirstRef, item_count};
-ghost use Rattle.tab_words.specs.Lines.{lines_of};
+ghost use Rattle.tab_words.specs.Lines.{lines_of, raw_lines_of, without_feed};
 
 use std::marker::Model;
 
@@ -39,23 +39,32 @@ impl<'a> Iterator for Lines<'a> {
 
     ghost remaining = { item_count (λ lines. lines) };
 
+    #[tactic(auto, using(crate::proofs::LineLemmas::first_without_feed))]
     fn next(&mut self) -> Option<&'a [u8]> {
         if self.rest.is_empty() {
             return None;
         }
         let (line, rest) = first_line(self.rest);
         self.rest = rest;
-        Some(line)
+        Some(without_feed(line))
     }
 }
 
-// The first line, and what follows its line feed.
-fn first_line(bytes: &[u8]) -> (&[u8], &[u8])
+// The first line with the line feed that ends it, if one does, and what follows.
+pub(crate) fn first_line(bytes: &[u8]) -> (&[u8], &[u8])
     requires { 0 < length bytes.now }
-    ensures { lines_of bytes.now ≡ result.0.now ∷ lines_of result.1.now }
+    ensures lines { raw_lines_of bytes.now ≡ result.0.now ∷ raw_lines_of result.1.now }
+    ensures some { 0 < length result.0.now }
+    ensures parts { bytes.now ≡ result.0.now ++ result.1.now }
 {
     match bytes.iter().position(|byte| *byte == b'\n') {
-        Some(end) => (&bytes[..end], &bytes[end + 1..]),
+        Some(end) => bytes.split_at(end + 1),
         None => (bytes, &[]),
     }
+}
+
+fn without_feed(line: &[u8]) -> &[u8]
+    ensures { result.now ≡ without_feed line.now }
+{
+    line.strip_suffix(b"\n").unwrap_or(line)
 }

@@ -1,7 +1,10 @@
-ghost use Rattle.std.specs.Prelude.{◌≡◌, ℕ, ◌+◌, ◌*◌, ◌<◌, ◌^◌, ◌↔◌, length, slice_index, IsTrue, SomeIff, IfSome, IfNone};
+ghost use Rattle.std.specs.Prelude.{◌≡◌, ℕ, ◌+◌, ◌*◌, ◌<◌, ◌≤◌, ◌^◌, ◌↔◌, decimal, length, slice_index, IsTrue, SomeIff, IfSome, IfNone, MatchOption};
 ghost use Rattle.std.specs.Char.{digit_value};
 ghost use Rattle.std.specs.Str.Parse.{AllDigits, digits_value};
+ghost use Rattle.tab_core.specs.declared.TheConstants.{MAX_CORES};
 ghost use Rattle.tab_words.specs.Numbers.{Spells};
+
+use tab_core::CoreNo;
 
 /// The number that the bytes spell in decimal digits, with no sign and with no leading zero but in
 /// `0` itself.
@@ -15,6 +18,20 @@ pub fn read_number(bytes: &[u8]) -> Option<u64>
         return None;
     }
     number_of_digits(bytes)
+}
+
+/// The core's number that the word spells, where it is below the count of cores.
+pub fn read_core(word: &[u8], cores: u32) -> Option<CoreNo>
+    requires { cores ≤ MAX_CORES }
+    ensures { MatchOption result ((core : ℕ) → core < cores → word.now ≡ decimal core → ⊥)
+        (λ core. (core < cores) × (word.now ≡ decimal core)) }
+{
+    let number = read_number(word)?;
+    if number < u64::from(cores) {
+        Some(CoreNo(number as u32))
+    } else {
+        None
+    }
 }
 
 fn has_leading_zero(bytes: &[u8]) -> bool

@@ -1,6 +1,7 @@
 ghost use Rattle.std.specs.Prelude.{◌≡◌, ◌+◌, ◌^◌, ◌<◌, ◌≤◌, [], ◌∷◌, ◌++◌, length, IfSome, MatchOption, slice_index_or};
-ghost use Rattle.tab_words.specs.Sections.{is_separator, raw_lines_of, sections_of};
+ghost use Rattle.tab_words.specs.Sections.{is_separator, sections_of};
 
+use crate::line::first_line;
 use std::marker::Model;
 
 /// The sections of a text, which separators part. Contracts see the list of their bytes.
@@ -80,19 +81,6 @@ fn first_section(bytes: &[u8]) -> (&[u8], Option<&[u8]>)
         at += line.len();
     }
     (bytes, None)
-}
-
-// The first line with the line feed that ends it, and what follows.
-fn first_line(bytes: &[u8]) -> (&[u8], &[u8])
-    requires { 0 < length bytes.now }
-    ensures lines { raw_lines_of bytes.now ≡ result.0.now ∷ raw_lines_of result.1.now }
-    ensures some { 0 < length result.0.now }
-    ensures parts { bytes.now ≡ result.0.now ++ result.1.now }
-{
-    match bytes.iter().position(|byte| *byte == b'\n') {
-        Some(end) => bytes.split_at(end + 1),
-        None => (bytes, &[]),
-    }
 }
 
 fn is_separator(line: &[u8]) -> bool

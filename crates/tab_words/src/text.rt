@@ -1,4 +1,4 @@
-ghost use Rattle.std.specs.Prelude.{decimal, flat_map};
+ghost use Rattle.std.specs.Prelude.{◌++◌, decimal, flat_map};
 ghost use Rattle.tab_io.specs.Sinks.{Writes};
 ghost use Rattle.tab_words.specs.Pieces.{piece_text};
 
@@ -36,6 +36,28 @@ pub(crate) fn put_piece<K: Sink>(sink: &mut K, piece: &TextPiece<'_>) -> Result<
         TextPiece::Number(n) => put_number(sink, u64::from(*n)),
         TextPiece::Wide(n) => put_number(sink, *n),
     }
+}
+
+/// Writes a number between two texts.
+///
+/// A fault leaves a front of the three in the sink. Nothing is settled.
+pub fn put_numbered<'a, K: Sink>(
+    sink: &mut K,
+    before: &'a [u8],
+    number: u64,
+    behind: &'a [u8],
+) -> Result<(), WriteFault>
+    ensures { Writes (K.state sink.old) (K.state sink.new)
+        (before.now ++ (decimal number ++ behind.now)) result }
+{
+    put_pieces(
+        sink,
+        &[
+            TextPiece::Text(before),
+            TextPiece::Wide(number),
+            TextPiece::Text(behind),
+        ],
+    )
 }
 
 /// Writes the number's decimal digits: no sign, and no leading zero but in `0` itself.
