@@ -3,7 +3,7 @@ use Rattle.std.proofs.Common.{arith, sym, ap, ◌∙◌, ◌≡◌, ℕ, ◌≤�
 use Rattle.std.proofs.KnownBytes.{Appends-nil, Appends-trans}
 use Rattle.tab_io.specs.Views.{SinkView}
 use Rattle.tab_io.specs.FaultCounts.{Rose}
-use Rattle.tab_io.specs.Sinks.{Writes}
+use Rattle.tab_io.specs.Sinks.{IsLeft, Writes}
 use Rattle.tab_io.specs.declared.sink.WriteFault.{WriteFault}
 
 -- a fault in the second of two parts is a fault of both: the count didn't fall in the first
@@ -88,12 +88,6 @@ pub writes_broken : {U W : Type 0} (s t : SinkView) (a b : List ℕ) (q : Result
 writes_broken s t a b q e h is = writes_stopped s t a b e e (subst (λ k. Writes s t a k) is h)
 
 -- ---- a text that is written in parts
-
--- a front of the text was written, and this is left
-pub record IsLeft (s t : SinkView) (text left : List ℕ) : Type 0 where
-  pub front : List ℕ
-  pub whole : text ≡ front ++ left
-  pub written : Writes {U = Unit {0}} s t front (Ok tt)
 
 -- before the first part all is left
 pub all_left : (s : SinkView) (text : List ℕ) → IsLeft s s text text

@@ -1,5 +1,5 @@
 -- What one write, one `finish`, and a call that writes a text, does to a sink.
-use Rattle.std.specs.Prelude.{◌≡◌, ℕ, ◌-◌, ◌<◌, ◌≤◌, List, ◌++◌, length, take, Option, Some, None, Result, MatchResult, IfSome, ⊤}
+use Rattle.std.specs.Prelude.{◌≡◌, ℕ, ◌-◌, ◌<◌, ◌≤◌, List, ◌++◌, length, take, Option, Some, None, Result, Ok, MatchResult, IfSome, ⊤}
 use Rattle.std.specs.Io.KnownBytes.{Appends, Keeps}
 use Rattle.tab_io.specs.FaultCounts.{Rose, next_count}
 use Rattle.tab_io.specs.Views.{SinkView}
@@ -65,6 +65,12 @@ pub record Writes {U : Type 0} (old new : SinkView) (text : List ℕ) (result : 
       (λ _. Appends old.taken new.taken text)
       (λ _. Begun old.taken new.taken text × Rose old.faults new.faults)
   pub fits : MatchResult result (λ _. HadRoom old new text) (λ _. LacksRoom old text)
+
+-- a front of the text was written, and this is left
+pub record IsLeft (old new : SinkView) (text left : List ℕ) : Type 0 where
+  pub front : List ℕ
+  pub whole : text ≡ front ++ left
+  pub written : Writes {U = Unit {0}} old new front (Ok (tt {0}))
 
 -- of what a write or a `finish` answered, a fault alone counts, and it counts once
 abbrev pub CountsPut : ℕ → ℕ → Put → Type 0

@@ -1,3 +1,4 @@
+pub mod BlockLemmas
 pub mod CommandLemmas
 pub mod CutLemmas
 pub mod LineLemmas

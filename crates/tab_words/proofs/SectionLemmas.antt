@@ -1,8 +1,7 @@
 -- The first section of a text, and what follows it.
-use Rattle.std.proofs.Common.{arith, ◌+◌, ◌≡◌, ◌≢◌, ℕ, ◌<◌, ◌≤◌, List, [], ◌∷◌, ◌++◌, length, length-append, map, take, take_all, drop, get_or, zero, suc, ap, sym, ◌∙◌, refl, Bool, cond, true, false, append_assoc}
+use Rattle.std.proofs.Common.{arith, ◌+◌, ◌≡◌, ℕ, ◌≤◌, List, [], ◌∷◌, ◌++◌, length, length-append, map, take, take_all, drop, ap, sym, ◌∙◌, refl, Bool, cond, true, false, append_assoc}
 use Rattle.std.proofs.lemmas.Bool.Decides.{nat_tests}
 use Rattle.std.proofs.lemmas.List.{append-nil, drop-drop, drop_all, drop_at, length-drop, length-take-le, take-append-drop, take_at}
-use Rattle.std.specs.Bool.{◌==◌}
 use Rattle.std.specs.List.{concat, onto_first, slice_split}
 use Rattle.tab_words.specs.Lines.{raw_lines_of}
 use Rattle.tab_words.specs.Sections.{is_separator, sections_of}

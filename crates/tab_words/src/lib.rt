@@ -7,7 +7,7 @@
 
 mod command;
 mod line;
-mod line_text;
+mod line_block;
 mod number;
 mod section;
 mod text;
@@ -15,7 +15,7 @@ mod word;
 
 pub use command::{Command, RunMode, Usage, read_words};
 pub use line::Lines;
-pub use line_text::put_line;
+pub use line_block::{LineBlock, put_line};
 pub use number::{read_core, read_number};
 pub use section::{Sections, cut_sections};
 pub use text::{TextPiece, put_number, put_numbered, put_pieces};

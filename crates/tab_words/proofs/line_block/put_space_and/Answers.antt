@@ -1,6 +1,6 @@
 use Rattle.std.proofs.lemmas.Result.{err_from_is_err_and}
 use Rattle.tab_io.proofs.SinkLemmas.{writes_broken, writes_then}
-use Rattle.tab_words.proofs.line_text.put_space_and.Goals as goal
+use Rattle.tab_words.proofs.line_block.put_space_and.Goals as goal
 
 pub returns-in_err-write_all : goal.returns-in_err-write_all
 returns-in_err-write_all g c =

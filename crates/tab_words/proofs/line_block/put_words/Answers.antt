@@ -4,7 +4,7 @@ use Rattle.tab_io.proofs.SinkLemmas.{all_left, left_behind, left_broken, left_la
 use Rattle.tab_words.specs.Pieces.{piece_text}
 use Rattle.tab_words.specs.Texts.{line_of}
 use Rattle.tab_words.proofs.TextLemmas.{line_of_none, line_spaced}
-use Rattle.tab_words.proofs.line_text.put_words.Goals as goal
+use Rattle.tab_words.proofs.line_block.put_words.Goals as goal
 
 pub returns-in_default : goal.returns-in_default
 returns-in_default g c =

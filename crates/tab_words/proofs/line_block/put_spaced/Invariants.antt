@@ -1,7 +1,7 @@
 use Rattle.std.proofs.Common.{take, flat_map, Ok}
 use Rattle.tab_io.specs.Sinks.{Writes}
 use Rattle.tab_words.specs.Pieces.{spaced}
-use Rattle.tab_words.proofs.line_text.put_spaced.Given as goal
+use Rattle.tab_words.proofs.line_block.put_spaced.Given as goal
 
 -- the words so far came
 abbrev pub invariant-loop-word : goal.invariant-loop-word

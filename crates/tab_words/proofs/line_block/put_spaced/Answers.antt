@@ -1,7 +1,7 @@
 use Rattle.std.proofs.lemmas.Result.{err_from_is_err_and}
 use Rattle.tab_words.specs.Pieces.{spaced}
 use Rattle.tab_words.proofs.PieceLemmas.{pieces_last, pieces_broken}
-use Rattle.tab_words.proofs.line_text.put_spaced.Goals as goal
+use Rattle.tab_words.proofs.line_block.put_spaced.Goals as goal
 
 pub returns-in_err-put_space_and : goal.returns-in_err-put_space_and
 returns-in_err-put_space_and g c =
