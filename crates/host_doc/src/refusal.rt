@@ -4,7 +4,7 @@ ghost use Rattle.host_doc.specs.Refusal.{host_fault_line, key_behind, path_text}
 
 use crate::fault::{HostFault, Key, Path};
 use tab_io::{Sink, WriteFault, write_all};
-use tab_words::{TextPiece, put_pieces};
+use tab_words::{TextPiece, put_numbered, put_pieces};
 
 /// Writes the line of the refusal of a document: `refused: `, the fault as it is displayed, and a
 /// line feed. For want of memory, which is no fault of the document, it writes nothing.
@@ -17,22 +17,13 @@ pub fn put_host_fault<K: Sink>(sink: &mut K, fault: &HostFault) -> Result<(), Wr
         HostFault::NotToml => write_all(sink, b"refused: host is not TOML\n"),
         HostFault::BadKey { path } => put_path_line(sink, b"refused: host key ", path),
         HostFault::OutOfRange { path } => put_path_line(sink, b"refused: host value ", path),
-        HostFault::SameName { vcpu } => put_pieces(
+        HostFault::SameName { vcpu } => put_numbered(
             sink,
-            &[
-                TextPiece::Text(b"refused: name of vcpu "),
-                TextPiece::Number(*vcpu),
-                TextPiece::Text(b" stands twice\n"),
-            ],
+            b"refused: name of vcpu ",
+            *vcpu,
+            b" stands twice\n",
         ),
-        HostFault::TooMany { count } => put_pieces(
-            sink,
-            &[
-                TextPiece::Text(b"refused: "),
-                TextPiece::Number(*count),
-                TextPiece::Text(b" vcpus\n"),
-            ],
-        ),
+        HostFault::TooMany { count } => put_numbered(sink, b"refused: ", *count, b" vcpus\n"),
         HostFault::NoMemory => Ok(()),
     }
 }

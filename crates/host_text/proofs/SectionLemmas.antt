@@ -6,7 +6,9 @@ use Rattle.std.proofs.lemmas.List.Folds.{list_all-append}
 use Rattle.std.specs.List.{list_all, onto_first}
 use Rattle.tab_core.specs.Name.{IsName, is_byte_of_name}
 use Rattle.tab_core.specs.declared.host.Host.{Host}
-use Rattle.tab_words.specs.Sections.{is_separator, raw_lines_of, sections_of}
+use Rattle.tab_words.specs.Lines.{raw_lines_of}
+use Rattle.tab_words.specs.Sections.{is_separator, sections_of}
+use Rattle.tab_words.proofs.LineLemmas.{raw_lines_of-line}
 use Rattle.tab_words.specs.Texts.{line_of, text_of}
 use Rattle.tab_words.proofs.SectionLemmas.{extend, sections_of-nil, sections_of-row}
 use Rattle.tab_words.proofs.TextLemmas.{decimal_word, is_plain}
@@ -47,12 +49,9 @@ IsOneSection bytes = sections_of bytes ≡ bytes ∷ []
 -- the first line ends with the first line feed
 line_cut : (line rest : List ℕ) → list_all is_inside line ≡ true
     → raw_lines_of (line ++ 10 ∷ rest) ≡ (line ++ 10 ∷ []) ∷ raw_lines_of rest
-unfolding raw_lines_of
-line_cut [] rest all = refl
-line_cut (byte ∷ line) rest all =
-    let (here, more) = and_parts (is_inside byte) (list_all is_inside line) all in
-    let other : (byte == 10) ≡ false = grind (arith, nat_tests) in
-    rw other (ap (onto_first byte) (line_cut line rest more))
+line_cut line rest all = raw_lines_of-line line rest (λ k d low is.
+  let inside = AllPass-from_list_all is_inside line all k d low in
+  let feed : is_inside 10 ≡ true = ap is_inside (sym is) ∙ inside in absurd (cc))
 
 -- a line that is no separator, in front of one section
 line_more : (line rest : List ℕ) → list_all is_inside line ≡ true → is_separator (line ++ 10 ∷ []) ≡ false

@@ -11,9 +11,9 @@ use Rattle.tab_core.specs.Name.{IsName}
 use Rattle.tab_core.specs.Vcpus.{HaveDistinctNames}
 use Rattle.tab_core.specs.declared.periodic.Periodic.{Periodic}
 use Rattle.tab_core.specs.declared.vcpu.Vcpu.{Vcpu}
-use Rattle.tab_words.specs.Lines.{lines_of}
+use Rattle.tab_words.specs.Lines.{lines_of, raw_lines_of, without_feed}
 use Rattle.tab_words.specs.Words.{words_of}
-use Rattle.tab_words.proofs.LineLemmas.{length-lines_of}
+use Rattle.tab_words.proofs.LineLemmas.{length-raw_lines_of, length-without_feed}
 use Rattle.tab_words.proofs.WordLemmas.{words_of-last, words_of-nil, words_of-space}
 use Rattle.table_form.specs.Tables.Homes.{are_housed}
 use Rattle.table_form.specs.declared.raw_tables.RawTables.{RawTables}
@@ -33,16 +33,16 @@ use Rattle.plan_text.proofs.ReadingVcpuLemmas.{vcpus_begun}
 
 -- ---- how many lines there are
 
--- there are fewer lines behind the first than bytes
-first_and_rest : (bytes first : List ℕ) (rest : List (List ℕ)) → lines_of bytes ≡ first ∷ rest
+-- a first line with its line feed and the lines behind it are no more than the bytes
+raw_first_and_rest : (bytes first : List ℕ) (rest : List (List ℕ)) → raw_lines_of bytes ≡ first ∷ rest
     → length first + length rest ≤ length bytes
-unfolding lines_of
-first_and_rest [] first rest is = absurd (cc)
-first_and_rest (byte ∷ bytes) first rest is =
-    by_end (λ line lines at. first_and_rest bytes line lines at) (byte == 10) is
+unfolding raw_lines_of
+raw_first_and_rest [] first rest is = absurd (cc)
+raw_first_and_rest (byte ∷ bytes) first rest is =
+    by_end (λ line lines at. raw_first_and_rest bytes line lines at) (byte == 10) is
   where
-    onto : ((l : List ℕ) (ls : List (List ℕ)) → lines_of bytes ≡ l ∷ ls → length l + length ls ≤ length bytes)
-        → (lines : List (List ℕ)) → lines_of bytes ≡ lines → onto_first byte lines ≡ first ∷ rest
+    onto : ((l : List ℕ) (ls : List (List ℕ)) → raw_lines_of bytes ≡ l ∷ ls → length l + length ls ≤ length bytes)
+        → (lines : List (List ℕ)) → raw_lines_of bytes ≡ lines → onto_first byte lines ≡ first ∷ rest
         → length first + length rest ≤ length (byte ∷ bytes)
     onto all [] at is =
         let one : byte ∷ [] ≡ first = cc in
@@ -58,18 +58,37 @@ first_and_rest (byte ∷ bytes) first rest is =
         let same_size : length lines ≡ length rest = ap length same in
         omega arith
 
-    by_end : ((l : List ℕ) (ls : List (List ℕ)) → lines_of bytes ≡ l ∷ ls
+    by_end : ((l : List ℕ) (ls : List (List ℕ)) → raw_lines_of bytes ≡ l ∷ ls
         → length l + length ls ≤ length bytes)
-        → (b : Bool) → (if b then [] ∷ lines_of bytes else onto_first byte (lines_of bytes)) ≡ first ∷ rest
+        → (b : Bool)
+        → (if b then (byte ∷ []) ∷ raw_lines_of bytes else onto_first byte (raw_lines_of bytes)) ≡ first ∷ rest
         → length first + length rest ≤ length (byte ∷ bytes)
     by_end all true is =
-        let few = length-lines_of bytes in
-        let none : [] ≡ first = cc in
-        let same : lines_of bytes ≡ rest = cc in
-        let size : 0 ≡ length first = ap length none in
-        let same_size : length (lines_of bytes) ≡ length rest = ap length same in
+        let few = length-raw_lines_of bytes in
+        let one : byte ∷ [] ≡ first = cc in
+        let same : raw_lines_of bytes ≡ rest = cc in
+        let size : 1 ≡ length first = ap length one in
+        let same_size : length (raw_lines_of bytes) ≡ length rest = ap length same in
         omega arith
-    by_end all false is = onto all (lines_of bytes) refl is
+    by_end all false is = onto all (raw_lines_of bytes) refl is
+
+-- there are fewer lines behind the first than bytes
+first_and_rest : (bytes first : List ℕ) (rest : List (List ℕ)) → lines_of bytes ≡ first ∷ rest
+    → length first + length rest ≤ length bytes
+unfolding lines_of
+first_and_rest bytes first rest is = by_rows (raw_lines_of bytes) refl is
+  where
+    by_rows : (rows : List (List ℕ)) → raw_lines_of bytes ≡ rows → map without_feed rows ≡ first ∷ rest
+        → length first + length rest ≤ length bytes
+    by_rows [] at is = absurd (cc)
+    by_rows (row ∷ rows) at is =
+        let few = raw_first_and_rest bytes row rows at in
+        let shorter = length-without_feed row in
+        let text : without_feed row ≡ first = cc in
+        let texts : map without_feed rows ≡ rest = cc in
+        let size : length (without_feed row) ≡ length first = ap length text in
+        let many : length (map without_feed rows) ≡ length rest = ap length texts in
+        omega (arith, length-map rows without_feed)
 
 -- a line of one byte has one word at most
 one_byte : (byte : ℕ) (space : Bool) → (byte == 32) ≡ space → length (words_of (byte ∷ [])) ≤ 1

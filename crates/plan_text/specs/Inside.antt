@@ -1,3 +1,2 @@
 -- What the reader of a plan text keeps on its way, private to this crate.
-pub mod Gathered
 pub mod Reading

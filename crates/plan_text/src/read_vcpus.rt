@@ -1,4 +1,4 @@
-ghost use Rattle.std.specs.Prelude.{◌≡◌, ◌++◌, ◌+◌, ◌<◌, ◌≤◌, IfOk, IsErrOf, IsTrue, List, MatchOption, OnOk, decimal, length, true, ℕ};
+ghost use Rattle.std.specs.Prelude.{◌≡◌, ◌++◌, ◌+◌, ◌<◌, ◌≤◌, IfOk, IsErrOf, IsTrue, List, MatchOption, OnOk, length, true, ℕ};
 ghost use Rattle.tab_core.specs.declared.TheConstants.{MAX_CORES};
 ghost use Rattle.table_form.specs.Tables.Homes.{are_housed, is_housed};
 ghost use Rattle.tab_words.specs.Words.{words_of};
@@ -13,7 +13,7 @@ use crate::lines_left::LinesLeft;
 use crate::read_fault::ReadPlan;
 use std::alloc::Global;
 use tab_core::{CoreNo, Periodic, Vcpu};
-use tab_words::{TextPiece, read_number};
+use tab_words::{TextPiece, read_core};
 
 // Reads the lines of the vCPUs that have a task.
 pub(crate) fn read_vcpus(
@@ -100,19 +100,5 @@ fn home_of(line: &[u8], name: &[u8], task: &Periodic, cores: u32) -> Option<Core
     let (Some(word), None) = (words.next(), words.next()) else {
         return None;
     };
-    core_of(word, cores)
-}
-
-// The core's number that the word spells, where it is below the count.
-fn core_of(word: &[u8], cores: u32) -> Option<CoreNo>
-    requires { cores ≤ MAX_CORES }
-    ensures { MatchOption result ((core : ℕ) → core < cores → word.now ≡ decimal core → ⊥)
-        (λ core. (core < cores) × (word.now ≡ decimal core)) }
-{
-    let number = read_number(word)?;
-    if number < u64::from(cores) {
-        Some(CoreNo(number as u32))
-    } else {
-        None
-    }
+    read_core(word, cores)
 }

@@ -2,7 +2,7 @@ ghost use Rattle.tab_io.specs.Sinks.{Writes};
 ghost use Rattle.plan_text.specs.Refusal.{plan_fault_line};
 
 use tab_io::{Sink, WriteFault};
-use tab_words::{TextPiece, put_pieces};
+use tab_words::put_numbered;
 
 /// Writes the line of the refusal of a plan text, whose first bad line has this number, from 1.
 ///
@@ -11,12 +11,5 @@ use tab_words::{TextPiece, put_pieces};
 pub fn put_plan_fault<K: Sink>(sink: &mut K, line: u32) -> Result<(), WriteFault>
     ensures { Writes (K.state sink.old) (K.state sink.new) (plan_fault_line line) result }
 {
-    put_pieces(
-        sink,
-        &[
-            TextPiece::Text(b"refused: plan line "),
-            TextPiece::Number(line),
-            TextPiece::Text(b"\n"),
-        ],
-    )
+    put_numbered(sink, b"refused: plan line ", line, b"\n")
 }

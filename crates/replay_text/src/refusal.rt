@@ -5,7 +5,7 @@ ghost use Rattle.replay_text.specs.Refusal.{step_fault_line};
 use step_machine::Answer;
 use tab_core::Actor;
 use tab_io::{Sink, WriteFault};
-use tab_words::{TextPiece, put_pieces};
+use tab_words::{TextPiece, put_numbered, put_pieces};
 
 /// Writes the line of the refusal of a replay, whose first step that isn't done stands on the line of
 /// this number, from 1, and has this answer.
@@ -26,14 +26,7 @@ fn put_end<K: Sink>(sink: &mut K, line: u32, end: &[u8]) -> Result<(), WriteFaul
     ensures { Writes (K.state sink.old) (K.state sink.new)
         (codes "refused: step " ++ (decimal line ++ end.now)) result }
 {
-    put_pieces(
-        sink,
-        &[
-            TextPiece::Text(b"refused: step "),
-            TextPiece::Number(line),
-            TextPiece::Text(end),
-        ],
-    )
+    put_numbered(sink, b"refused: step ", line, end)
 }
 
 // The same of a step that waits.

@@ -9,7 +9,7 @@ use step_machine::{Made, Trace};
 use stint_text::put_stint;
 use tab_core::{Host, Vcpu};
 use tab_io::{Sink, WriteFault};
-use tab_words::{TextPiece, put_pieces};
+use tab_words::put_numbered;
 use table_form::Course;
 
 /// Writes the text of a run that has this trace, for the names of a host.
@@ -74,12 +74,5 @@ fn put_made<K: Sink>(
 fn put_posted<K: Sink>(sink: &mut K, posted: u32) -> Result<(), WriteFault>
     ensures { Writes (K.state sink.old) (K.state sink.new) (posted_line posted) result }
 {
-    put_pieces(
-        sink,
-        &[
-            TextPiece::Text(b"posted "),
-            TextPiece::Number(posted),
-            TextPiece::Text(b"\n"),
-        ],
-    )
+    put_numbered(sink, b"posted ", posted, b"\n")
 }

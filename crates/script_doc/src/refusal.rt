@@ -1,10 +1,9 @@
-ghost use Rattle.std.specs.Prelude.{◌++◌, decimal};
 ghost use Rattle.tab_io.specs.Sinks.{Writes};
 ghost use Rattle.script_doc.specs.Refusal.{script_fault_line, steps_fault_line};
 
 use crate::script_fault::ScriptFault;
 use tab_io::{Sink, WriteFault};
-use tab_words::{TextPiece, put_pieces};
+use tab_words::put_numbered;
 
 /// Writes the line of the refusal of a script: `refused: `, the fault as it is displayed, and a line
 /// feed. For want of memory, which is no fault of the script, it writes nothing.
@@ -48,24 +47,4 @@ pub fn put_steps_fault<K: Sink>(sink: &mut K, line: u32) -> Result<(), WriteFaul
     ensures { Writes (K.state sink.old) (K.state sink.new) (steps_fault_line line) result }
 {
     put_numbered(sink, b"refused: steps line ", line, b"\n")
-}
-
-// Writes a number between two texts.
-fn put_numbered<'a, K: Sink>(
-    sink: &mut K,
-    before: &'a [u8],
-    number: u32,
-    behind: &'a [u8],
-) -> Result<(), WriteFault>
-    ensures { Writes (K.state sink.old) (K.state sink.new)
-        (before.now ++ (decimal number ++ behind.now)) result }
-{
-    put_pieces(
-        sink,
-        &[
-            TextPiece::Text(before),
-            TextPiece::Number(number),
-            TextPiece::Text(behind),
-        ],
-    )
 }

@@ -1,4 +1,4 @@
-ghost use Rattle.std.specs.Prelude.{◌≡◌, ℕ, ◌<◌, ◌≤◌, ◌^◌, ◌⊎◌, [], ◌∷◌, length, decimal, IfOk, IsErrOf, MatchOption};
+ghost use Rattle.std.specs.Prelude.{◌≡◌, ℕ, ◌<◌, ◌≤◌, ◌^◌, ◌⊎◌, [], ◌∷◌, length, IfOk, IsErrOf, MatchOption};
 ghost use Rattle.tab_core.specs.declared.TheConstants.{MAX_CORES};
 ghost use Rattle.tab_words.specs.Words.{words_of};
 ghost use Rattle.script_doc.specs.Statements.{statements_of};
@@ -11,8 +11,7 @@ use crate::step_list::{LineNumbers, StepList, StepSequence};
 use std::alloc::{AllocError, AllocFailed, Global};
 use std::error::Error;
 use std::fmt;
-use tab_core::CoreNo;
-use tab_words::{Lines, Words, read_number};
+use tab_words::{Lines, Words, read_core};
 
 /// Why a text isn't read as a list of steps.
 #[derive(Clone, Copy, Debug, PartialEq, Eq, Hash)]
@@ -118,27 +117,13 @@ fn step_of_core(name: &[u8], word: &[u8], cores: u32) -> Option<Step>
     ensures { MatchOption result (IsNoStep cores (name.now ∷ word.now ∷ []))
         (IsStep cores (name.now ∷ word.now ∷ [])) }
 {
-    let core = core_of(word, cores)?;
+    let core = read_core(word, cores)?;
     if name == b"see".as_slice() {
         Some(Step::See(core))
     } else if name == b"decide".as_slice() {
         Some(Step::Decide(core))
     } else if name == b"run".as_slice() {
         Some(Step::Run(core))
-    } else {
-        None
-    }
-}
-
-// The core's number that the word spells, where it is below the count.
-fn core_of(word: &[u8], cores: u32) -> Option<CoreNo>
-    requires { cores ≤ MAX_CORES }
-    ensures { MatchOption result ((core : ℕ) → core < cores → word.now ≡ decimal core → ⊥)
-        (λ core. (core < cores) × (word.now ≡ decimal core)) }
-{
-    let number = read_number(word)?;
-    if number < u64::from(cores) {
-        Some(CoreNo(number as u32))
     } else {
         None
     }

@@ -84,6 +84,18 @@ without_feed-other (byte ∷ []) none =
 without_feed-other (byte ∷ next ∷ line) none =
     ap (λ l. byte ∷ l) (without_feed-other (next ∷ line) (λ front is. none (byte ∷ front) (ap (λ l. byte ∷ l) is)))
 
+-- no line grows by that
+pub length-without_feed : (line : List ℕ) → length (without_feed line) ≤ length line
+unfolding without_feed
+length-without_feed [] = omega arith
+length-without_feed (byte ∷ []) =
+    let text = λ (b : Bool). if b then [] else byte ∷ [] in
+    elim (byte == 10) as (λ b. length (text b) ≤ 1) [
+      | true ↦ omega arith
+      | false ↦ omega arith
+    ]
+length-without_feed (byte ∷ next ∷ line) = let rest = length-without_feed (next ∷ line) in omega (arith, rest)
+
 -- what is left of a line whose line feed is stripped, or all of it where it has none
 pub stripped : (line : List ℕ) (own : Bor (List ℕ)) (text : Option (Bor (List ℕ))) → own.now ≡ line
     → MatchOption text ((front : List ℕ) → line ≢ front ++ 10 ∷ []) (λ x. line ≡ x.now ++ 10 ∷ [])
@@ -122,7 +134,7 @@ length-onto_first byte [] = omega arith
 length-onto_first byte (line ∷ lines) = omega arith
 
 -- the same with their line feeds
-length-raw_lines_of : (bytes : List ℕ) → length (raw_lines_of bytes) ≤ length bytes
+pub length-raw_lines_of : (bytes : List ℕ) → length (raw_lines_of bytes) ≤ length bytes
 unfolding raw_lines_of
 length-raw_lines_of [] = omega arith
 length-raw_lines_of (byte ∷ bytes) =

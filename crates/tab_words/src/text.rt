@@ -44,7 +44,7 @@ pub(crate) fn put_piece<K: Sink>(sink: &mut K, piece: &TextPiece<'_>) -> Result<
 pub fn put_numbered<'a, K: Sink>(
     sink: &mut K,
     before: &'a [u8],
-    number: u64,
+    number: u32,
     behind: &'a [u8],
 ) -> Result<(), WriteFault>
     ensures { Writes (K.state sink.old) (K.state sink.new)
@@ -54,7 +54,7 @@ pub fn put_numbered<'a, K: Sink>(
         sink,
         &[
             TextPiece::Text(before),
-            TextPiece::Wide(number),
+            TextPiece::Number(number),
             TextPiece::Text(behind),
         ],
     )

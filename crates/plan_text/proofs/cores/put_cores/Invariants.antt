@@ -1,5 +1,5 @@
 use Rattle.std.proofs.Common.{drop, map}
-use Rattle.tab_io.proofs.SinkLemmas.{IsLeft}
+use Rattle.tab_io.specs.Sinks.{IsLeft}
 use Rattle.tab_words.specs.Texts.{text_of}
 use Rattle.table_form.specs.Tables.Segments.{segments_from}
 use Rattle.vcpu_names.specs.Names.{names_of}

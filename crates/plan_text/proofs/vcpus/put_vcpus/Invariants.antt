@@ -1,5 +1,5 @@
 use Rattle.std.proofs.Common.{drop}
-use Rattle.tab_io.proofs.SinkLemmas.{IsLeft}
+use Rattle.tab_io.specs.Sinks.{IsLeft}
 use Rattle.tab_words.specs.Texts.{text_of}
 use Rattle.vcpu_names.specs.Names.{names_of}
 use Rattle.plan_text.specs.PlanLines.{vcpu_lines}

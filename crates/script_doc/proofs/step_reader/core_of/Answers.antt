@@ -1,9 +1,0 @@
-use Rattle.std.proofs.Common.{◌≡◌, arith}
-use Rattle.tab_words.proofs.NumberLemmas.{spelled_once}
-use Rattle.script_doc.proofs.step_reader.core_of.Goals as goal
-
-pub returns-else-number-from : goal.returns-else-number-from
-returns-else-number-from c = λ core low is.
-    let same : c.in_ok-number.number ≡ core =
-    spelled_once c.args.word.now c.in_ok-number.number core c.in_ok-number.ensures.some (omega arith) is in
-    omega arith
