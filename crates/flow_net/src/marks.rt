@@ -71,6 +71,5 @@ pub(crate) fn marks_of(alloc: Global, periods: &[u32]) -> Result<Vec<u32>, NoMem
     ensures { IfOk result (λ marks. AreMarks periods.now marks.items) }
 {
     let few = each_once(alloc, periods)?;
-    let marks = marks_of_few(alloc, &few)?;
-    Ok(marks)
+    marks_of_few(alloc, &few)
 }

@@ -5,6 +5,7 @@ use Rattle.std.proofs.lemmas.Bool.{and_from, cases_eq, lt-ltb}
 use Rattle.std.proofs.lemmas.Option.{slice_get_within}
 use Rattle.tab_core.specs.declared.periodic.Periodic.{Periodic}
 use Rattle.table_form.specs.Tables.Homes.{are_housed, is_housed}
+use Rattle.table_form.proofs.TaskLemmas.{are_housed_at}
 use Rattle.worst_fit.specs.Placement.{IsAdmitted, IsPlaced, PlacesEach}
 use Rattle.coalesce.proofs.Members.{slice_get-set_other, slice_get-set_same}
 use Rattle.plan_make.proofs.ListMembers.{contains_cases, contains_first, contains_later, contains_none, slice_get_from_contains}
@@ -77,19 +78,6 @@ next_is_homeless tasks count homes vcpu left placed home =
     (placed.on_core vcpu home.0 home.1).2 (contains_first vcpu left)
 
 -- once nobody is left over, each task has a home and nobody else has one
-
--- the test of the homes passes where it passes at each vCPU
-are_housed_at : (count : ℕ) (tasks : List (Option Periodic)) (homes : List (Option ℕ))
-    → length homes ≡ length tasks →
-    ((v : ℕ) (task : Option Periodic) (home : Option ℕ) → slice_get tasks v ≡ Some task
-    → slice_get homes v ≡ Some home → is_housed count task home ≡ true) →
-    are_housed count tasks homes ≡ true
-are_housed_at count [] [] as_many each = refl
-are_housed_at count [] (home ∷ homes) as_many each = absurd (omega arith)
-are_housed_at count (task ∷ tasks) [] as_many each = absurd (omega arith)
-are_housed_at count (task ∷ tasks) (home ∷ homes) as_many each =
-    and_from (is_housed count task home) (are_housed count tasks homes) (each 0 task home refl refl)
-    (are_housed_at count tasks homes (omega arith) (λ v t h at at'. each (suc v) t h at at'))
 
 -- a plan asks that each task has a home, and nobody else
 pub all_housed : (tasks : List (Option Periodic)) (count : ℕ) (homes : List (Option ℕ))

@@ -17,7 +17,7 @@ use Rattle.plan_make.specs.SplitInTurn.{SplitsEach, home_of, with_pieces}
 use Rattle.plan_make.specs.declared.fault.PlanFault.{PlanFault}
 use Rattle.plan_make.specs.declared.fault.PlanFault.TheVariants as plan
 use Rattle.plan_make.proofs.OnePlan.{each_or_refused, one_start, planned_or_refused, split_unique, went_on}
-use Rattle.plan_make.proofs.TasksOfPlan.{none_without_period}
+use Rattle.period_choice.proofs.TasksLemmas.{none_without_period}
 
 -- the split of the left-over vCPUs comes to one that can't be split, with this rest and these intervals
 record Sticks (tasks : List (Option Periodic)) (cores : List (List Piece)) (homes : List (Option ℕ))

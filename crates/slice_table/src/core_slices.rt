@@ -87,8 +87,9 @@ impl SliceTable {
         self.numbered(number, tick)
     }
 
-    /// The same, for a caller that goes from span to span: `place` is a guess at the span's number, and is its number
-    /// afterwards. Where it is the guessed span or the one behind that, no division is made.
+    /// The same, for a caller that goes from span to span: `place` is a guess at the span's number, and afterwards a
+    /// guess for the next call. The span doesn't depend on it: where it is the guessed one or the one behind that, no
+    /// division is made.
     pub fn span_near(&self, tick: u32, place: &mut u32) -> Span<'_>
         requires { tick < ROUND }
         ensures after { tick < result.end }

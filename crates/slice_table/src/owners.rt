@@ -31,7 +31,7 @@ impl RowOwners {
         ensures { IfOk result (λ owners. AreRowOwners (plan_view plan.now) owners) }
     {
         let rows = plan.tables.rows.items();
-        let mut sets = Vec::new(alloc);
+        let mut sets = Vec::with_capacity(alloc, rows.len())?;
         for number in 0..rows.len() {
             sets.push(owners_in(&rows[number]))?;
         }
@@ -58,7 +58,7 @@ impl RowOwners {
 pub fn course_owners(alloc: Global, course: &Course) -> Result<Vec<RowOwners>, NoMemory>
     ensures { IfOk result (λ owners. AreCourseOwners course.now owners.items) }
 {
-    let mut owners = Vec::new(alloc);
+    let mut owners = Vec::with_capacity(alloc, course.plans() as usize)?;
     for number in 0..course.plans() {
         owners.push(RowOwners::of(alloc, course.plan(number))?)?;
     }

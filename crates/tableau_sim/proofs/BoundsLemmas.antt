@@ -7,7 +7,7 @@ use Rattle.period_choice.proofs.Unique.{tasks_unique}
 use Rattle.worst_fit.specs.Bound.{IsWithinBound}
 use Rattle.worst_fit.proofs.PlacesEach.{placement_within_bound}
 use Rattle.plan_make.specs.Planned.{IsFirstWithoutRoom}
-use Rattle.plan_make.proofs.TasksOfPlan.{none_without_period}
+use Rattle.period_choice.proofs.TasksLemmas.{none_without_period}
 use Rattle.host_doc.proofs.OneHost.{one_host}
 use Rattle.tableau_sim.specs.declared.status.Status.{Status}
 use Rattle.tableau_sim.specs.Bounds.{HasBoundedTasks, HasFittingTasks, IsBounded, IsFitting}

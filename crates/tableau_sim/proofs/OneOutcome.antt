@@ -20,7 +20,7 @@ use Rattle.plan_make.specs.declared.fault.PlanFault.{PlanFault}
 use Rattle.plan_make.specs.declared.fault.PlanFault.TheVariants as planning
 use Rattle.plan_make.proofs.OnePlan.{planned_unique}
 use Rattle.plan_make.proofs.OneRefusal.{HasPlanFault, one_plan_fault, one_without_period, planned_or_fault}
-use Rattle.plan_make.proofs.TasksOfPlan.{none_without_period}
+use Rattle.period_choice.proofs.TasksLemmas.{none_without_period}
 use Rattle.plan_text.specs.FirstBad.{IsFirstBadFor}
 use Rattle.plan_text.specs.Meaning.{IsPlanText, IsSomePlan, worded}
 use Rattle.plan_text.specs.PlanText.{plan_text}

@@ -6,7 +6,7 @@ use Rattle.vcpu_names.specs.Names.{names_of}
 use Rattle.period_choice.specs.Tasks.{IsFirstWithoutPeriod}
 use Rattle.period_choice.proofs.Unique.{tasks_unique}
 use Rattle.plan_make.proofs.OneRefusal.{one_without_period}
-use Rattle.plan_make.proofs.TasksOfPlan.{none_without_period}
+use Rattle.period_choice.proofs.TasksLemmas.{none_without_period}
 use Rattle.plan_text.specs.PlanText.{plan_text}
 use Rattle.flow_net.specs.Allotments.{demands}
 use Rattle.flow_net.proofs.Loads.{allotment_fits}

@@ -15,6 +15,7 @@ use Rattle.table_form.specs.Tables.Homes.{HaveHomes, IsHome, are_housed, is_hous
 use Rattle.table_form.specs.Tables.Rows.{RisesTo, Row, cells_from}
 use Rattle.table_form.specs.Tables.Serves.{cells_within, is_cell_of}
 use Rattle.table_form.proofs.RowLemmas.{cells-cons, cells-nil, length-cells_from, rises_parts}
+use Rattle.table_form.proofs.TaskLemmas.{are_housed_at}
 use Rattle.wrap_table.specs.Inside.Homing.{AreHomesOf, IsMostOfFirst, cells_on, with_core}
 use Rattle.wrap_table.specs.Wrapping.{IsMostOn}
 use Rattle.wrap_table.specs.declared.homing.Most.{Most}
@@ -188,19 +189,6 @@ home_is_most tasks rows homes are v core at some_rows =
         → (t : Periodic) × (o ≡ Some t) × (a ≡ b)
     core_of None a b e = absurd cc
     core_of (Some t) a b e = (t, refl, cc)
-
--- the test of the homes passes where it passes at each vCPU
-are_housed_at : (count : ℕ) (tasks : List (Option Periodic)) (homes : List (Option ℕ))
-    → length homes ≡ length tasks →
-    ((v : ℕ) (task : Option Periodic) (home : Option ℕ) → slice_get tasks v ≡ Some task
-    → slice_get homes v ≡ Some home → is_housed count task home ≡ true) →
-    are_housed count tasks homes ≡ true
-are_housed_at count [] [] as_many each = refl
-are_housed_at count [] (home ∷ homes) as_many each = absurd (omega arith)
-are_housed_at count (task ∷ tasks) [] as_many each = absurd (omega arith)
-are_housed_at count (task ∷ tasks) (home ∷ homes) as_many each =
-    and_from (is_housed count task home) (are_housed count tasks homes) (each 0 task home refl refl)
-    (are_housed_at count tasks homes (omega arith) (λ v t h at at'. each (suc v) t h at at'))
 
 -- each admitted vCPU has a home, and no other
 pub homes_are_housed : (tasks : List (Option Periodic)) (rows : List Row) (homes : List (Option ℕ))

@@ -14,7 +14,9 @@ use Rattle.table_form.specs.Tables.Serves.{has_task, supply}
 use Rattle.period_choice.specs.Tasks.{AreTasksOf, IsFirstWithoutPeriod, IsTaskOf, LacksPeriod}
 use Rattle.period_choice.specs.declared.fault.TaskFault.{TaskFault}
 use Rattle.period_choice.specs.declared.fault.TaskFault.TheVariants.{NoMemory, NoPeriod}
+use Rattle.period_choice.proofs.TasksLemmas.{none_without_period, tasks_where_reserved}
 use Rattle.period_choice.proofs.Unique.{tasks_unique}
+use Rattle.table_form.proofs.TaskLemmas.{tasks_admit}
 use Rattle.flow_net.specs.Allotments.{AllotmentView, IsAllotment, demands}
 use Rattle.wrap_table.specs.Faults.{fault_of_tasks}
 use Rattle.wrap_table.specs.Inside.Laying.{HasIntervals}
@@ -68,64 +70,16 @@ some_core tasks cores a is v task at = elim (cases_lt 0 cores) [
       absurd (omega (arith, task.costs, due, no_supply v (0 * task.period) ((0 + 1) * task.period))))
 ]
 
--- a vCPU has a task exactly where it has a reservation
-reserved_where : (reservation : Option Reservation) (task : Option Periodic) → IsTaskOf reservation task
-    → is_some task ≡ is_some reservation
-reserved_where None None is = refl
-reserved_where None (Some task) is = absurd (cc)
-reserved_where (Some r) None is = absurd is
-reserved_where (Some r) (Some task) is = refl
-
--- the test of a task, by the task at the place
-has_task_is : (tasks : List (Option Periodic)) (v : ℕ) (task : Option Periodic)
-    → slice_get tasks v ≡ Some task
-    → has_task tasks v ≡ is_some task
-has_task_is tasks v None at = rw at refl
-has_task_is tasks v (Some task) at = rw at refl
-
--- so there is a task exactly for each admitted vCPU
-pub tasks_admit : (vcpus : List Vcpu) (tasks : List (Option Periodic)) → AreTasksOf vcpus tasks → (v : ℕ)
-    → has_task tasks v ≡ is_reserved (slice_get vcpus v)
-tasks_admit vcpus tasks are v = elim (slice_get_cases vcpus v).1 [
-  | inl found ↦
-      (let lt : v < length tasks = (let within = found.1 in let size = are.as_many in omega arith) in
-      let at = slice_get-get_or tasks v None lt in
-      rw (found.2) (has_task_is tasks v (get_or tasks v None) at
-      ∙ reserved_where (found.0).reservation (get_or tasks v None)
-      (are.each v found.0 (get_or tasks v None) found.2 at)))
-  | inr past ↦
-      rw (
-        slice_get_past tasks v (let beyond = past.0 in let size = are.as_many in omega arith),
-        past.1,
-      ) refl
-]
-
 -- a whole-host plan is one for its host
 pub fits_host : (host : Host) (plan : PlanView) → IsWholePlan host plan → IsPlanFor host plan
 fits_host host plan is = record {
   rows = is.wrapped.rows_are.count;
   vcpus = is.tasks.as_many;
-  admitted = tasks_admit host.vcpus plan.tasks is.tasks;
+  admitted = tasks_admit host.vcpus plan.tasks is.tasks.as_many
+      (tasks_where_reserved host.vcpus plan.tasks is.tasks);
 }
 
--- where each vCPU has its task none is without a period
-pub none_without_period : (vcpus : List Vcpu) (tasks : List (Option Periodic)) (vcpu : ℕ)
-    → AreTasksOf vcpus tasks
-    → IsFirstWithoutPeriod vcpus vcpu → ⊥
-none_without_period vcpus tasks vcpu are first =
-    let lt : vcpu < length tasks =
-    (let within = slice_get_within vcpus vcpu first.vcpu first.at in let size = are.as_many in omega arith) in
-    lacks_none first.vcpu.reservation (get_or tasks vcpu None)
-    (are.each vcpu first.vcpu (get_or tasks vcpu None) first.at
-    (slice_get-get_or tasks vcpu None lt)) first.lacks
-  where
-    lacks_none : (reservation : Option Reservation) (task : Option Periodic) → IsTaskOf reservation task
-        → LacksPeriod reservation → ⊥
-    lacks_none None task is lacks = lacks
-    lacks_none (Some r) None is lacks = is
-    lacks_none (Some r) (Some task) chosen lacks = lacks (task.period, chosen.admissible)
-
--- so of the two refusals of the choice of periods only want of memory is left
+-- where each vCPU has its task, of the two refusals of the choice of periods only want of memory is left
 pub no_memory_for_tasks : (vcpus : List Vcpu) (tasks : List (Option Periodic)) (fault : TaskFault)
     → AreTasksOf vcpus tasks → ((vcpu : ℕ) → fault ≡ NoPeriod vcpu → IsFirstWithoutPeriod vcpus vcpu)
     → fault_of_tasks fault ≡ whole.NoMemory

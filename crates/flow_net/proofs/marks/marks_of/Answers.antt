@@ -1,4 +1,5 @@
 use Rattle.std.proofs.Common.{sym, subst}
+use Rattle.std.proofs.lemmas.Result.{IfOk-weaker}
 use Rattle.flow_net.specs.Allotments.{AreMarks}
 use Rattle.flow_net.specs.Inside.Marking.{AreAmong}
 use Rattle.flow_net.proofs.Marking.{few_at, marks_among}
@@ -20,7 +21,8 @@ marks_of_few-requires-clause-short c v h =
 
 pub returns : goal.returns
 returns c =
-    let marks = subst (λ ns. AreMarks ns c.in_ok-marks.marks.items) c.deref.ensures.value
-    c.in_ok-marks.ensures in
-    marks_among c.args.periods.now c.in_ok-few.few.items c.in_ok-marks.marks.items
-    c.in_ok-few.ensures.all c.in_ok-few.ensures.no_more marks
+    IfOk-weaker c.marks_of_few.result (λ marks. AreMarks c.deref.result.now marks.items)
+    (λ marks. AreMarks c.args.periods.now marks.items)
+    (λ marks are. marks_among c.args.periods.now c.in_ok-few.few.items marks.items
+    c.in_ok-few.ensures.all c.in_ok-few.ensures.no_more
+    (subst (λ ns. AreMarks ns marks.items) c.deref.ensures.value are)) c.marks_of_few.ensures

@@ -4,7 +4,9 @@ use Rattle.table_form.specs.Tables.Serves.{has_task}
 use Rattle.table_form.specs.Tables.Views.{plan_view}
 use Rattle.coalesce.specs.Joining.{AreJoined}
 use Rattle.plan_make.proofs.OnePlan.{IsMadeOf, layout_is_planned, no_memory_for_layout, planned_or_refused, planned_unique}
-use Rattle.plan_make.proofs.TasksOfPlan.{no_memory_for_tasks, none_without_period, tasks_admit}
+use Rattle.table_form.proofs.TaskLemmas.{tasks_admit}
+use Rattle.period_choice.proofs.TasksLemmas.{none_without_period, tasks_where_reserved}
+use Rattle.plan_make.proofs.TasksOfPlan.{no_memory_for_tasks}
 use Rattle.plan_make.proofs.planner.plan.Given.{Over}
 use Rattle.plan_make.proofs.planner.plan.Goals as goal
 
@@ -57,7 +59,8 @@ returns-clause-fits_host g c = record {
       ∙ c.in_ok-layout.ensures.count;
   vcpus = ap length ((made g c).tasks_are) ∙ c.in_ok-tasks.ensures.ok.as_many;
   admitted = λ v. ap (λ tasks. has_task tasks v) (made g c).tasks_are
-      ∙ tasks_admit c.args.host.now.vcpus c.in_ok-tasks.tasks c.in_ok-tasks.ensures.ok v;
+      ∙ tasks_admit c.args.host.now.vcpus c.in_ok-tasks.tasks c.in_ok-tasks.ensures.ok.as_many
+      (tasks_where_reserved c.args.host.now.vcpus c.in_ok-tasks.tasks c.in_ok-tasks.ensures.ok) v;
 }
 
 pub returns-clause-without_period : goal.returns-clause-without_period

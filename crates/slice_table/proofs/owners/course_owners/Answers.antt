@@ -5,7 +5,7 @@ use Rattle.slice_table.proofs.OwnersLemmas.{owners_none, owners_more}
 use Rattle.slice_table.proofs.owners.course_owners.Goals as goal
 
 pub loop-number-init : goal.loop-number-init
-loop-number-init c = subst (AreFirstOwners c.args.course.now.plans 0) (sym c.new-owners.ensures.items)
+loop-number-init c = subst (AreFirstOwners c.args.course.now.plans 0) (sym c.in_ok-owners.ensures.items)
     (owners_none c.args.course.now.plans)
 
 pub loop-number-preserved : goal.loop-number-preserved

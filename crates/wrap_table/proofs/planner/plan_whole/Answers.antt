@@ -5,7 +5,8 @@ use Rattle.table_form.specs.Tables.Views.{plan_view}
 use Rattle.flow_net.specs.Allotted.{allotment_view}
 use Rattle.flow_net.specs.Allotments.{AreMarks, load_of_tasks, period_of_task}
 use Rattle.flow_net.specs.Counts.{admitted, edges}
-use Rattle.wrap_table.proofs.WholeLemmas.{fits_host, no_memory_for_tasks, none_without_period, whole_plan}
+use Rattle.period_choice.proofs.TasksLemmas.{none_without_period}
+use Rattle.wrap_table.proofs.WholeLemmas.{fits_host, no_memory_for_tasks, whole_plan}
 use Rattle.wrap_table.proofs.planner.plan_whole.Goals as goal
 
 pub returns-in_err-tasks-clause-planned : goal.returns-in_err-tasks-clause-planned

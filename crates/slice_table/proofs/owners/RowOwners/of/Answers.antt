@@ -7,7 +7,7 @@ use Rattle.slice_table.proofs.OwnersLemmas.{sets_none, sets_more}
 use Rattle.slice_table.proofs.owners.RowOwners.of.Goals as goal
 
 pub loop-number-init : goal.loop-number-init
-loop-number-init c = subst (AreFirstSets c.args.plan.now.tables.rows 0) (sym c.new-sets.ensures.items)
+loop-number-init c = subst (AreFirstSets c.args.plan.now.tables.rows 0) (sym c.in_ok-sets.ensures.items)
     (sets_none c.args.plan.now.tables.rows)
 
 pub loop-number-preserved : goal.loop-number-preserved
