@@ -9,6 +9,7 @@ use Rattle.table_form.specs.Running.Courses.{CourseView, IsCourse, outline_of}
 use Rattle.table_form.specs.Running.Invariant.{IsComplete}
 use Rattle.table_form.specs.Running.Promises.{KeepsPromises}
 use Rattle.table_form.specs.Running.State.{CoreState, State}
+use Rattle.stint_limit.specs.StintBounds.{IsStintBound}
 use Rattle.dispatch_core.specs.Accounts.{IsAccountOf}
 use Rattle.dispatch_core.specs.Parts.{IsOfOutline}
 use Rattle.dispatch_core.specs.States.{StateView}
@@ -19,6 +20,7 @@ use Rattle.board_state.specs.RunViews.{HoldsAllParts}
 use Rattle.core_workers.specs.Groups.{CrewView, actor_of}
 use Rattle.trace_report.specs.ReportViews.{ReportView}
 use Rattle.trace_report.specs.RunReports.{IsReportOf}
+use Rattle.course_run.specs.declared.keeping.TheConstants.{TRACE_LIMIT}
 
 -- ---- a state's stints and report
 
@@ -41,6 +43,14 @@ pub record IsReportOfState (course : CourseView) (s : State) (report : ReportVie
   pub accounts : List CoreAccount
   pub are : AreAccountsOf course s accounts
   pub is : IsReportOf course s.decided accounts report
+
+-- ---- a trace's length
+
+-- a trace is asked for, and may have more stints than are kept
+pub record IsTooLong (rounds : ℕ) (mode : RunMode) (course : CourseView) (bound : ℕ) : Type 0 where
+  pub asked : mode ≡ Trace
+  pub is : IsStintBound course rounds bound
+  pub beyond : TRACE_LIMIT < bound
 
 -- ---- what comes back
 

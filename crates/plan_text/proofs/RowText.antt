@@ -1,16 +1,9 @@
--- The lines of a row's segments: gathered, and written many at once.
-use Rattle.std.proofs.Common.{sym, ap, subst, ◌∙◌, ◌≡◌, ℕ, ◌+◌, ◌<◌, ◌≤◌, List, [], ◌∷◌, ◌++◌, append_assoc, append-nil, add-one, decimal, drop, flat_map, get_or, length, map, suc, Result, Ok, Err, refl}
+-- The lines of a row's segments, one after the other.
+use Rattle.std.proofs.Common.{sym, ap, ◌∙◌, ◌≡◌, ℕ, ◌+◌, ◌<◌, ◌≤◌, List, ◌∷◌, ◌++◌, append-nil, add-one, drop, flat_map, get_or, length, map, suc}
 use Rattle.std.proofs.Math.Seq.{drop-cons}
 use Rattle.std.proofs.lemmas.List.{drop_all}
-use Rattle.tab_io.specs.Sinks.{Writes}
-use Rattle.tab_io.specs.Views.{SinkView}
-use Rattle.tab_io.specs.declared.sink.WriteFault.{WriteFault}
-use Rattle.tab_io.proofs.SinkLemmas.{IsLeft, left_behind, left_broken, writes_more}
 use Rattle.table_form.specs.declared.segment.Segment.{Segment}
 use Rattle.table_form.specs.Tables.Segments.{segment_view}
-use Rattle.tab_words.specs.Texts.{line_of}
-use Rattle.vcpu_names.specs.Names.{owner_word}
-use Rattle.plan_text.specs.Inside.Gathered.{Gathers, PutsBehind}
 use Rattle.plan_text.specs.PlanText.{segment_line}
 
 -- the lines of these segments

@@ -63,7 +63,7 @@ pub run_stops : (rounds : ℕ) (mode : RunMode) (view : View) (sections : List (
     → IsBookOf host events book → StopsRun book.course rounds mode f
     → Makes (Runs rounds mode view sections) (Err (run_stop f))
 run_stops rounds mode view sections host events book (fault.TraceTooLong bound) script is long =
-    Runs.TraceTooLong host events book bound script is (record { asked = long.0; is = long.1; beyond = long.2 })
+    Runs.TraceTooLong host events book bound script is long
 run_stops rounds mode view sections host events book fault.NoMemory script is long = tt {0}
 
 -- ---- the whole answer

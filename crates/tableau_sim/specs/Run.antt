@@ -1,10 +1,9 @@
 -- `run`, of a host and a script: a whole run of the host's cores by threads; or the first cause that there
 -- is none.
-use Rattle.std.specs.Prelude.{◌≡◌, ℕ, ◌<◌, List, []}
+use Rattle.std.specs.Prelude.{ℕ, List, []}
 use Rattle.tab_core.specs.declared.host.Host.{Host}
 use Rattle.tab_core.specs.declared.over.Over.{Over}
 use Rattle.tab_words.specs.declared.command.RunMode.{RunMode}
-use Rattle.tab_words.specs.declared.command.RunMode.TheVariants.{Trace}
 use Rattle.host_doc.specs.Document.{IsHostText}
 use Rattle.host_doc.specs.declared.fault.HostFault.{HostFault}
 use Rattle.vcpu_names.specs.Names.{names_of}
@@ -20,16 +19,14 @@ use Rattle.plan_book.specs.Waits.{WaitsWithinLatency}
 use Rattle.table_form.specs.Running.Courses.{CourseView, IsCourse, outline_of}
 use Rattle.table_form.specs.Running.Invariant.{IsComplete}
 use Rattle.table_form.specs.Running.Promises.{KeepsPromises}
-use Rattle.stint_limit.specs.StintBounds.{IsStintBound}
 use Rattle.dispatch_core.specs.Parts.{IsOfOutline}
 use Rattle.round_words.specs.declared.view.View.{View}
 use Rattle.board_state.specs.Readings.{state_of}
 use Rattle.board_state.specs.RunViews.{HoldsAllParts}
 use Rattle.trace_report.specs.ReportViews.{ReportView}
 use Rattle.course_run.specs.Changes.{changes_of}
-use Rattle.course_run.specs.Runs.{IsReportOfState, stints_at}
+use Rattle.course_run.specs.Runs.{IsReportOfState, IsTooLong, stints_at}
 use Rattle.course_run.specs.RunText.{run_text}
-use Rattle.course_run.specs.declared.keeping.TheConstants.{TRACE_LIMIT}
 use Rattle.tableau_sim.specs.declared.status.Status.TheVariants as status
 use Rattle.tableau_sim.specs.Hosts.{IsHostFault}
 use Rattle.tableau_sim.specs.Outcomes.{Outcome}
@@ -50,12 +47,6 @@ pub record RunsWhole (rounds : ℕ) (host : Host) (events : List Event) (course 
   pub promises : KeepsPromises course rounds (state_of course view)
   pub waits : WaitsWithinLatency host events course (state_of course view)
   pub complete : IsComplete course rounds (state_of course view)
-
--- a trace is asked for, and may have more stints than are kept
-pub record IsTooLong (rounds : ℕ) (mode : RunMode) (course : CourseView) (bound : ℕ) : Type 0 where
-  pub asked : mode ≡ Trace
-  pub is : IsStintBound course rounds bound
-  pub beyond : TRACE_LIMIT < bound
 
 -- the text of a run whose view this is: its trace if it is asked for, and the report
 abbrev pub text_of_run : ℕ → RunMode → Host → List Event → BookView → View → ReportView → List ℕ

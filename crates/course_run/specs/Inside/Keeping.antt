@@ -8,6 +8,7 @@ use Rattle.round_words.specs.declared.view.View.{View}
 use Rattle.core_workers.specs.Crews.{AllAgree, IsFresh}
 use Rattle.core_workers.specs.Groups.{CrewView, actor_of}
 use Rattle.stint_limit.specs.StintBounds.{IsLargestSpans, IsStintBound, stints_of_round}
+use Rattle.course_run.specs.Runs.{IsTooLong}
 use Rattle.course_run.specs.declared.keeping.RunFault.{RunFault}
 use Rattle.course_run.specs.declared.keeping.RunFault.TheVariants.{TraceTooLong, NoMemory}
 use Rattle.course_run.specs.declared.keeping.TheConstants.{TRACE_LIMIT}
@@ -22,10 +23,9 @@ pub record IsRoomFor (course : CourseView) (rounds c keep : ℕ) : Type 0 where
 abbrev pub KeepAll : CourseView → ℕ → List ℕ → ℕ → Type 0
 KeepAll course rounds keep n = (c : ℕ) → c < n → IsRoomFor course rounds c (slice_index keep c)
 
--- the cause of a fault: a trace is asked for, and the bound on the stints is beyond its limit
+-- the cause of a fault: the trace is too long
 abbrev pub StopsRun : CourseView → ℕ → RunMode → RunFault → Type 0
-StopsRun course rounds mode (TraceTooLong bound) = (mode ≡ Trace) × IsStintBound course rounds bound
-    × (TRACE_LIMIT < bound)
+StopsRun course rounds mode (TraceTooLong bound) = IsTooLong rounds mode course bound
 StopsRun course rounds mode NoMemory = Unit {0}
 
 -- where a trace is asked for, the bound is within the limit
