@@ -1,13 +1,9 @@
 -- What a host's tasks say of its plan.
-use Rattle.std.proofs.Common.{◌≡◌, ℕ, ◌<◌, List, [], length, get_or, slice_get, sum_by, Option, Some, None, is_some, refl, subst, sym, ◌∙◌, inl, inr, arith}
-use Rattle.std.proofs.lemmas.Option.{slice_get-get_or, slice_get_cases, slice_get_past, slice_get_within}
+use Rattle.std.proofs.Common.{◌≡◌, ℕ, List, [], length, slice_get, sum_by, Option, Some, refl, subst, sym, inl, inr}
 use Rattle.tab_core.specs.declared.periodic.Periodic.{Periodic}
 use Rattle.tab_core.specs.declared.piece.Piece.{Piece}
-use Rattle.tab_core.specs.declared.reservation.Reservation.{Reservation}
 use Rattle.tab_core.specs.declared.vcpu.Vcpu.{Vcpu}
-use Rattle.table_form.specs.Tables.Plans.{is_reserved}
-use Rattle.table_form.specs.Tables.Serves.{has_task}
-use Rattle.period_choice.specs.Tasks.{AreTasksOf, IsFirstWithoutPeriod, IsTaskOf, LacksPeriod}
+use Rattle.period_choice.specs.Tasks.{AreTasksOf, IsFirstWithoutPeriod}
 use Rattle.table_form.specs.Planning.Drafts.{cost_on}
 use Rattle.plan_make.specs.Inside.Allotted.{AreLaidOut}
 use Rattle.period_choice.specs.declared.fault.TaskFault.{TaskFault}

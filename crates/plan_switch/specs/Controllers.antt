@@ -17,10 +17,6 @@ pub record ControllerView : Type 0 where
 abbrev pub controller_view : CourseView → ControlState → ControllerView
 controller_view course state = record { course = course; state = state }
 
--- the view was started with the lag, cores and events of the outline
-abbrev pub IsOfOutline : OutlineView → View → Type 0
-IsOfOutline o v = IsStarted o.lag o.cores (length o.ticks) v
-
 -- nothing has happened to the controller's part
 pub record IsNewPart (p : Part) : Type 0 where
   pub heard : (d : ℕ) → heard_of p d ≡ []
@@ -38,7 +34,7 @@ pub record AreFloorsOf (o : OutlineView) (floors : List ℕ) : Type 0 where
 -- the state agrees with the controller's part of the view, which the view holds: the floors are those of
 -- the events that it has posted, and its clocks are those that were heard last
 pub record HasPosted (o : OutlineView) (s : ControlState) (v : View) : Type 0 where
-  pub of_outline : IsOfOutline o v
+  pub of_outline : IsStarted o.lag o.cores (length o.ticks) v
   pub holds_it : holds v controller ≡ true
   pub posted : s.posted ≡ length (part v controller).floors
   pub floors : AreFloorsOf o (part v controller).floors

@@ -1,8 +1,8 @@
 -- The cells of vCPUs by segments, the core with most of them, and the homes.
-use Rattle.std.proofs.Common.{◌≡◌, ℕ, suc, ◌+◌, ◌-◌, ◌*◌, ◌<◌, ◌≤◌, true, cond, nat_lt, List, [], ◌∷◌, ◌++◌, Option, Some, None, length, drop, length-drop, replicate, get_or, slice_get, ap, refl, sym, subst, ◌∙◌, arith, inl, inr}
+use Rattle.std.proofs.Common.{◌≡◌, ℕ, ◌+◌, ◌-◌, ◌*◌, ◌<◌, ◌≤◌, true, cond, nat_lt, List, [], ◌∷◌, ◌++◌, Option, Some, None, length, drop, length-drop, replicate, get_or, slice_get, ap, refl, sym, subst, ◌∙◌, arith, inl, inr}
 use Rattle.std.specs.List.{count_by}
 use Rattle.std.specs.Option.{option_map}
-use Rattle.std.proofs.lemmas.Bool.{and_from, cases_lt, cond-false, cond-true, le-ltb, lt-ltb}
+use Rattle.std.proofs.lemmas.Bool.{cases_lt, cond-false, cond-true, le-ltb, lt-ltb}
 use Rattle.std.proofs.lemmas.List.{nil_from_length, take_all}
 use Rattle.std.proofs.lemmas.List.Folds.{sum_by-replicate}
 use Rattle.std.proofs.lemmas.List.Sums.{count_by-le-length, sum_by-append}
@@ -11,7 +11,7 @@ use Rattle.tab_core.specs.declared.TheConstants.{ROUND}
 use Rattle.tab_core.specs.declared.periodic.Periodic.{Periodic}
 use Rattle.tab_core.proofs.Lists.{drop_next, push_split}
 use Rattle.table_form.specs.declared.segment.Segment.{Segment}
-use Rattle.table_form.specs.Tables.Homes.{HaveHomes, IsHome, are_housed, is_housed}
+use Rattle.table_form.specs.Tables.Homes.{HaveHomes, IsHome, is_housed}
 use Rattle.table_form.specs.Tables.Rows.{RisesTo, Row, cells_from}
 use Rattle.table_form.specs.Tables.Serves.{cells_within, is_cell_of}
 use Rattle.table_form.proofs.RowLemmas.{cells-cons, cells-nil, length-cells_from, rises_parts}

@@ -1,17 +1,16 @@
 -- What allotments and tasks give a whole-host plan.
-use Rattle.std.proofs.Common.{◌≡◌, ℕ, ◌+◌, ◌-◌, ◌*◌, ◌/◌, ◌<◌, ◌≤◌, List, [], Option, Some, None, is_some, length, get_or, slice_get, ap, refl, sym, subst, ◌∙◌, arith, inl, inr}
+use Rattle.std.proofs.Common.{◌≡◌, ℕ, ◌+◌, ◌-◌, ◌*◌, ◌/◌, ◌<◌, ◌≤◌, List, [], Option, Some, length, get_or, slice_get, ap, refl, sym, subst, ◌∙◌, arith, inl, inr}
 use Rattle.std.proofs.lemmas.Bool.{cases_lt}
-use Rattle.std.proofs.lemmas.Option.{slice_get-get_or, slice_get_cases, slice_get_past, slice_get_within}
+use Rattle.std.proofs.lemmas.Option.{slice_get_within}
 use Rattle.tab_core.specs.Vcpus.{capped_of}
 use Rattle.tab_core.specs.declared.TheConstants.{MAX_VCPUS, ROUND}
 use Rattle.tab_core.specs.declared.host.Host.{Host}
 use Rattle.tab_core.specs.declared.periodic.Periodic.{Periodic}
-use Rattle.tab_core.specs.declared.reservation.Reservation.{Reservation}
 use Rattle.tab_core.specs.declared.vcpu.Vcpu.{Vcpu}
 use Rattle.tab_core.proofs.Periods.{period_facts}
-use Rattle.table_form.specs.Tables.Plans.{IsPlanFor, PlanView, is_reserved}
-use Rattle.table_form.specs.Tables.Serves.{has_task, supply}
-use Rattle.period_choice.specs.Tasks.{AreTasksOf, IsFirstWithoutPeriod, IsTaskOf, LacksPeriod}
+use Rattle.table_form.specs.Tables.Plans.{IsPlanFor, PlanView}
+use Rattle.table_form.specs.Tables.Serves.{supply}
+use Rattle.period_choice.specs.Tasks.{AreTasksOf, IsFirstWithoutPeriod}
 use Rattle.period_choice.specs.declared.fault.TaskFault.{TaskFault}
 use Rattle.period_choice.specs.declared.fault.TaskFault.TheVariants.{NoMemory, NoPeriod}
 use Rattle.period_choice.proofs.TasksLemmas.{none_without_period, tasks_where_reserved}
