@@ -1,4 +1,5 @@
-ghost use Rattle.std.specs.Prelude.{IfOk};
+ghost use Rattle.std.specs.Prelude.{IfOk, ◌≡◌, ◌≤◌};
+ghost use Rattle.tab_core.specs.declared.TheConstants.{MAX_TICK_NS, MIN_TICK_NS};
 ghost use Rattle.host_gen.specs.HostText.{AreAdmitted};
 
 use host_doc::read_host;
@@ -47,6 +48,32 @@ fn a_fault_leaves_a_front_of_the_host(rt: HostRuntime) -> Result<(), Fail> {
     Ok(())
 }
 
+// The host with a tick of so many nanoseconds.
+fn with_tick(host: Host, tick_ns: u32) -> Host
+    requires at_least { MIN_TICK_NS ≤ tick_ns }
+    requires at_most { tick_ns ≤ MAX_TICK_NS }
+    ensures { result.vcpus ≡ host.vcpus }
+{
+    Host {
+        tick_ns,
+        cores: host.cores,
+        lag: host.lag,
+        sliver: host.sliver,
+        quantum: host.quantum,
+        vcpus: host.vcpus,
+    }
+}
+
+#[test]
+fn the_text_names_another_tick(rt: HostRuntime) -> Result<(), Fail> {
+    let host = with_tick(generate(rt.alloc(), 5, 3, 0)?, 2002);
+    let mut sink = MemSink::with_room(rt.alloc(), 200)?;
+    assert_eq!(rt; write_host(&mut sink, &host), Ok(()));
+    let text = b"format = 2\ntick_ns = 2002\ncores = 3\nlag = 1000\nsliver = 30\nquantum = 1000\n";
+    assert_eq!(rt; sink.bytes(), text.as_slice());
+    Ok(())
+}
+
 // A vCPU's share, latency and whether it is runnable.
 fn numbers_of(alloc: Global, vcpu: &Vcpu) -> Result<String, AllocError> {
     match &vcpu.reservation {
@@ -58,8 +85,8 @@ fn numbers_of(alloc: Global, vcpu: &Vcpu) -> Result<String, AllocError> {
 // The host's numbers, and each vCPU.
 fn describe_host(alloc: Global, host: &Host) -> Result<String, AllocError> {
     let mut text = format!(in alloc;
-        "{} {} {} {}",
-        host.cores, host.lag, host.sliver, host.quantum
+        "{} {} {} {} {}",
+        host.tick_ns, host.cores, host.lag, host.sliver, host.quantum
     )?;
     for vcpu in host.vcpus.items() {
         let numbers = numbers_of(alloc, vcpu)?;
@@ -127,11 +154,13 @@ fn written_hosts_are_read_back(rt: HostRuntime) -> Result<(), Fail> {
     let one = generate(rt.alloc(), 1_234_567, 1, 1)?;
     let none = generate(rt.alloc(), 5, 32, 0)?;
     let many = generate(rt.alloc(), 42, 32, 256)?;
+    let fast = with_tick(generate(rt.alloc(), 42, 2, 9)?, 500);
     let read_back = [
         is_read_back(rt.alloc(), &capped)?,
         is_read_back(rt.alloc(), &one)?,
         is_read_back(rt.alloc(), &none)?,
         is_read_back(rt.alloc(), &many)?,
+        is_read_back(rt.alloc(), &fast)?,
     ];
     assert_eq!(rt; read_back, [true; 4]);
     Ok(())

@@ -1,21 +1,21 @@
 -- The faults of a document are those of its keys: none of them says that the bytes are no document.
-use Rattle.std.proofs.Common.{◌≡◌, ℕ, ◌+◌, ℤ, pos, negsuc, Bool, true, false, List, [], ◌∷◌, ◌++◌, Option, Some, None, Result, Ok, Err, IfErr, IsErrOf, ◌⊎◌, inl, inr, refl, sym, ap, ◌∙◌, arith}
+use Rattle.std.proofs.Common.{◌≡◌, ℕ, ◌+◌, ℤ, pos, negsuc, Bool, true, false, if◌then◌else◌, List, [], ◌∷◌, ◌++◌, Option, Some, None, Result, Ok, Err, IfErr, IsErrOf, ◌⊎◌, inl, inr, refl, sym, ap, ◌∙◌, arith}
 use Rattle.std.proofs.lemmas.Grind.{common_steps}
 use Rattle.std.specs.Option.{option_or}
 use Rattle.std.specs.Result.{result_err}
 use Rattle.tab_core.specs.declared.host.Host.{Host}
-use Rattle.tab_core.specs.declared.TheConstants.{MAX_CORES, MAX_LATENCY_NS, MAX_SLIVER, ROUND, WHOLE_PPM}
+use Rattle.tab_core.specs.declared.TheConstants.{MAX_CORES, MAX_LATENCY_NS, MAX_SLIVER, MAX_TICK_NS, MIN_TICK_NS, ROUND, TICK_NS, WHOLE_PPM}
 use Rattle.toml.specs.Data.{Data, Items, no_items, item, Members, as_integer, as_table}
 use Rattle.host_doc.specs.Document.{first_fault, members_fault}
 use Rattle.host_doc.specs.Array.{items_or}
-use Rattle.host_doc.specs.KeyTable.{admitted_of, capped_of, cores_of, document_keys, format_of, lag_of, latency_of, name_of, quantum_of, runnable_of, share_of, sliver_of, vcpu_keys, vcpus_of}
+use Rattle.host_doc.specs.KeyTable.{admitted_of, capped_of, cores_of, document_keys, format_of, lag_of, latency_of, name_of, quantum_of, runnable_of, share_of, sliver_of, vcpu_keys, vcpus_of, is_second, tick_of}
 use Rattle.host_doc.specs.OtherKeys.{unknown_key}
 use Rattle.host_doc.specs.Text.{text_in, well_formed}
 use Rattle.host_doc.specs.Value.{found_at, in_range, integer_or, truth_or}
 use Rattle.host_doc.specs.VcpuFaults.{first_of, member_names, reservation_fault, same_name, settings_fault, vcpu_fault, vcpus_fault, where_admitted}
 use Rattle.host_doc.specs.Path.{of_document, of_vcpu}
 use Rattle.host_doc.specs.declared.fault.Key.{Key}
-use Rattle.host_doc.specs.declared.fault.Key.TheVariants.{Format, Cores, Lag, Sliver, Quantum, Vcpu, Name, Admitted, Runnable, Share, Latency, Capped, Unknown}
+use Rattle.host_doc.specs.declared.fault.Key.TheVariants.{Format, Cores, Lag, Sliver, Quantum, Vcpu, Name, Admitted, Runnable, Share, Latency, Capped, Unknown, TickNs}
 use Rattle.host_doc.specs.declared.fault.Path.{Path}
 use Rattle.host_doc.specs.declared.fault.HostFault.{HostFault}
 use Rattle.host_doc.specs.declared.fault.HostFault.TheVariants.{NotToml, BadKey, OutOfRange, SameName, TooMany, NoMemory}
@@ -130,12 +130,20 @@ inside : (found : Result Items HostFault) → is_of_key (members_fault found) �
 inside (Ok found) = vcpus [] 0 found
 inside (Err fault) = refl
 
+-- the same of a tick, which one format names
+tick : (second : Bool) (ms : Members)
+    → is_of_key (result_err (if second then integer_or (of_document TickNs) MIN_TICK_NS MAX_TICK_NS (Some TICK_NS)
+    (found_at (of_document TickNs) ms) else Ok TICK_NS)) ≡ true
+tick true ms = whole (of_document TickNs) MIN_TICK_NS MAX_TICK_NS (Some TICK_NS) (found_at (of_document TickNs) ms)
+tick false ms = refl
+
 -- every fault that a document can have is that of a key
 pub first_is_of_key : (ms : Members) → is_of_key (first_fault ms) ≡ true
 unfolding first_fault
 first_is_of_key ms =
     either (result_err (format_of ms)) _
-    (whole (of_document Format) 1 1 (Some 1) (found_at (of_document Format) ms))
+    (whole (of_document Format) 1 2 (Some 1) (found_at (of_document Format) ms))
+    (either (result_err (tick_of ms)) _ (tick (is_second (format_of ms)) ms)
     (either (result_err (cores_of ms)) _
     (whole (of_document Cores) 1 MAX_CORES None (found_at (of_document Cores) ms))
     (either (result_err (lag_of ms)) _
@@ -145,9 +153,9 @@ first_is_of_key ms =
     (either (result_err (quantum_of ms)) _
     (whole (of_document Quantum) 1 ROUND (Some 1000) (found_at (of_document Quantum) ms))
     (either (result_err (vcpus_of ms)) _ (items (of_document Vcpu) (found_at (of_document Vcpu) ms))
-    (either (unknown_key (of_document Unknown) document_keys ms) _
-    (unknown (of_document Unknown) document_keys ms)
-    (either (members_fault (vcpus_of ms)) None (inside (vcpus_of ms)) refl)))))))
+    (either (unknown_key (of_document Unknown) (document_keys ms) ms) _
+    (unknown (of_document Unknown) (document_keys ms) ms)
+    (either (members_fault (vcpus_of ms)) None (inside (vcpus_of ms)) refl))))))))
 
 -- so an answer of such faults is never that the bytes are no document
 pub no_not_toml : (result : Result Host HostFault) (ms : Members)

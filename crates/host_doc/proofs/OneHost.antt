@@ -12,7 +12,7 @@ use Rattle.tab_core.specs.declared.vcpu.Vcpu.{Vcpu}
 use Rattle.toml.specs.Data.{Data, Items, Members, array, as_table, boolean, datetime, float, get_item, integer, item, no_items, string, table}
 use Rattle.host_doc.specs.Document.{HasFirstFault, IsDocument, IsHostOf, IsHostText, first_fault, members_fault}
 use Rattle.host_doc.specs.Array.{count_of}
-use Rattle.host_doc.specs.KeyTable.{cores_of, document_keys, format_of, lag_of, quantum_of, sliver_of, vcpus_of}
+use Rattle.host_doc.specs.KeyTable.{cores_of, document_keys, format_of, lag_of, quantum_of, sliver_of, tick_of, vcpus_of}
 use Rattle.host_doc.specs.OtherKeys.{unknown_key}
 use Rattle.host_doc.specs.VcpuFaults.{member_names, vcpu_fault, vcpus_fault}
 use Rattle.host_doc.specs.Vcpus.{AreVcpusOf, IsReservationOf, IsVcpuOf}
@@ -107,12 +107,13 @@ pub array_faultless : (keys : Members) → first_fault keys ≡ None
 unfolding first_fault
 array_faultless keys h =
     let format = both_none (result_err (format_of keys)) _ h in
-    let cores = both_none (result_err (cores_of keys)) _ format.1 in
+    let tick = both_none (result_err (tick_of keys)) _ format.1 in
+    let cores = both_none (result_err (cores_of keys)) _ tick.1 in
     let lag = both_none (result_err (lag_of keys)) _ cores.1 in
     let sliver = both_none (result_err (sliver_of keys)) _ lag.1 in
     let quantum = both_none (result_err (quantum_of keys)) _ sliver.1 in
     let vcpus = both_none (result_err (vcpus_of keys)) _ quantum.1 in
-    let unknown = both_none (unknown_key (of_document Unknown) document_keys keys) _ vcpus.1 in
+    let unknown = both_none (unknown_key (of_document Unknown) (document_keys keys) keys) _ vcpus.1 in
     let each = both_none (members_fault (vcpus_of keys)) None unknown.1 in
     (vcpus.0, each.0)
 
@@ -120,16 +121,19 @@ array_faultless keys h =
 hosts_alike : (keys : Members) (a b : Host) → IsHostOf keys a → IsHostOf keys b → a ≡ b
 hosts_alike keys a b of_a of_b =
     let faultless = array_faultless keys of_a.faultless in
+    let tick' : ◌≡◌ {A = Result ℕ HostFault} (Ok a.tick_ns) (Ok b.tick_ns) =
+    sym of_a.tick_ns ∙ of_b.tick_ns in
     let cores' : ◌≡◌ {A = Result ℕ HostFault} (Ok a.cores) (Ok b.cores) = sym of_a.cores ∙ of_b.cores in
     let lag' : ◌≡◌ {A = Result ℕ HostFault} (Ok a.lag) (Ok b.lag) = sym of_a.lag ∙ of_b.lag in
     let sliver' : ◌≡◌ {A = Result ℕ HostFault} (Ok a.sliver) (Ok b.sliver) = sym of_a.sliver ∙ of_b.sliver in
     let quantum' : ◌≡◌ {A = Result ℕ HostFault} (Ok a.quantum) (Ok b.quantum) =
     sym of_a.quantum ∙ of_b.quantum in
+    let tick : a.tick_ns ≡ b.tick_ns = cc in
     let cores : a.cores ≡ b.cores = cc in
     let lag : a.lag ≡ b.lag = cc in
     let sliver : a.sliver ≡ b.sliver = cc in
     let quantum : a.quantum ≡ b.quantum = cc in
-    same_host a b cores lag sliver quantum
+    same_host a b tick cores lag sliver quantum
     (one_vcpus (vcpus_of keys) a.vcpus b.vcpus faultless.0 faultless.1 of_a.vcpus of_b.vcpus)
 
 -- and bytes are one document at most

@@ -5,7 +5,7 @@ use Rattle.std.specs.Result.{result_err}
 use Rattle.tab_core.specs.declared.host.Host.{Host}
 use Rattle.toml.specs.Data.{Items, Members}
 use Rattle.toml.specs.Parse.{parse_document}
-use Rattle.host_doc.specs.KeyTable.{cores_of, document_keys, format_of, lag_of, quantum_of, sliver_of, vcpus_of}
+use Rattle.host_doc.specs.KeyTable.{cores_of, document_keys, format_of, lag_of, quantum_of, sliver_of, tick_of, vcpus_of}
 use Rattle.host_doc.specs.OtherKeys.{unknown_key}
 use Rattle.host_doc.specs.VcpuFaults.{first_of, vcpus_fault}
 use Rattle.host_doc.specs.Vcpus.{AreVcpusOf}
@@ -26,18 +26,20 @@ members_fault (Err fault) = None
 unfoldable pub first_fault : Members → Option HostFault
 first_fault members =
     first_of (result_err (format_of members)
+    ∷ result_err (tick_of members)
     ∷ result_err (cores_of members)
     ∷ result_err (lag_of members)
     ∷ result_err (sliver_of members)
     ∷ result_err (quantum_of members)
     ∷ result_err (vcpus_of members)
-    ∷ unknown_key (of_document Unknown) document_keys members
+    ∷ unknown_key (of_document Unknown) (document_keys members) members
     ∷ members_fault (vcpus_of members)
     ∷ [])
 
 -- a document without a fault stands for this host
 pub record IsHostOf (members : Members) (host : Host) : Type 0 where
   pub faultless : first_fault members ≡ None
+  pub tick_ns : tick_of members ≡ Ok host.tick_ns
   pub cores : cores_of members ≡ Ok host.cores
   pub lag : lag_of members ≡ Ok host.lag
   pub sliver : sliver_of members ≡ Ok host.sliver

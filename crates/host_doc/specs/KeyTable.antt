@@ -1,19 +1,30 @@
 -- The table of keys of a host document: for each key its value or its fault. A whole number has its
 -- least and its greatest value and its default; a key without a default is required.
-use Rattle.std.specs.Prelude.{ℕ, Bool, false, true, List, [], ◌∷◌, Some, None, Result}
-use Rattle.tab_core.specs.declared.TheConstants.{MAX_CORES, MAX_LATENCY_NS, MAX_SLIVER, ROUND, WHOLE_PPM}
+use Rattle.std.specs.Prelude.{ℕ, Bool, false, true, List, [], ◌∷◌, Some, None, Result, ◌==◌, if◌then◌else◌, Ok, Err}
+use Rattle.tab_core.specs.declared.TheConstants.{MAX_CORES, MAX_LATENCY_NS, MAX_SLIVER, ROUND, WHOLE_PPM, MAX_TICK_NS, MIN_TICK_NS, TICK_NS}
 use Rattle.toml.specs.Data.{Items, no_items, Members}
 use Rattle.host_doc.specs.Path.{of_document, of_vcpu}
 use Rattle.host_doc.specs.Array.{items_at}
 use Rattle.host_doc.specs.Text.{name_text_at}
 use Rattle.host_doc.specs.Value.{integer_at, truth_at}
 use Rattle.host_doc.specs.declared.fault.Key.{Key}
-use Rattle.host_doc.specs.declared.fault.Key.TheVariants.{Format, Cores, Lag, Sliver, Quantum, Vcpu, Name, Admitted, Runnable, Share, Latency, Capped}
+use Rattle.host_doc.specs.declared.fault.Key.TheVariants.{Format, Cores, Lag, Sliver, Quantum, Vcpu, Name, Admitted, Runnable, Share, Latency, Capped, TickNs}
 use Rattle.host_doc.specs.declared.fault.HostFault.{HostFault}
 
--- the format of the document, of which there is one
+-- the format of the document, of which there are two
 abbrev pub format_of : Members → Result ℕ HostFault
-format_of = integer_at (of_document Format) 1 1 (Some 1)
+format_of = integer_at (of_document Format) 1 2 (Some 1)
+
+-- the format is the one that has a key for the tick
+abbrev pub is_second : Result ℕ HostFault → Bool
+is_second (Ok format) = format == 2
+is_second (Err fault) = false
+
+-- the length of a tick, in nanoseconds, which format 1 doesn't name
+abbrev pub tick_of : Members → Result ℕ HostFault
+tick_of members = if is_second (format_of members)
+    then integer_at (of_document TickNs) MIN_TICK_NS MAX_TICK_NS (Some TICK_NS) members
+    else Ok TICK_NS
 
 -- the number of cores
 abbrev pub cores_of : Members → Result ℕ HostFault
@@ -35,9 +46,13 @@ quantum_of = integer_at (of_document Quantum) 1 ROUND (Some 1000)
 abbrev pub vcpus_of : Members → Result Items HostFault
 vcpus_of = items_at (of_document Vcpu) no_items
 
--- the keys of a document
-abbrev pub document_keys : List Key
-document_keys = Format ∷ Cores ∷ Lag ∷ Sliver ∷ Quantum ∷ Vcpu ∷ []
+-- the keys of a document of format 1
+abbrev pub first_keys : List Key
+first_keys = Format ∷ Cores ∷ Lag ∷ Sliver ∷ Quantum ∷ Vcpu ∷ []
+
+-- the keys of a document, of which format 2 has one more
+abbrev pub document_keys : Members → List Key
+document_keys members = if is_second (format_of members) then TickNs ∷ first_keys else first_keys
 
 -- the name of the vCPU of a number, which is required
 abbrev pub name_of : ℕ → Members → Result (List ℕ) HostFault

@@ -1,12 +1,13 @@
 -- The keys of a host document, and where a fault of it stands.
 use Rattle.std.specs.Prelude.{ℕ, List, Some, None, codes}
 use Rattle.host_doc.specs.declared.fault.Key.{Key}
-use Rattle.host_doc.specs.declared.fault.Key.TheVariants.{Format, Cores, Lag, Sliver, Quantum, Vcpu, Name, Admitted, Runnable, Share, Latency, Capped, Unknown}
+use Rattle.host_doc.specs.declared.fault.Key.TheVariants.{Format, Cores, Lag, Sliver, Quantum, Vcpu, Name, Admitted, Runnable, Share, Latency, Capped, Unknown, TickNs}
 use Rattle.host_doc.specs.declared.fault.Path.{Path}
 
 -- the key as it is written
 abbrev pub word_of : Key → List ℕ
 word_of Format = codes "format"
+word_of TickNs = codes "tick_ns"
 word_of Cores = codes "cores"
 word_of Lag = codes "lag"
 word_of Sliver = codes "sliver"

@@ -10,6 +10,7 @@ use std::fmt;
 #[derive(Clone, Copy, Debug, PartialEq, Eq, Hash)]
 pub enum Key {
     Format,
+    TickNs,
     Cores,
     Lag,
     Sliver,
@@ -32,6 +33,7 @@ impl Key {
     {
         match self {
             Key::Format => "format",
+            Key::TickNs => "tick_ns",
             Key::Cores => "cores",
             Key::Lag => "lag",
             Key::Sliver => "sliver",

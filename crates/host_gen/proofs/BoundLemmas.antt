@@ -1,11 +1,12 @@
 -- A generated host lies within the bound of worst fit, and so is refused neither for want of a period
 -- nor of room.
-use Rattle.std.proofs.Common.{◌≡◌, ℕ, ◌+◌, ◌-◌, ◌*◌, ◌%◌, ◌<◌, ◌≤◌, ◌++◌, List, [], ◌∷◌, length, get_or, Option, Some, None, IsSomeAnd, inl, inr, sym, ◌∙◌, arith}
+use Rattle.std.proofs.Common.{◌≡◌, ℕ, ◌+◌, ◌-◌, ◌*◌, ◌%◌, ◌<◌, ◌≤◌, ◌++◌, List, [], ◌∷◌, length, get_or, Option, Some, None, IsSomeAnd, inl, inr, subst, sym, ◌∙◌, arith}
 use Rattle.std.specs.Prelude.{All}
 use Rattle.std.proofs.Math.Nat.{mul-le-mul_left}
 use Rattle.std.proofs.lemmas.List.Elements.{All-from_get_or, All-head, All-tail}
 use Rattle.std.proofs.lemmas.List.Sums.{sum_by-cons}
 use Rattle.std.proofs.lemmas.Option.{slice_get-get_or, slice_get_cases}
+use Rattle.tab_core.specs.declared.TheConstants.{TICK_NS}
 use Rattle.tab_core.specs.declared.host.Host.{Host}
 use Rattle.tab_core.specs.declared.over.Over.{Over}
 use Rattle.tab_core.specs.declared.periodic.Periodic.{Periodic}
@@ -33,14 +34,15 @@ has_whole_period percent second (Some r) is = whole_reservation percent second r
 
 -- so it isn't without a period
 never_lacks : (percent second : ℕ) (reservation : Option Reservation)
-    → IsSomeAnd reservation (IsReservationOf percent (period_of second)) → LacksPeriod reservation → ⊥
+    → IsSomeAnd reservation (IsReservationOf percent (period_of second))
+    → LacksPeriod reservation TICK_NS → ⊥
 never_lacks percent second None is lacks = is
 never_lacks percent second (Some r) is lacks =
     lacks (period_of second, (whole_reservation percent second r is).admissible)
 
 -- and takes 1026 ticks of a round for each percent
 takes : (percent second : ℕ) (reservation : Option Reservation) (task : Option Periodic)
-    → IsSomeAnd reservation (IsReservationOf percent (period_of second)) → IsTaskOf reservation task
+    → IsSomeAnd reservation (IsReservationOf percent (period_of second)) → IsTaskOf reservation TICK_NS task
     → task_demand task ≡ 1026 * percent
 takes percent second None task is of = absurd is
 takes percent second (Some r) None is of = absurd of
@@ -48,7 +50,7 @@ takes percent second (Some r) (Some task) is of = (whole_reservation percent sec
 
 -- which is no more than what the most percent take
 takes_at_most : (most number first second : ℕ) (vcpu : Vcpu) (task : Option Periodic) → 1 ≤ most
-    → IsGeneratedVcpu most number first second vcpu → IsTaskOf vcpu.reservation task
+    → IsGeneratedVcpu most number first second vcpu → IsTaskOf vcpu.reservation TICK_NS task
     → task_demand task ≤ 1026 * most
 takes_at_most most number first second vcpu task some is of =
     let same = takes (percent_of most first) second vcpu.reservation task is.reservation of in
@@ -83,7 +85,7 @@ largest_at_most (task ∷ tasks) most all =
 
 -- each task of a generated host takes no more than the most percent
 each_at_most : (seed cores vcpus : ℕ) (host : Host) (tasks : List (Option Periodic))
-    → 1 ≤ most_percent cores vcpus → IsGenerated seed cores vcpus host → AreTasksOf host.vcpus tasks
+    → 1 ≤ most_percent cores vcpus → IsGenerated seed cores vcpus host → AreTasksOf host tasks
     → All (TakesAtMost (1026 * most_percent cores vcpus)) tasks
 each_at_most seed cores vcpus host tasks some is are =
     All-from_get_or (TakesAtMost (1026 * most_percent cores vcpus)) tasks None (λ k low.
@@ -92,7 +94,8 @@ each_at_most seed cores vcpus host tasks some is are =
       | inl (vcpu, within, at, same) ↦
           takes_at_most (most_percent cores vcpus) k (first_word seed k) (second_word seed k) vcpu
           (get_or tasks k None) some (is.each k vcpu at)
-          (are.each k vcpu (get_or tasks k None) at (slice_get-get_or tasks k None low))
+          (subst (λ tick. IsTaskOf vcpu.reservation tick (get_or tasks k None)) is.tick_ns
+          (are.each k vcpu (get_or tasks k None) at (slice_get-get_or tasks k None low)))
       | inr (past, none) ↦ absurd (omega arith)
     ])
 
@@ -105,7 +108,7 @@ within total largest vcpus others most sum each shared =
 
 -- the law of the bound
 pub within_bound : (seed cores vcpus : ℕ) (host : Host) (tasks : List (Option Periodic))
-    → vcpus ≤ 99 * cores + 1 → IsGenerated seed cores vcpus host → AreTasksOf host.vcpus tasks
+    → vcpus ≤ 99 * cores + 1 → IsGenerated seed cores vcpus host → AreTasksOf host tasks
     → IsWithinBound tasks host.cores
 within_bound seed cores vcpus host tasks shared is are =
     let same = is.cores_are in
@@ -127,10 +130,11 @@ within_bound seed cores vcpus host tasks shared is are =
 
 -- no vCPU of a generated host is without a period
 pub has_periods : (seed cores vcpus : ℕ) (host : Host) (vcpu : ℕ) → IsGenerated seed cores vcpus host
-    → IsFirstWithoutPeriod host.vcpus vcpu → ⊥
+    → IsFirstWithoutPeriod host vcpu → ⊥
 has_periods seed cores vcpus host vcpu is first =
     never_lacks (percent_of (most_percent cores vcpus) (first_word seed vcpu)) (second_word seed vcpu)
-    first.vcpu.reservation (is.each vcpu first.vcpu first.at).reservation first.lacks
+    first.vcpu.reservation (is.each vcpu first.vcpu first.at).reservation
+    (subst (LacksPeriod first.vcpu.reservation) is.tick_ns first.lacks)
 
 -- a list with an element isn't empty
 has_element : (before after : List ℕ) (vcpu : ℕ) → before ++ vcpu ∷ after ≡ [] → ⊥

@@ -152,7 +152,8 @@ pub one_host : (seed cores vcpus : ℕ) (host other : Host) → IsGenerated seed
 one_host seed cores vcpus host other of_host of_other =
     let size = of_host.as_many in
     let as_many = of_other.as_many in
-    same_host host other (of_host.cores_are ∙ sym of_other.cores_are) (of_host.lag ∙ sym of_other.lag)
+    same_host host other (of_host.tick_ns ∙ sym of_other.tick_ns)
+    (of_host.cores_are ∙ sym of_other.cores_are) (of_host.lag ∙ sym of_other.lag)
     (of_host.sliver ∙ sym of_other.sliver) (of_host.quantum ∙ sym of_other.quantum)
     (same_lists host.vcpus other.vcpus (size ∙ sym as_many) (λ k d low.
     let low' : k < length other.vcpus = omega arith in

@@ -4,6 +4,7 @@ use Rattle.std.proofs.Common.{◌≡◌, ℕ, zero, suc, ◌*◌, ◌/◌, ◌<�
 use Rattle.std.proofs.Math.Nat.{mul-le-mul_left}
 use Rattle.std.specs.Prelude.{slice_index}
 use Rattle.tab_core.specs.Period.{is_period}
+use Rattle.tab_core.specs.declared.TheConstants.{TICK_NS}
 use Rattle.tab_core.specs.declared.reservation.Reservation.{Reservation}
 use Rattle.tab_core.proofs.Periods.{period_facts}
 use Rattle.reservation.specs.Cost.{cost, demand}
@@ -56,8 +57,8 @@ whole_period : (percent period : ℕ) (r : Reservation) → IsWhole percent peri
 whole_period percent period r whole is =
     let cost_is : cost r.share_ppm period ≡ period / 100 * percent = rw is.share whole.cost_is in
     let takes : demand_at r period ≡ 1026 * percent = rw cost_is whole.takes in
-    let in_time : MeetsLatency r period = rw (cost_is, is.latency) (omega arith) in
-    let admissible : IsAdmissible r period = record { listed = whole.listed; in_time = in_time } in record {
+    let in_time : MeetsLatency r TICK_NS period = rw (cost_is, is.latency) (omega arith) in
+    let admissible : IsAdmissible r TICK_NS period = record { listed = whole.listed; in_time = in_time } in record {
       admissible = admissible;
       cost_is = cost_is;
       takes = takes;

@@ -56,6 +56,7 @@ AreGenerated seed most vcpus = (number : ℕ) (vcpu : Vcpu) → slice_get vcpus 
 
 -- the host of this seed, of so many cores and vCPUs
 pub record IsGenerated (seed cores vcpus : ℕ) (host : Host) : Type 0 where
+  pub tick_ns : host.tick_ns ≡ TICK_NS
   pub cores_are : host.cores ≡ cores
   pub lag : host.lag ≡ 1000
   pub sliver : host.sliver ≡ 30

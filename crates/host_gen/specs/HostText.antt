@@ -1,6 +1,7 @@
 -- The text of a host, as lines of words. It is a host document in a form of this project's own.
 -- Source of what a document is: TOML v1.1.
-use Rattle.std.specs.Prelude.{ℕ, Bool, true, false, List, [], ◌∷◌, ◌++◌, All, IsSome, codes, decimal, flat_map, Option, Some, None}
+use Rattle.std.specs.Prelude.{ℕ, ◌==◌, if◌then◌else◌, Bool, true, false, List, [], ◌∷◌, ◌++◌, All, IsSome, codes, decimal, flat_map, Option, Some, None}
+use Rattle.tab_core.specs.declared.TheConstants.{TICK_NS}
 use Rattle.tab_core.specs.declared.host.Host.{Host}
 use Rattle.tab_core.specs.declared.reservation.Reservation.{Reservation}
 use Rattle.tab_core.specs.declared.vcpu.Vcpu.{Vcpu}
@@ -23,15 +24,28 @@ abbrev pub truth_word : Bool → List ℕ
 truth_word true = codes "true"
 truth_word false = codes "false"
 
--- the lines of the host's own numbers
-abbrev pub head_lines : Host → List Line
-head_lines host =
-    key_words (codes "format") (codes "1")
-    ∷ key_words (codes "cores") (decimal host.cores)
+-- the tick that the text names, in nanoseconds: the default isn't named
+abbrev pub named_tick : ℕ → Option ℕ
+named_tick tick_ns = if tick_ns == TICK_NS then None else Some tick_ns
+
+-- the lines of the format, which is 2 where a tick is named
+abbrev pub format_lines : Option ℕ → List Line
+format_lines None = key_words (codes "format") (codes "1") ∷ []
+format_lines (Some tick_ns) =
+    key_words (codes "format") (codes "2") ∷ key_words (codes "tick_ns") (decimal tick_ns) ∷ []
+
+-- those of the other numbers of the host itself
+abbrev pub number_lines : Host → List Line
+number_lines host =
+    key_words (codes "cores") (decimal host.cores)
     ∷ key_words (codes "lag") (decimal host.lag)
     ∷ key_words (codes "sliver") (decimal host.sliver)
     ∷ key_words (codes "quantum") (decimal host.quantum)
     ∷ []
+
+-- all lines in front of the vCPUs'
+abbrev pub head_lines : Host → List Line
+head_lines host = format_lines (named_tick host.tick_ns) ++ number_lines host
 
 -- the line of a capped vCPU; one that isn't has none
 abbrev pub capped_lines : Bool → List Line

@@ -13,7 +13,7 @@ use tab_core::{Host, Name, NameFault, NoMemory, Reservation, TICK_NS, Vcpu, Vcpu
 // The periods that latencies are made of, in ticks.
 const WHOLE_PERIODS: [u32; 6] = [100, 300, 900, 2700, 5700, 11_400];
 
-/// The host of a seed, of so many cores and vCPUs. Each vCPU is admitted, and none is capped.
+/// The host of a seed, of so many cores and vCPUs, with the default tick. Each vCPU is admitted, and none is capped.
 ///
 /// There are 1 to 32 cores, and at most 256 vCPUs and at most 99 to each core and one more. The lag is
 /// 1000 ticks, the sliver 30 and the quantum 1000. A vCPU's share is a whole percent of a core, such
@@ -38,6 +38,7 @@ pub fn generate(alloc: Global, seed: u64, cores: u32, vcpus: u32) -> Result<Host
         made.push(vcpu_of(alloc, most, number, first, second)?)?;
     }
     Ok(Host {
+        tick_ns: TICK_NS,
         cores,
         lag: 1000,
         sliver: 30,
@@ -98,7 +99,7 @@ fn reservation_of(percent: u32, period: u32) -> Reservation
     let idle = period - period / 100 * percent;
     Reservation {
         share_ppm: 10_000 * percent,
-        latency_ns: 2 * u64::from(idle) * TICK_NS,
+        latency_ns: 2 * u64::from(idle) * u64::from(TICK_NS),
     }
 }
 

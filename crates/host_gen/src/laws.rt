@@ -33,10 +33,10 @@ pub fn a_generated_vcpu_has_its_period()
 /// nor of room.
 pub fn a_generated_host_is_within_the_bound()
     ensures bound { (seed cores vcpus : ℕ) (host : Host) (tasks : List (Option Periodic))
-        → vcpus ≤ 99 * cores + 1 → IsGenerated seed cores vcpus host → AreTasksOf host.vcpus tasks
+        → vcpus ≤ 99 * cores + 1 → IsGenerated seed cores vcpus host → AreTasksOf host tasks
         → IsWithinBound tasks host.cores }
     ensures no_period { (seed cores vcpus : ℕ) (host : Host) (vcpu : ℕ)
-        → IsGenerated seed cores vcpus host → IsFirstWithoutPeriod host.vcpus vcpu → ⊥ }
+        → IsGenerated seed cores vcpus host → IsFirstWithoutPeriod host vcpu → ⊥ }
     ensures no_room { (seed cores vcpus : ℕ) (host : Host) (vcpu rest : ℕ) (over : List Over)
         → vcpus ≤ 99 * cores + 1 → IsGenerated seed cores vcpus host
         → IsFirstWithoutRoom host vcpu rest over → ⊥ }

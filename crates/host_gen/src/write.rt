@@ -1,13 +1,14 @@
 ghost use Rattle.std.specs.Prelude.{◌≡◌, ◌++◌, IsSome, flat_map};
 ghost use Rattle.tab_io.specs.Sinks.{Writes};
 ghost use Rattle.tab_words.specs.Texts.{text_of};
-ghost use Rattle.host_gen.specs.HostText.{AreAdmitted, capped_lines, head_lines, host_text, truth_word, vcpu_text};
+ghost use Rattle.host_gen.specs.HostText.{AreAdmitted, capped_lines, head_lines, host_text, truth_word, vcpu_text, format_lines, named_tick, number_lines};
 
-use tab_core::{Host, Vcpu};
-use tab_io::{Sink, WriteFault};
+use tab_core::{Host, TICK_NS, Vcpu};
+use tab_io::{Sink, WriteFault, write_all};
 use tab_words::{TextPiece, put_pieces};
 
-/// Writes the host document of a host whose vCPUs are all admitted.
+/// Writes the host document of a host whose vCPUs are all admitted: in format 1 where its tick is the
+/// default, and otherwise in format 2, which names the tick.
 ///
 /// A fault leaves a front of the text in the sink. Nothing is settled.
 pub fn write_host<K: Sink>(sink: &mut K, host: &Host) -> Result<(), WriteFault>
@@ -22,10 +23,35 @@ pub fn write_host<K: Sink>(sink: &mut K, host: &Host) -> Result<(), WriteFault>
 fn put_head<K: Sink>(sink: &mut K, host: &Host) -> Result<(), WriteFault>
     ensures { Writes (K.state sink.old) (K.state sink.new) (text_of (head_lines host.now)) result }
 {
+    put_format(sink, host.tick_ns)?;
+    put_numbers(sink, host)
+}
+
+// Writes the line of the format, and that of the tick where it is named.
+fn put_format<K: Sink>(sink: &mut K, tick_ns: u32) -> Result<(), WriteFault>
+    ensures { Writes (K.state sink.old) (K.state sink.new) (text_of (format_lines (named_tick tick_ns))) result }
+{
+    if tick_ns == TICK_NS {
+        return write_all(sink, b"format = 1\n");
+    }
     put_pieces(
         sink,
         &[
-            TextPiece::Text(b"format = 1\ncores = "),
+            TextPiece::Text(b"format = 2\ntick_ns = "),
+            TextPiece::Number(tick_ns),
+            TextPiece::Text(b"\n"),
+        ],
+    )
+}
+
+// Writes the lines of the host's other numbers.
+fn put_numbers<K: Sink>(sink: &mut K, host: &Host) -> Result<(), WriteFault>
+    ensures { Writes (K.state sink.old) (K.state sink.new) (text_of (number_lines host.now)) result }
+{
+    put_pieces(
+        sink,
+        &[
+            TextPiece::Text(b"cores = "),
             TextPiece::Number(host.cores),
             TextPiece::Text(b"\nlag = "),
             TextPiece::Number(host.lag),

@@ -1,5 +1,5 @@
 -- The text of a host is ASCII, and so UTF-8.
-use Rattle.std.proofs.Common.{◌≡◌, ℕ, ◌^◌, ◌<◌, Bool, true, false, nat_lt, List, [], ◌∷◌, ◌++◌, codes, decimal, flat_map, map, refl, sym, subst, arith}
+use Rattle.std.proofs.Common.{◌≡◌, ℕ, ◌^◌, ◌<◌, ◌≤◌, Option, None, Some, Bool, true, false, nat_lt, List, [], ◌∷◌, ◌++◌, codes, decimal, flat_map, map, refl, sym, subst, arith, IfSome}
 use Rattle.std.proofs.lemmas.Bool.{and_parts}
 use Rattle.std.proofs.lemmas.Bool.Decides.{nat_tests}
 use Rattle.std.proofs.lemmas.Fmt.{IsAscii-decimal}
@@ -7,11 +7,12 @@ use Rattle.std.proofs.lemmas.Str.{IsAscii-append}
 use Rattle.std.proofs.lemmas.Str.Ascii.{IsAscii-cons, IsAscii-nil}
 use Rattle.std.specs.List.{list_all}
 use Rattle.std.specs.Str.{IsAscii}
+use Rattle.tab_core.specs.declared.TheConstants.{MAX_TICK_NS}
 use Rattle.tab_core.specs.Name.{IsName, is_byte_of_name}
 use Rattle.tab_core.specs.declared.host.Host.{Host}
 use Rattle.tab_words.specs.Texts.{line_of, text_of}
-use Rattle.host_gen.specs.HostText.{capped_lines, head_lines, host_text, truth_word, vcpu_text}
-use Rattle.host_gen.proofs.HostTextLemmas.{head_pieces, vcpu_pieces}
+use Rattle.host_gen.specs.HostText.{capped_lines, head_lines, host_text, truth_word, vcpu_text, format_lines, named_tick, number_lines}
+use Rattle.host_gen.proofs.HostTextLemmas.{vcpu_pieces, first_pieces, head_parts, if_named, number_pieces, second_pieces}
 use Rattle.host_text.proofs.ByteLemmas.{name_bytes, weaker}
 use Rattle.host_text.proofs.Statements.{AreNamed, Statement, vcpu_of}
 
@@ -49,13 +50,28 @@ numbered bs n rest all low more =
     IsAscii-append bs (decimal n ++ rest) (literal bs all)
     (IsAscii-append (decimal n) rest (IsAscii-decimal n low) more)
 
--- the lines of the host's own numbers
-head : (host : Host) → IsAscii (text_of (head_lines host))
-head host = subst IsAscii (sym (head_pieces host))
-    (numbered (codes "format = 1\ncores = ") host.cores _ refl (omega arith)
+-- the lines of the format and of a named tick
+format : (named : Option ℕ) → IfSome named (λ tick. tick ≤ MAX_TICK_NS)
+    → IsAscii (text_of (format_lines named))
+format None low = subst IsAscii (sym first_pieces) (literal (codes "format = 1\n") refl)
+format (Some tick) low = subst IsAscii (sym (second_pieces tick))
+    (numbered (codes "format = 2\ntick_ns = ") tick _ refl (omega arith) (literal (codes "\n") refl))
+
+-- the lines of the host's other numbers
+numbers : (host : Host) → IsAscii (text_of (number_lines host))
+numbers host = subst IsAscii (sym (number_pieces host))
+    (numbered (codes "cores = ") host.cores _ refl (omega arith)
     (numbered (codes "\nlag = ") host.lag _ refl (omega arith)
     (numbered (codes "\nsliver = ") host.sliver _ refl (omega arith)
     (numbered (codes "\nquantum = ") host.quantum _ refl (omega arith) (literal (codes "\n") refl)))))
+
+-- all lines in front of the vCPUs'
+head : (host : Host) → IsAscii (text_of (head_lines host))
+head host = subst IsAscii (sym (head_parts host))
+    (IsAscii-append (text_of (format_lines (named_tick host.tick_ns))) (text_of (number_lines host))
+    (format (named_tick host.tick_ns)
+    (if_named (λ tick. tick ≤ MAX_TICK_NS) host.tick_ns host.tick_at_most))
+    (numbers host))
 
 -- the lines of a vCPU
 statement : (s : Statement) → IsName s.name → IsAscii (vcpu_text (vcpu_of s))

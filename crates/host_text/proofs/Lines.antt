@@ -1,5 +1,5 @@
 -- The text of a host is the lines of its expressions.
-use Rattle.std.proofs.Common.{◌≡◌, ℕ, ◌^◌, ◌<◌, pos, Bool, true, false, ◌==◌, List, [], ◌∷◌, ◌++◌, codes, decimal, flat_map, map, refl, sym, ap, ◌∙◌, arith, append-nil}
+use Rattle.std.proofs.Common.{◌≡◌, ℕ, ◌+◌, ◌^◌, ◌<◌, ◌≤◌, Option, None, Some, pos, Bool, true, false, ◌==◌, List, [], ◌∷◌, ◌++◌, codes, decimal, flat_map, map, refl, sym, ap, ◌∙◌, arith, append-nil, IfSome}
 use Rattle.std.proofs.lemmas.Bool.{and_parts}
 use Rattle.std.proofs.lemmas.Bool.Decides.{nat_tests}
 use Rattle.std.proofs.lemmas.Fmt.{decimal_digit}
@@ -7,6 +7,7 @@ use Rattle.std.proofs.lemmas.Int.{fits_signed_from_abs}
 use Rattle.std.specs.Int.{w64}
 use Rattle.std.specs.List.{list_all, list_any}
 use Rattle.tab_core.specs.Name.{IsName, is_byte_of_name}
+use Rattle.tab_core.specs.declared.TheConstants.{MAX_TICK_NS}
 use Rattle.tab_core.specs.declared.host.Host.{Host}
 use Rattle.tab_words.specs.Texts.{line_of, text_of}
 use Rattle.toml_writer.specs.Text.{escaped, encoding_of, has, is_control, key_text, needs_escape, quotes_after, string_text}
@@ -14,10 +15,10 @@ use Rattle.toml.specs.Data.{Data, string, integer, boolean}
 use Rattle.toml.specs.Tables.{Expression, key_value}
 use Rattle.toml.specs.Text.{IsLineText, IsLinesText, IsValueText}
 use Rattle.toml.proofs.Lines.{IsLinesText-append}
-use Rattle.host_gen.specs.HostText.{Line, capped_lines, head_lines, host_text, key_words, quoted, truth_word, vcpu_text}
-use Rattle.host_gen.proofs.HostTextLemmas.{key_line}
+use Rattle.host_gen.specs.HostText.{Line, capped_lines, host_text, key_words, quoted, truth_word, vcpu_text, format_lines, named_tick, number_lines}
+use Rattle.host_gen.proofs.HostTextLemmas.{key_line, if_named}
 use Rattle.host_text.proofs.ByteLemmas.{name_bytes}
-use Rattle.host_text.proofs.Statements.{AreNamed, Statement, capped_expressions, head_expressions, settings_expressions, settings_lines, vcpu_expressions, vcpu_of, vcpus_expressions}
+use Rattle.host_text.proofs.Statements.{AreNamed, Statement, capped_expressions, head_expressions, settings_expressions, settings_lines, vcpu_expressions, vcpu_of, vcpus_expressions, expressions_with, number_expressions}
 
 -- ---- values
 
@@ -110,16 +111,31 @@ line_and : (started : Bool) (e : Expression) (es : List Expression) (line : Line
 line_and started e es line lines first more =
     record { text = (line_of line, text_of lines, refl, first, more.text) }
 
--- the lines of the host's own numbers
-head_text : (host : Host) → AreLines false (head_expressions host) (head_lines host)
+-- the line of the format
+format_line : (format : ℕ) → format < 10
+    → IsLineText false false ([], codes "format") (key_value (integer (pos format)))
+    (line_of (key_words (codes "format") ((48 + format) ∷ [])))
 unfolding key_text
-head_text host =
-    line_and false _ _ _ _ (pair_line false (codes "format") (codes "1") (integer (pos 1)) refl
-    (sym (decimal_digit 1 (omega arith)), fits_signed_from_abs w64 (pos 1) (omega arith)))
-    (line_and true _ _ _ _ (number_line true (codes "cores") host.cores refl (omega arith))
+format_line format low = pair_line false (codes "format") ((48 + format) ∷ []) (integer (pos format)) refl
+    (sym (decimal_digit format low), fits_signed_from_abs w64 (pos format) (omega arith))
+
+-- the lines of the host's numbers behind its format and its tick
+numbers_text : (host : Host) → AreLines true (number_expressions host) (number_lines host)
+unfolding key_text
+numbers_text host =
+    line_and true _ _ _ _ (number_line true (codes "cores") host.cores refl (omega arith))
     (line_and true _ _ _ _ (number_line true (codes "lag") host.lag refl (omega arith))
     (line_and true _ _ _ _ (number_line true (codes "sliver") host.sliver refl (omega arith))
-    (line_and true _ _ _ _ (number_line true (codes "quantum") host.quantum refl (omega arith)) no_line))))
+    (line_and true _ _ _ _ (number_line true (codes "quantum") host.quantum refl (omega arith)) no_line)))
+
+-- those lines with their format, and with a tick where one is named
+lines_with : (named : Option ℕ) (host : Host) → IfSome named (λ tick. tick ≤ MAX_TICK_NS)
+    → AreLines false (expressions_with named host) (format_lines named ++ number_lines host)
+unfolding key_text
+lines_with None host low = line_and false _ _ _ _ (format_line 1 (omega arith)) (numbers_text host)
+lines_with (Some tick) host low =
+    line_and false _ _ _ _ (format_line 2 (omega arith))
+    (line_and true _ _ _ _ (number_line true (codes "tick_ns") tick refl (omega arith)) (numbers_text host))
 
 -- the line of a capped vCPU
 capped_text : (capped : Bool) → AreLines true (capped_expressions capped) (capped_lines capped)
@@ -153,11 +169,23 @@ statements_text (s ∷ ss) good =
     IsLinesText-append false true (vcpu_expressions s) (vcpus_expressions ss) _ _ (statement_text s good.0)
     (statements_text ss good.1)
 
+-- all lines, with a tick where one is named
+all_text : (named : Option ℕ) (host : Host) (ss : List Statement) → IfSome named (λ tick. tick ≤ MAX_TICK_NS)
+    → AreNamed ss
+    → IsLinesText false false (expressions_with named host ++ vcpus_expressions ss)
+    (text_of (format_lines named ++ number_lines host) ++ flat_map vcpu_text (map vcpu_of ss))
+all_text None host ss low good =
+    IsLinesText-append false false (expressions_with None host) (vcpus_expressions ss) _ _
+    (lines_with None host low).text (statements_text ss good)
+all_text (Some tick) host ss low good =
+    IsLinesText-append false false (expressions_with (Some tick) host) (vcpus_expressions ss) _ _
+    (lines_with (Some tick) host low).text (statements_text ss good)
+
 -- so the text of a host is the lines of its expressions
 pub host_lines : (host : Host) (ss : List Statement) → map vcpu_of ss ≡ host.vcpus
     → AreNamed ss
     → IsLinesText false false (head_expressions host ++ vcpus_expressions ss) (host_text host)
 unfolding host_text
 host_lines host ss are good =
-    IsLinesText-append false false (head_expressions host) (vcpus_expressions ss) _ _ (head_text host).text
-    (rw are at (statements_text ss good))
+    rw are at (all_text (named_tick host.tick_ns) host ss
+    (if_named (λ tick. tick ≤ MAX_TICK_NS) host.tick_ns host.tick_at_most) good)

@@ -1,5 +1,5 @@
 -- The document's members stand for the host.
-use Rattle.std.proofs.Common.{◌≡◌, ℕ, zero, suc, ◌+◌, ◌≤◌, pos, true, false, List, [], ◌∷◌, ◌++◌, length, map, slice_get, Some, None, Ok, refl, sym, ap, subst, ◌∙◌, arith, bytes_eq}
+use Rattle.std.proofs.Common.{◌≡◌, ℕ, zero, suc, ◌+◌, ◌≤◌, pos, true, false, List, [], ◌∷◌, ◌++◌, length, map, slice_get, Some, None, Ok, refl, sym, ap, subst, ◌∙◌, arith, bytes_eq, unwrap_or, Option, IfSome}
 use Rattle.std.proofs.lemmas.Bool.Decides.{nat_tests}
 use Rattle.std.proofs.lemmas.List.{length-map}
 use Rattle.std.proofs.lemmas.List.Folds.{list_any-append}
@@ -7,23 +7,25 @@ use Rattle.std.proofs.lemmas.Slice.Eq.{bytes_eq-Decides}
 use Rattle.std.specs.List.{AllByRecursion, list_any}
 use Rattle.tab_core.specs.Name.{IsName}
 use Rattle.tab_core.specs.Vcpus.{HaveDistinctNames}
-use Rattle.tab_core.specs.declared.TheConstants.{MAX_CORES, MAX_LATENCY_NS, MAX_SLIVER, MAX_VCPUS, ROUND, WHOLE_PPM}
+use Rattle.tab_core.specs.declared.TheConstants.{MAX_CORES, MAX_LATENCY_NS, MAX_SLIVER, MAX_TICK_NS, MAX_VCPUS, MIN_TICK_NS, ROUND, TICK_NS, WHOLE_PPM}
 use Rattle.tab_core.specs.declared.host.Host.{Host}
 use Rattle.tab_core.specs.declared.reservation.Reservation.{Reservation}
 use Rattle.tab_core.specs.declared.vcpu.Vcpu.{Vcpu}
 use Rattle.toml.specs.Data.{Items, Members, get_item, table}
 use Rattle.host_doc.specs.Array.{count_of, limited}
 use Rattle.host_doc.specs.Document.{IsHostOf, first_fault}
-use Rattle.host_doc.specs.KeyTable.{admitted_of, capped_of, cores_of, document_keys, lag_of, latency_of, name_of, quantum_of, runnable_of, share_of, sliver_of, vcpu_keys, vcpus_of}
+use Rattle.host_doc.specs.KeyTable.{admitted_of, capped_of, cores_of, document_keys, lag_of, latency_of, name_of, quantum_of, runnable_of, share_of, sliver_of, vcpu_keys, vcpus_of, format_of as format_key, tick_of}
 use Rattle.host_doc.specs.OtherKeys.{unknown_key}
 use Rattle.host_doc.specs.Path.{of_document, of_vcpu}
 use Rattle.host_doc.specs.Value.{in_range}
 use Rattle.host_doc.specs.VcpuFaults.{settings_fault, vcpus_fault}
 use Rattle.host_doc.specs.Vcpus.{AreVcpusOf, IsVcpuOf}
-use Rattle.host_doc.specs.declared.fault.Key.TheVariants.{Cores, Lag, Latency, Quantum, Share, Sliver, Unknown, Vcpu as VcpuKey}
+use Rattle.host_doc.specs.declared.fault.Key.TheVariants.{Cores, Lag, Latency, Quantum, Share, Sliver, TickNs, Unknown, Vcpu as VcpuKey}
 use Rattle.host_doc.specs.declared.fault.Path.{Path}
 use Rattle.host_doc.proofs.VcpusLemmas.{fault_named, names_named}
-use Rattle.host_text.proofs.Statements.{AreNamed, Statement, either_way, host_members, vcpu_items, vcpu_members, vcpu_of}
+use Rattle.host_text.proofs.Statements.{AreNamed, Statement, either_way, host_members, vcpu_items, vcpu_members, vcpu_of, format_of, members_with}
+use Rattle.host_gen.specs.HostText.{named_tick}
+use Rattle.host_gen.proofs.HostTextLemmas.{if_named, named_is}
 
 -- ---- values
 
@@ -166,17 +168,36 @@ few_taken : (path : Path) (items : Items) → count_of items ≤ MAX_VCPUS → l
 few_taken path items few = grind (arith, nat_tests)
 
 -- so the one of the document is
-array_taken : (host : Host) (ss : List Statement) → length ss ≤ MAX_VCPUS
-    → vcpus_of (host_members host ss) ≡ Ok (vcpu_items ss)
-array_taken host [] few = refl
-array_taken host (s ∷ ss) few =
+array_taken : (named : Option ℕ) (host : Host) (ss : List Statement) → length ss ≤ MAX_VCPUS
+    → vcpus_of (members_with named host ss) ≡ Ok (vcpu_items ss)
+array_taken None host [] few = refl
+array_taken (Some tick) host [] few = refl
+array_taken None host (s ∷ ss) few =
+    few_taken (of_document VcpuKey) (vcpu_items (s ∷ ss)) (omega (arith, count (s ∷ ss)))
+array_taken (Some tick) host (s ∷ ss) few =
     few_taken (of_document VcpuKey) (vcpu_items (s ∷ ss)) (omega (arith, count (s ∷ ss)))
 
--- the document has no other keys
-known : (host : Host) (ss : List Statement)
-    → unknown_key (of_document Unknown) document_keys (host_members host ss) ≡ None
-known host [] = refl
-known host (s ∷ ss) = refl
+-- the format is one of the two
+format_taken : (named : Option ℕ) (host : Host) (ss : List Statement)
+    → format_key (members_with named host ss) ≡ Ok (format_of named)
+format_taken None host ss = refl
+format_taken (Some tick) host ss = refl
+
+-- the tick is the named one or the default
+tick_taken : (named : Option ℕ) (host : Host) (ss : List Statement)
+    → IfSome named (λ tick. (MIN_TICK_NS ≤ tick) × (tick ≤ MAX_TICK_NS))
+    → tick_of (members_with named host ss) ≡ Ok (unwrap_or named TICK_NS)
+tick_taken None host ss low = refl
+tick_taken (Some tick) host ss low = taken (of_document TickNs) MIN_TICK_NS MAX_TICK_NS tick low.0 low.1
+
+-- the document has no other keys than its format's
+known : (named : Option ℕ) (host : Host) (ss : List Statement)
+    → unknown_key (of_document Unknown) (document_keys (members_with named host ss)) (members_with named host ss)
+    ≡ None
+known None host [] = refl
+known None host (s ∷ ss) = refl
+known (Some tick) host [] = refl
+known (Some tick) host (s ∷ ss) = refl
 
 -- what the statements keep
 pub record AreGood (ss : List Statement) : Type 0 where
@@ -184,12 +205,15 @@ pub record AreGood (ss : List Statement) : Type 0 where
   pub named : AreNamed ss
   pub apart : Apart ss
 
--- the members stand for the host of these vCPUs
-pub members_stand : (host : Host) (ss : List Statement) → AreGood ss → map vcpu_of ss ≡ host.vcpus
-    → IsHostOf (host_members host ss) host
+-- the members stand for the host of these vCPUs, with the tick that is named, if one is
+stand_with : (named : Option ℕ) (host : Host) (ss : List Statement)
+    → IfSome named (λ tick. (MIN_TICK_NS ≤ tick) × (tick ≤ MAX_TICK_NS))
+    → unwrap_or named TICK_NS ≡ host.tick_ns → AreGood ss → map vcpu_of ss ≡ host.vcpus
+    → IsHostOf (members_with named host ss) host
 unfolding first_fault
-members_stand host ss good are =
-    let members = host_members host ss in
+stand_with named host ss low is good are =
+    let members = members_with named host ss in
+    let tick : tick_of members ≡ Ok host.tick_ns = tick_taken named host ss low ∙ ap Ok is in
     let cores : cores_of members ≡ Ok host.cores =
     taken (of_document Cores) 1 MAX_CORES host.cores host.some_core host.few_cores in
     let lag : lag_of members ≡ Ok host.lag =
@@ -198,16 +222,34 @@ members_stand host ss good are =
     taken (of_document Sliver) 0 MAX_SLIVER host.sliver (omega arith) host.small_sliver in
     let quantum : quantum_of members ≡ Ok host.quantum =
     taken (of_document Quantum) 1 ROUND host.quantum host.some_quantum host.quantum_in_round in
-    let array = array_taken host ss good.few in
+    let array = array_taken named host ss good.few in
     record {
-      faultless = rw (cores, lag, sliver, quantum, array, known host ss)
+      faultless = rw (
+        tick,
+        known named host ss,
+        format_taken named host ss,
+        cores,
+        lag,
+        sliver,
+        quantum,
+        array,
+      )
           (rw (faultless [] 0 ss good.named (all_new ss) good.apart));
+      tick_ns = tick;
       cores = cores;
       lag = lag;
       sliver = sliver;
       quantum = quantum;
       vcpus = rw (array, ← are) (all_stand ss good.named);
     }
+
+-- and so with the host's own
+pub members_stand : (host : Host) (ss : List Statement) → AreGood ss → map vcpu_of ss ≡ host.vcpus
+    → IsHostOf (host_members host ss) host
+members_stand host ss = stand_with (named_tick host.tick_ns) host ss
+    (if_named (λ tick. (MIN_TICK_NS ≤ tick) × (tick ≤ MAX_TICK_NS)) host.tick_ns
+    (host.tick_at_least, host.tick_at_most))
+    (named_is host.tick_ns)
 
 -- ---- what the statements of a host keep
 

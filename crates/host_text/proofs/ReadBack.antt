@@ -1,5 +1,5 @@
 -- The text of a host is read back as that host.
-use Rattle.std.proofs.Common.{◌≡◌, ℕ, ◌+◌, ◌*◌, ◌≤◌, suc, Bool, true, false, List, [], ◌∷◌, ◌++◌, length, map, get_or, Some, refl, sym, ap, subst, ◌∙◌, arith}
+use Rattle.std.proofs.Common.{◌≡◌, ℕ, ◌+◌, ◌*◌, ◌≤◌, suc, Bool, true, false, List, [], ◌∷◌, ◌++◌, length, map, get_or, Some, refl, sym, ap, subst, ◌∙◌, arith, flat_map, Option, None}
 use Rattle.std.proofs.lemmas.List.{length-map}
 use Rattle.std.proofs.lemmas.List.Elements.{All-tail}
 use Rattle.std.proofs.lemmas.Option.{slice_get-get_or}
@@ -11,14 +11,14 @@ use Rattle.tab_core.specs.declared.TheConstants.{MAX_VCPUS}
 use Rattle.tab_core.specs.declared.host.Host.{Host}
 use Rattle.tab_core.specs.declared.vcpu.Vcpu.{Vcpu}
 use Rattle.tab_words.specs.Sections.{sections_of}
-use Rattle.tab_words.specs.Texts.{line_of}
+use Rattle.tab_words.specs.Texts.{line_of, text_of}
 use Rattle.toml.specs.Parse.{parse_document, skip_bom}
 use Rattle.toml.specs.Tables.{Expression, no_nodes}
 use Rattle.toml.proofs.ReadLines.{AllPrinted, read_lines}
 use Rattle.toml.proofs.Turns.{document_some}
 use Rattle.host_doc.specs.Document.{IsHostText}
 use Rattle.host_gen.specs.Generated.{IsGenerated, most_percent}
-use Rattle.host_gen.specs.HostText.{host_text}
+use Rattle.host_gen.specs.HostText.{host_text, Line, format_lines, named_tick, number_lines, vcpu_text}
 use Rattle.host_gen.proofs.GeneratedLemmas.{admitted, distinct, is_good_name, none_capped}
 use Rattle.host_text.specs.Admitted.{IsAdmittedHost}
 use Rattle.host_text.proofs.AsciiLemmas.{host_ascii}
@@ -27,7 +27,7 @@ use Rattle.host_text.proofs.Members.{AreGood, are_apart, members_stand}
 use Rattle.host_text.proofs.Running.{all_run}
 use Rattle.host_text.proofs.SectionLemmas.{host_section}
 use Rattle.host_text.proofs.SizeLemmas.{host_size}
-use Rattle.host_text.proofs.Statements.{AreNamed, Statement, capped_expressions, head_expressions, host_members, stated, vcpu_of, vcpus_expressions}
+use Rattle.host_text.proofs.Statements.{AreNamed, Statement, capped_expressions, head_expressions, host_members, stated, vcpu_of, vcpus_expressions, expressions_with, number_expressions}
 
 -- that of a capped vCPU is of the kinds that a printed document has, in front of others
 capped_printed : (capped : Bool) (es : List Expression) → AllPrinted es
@@ -52,22 +52,33 @@ all_printed (s ∷ ss) = (
   ),
 )
 
-printed : (host : Host) (ss : List Statement) → AllPrinted (head_expressions host ++ vcpus_expressions ss)
-printed host ss = (
+numbers_printed : (host : Host) (ss : List Statement)
+    → AllPrinted (number_expressions host ++ vcpus_expressions ss)
+numbers_printed host ss = (
   (refl, omega arith, refl),
   (
     (refl, omega arith, refl),
-    (
-      (refl, omega arith, refl),
-      ((refl, omega arith, refl), ((refl, omega arith, refl), all_printed ss)),
-    ),
+    ((refl, omega arith, refl), ((refl, omega arith, refl), all_printed ss)),
   ),
 )
 
--- the text has no byte order mark
+printed : (named : Option ℕ) (host : Host) (ss : List Statement)
+    → AllPrinted (expressions_with named host ++ vcpus_expressions ss)
+printed None host ss = ((refl, omega arith, refl), numbers_printed host ss)
+printed (Some tick) host ss =
+    ((refl, omega arith, refl), ((refl, omega arith, refl), numbers_printed host ss))
+
+-- no text that begins with its format has a byte order mark
+none_before : (named : Option ℕ) (lines : List Line) (rest : List ℕ)
+    → skip_bom (text_of (format_lines named ++ lines) ++ rest) ≡ text_of (format_lines named ++ lines) ++ rest
+unfolding skip_bom line_of
+none_before None lines rest = refl
+none_before (Some tick) lines rest = refl
+
+-- so the text has none
 no_mark : (host : Host) → skip_bom (host_text host) ≡ host_text host
-unfolding skip_bom host_text line_of
-no_mark host = refl
+unfolding host_text
+no_mark host = none_before (named_tick host.tick_ns) (number_lines host) (flat_map vcpu_text host.vcpus)
 
 -- the text is a document of the host's members
 document : (host : Host) (ss : List Statement) → map vcpu_of ss ≡ host.vcpus
@@ -76,9 +87,9 @@ document : (host : Host) (ss : List Statement) → map vcpu_of ss ≡ host.vcpus
 document host ss are good =
     let text = host_text host in
     let es = head_expressions host ++ vcpus_expressions ss in
-    let defined = all_run host ss in
+    let defined = all_run (named_tick host.tick_ns) host ss in
     let read = read_lines false false es text text (no_nodes, []) (suc (length text))
-    (host_lines host ss are good) (printed host ss) refl (omega arith) in
+    (host_lines host ss are good) (printed (named_tick host.tick_ns) host ss) refl (omega arith) in
     document_some text defined.last (rw (no_mark host) (read ∙ defined.runs)) ∙ ap Some defined.closes
 
 -- what the statements keep

@@ -1,10 +1,11 @@
 -- The text of a host is one section: no line of it is a separator.
-use Rattle.std.proofs.Common.{◌≡◌, ℕ, ◌^◌, ◌<◌, Bool, true, false, not, ◌==◌, List, [], ◌∷◌, ◌++◌, codes, decimal, flat_map, length, map, nat_lt, refl, sym, ap, subst, ◌∙◌, arith, append_assoc}
+use Rattle.std.proofs.Common.{◌≡◌, ℕ, ◌^◌, ◌<◌, ◌≤◌, Option, None, Some, Bool, true, false, not, ◌==◌, List, [], ◌∷◌, ◌++◌, codes, decimal, flat_map, length, map, nat_lt, refl, sym, ap, subst, ◌∙◌, arith, append_assoc, IfSome}
 use Rattle.std.proofs.lemmas.Bool.{and_parts}
 use Rattle.std.proofs.lemmas.Bool.Decides.{nat_tests}
 use Rattle.std.proofs.lemmas.List.Folds.{list_all-append}
 use Rattle.std.specs.List.{list_all, onto_first}
 use Rattle.tab_core.specs.Name.{IsName, is_byte_of_name}
+use Rattle.tab_core.specs.declared.TheConstants.{MAX_TICK_NS}
 use Rattle.tab_core.specs.declared.host.Host.{Host}
 use Rattle.tab_words.specs.Lines.{raw_lines_of}
 use Rattle.tab_words.specs.Sections.{is_separator, sections_of}
@@ -12,8 +13,8 @@ use Rattle.tab_words.proofs.LineLemmas.{raw_lines_of-line}
 use Rattle.tab_words.specs.Texts.{line_of, text_of}
 use Rattle.tab_words.proofs.SectionLemmas.{extend, sections_of-nil, sections_of-row}
 use Rattle.tab_words.proofs.TextLemmas.{decimal_word, is_plain}
-use Rattle.host_gen.specs.HostText.{Line, capped_lines, head_lines, host_text, key_words, quoted, truth_word, vcpu_text}
-use Rattle.host_gen.proofs.HostTextLemmas.{key_line}
+use Rattle.host_gen.specs.HostText.{Line, capped_lines, head_lines, host_text, key_words, quoted, truth_word, vcpu_text, format_lines, named_tick, number_lines}
+use Rattle.host_gen.proofs.HostTextLemmas.{key_line, if_named}
 use Rattle.host_text.proofs.ByteLemmas.{name_bytes, weaker}
 use Rattle.host_text.proofs.Statements.{AreNamed, Statement, settings_lines, vcpu_of}
 
@@ -91,11 +92,10 @@ pair_line key value of_key of_value other rest one =
     key_line key value rest ∙ sym (append_assoc key (codes " = " ++ value) (10 ∷ rest)) in
     subst IsOneSection (sym same) (line_more line rest all other one)
 
--- the lines of the host's own numbers
-head_keeps : (host : Host) → KeepsSection (head_lines host)
-head_keeps host =
-    line_and _ _ (pair_line (codes "format") (codes "1") refl refl refl)
-    (line_and _ _
+-- the lines of the host's numbers behind its format and its tick
+numbers_keep : (host : Host) → KeepsSection (number_lines host)
+numbers_keep host =
+    line_and _ _
     (pair_line (codes "cores") (decimal host.cores) refl (digits_inside host.cores (omega arith)) refl)
     (line_and _ _
     (pair_line (codes "lag") (decimal host.lag) refl (digits_inside host.lag (omega arith)) refl)
@@ -103,7 +103,22 @@ head_keeps host =
     (pair_line (codes "sliver") (decimal host.sliver) refl (digits_inside host.sliver (omega arith)) refl)
     (line_and _ _
     (pair_line (codes "quantum") (decimal host.quantum) refl (digits_inside host.quantum (omega arith)) refl)
-    no_line))))
+    no_line)))
+
+-- those lines with their format, and with a tick where one is named
+lines_with : (named : Option ℕ) (host : Host) → IfSome named (λ tick. tick ≤ MAX_TICK_NS)
+    → KeepsSection (format_lines named ++ number_lines host)
+lines_with None host low =
+    line_and _ _ (pair_line (codes "format") (codes "1") refl refl refl) (numbers_keep host)
+lines_with (Some tick) host low =
+    line_and _ _ (pair_line (codes "format") (codes "2") refl refl refl)
+    (line_and _ _ (pair_line (codes "tick_ns") (decimal tick) refl (digits_inside tick (omega arith)) refl)
+    (numbers_keep host))
+
+-- all lines in front of the vCPUs'
+head_keeps : (host : Host) → KeepsSection (head_lines host)
+head_keeps host = lines_with (named_tick host.tick_ns) host
+    (if_named (λ tick. tick ≤ MAX_TICK_NS) host.tick_ns host.tick_at_most)
 
 -- the line of a capped vCPU
 capped_keeps : (capped : Bool) → KeepsSection (capped_lines capped)

@@ -1,26 +1,48 @@
 -- The text of a host is short.
-use Rattle.std.proofs.Common.{◌≡◌, ℕ, ◌+◌, ◌*◌, ◌≤◌, Bool, true, false, cond, List, [], ◌∷◌, flat_map, length, map, refl, ap, arith, length-append}
+use Rattle.std.proofs.Common.{◌≡◌, ℕ, ◌+◌, ◌*◌, ◌≤◌, Bool, true, false, cond, List, [], ◌∷◌, flat_map, length, map, refl, ap, arith, length-append, Option, None, Some, IfSome}
 use Rattle.std.proofs.lemmas.Bool.Decides.{nat_tests}
 use Rattle.std.proofs.lemmas.Fmt.{length-decimal-le}
 use Rattle.std.proofs.lemmas.List.{length-map}
 use Rattle.std.proofs.lemmas.List.Sums.{sum_by-cons}
 use Rattle.std.specs.List.{count_by}
 use Rattle.tab_core.specs.Name.{IsName}
+use Rattle.tab_core.specs.declared.TheConstants.{MAX_TICK_NS}
 use Rattle.tab_core.specs.declared.host.Host.{Host}
 use Rattle.tab_core.specs.declared.vcpu.Vcpu.{Vcpu}
 use Rattle.tab_words.specs.Texts.{line_of, text_of}
-use Rattle.host_gen.specs.HostText.{capped_lines, head_lines, host_text, truth_word, vcpu_text}
-use Rattle.host_gen.proofs.HostTextLemmas.{head_pieces, vcpu_pieces}
+use Rattle.host_gen.specs.HostText.{capped_lines, head_lines, host_text, truth_word, vcpu_text, format_lines, named_tick, number_lines}
+use Rattle.host_gen.proofs.HostTextLemmas.{vcpu_pieces, first_pieces, head_parts, if_named, number_pieces, second_pieces}
 use Rattle.host_text.proofs.Statements.{AreNamed, Statement, vcpu_of}
 
--- the lines of the host's own numbers
-head_size : (host : Host) → length (text_of (head_lines host)) ≤ 100
-head_size host =
+-- the lines of the format and of a named tick
+format_size : (named : Option ℕ) → IfSome named (λ tick. tick ≤ MAX_TICK_NS)
+    → length (text_of (format_lines named)) ≤ 30
+format_size None low = rw first_pieces (omega arith)
+format_size (Some tick) low =
+    let size = length-decimal-le 4 tick (omega arith) (omega arith) (omega arith) in
+    rw (second_pieces tick) (simp length-append (omega (arith, size)))
+
+-- the lines of the host's other numbers
+numbers_size : (host : Host) → length (text_of (number_lines host)) ≤ 70
+numbers_size host =
     let cores = length-decimal-le 6 host.cores (omega arith) (omega arith) (omega arith) in
     let lag = length-decimal-le 6 host.lag (omega arith) (omega arith) (omega arith) in
     let sliver = length-decimal-le 6 host.sliver (omega arith) (omega arith) (omega arith) in
     let quantum = length-decimal-le 6 host.quantum (omega arith) (omega arith) (omega arith) in
-    rw (head_pieces host) (simp length-append (omega (arith, cores, lag, sliver, quantum)))
+    rw (number_pieces host) (simp length-append (omega (arith, cores, lag, sliver, quantum)))
+
+-- all lines in front of the vCPUs'
+head_size : (host : Host) → length (text_of (head_lines host)) ≤ 100
+head_size host =
+    let format = format_size (named_tick host.tick_ns)
+    (if_named (λ tick. tick ≤ MAX_TICK_NS) host.tick_ns host.tick_at_most) in
+    omega (
+      arith,
+      ap length (head_parts host),
+      length-append (text_of (format_lines (named_tick host.tick_ns))) (text_of (number_lines host)),
+      format,
+      numbers_size host,
+    )
 
 -- a truth value
 truth_size : (truth : Bool) → length (truth_word truth) ≤ 5

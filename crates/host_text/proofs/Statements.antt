@@ -10,7 +10,7 @@ use Rattle.tab_core.specs.declared.reservation.Reservation.{Reservation}
 use Rattle.tab_core.specs.declared.vcpu.Vcpu.{Vcpu}
 use Rattle.toml.specs.Data.{Data, string, integer, boolean, array, table, Items, no_items, item, Members, no_members, member}
 use Rattle.toml.specs.Tables.{Expression, key_value, array_table}
-use Rattle.host_gen.specs.HostText.{AreAdmitted, Line, capped_lines, key_words, quoted, truth_word}
+use Rattle.host_gen.specs.HostText.{AreAdmitted, Line, capped_lines, key_words, quoted, truth_word, named_tick}
 
 -- what is stated of an admitted vCPU
 pub record Statement : Type 0 where
@@ -95,18 +95,32 @@ abbrev pub vcpu_member : List Statement → Members
 vcpu_member [] = no_members
 vcpu_member (s ∷ ss) = member (codes "vcpu") (array (vcpu_items (s ∷ ss))) no_members
 
+-- the format of a text that names this tick, if it names one
+abbrev pub format_of : Option ℕ → ℕ
+format_of None = 1
+format_of (Some tick) = 2
+
+-- the member of a named tick, in front of others
+abbrev pub tick_member : Option ℕ → Members → Members
+tick_member None rest = rest
+tick_member (Some tick) rest = member (codes "tick_ns") (integer (pos tick)) rest
+
 -- the members of the host's own numbers, by their keys, in front of others
-abbrev pub head_members : Host → Members → Members
-head_members host rest =
+abbrev pub head_members : Option ℕ → Host → Members → Members
+head_members named host rest =
     member (codes "cores") (integer (pos host.cores))
-    (member (codes "format") (integer (pos 1))
+    (member (codes "format") (integer (pos (format_of named)))
     (member (codes "lag") (integer (pos host.lag))
     (member (codes "quantum") (integer (pos host.quantum))
-    (member (codes "sliver") (integer (pos host.sliver)) rest))))
+    (member (codes "sliver") (integer (pos host.sliver)) (tick_member named rest)))))
+
+-- the members of a document that names this tick, if it names one
+abbrev pub members_with : Option ℕ → Host → List Statement → Members
+members_with named host ss = head_members named host (vcpu_member ss)
 
 -- the members of the document
 abbrev pub host_members : Host → List Statement → Members
-host_members host ss = head_members host (vcpu_member ss)
+host_members host = members_with (named_tick host.tick_ns) host
 
 -- ---- the expressions
 
@@ -114,11 +128,16 @@ host_members host ss = head_members host (vcpu_member ss)
 abbrev pub pair : List ℕ → Data → Expression
 pair key d = (([], key), key_value d)
 
--- those of the host's own numbers, as they are written
-abbrev pub head_expressions : Host → List Expression
-head_expressions host =
-    pair (codes "format") (integer (pos 1))
-    ∷ pair (codes "cores") (integer (pos host.cores))
+-- those of the format and of a named tick, as they are written
+abbrev pub format_expressions : Option ℕ → List Expression
+format_expressions None = pair (codes "format") (integer (pos 1)) ∷ []
+format_expressions (Some tick) =
+    pair (codes "format") (integer (pos 2)) ∷ pair (codes "tick_ns") (integer (pos tick)) ∷ []
+
+-- those of the host's other numbers
+abbrev pub number_expressions : Host → List Expression
+number_expressions host =
+    pair (codes "cores") (integer (pos host.cores))
     ∷ pair (codes "lag") (integer (pos host.lag))
     ∷ pair (codes "sliver") (integer (pos host.sliver))
     ∷ pair (codes "quantum") (integer (pos host.quantum))
@@ -128,6 +147,14 @@ head_expressions host =
 abbrev pub capped_expressions : Bool → List Expression
 capped_expressions true = pair (codes "capped") (boolean true) ∷ []
 capped_expressions false = []
+
+-- those of the host's own numbers, with this tick named, if one is
+abbrev pub expressions_with : Option ℕ → Host → List Expression
+expressions_with named host = format_expressions named ++ number_expressions host
+
+-- all in front of the vCPUs'
+abbrev pub head_expressions : Host → List Expression
+head_expressions host = expressions_with (named_tick host.tick_ns) host
 
 -- those of an admitted vCPU, behind its header
 abbrev pub settings_expressions : Statement → List Expression

@@ -1,3 +1,4 @@
 pub mod ChoiceLemmas
 pub mod TasksLemmas
 pub mod Unique
+pub mod Waits

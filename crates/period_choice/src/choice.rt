@@ -1,42 +1,46 @@
 ghost use Rattle.std.specs.Prelude.{◌≡◌, ◌<◌, ◌≤◌, IfNone, IfSome, IsSomeAnd};
 ghost use Rattle.period_choice.specs.Choice.{HasPeriod, IsChosen, MeetsLatency, demand_at};
 ghost use Rattle.reservation.specs.Cost.{cost, demand};
+ghost use Rattle.tab_core.specs.declared.TheConstants.{MAX_TICK_NS, MIN_TICK_NS};
 ghost use Rattle.tab_core.specs.declared.periodic.Periodic.{Periodic};
 ghost use Rattle.tab_core.specs.Period.{IsPeriod};
 
 use reservation::{cost_of, demand_of};
-use tab_core::{PERIODS, Periodic, Reservation, TICK_NS};
+use tab_core::{PERIODS, Periodic, Reservation};
 
 /// The admissible period of least demand, and of those the largest, with its cost.
 ///
-/// A period is admissible if twice the ticks that it doesn't give are within the latency. The
-/// result is none exactly where no period is admissible.
+/// A tick has `tick_ns` nanoseconds, 500 to 2002. A period is admissible if twice the ticks that it
+/// doesn't give are within the latency. The result is none exactly where no period is admissible.
 ///
 /// Source of the latency rule: I. Shin and I. Lee, RTSS 2003.
-pub fn choose(r: &Reservation) -> Option<Periodic>
-    ensures chosen { IfSome result (IsChosen r.now) }
-    ensures only { IfSome result (λ task. (other : Periodic) → IsChosen r.now other → other ≡ task) }
-    ensures none { IfNone result (¬ (HasPeriod r.now)) }
+pub fn choose(r: &Reservation, tick_ns: u32) -> Option<Periodic>
+    requires at_least { MIN_TICK_NS ≤ tick_ns }
+    requires at_most { tick_ns ≤ MAX_TICK_NS }
+    ensures chosen { IfSome result (IsChosen r.now tick_ns) }
+    ensures only { IfSome result (λ task. (other : Periodic) → IsChosen r.now tick_ns other → other ≡ task) }
+    ensures none { IfNone result (¬ (HasPeriod r.now tick_ns)) }
 {
     let mut best: Option<Periodic> = None;
     for period in PERIODS {
-        best = better_of(r, best, period);
+        best = better_of(r, tick_ns, best, period);
     }
     best
 }
 
 // The best budget so far, or that of this period where it meets the latency and takes no more.
 #[tactic(auto, using(tab_core::proofs::Periods::period_at_least))]
-fn better_of(r: &Reservation, best: Option<Periodic>, period: u32) -> Option<Periodic>
-    requires { IsPeriod period }
-    ensures late { ¬ (MeetsLatency r.now period) → result ≡ best }
+fn better_of(r: &Reservation, tick_ns: u32, best: Option<Periodic>, period: u32) -> Option<Periodic>
+    requires listed { IsPeriod period }
+    requires at_most { tick_ns ≤ MAX_TICK_NS }
+    ensures late { ¬ (MeetsLatency r.now tick_ns period) → result ≡ best }
     ensures kept { IsSomeAnd best (λ b. demand b.cost b.period < demand_at r.now period) → result ≡ best }
-    ensures taken { MeetsLatency r.now period
+    ensures taken { MeetsLatency r.now tick_ns period
         → IfSome best (λ b. demand_at r.now period ≤ demand b.cost b.period)
         → IsSomeAnd result (λ task. (task.period ≡ period) × (task.cost ≡ cost r.now.share_ppm period)) }
 {
     let cost = cost_of(r.share_ppm, period);
-    if 2 * u64::from(period - cost) * TICK_NS > r.latency_ns {
+    if 2 * u64::from(period - cost) * u64::from(tick_ns) > r.latency_ns {
         return best;
     }
     let task = Periodic { cost, period };

@@ -1,13 +1,13 @@
 ghost use Rattle.std.specs.Prelude.{ℕ, ◌+◌, ◌*◌, ◌≤◌, max};
 ghost use Rattle.tab_core.specs.Budgets.{slack_of};
-ghost use Rattle.tab_core.specs.declared.TheConstants.{TICK_NS};
 ghost use Rattle.tab_core.specs.declared.periodic.Periodic.{Periodic};
 ghost use Rattle.tab_core.specs.declared.reservation.Reservation.{Reservation};
 ghost use Rattle.period_choice.specs.Choice.{IsChosen};
 
 /// A wait of no more ticks than the budgets of two reservations leave out of a period each lies
-/// within the greater of their latencies.
+/// within the greater of their latencies, in ticks of so many nanoseconds.
 pub fn a_gap_is_within_the_latency()
-    ensures { (r t : Reservation) (first last : Periodic) (ticks : ℕ) → IsChosen r first → IsChosen t last
-        → ticks ≤ slack_of first + slack_of last → TICK_NS * ticks ≤ max r.latency_ns t.latency_ns }
+    ensures { (r t : Reservation) (tick_ns : ℕ) (first last : Periodic) (ticks : ℕ)
+        → IsChosen r tick_ns first → IsChosen t tick_ns last
+        → ticks ≤ slack_of first + slack_of last → tick_ns * ticks ≤ max r.latency_ns t.latency_ns }
 {}

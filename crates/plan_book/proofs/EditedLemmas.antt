@@ -34,7 +34,7 @@ same_vcpus (a ∷ us) (b ∷ ws) names runnable capped reservations =
 pub edited_unique : (host : Host) (edits : List Edit) (a b : Host) → IsEdited host edits a
     → IsEdited host edits b → a ≡ b
 edited_unique host edits a b of_a of_b =
-    same_host a b (of_a.cores ∙ sym of_b.cores) (of_a.lag ∙ sym of_b.lag)
+    same_host a b (of_a.tick_ns ∙ sym of_b.tick_ns) (of_a.cores ∙ sym of_b.cores) (of_a.lag ∙ sym of_b.lag)
     (of_a.sliver ∙ sym of_b.sliver) (of_a.quantum ∙ sym of_b.quantum)
     (same_vcpus a.vcpus b.vcpus (of_a.names ∙ sym of_b.names) (of_a.runnable ∙ sym of_b.runnable)
     (of_a.capped ∙ sym of_b.capped) (of_a.reservations ∙ sym of_b.reservations))

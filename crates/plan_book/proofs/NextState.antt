@@ -25,7 +25,7 @@ use Rattle.plan_book.proofs.ListsByIndex.{index_or_is, push_new}
 
 -- a refusal that is an outcome has its cause
 pub told_unplanned : (host : Host) (fault : PlanFault) (told : Outcome) → outcome_of_fault fault ≡ Some told
-    → ((vcpu : ℕ) → fault ≡ plan.NoPeriod vcpu → IsFirstWithoutPeriod host.vcpus vcpu)
+    → ((vcpu : ℕ) → fault ≡ plan.NoPeriod vcpu → IsFirstWithoutPeriod host vcpu)
     → ((vcpu rest : ℕ) (over : List Over) → fault ≡ plan.NoRoom vcpu rest over
     → IsFirstWithoutRoom host vcpu rest over)
     → IsUnplanned host told

@@ -45,7 +45,7 @@ pub outcome_unique : (host : Host) (a b : Outcome) → IsUnplanned host a → Is
 outcome_unique host Planned b of_a of_b = absurd of_a
 outcome_unique host (NoPeriod vcpu) Planned of_a of_b = absurd of_b
 outcome_unique host (NoPeriod vcpu) (NoPeriod other) of_a of_b =
-    ap NoPeriod (one_without_period host.vcpus vcpu other of_a of_b)
+    ap NoPeriod (one_without_period host vcpu other of_a of_b)
 outcome_unique host (NoPeriod vcpu) (NoRoom other) of_a of_b =
     absurd (room_or_without_period host vcpu other of_b.0 of_b.1 of_b.2 of_a)
 outcome_unique host (NoRoom vcpu) Planned of_a of_b = absurd of_b

@@ -14,31 +14,36 @@ use Rattle.plan_book.specs.After.{Applies, IsKnownAfter}
 use Rattle.plan_book.specs.States.{BookState}
 use Rattle.plan_book.proofs.EditedLemmas.{same_count}
 
--- the cores and the count of vCPUs are the same
+-- the tick, the cores and the count of vCPUs are the same
 pub record SameShape (a b : Host) : Type 0 where
+  pub tick_ns : a.tick_ns ≡ b.tick_ns
   pub cores : a.cores ≡ b.cores
   pub vcpus : length a.vcpus ≡ length b.vcpus
 
--- an event keeps the cores and the count of vCPUs
+-- an event keeps the tick, the cores and the count of vCPUs
 shape_applied : (known : BookState) (act : Act) (next : BookState) → Applies known act next
     → SameShape next.host known.host
 shape_applied known (Wake vcpu) next applies =
     record {
+      tick_ns = ap (λ (k : BookState). k.host.tick_ns) applies;
       cores = ap (λ (k : BookState). k.host.cores) applies;
       vcpus = ap (λ (k : BookState). length k.host.vcpus) applies;
     }
 shape_applied known (Block vcpu) next applies =
     record {
+      tick_ns = ap (λ (k : BookState). k.host.tick_ns) applies;
       cores = ap (λ (k : BookState). k.host.cores) applies;
       vcpus = ap (λ (k : BookState). length k.host.vcpus) applies;
     }
 shape_applied known (Change edits) next (inl taken) =
     record {
+      tick_ns = taken.edited.tick_ns;
       cores = taken.edited.cores;
       vcpus = same_count known.host edits next.host taken.edited;
     }
 shape_applied known (Change edits) next (inr refused) =
     record {
+      tick_ns = ap (λ (k : BookState). k.host.tick_ns) refused.becomes;
       cores = ap (λ (k : BookState). k.host.cores) refused.becomes;
       vcpus = ap (λ (k : BookState). length k.host.vcpus) refused.becomes;
     }
@@ -48,13 +53,23 @@ pub same_shape : (host : Host) (events : List Event) (n : ℕ) (known : BookStat
     → IsKnownAfter host events n known → SameShape known.host host
 same_shape host events zero known is =
     record {
+      tick_ns = ap (λ (h : Host). h.tick_ns) is.host_is;
       cores = ap (λ (h : Host). h.cores) is.host_is;
       vcpus = ap (λ (h : Host). length h.vcpus) is.host_is;
     }
 same_shape host events (suc n) known is =
     let before = same_shape host events n is.0 is.2 in
     let here = shape_applied is.0 is.1.act known is.4 in
-    record { cores = here.cores ∙ before.cores; vcpus = here.vcpus ∙ before.vcpus }
+    record {
+      tick_ns = here.tick_ns ∙ before.tick_ns;
+      cores = here.cores ∙ before.cores;
+      vcpus = here.vcpus ∙ before.vcpus;
+    }
+
+-- its tick is the run's: the law of one tick
+pub one_tick : (host : Host) (events : List Event) (n : ℕ) (known : BookState)
+    → IsKnownAfter host events n known → known.host.tick_ns ≡ host.tick_ns
+one_tick host events n known is = (same_shape host events n known is).tick_ns
 
 -- no more is known than after all events
 pub known_within : (host : Host) (events : List Event) (n : ℕ) (known : BookState)

@@ -15,7 +15,7 @@ use Rattle.plan_book.specs.declared.outcome.Outcome.TheVariants.{Planned, NoPeri
 -- why a host has no plan: its first vCPU without a period, or its first without room
 abbrev pub IsUnplanned : Host → Outcome → Type 0
 IsUnplanned host Planned = ⊥
-IsUnplanned host (NoPeriod vcpu) = IsFirstWithoutPeriod host.vcpus vcpu
+IsUnplanned host (NoPeriod vcpu) = IsFirstWithoutPeriod host vcpu
 IsUnplanned host (NoRoom vcpu) = (rest : ℕ) × (over : List Over) × IsFirstWithoutRoom host vcpu rest over
 
 -- a change is planned: its edits make a host that has a plan, these are the host and the plan from

@@ -42,7 +42,7 @@ impl BookSoFar {
         ensures one_plan { IfOk result (λ so_far. length so_far.plans.items ≡ 1) }
         ensures fits { IfOk result (λ so_far. IsPlanFor so_far.host (known_of so_far).plan) }
         ensures fault { IfErr result (IsHostFault host.now) }
-        ensures bound { (tasks : List (Option Periodic)) → AreTasksOf host.now.vcpus tasks
+        ensures bound { (tasks : List (Option Periodic)) → AreTasksOf host.now tasks
             → IsWithinBound tasks host.now.cores → IfErr result (λ fault. fault ≡ PlanFault.NoMemory) }
     {
         let plan = plan(rt, alloc, host)?;

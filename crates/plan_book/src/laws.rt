@@ -6,11 +6,14 @@ ghost use Rattle.table_form.specs.Running.Invariant.{StateInvariant};
 ghost use Rattle.table_form.specs.Running.Gaps.{HasShortGaps};
 ghost use Rattle.table_form.specs.Running.State.{State};
 ghost use Rattle.script_doc.specs.declared.event.Event.{Event};
+ghost use Rattle.plan_book.specs.After.{IsKnownAfter};
 ghost use Rattle.plan_book.specs.Courses.{IsCourseOf};
+ghost use Rattle.plan_book.specs.States.{BookState};
 ghost use Rattle.plan_book.specs.Waits.{WaitsWithinLatency};
 
 /// In a run on the course of a host and a script, whose gaps are no longer than the tasks allow,
-/// each wait is within the greater of the vCPU's latencies at its two ends, in nanoseconds.
+/// each wait is within the greater of the vCPU's latencies at its two ends, in nanoseconds of the host's
+/// tick.
 pub fn every_wait_is_within_latency()
     ensures { (host : Host) (events : List Event) (course : CourseView) (rounds : ℕ) (state : State)
         → IsCourseOf host events course → StateInvariant course rounds state → HasShortGaps course state
@@ -22,6 +25,12 @@ pub fn the_capped_stay_capped()
     ensures { (host : Host) (events : List Event) (course : CourseView) (n : ℕ)
         → IsCourseOf host events course → n ≤ length events
         → (plan_after course n).capped ≡ capped_of host.vcpus }
+{}
+
+/// No event changes the tick, so each host that a script leads to has that of the first.
+pub fn a_run_has_one_tick()
+    ensures { (host : Host) (events : List Event) (n : ℕ) (known : BookState)
+        → IsKnownAfter host events n known → known.host.tick_ns ≡ host.tick_ns }
 {}
 
 /// A script makes at most one course of a host.

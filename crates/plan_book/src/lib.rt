@@ -4,7 +4,8 @@
 //! Layers above may rely on `IsKnownAfter` of `specs/After.antt`, which says what is known after
 //! the first events, on `IsBookOf` of `specs/Books.antt` and `IsCourseOf` of `specs/Courses.antt`,
 //! which say what a book and its course show of it, and on `WaitsWithinLatency` of
-//! `specs/Waits.antt`, which bounds the waits of a run on such a course.
+//! `specs/Waits.antt`, which bounds the waits of a run on such a course. All hosts of a run have one
+//! tick.
 #![tactic(auto)]
 
 mod book;
@@ -17,6 +18,9 @@ mod outcome;
 
 pub use book::PlanBook;
 pub use fault::BookFault;
-pub use laws::{a_script_makes_one_course, every_wait_is_within_latency, the_capped_stay_capped};
+pub use laws::{
+    a_run_has_one_tick, a_script_makes_one_course, every_wait_is_within_latency,
+    the_capped_stay_capped,
+};
 pub use make::make_book;
 pub use outcome::Outcome;

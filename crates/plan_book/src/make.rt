@@ -55,19 +55,19 @@ pub fn make_book<R: Threads + Sync>(
         → IsKnownAfter host.now script.now n known → IsPlanned known.host known.plan) }
     ensures chosen { IfOk result (λ book. (n : ℕ) (known : BookState)
         → IsKnownAfter host.now script.now n known
-        → AreTasksOf known.host.vcpus (plan_after book.course n).tasks) }
+        → AreTasksOf known.host (plan_after book.course n).tasks) }
     ensures vcpus { IfOk result (λ book. (n : ℕ) → n ≤ length script.now
         → length (plan_after book.course n).tasks ≡ length host.now.vcpus) }
     ensures rounds { IfOk result (λ book. (rounds : ℕ) → 1 ≤ rounds → rounds ≤ MAX_ROUNDS
         → AreInRun rounds script.now → FitsRounds book.course rounds) }
     ensures no_period { (vcpu : ℕ) → IsErrOf result (PlanFault.NoPeriod vcpu)
-        → IsFirstWithoutPeriod host.now.vcpus vcpu }
+        → IsFirstWithoutPeriod host.now vcpu }
     ensures no_room { (vcpu rest : ℕ) (over : List Over) → IsErrOf result (PlanFault.NoRoom vcpu rest over)
         → IsFirstWithoutRoom host.now vcpu rest over }
-    ensures without_period { (vcpu : ℕ) → IsFirstWithoutPeriod host.now.vcpus vcpu → IsErr result }
+    ensures without_period { (vcpu : ℕ) → IsFirstWithoutPeriod host.now vcpu → IsErr result }
     ensures without_room { (vcpu rest : ℕ) (over : List Over) → IsFirstWithoutRoom host.now vcpu rest over
         → IsErr result }
-    ensures bound { (tasks : List (Option Periodic)) → AreTasksOf host.now.vcpus tasks
+    ensures bound { (tasks : List (Option Periodic)) → AreTasksOf host.now tasks
         → IsWithinBound tasks host.now.cores → IfErr result (λ fault. fault ≡ PlanFault.NoMemory) }
     ensures planned { (plan : PlanView) → IsPlanned host.now plan
         → IfErr result (λ fault. fault ≡ PlanFault.NoMemory) }

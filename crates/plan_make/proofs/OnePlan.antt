@@ -141,7 +141,7 @@ pub one_start : (host : Host) (tasks tasks' : List (Option Periodic)) (placed pl
     → IsStart host tasks placed start → IsStart host tasks' placed' start' →
     SameStart tasks tasks' placed placed' start start'
 one_start host tasks tasks' placed placed' start start' a b =
-    let same_tasks = tasks_unique host.vcpus tasks tasks' a.tasks_are b.tasks_are in
+    let same_tasks = tasks_unique host tasks tasks' a.tasks_are b.tasks_are in
     let same_placed = placement_unique tasks' host.cores placed placed'
     (subst (λ ts. IsPlacement ts host.cores placed) same_tasks a.placement) b.placement in
     let stand = subst (λ (p : Placed). StandUnsplit tasks' p.core_of host.cores start) same_placed

@@ -5,7 +5,6 @@ use Rattle.tab_core.specs.declared.over.Over.{Over}
 use Rattle.tab_core.specs.declared.periodic.Periodic.{Periodic}
 use Rattle.tab_core.specs.declared.piece.Piece.{Piece}
 use Rattle.tab_core.specs.declared.reservation.Reservation.{Reservation}
-use Rattle.tab_core.specs.declared.vcpu.Vcpu.{Vcpu}
 use Rattle.table_form.specs.Tables.Plans.{PlanView}
 use Rattle.period_choice.specs.Choice.{HasPeriod}
 use Rattle.period_choice.specs.Tasks.{IsFirstWithoutPeriod, LacksPeriod}
@@ -127,41 +126,42 @@ one_without_room host vcpu vcpu' rest rest' over over' a b =
     moved (sticks_of host vcpu' rest' over' b)
 
 -- a reservation has an admissible period or lacks one, not both
-has_or_lacks : (reservation : Option Reservation) → IfSome reservation HasPeriod → LacksPeriod reservation → ⊥
-has_or_lacks None has lacks = lacks
-has_or_lacks (Some r) has lacks = lacks has
+has_or_lacks : (reservation : Option Reservation) (tick : ℕ) → IfSome reservation (λ r. HasPeriod r tick)
+    → LacksPeriod reservation tick → ⊥
+has_or_lacks None tick has lacks = lacks
+has_or_lacks (Some r) tick has lacks = lacks has
 
 -- of two first vCPUs without a period the one isn't below the other
-not_lower : (vcpus : List Vcpu) (vcpu vcpu' : ℕ) → IsFirstWithoutPeriod vcpus vcpu
-    → IsFirstWithoutPeriod vcpus vcpu' → vcpu < vcpu' → ⊥
-not_lower vcpus vcpu vcpu' a b lower =
-    has_or_lacks a.vcpu.reservation (b.lowest vcpu a.vcpu lower a.at) a.lacks
+not_lower : (host : Host) (vcpu vcpu' : ℕ) → IsFirstWithoutPeriod host vcpu
+    → IsFirstWithoutPeriod host vcpu' → vcpu < vcpu' → ⊥
+not_lower host vcpu vcpu' a b lower =
+    has_or_lacks a.vcpu.reservation host.tick_ns (b.lowest vcpu a.vcpu lower a.at) a.lacks
 
 -- one vCPU is the first without a period
-pub one_without_period : (vcpus : List Vcpu) (vcpu vcpu' : ℕ) → IsFirstWithoutPeriod vcpus vcpu
-    → IsFirstWithoutPeriod vcpus vcpu' → vcpu ≡ vcpu'
-one_without_period vcpus vcpu vcpu' a b =
-    let over = not_lower vcpus vcpu vcpu' a b in
-    let under = not_lower vcpus vcpu' vcpu b a in
+pub one_without_period : (host : Host) (vcpu vcpu' : ℕ) → IsFirstWithoutPeriod host vcpu
+    → IsFirstWithoutPeriod host vcpu' → vcpu ≡ vcpu'
+one_without_period host vcpu vcpu' a b =
+    let over = not_lower host vcpu vcpu' a b in
+    let under = not_lower host vcpu' vcpu b a in
     omega arith
 
 -- and then the host has no plan
 pub planned_or_without_period : (host : Host) (plan : PlanView) (vcpu : ℕ) → IsPlanned host plan
-    → IsFirstWithoutPeriod host.vcpus vcpu → ⊥
+    → IsFirstWithoutPeriod host vcpu → ⊥
 planned_or_without_period host plan vcpu planned first =
-    none_without_period host.vcpus plan.tasks vcpu planned.layout.is_start.tasks_are first
+    none_without_period host plan.tasks vcpu planned.layout.is_start.tasks_are first
 
 -- nor is one without room; the law's clause `apart`
 pub room_or_without_period : (host : Host) (vcpu vcpu' rest : ℕ) (over : List Over)
-    → IsFirstWithoutRoom host vcpu' rest over → IsFirstWithoutPeriod host.vcpus vcpu → ⊥
+    → IsFirstWithoutRoom host vcpu' rest over → IsFirstWithoutPeriod host vcpu → ⊥
 room_or_without_period host vcpu vcpu' rest over room first =
-    none_without_period host.vcpus room.tasks vcpu room.is_start.tasks_are first
+    none_without_period host room.tasks vcpu room.is_start.tasks_are first
 
 -- ---- one fault of planning
 
 -- why a host has no plan, in the form in which `plan` says it; want of memory is no cause in the host
 abbrev pub HasPlanFault : Host → PlanFault → Type 0
-HasPlanFault host (plan.NoPeriod vcpu) = IsFirstWithoutPeriod host.vcpus vcpu
+HasPlanFault host (plan.NoPeriod vcpu) = IsFirstWithoutPeriod host vcpu
 HasPlanFault host (plan.NoRoom vcpu rest over) = IsFirstWithoutRoom host vcpu rest over
 HasPlanFault host plan.NoMemory = ⊥
 
@@ -178,7 +178,7 @@ pub one_plan_fault : (host : Host) (f g : PlanFault) → HasPlanFault host f →
 one_plan_fault host plan.NoMemory g of_f of_g = absurd of_f
 one_plan_fault host f plan.NoMemory of_f of_g = absurd of_g
 one_plan_fault host (plan.NoPeriod vcpu) (plan.NoPeriod other) of_f of_g =
-    ap plan.NoPeriod (one_without_period host.vcpus vcpu other of_f of_g)
+    ap plan.NoPeriod (one_without_period host vcpu other of_f of_g)
 one_plan_fault host (plan.NoPeriod vcpu) (plan.NoRoom other rest over) of_f of_g =
     absurd (room_or_without_period host vcpu other rest over of_g of_f)
 one_plan_fault host (plan.NoRoom vcpu rest over) (plan.NoPeriod other) of_f of_g =

@@ -2,8 +2,8 @@
 use Rattle.std.proofs.Common.{◌≡◌, ℕ, List, [], length, slice_get, sum_by, Option, Some, refl, subst, sym, inl, inr}
 use Rattle.tab_core.specs.declared.periodic.Periodic.{Periodic}
 use Rattle.tab_core.specs.declared.piece.Piece.{Piece}
-use Rattle.tab_core.specs.declared.vcpu.Vcpu.{Vcpu}
 use Rattle.period_choice.specs.Tasks.{AreTasksOf, IsFirstWithoutPeriod}
+use Rattle.tab_core.specs.declared.host.Host.{Host}
 use Rattle.table_form.specs.Planning.Drafts.{cost_on}
 use Rattle.plan_make.specs.Inside.Allotted.{AreLaidOut}
 use Rattle.period_choice.specs.declared.fault.TaskFault.{TaskFault}
@@ -26,12 +26,12 @@ all_cost tasks cores homes laid vcpu task at = elim (laid.places.each vcpu (task
 ]
 
 -- where each vCPU has its task, of the two refusals of the choice of periods only want of memory is left
-pub no_memory_for_tasks : (vcpus : List Vcpu) (tasks : List (Option Periodic)) (fault : TaskFault)
-    → AreTasksOf vcpus tasks → ((vcpu : ℕ) → fault ≡ NoPeriod vcpu → IsFirstWithoutPeriod vcpus vcpu) →
+pub no_memory_for_tasks : (host : Host) (tasks : List (Option Periodic)) (fault : TaskFault)
+    → AreTasksOf host tasks → ((vcpu : ℕ) → fault ≡ NoPeriod vcpu → IsFirstWithoutPeriod host vcpu) →
     fault_of_tasks fault ≡ plan.NoMemory
-no_memory_for_tasks vcpus tasks (NoPeriod vcpu) are told =
-    absurd (none_without_period vcpus tasks vcpu are (told vcpu refl))
-no_memory_for_tasks vcpus tasks NoMemory are told = refl
+no_memory_for_tasks host tasks (NoPeriod vcpu) are told =
+    absurd (none_without_period host tasks vcpu are (told vcpu refl))
+no_memory_for_tasks host tasks NoMemory are told = refl
 
 -- each task has a home below the count of rows
 pub all_have_homes : (tasks : List (Option Periodic)) (cores : List (List Piece)) (homes : List (Option ℕ))

@@ -14,7 +14,7 @@ use Rattle.plan_make.specs.Unsplit.{StandUnsplit}
 -- the tasks of a host, and where worst fit has placed them
 pub record IsStart (host : Host) (tasks : List (Option Periodic)) (placed : Placed)
     (cores : List (List Piece)) : Type 0 where
-  pub tasks_are : AreTasksOf host.vcpus tasks
+  pub tasks_are : AreTasksOf host tasks
   pub placement : IsPlacement tasks host.cores placed
   pub stand : StandUnsplit tasks placed.core_of host.cores cores
 

@@ -13,11 +13,11 @@ pub fn a_host_has_one_plan()
 /// A host has at most one refusal: one first vCPU without a period; or one without room, which lacks
 /// it for one number of ticks, with one list of overloaded intervals.
 pub fn a_host_has_one_refusal()
-    ensures without_period { (host : Host) (vcpu other : ℕ) → IsFirstWithoutPeriod host.vcpus vcpu
-        → IsFirstWithoutPeriod host.vcpus other → vcpu ≡ other }
+    ensures without_period { (host : Host) (vcpu other : ℕ) → IsFirstWithoutPeriod host vcpu
+        → IsFirstWithoutPeriod host other → vcpu ≡ other }
     ensures without_room { (host : Host) (vcpu other rest more : ℕ) (over others : List Over)
         → IsFirstWithoutRoom host vcpu rest over → IsFirstWithoutRoom host other more others
         → (vcpu ≡ other) × (rest ≡ more) × (over ≡ others) }
     ensures apart { (host : Host) (vcpu other rest : ℕ) (over : List Over)
-        → IsFirstWithoutRoom host other rest over → IsFirstWithoutPeriod host.vcpus vcpu → ⊥ }
+        → IsFirstWithoutRoom host other rest over → IsFirstWithoutPeriod host vcpu → ⊥ }
 {}

@@ -22,7 +22,7 @@ pub(crate) struct Layout {
 
 // Places the vCPUs unsplit, and then splits those that are left over.
 pub(crate) fn lay_out(alloc: Global, host: &Host, tasks: &Tasks) -> Result<Layout, SplitFault>
-    requires { AreTasksOf host.now.vcpus tasks.now }
+    requires { AreTasksOf host.now tasks.now }
     ensures layout { IfOk result (λ layout. IsLayout host.now tasks.now layout.cores layout.homes.items) }
     ensures laid_out { IfOk result (λ layout. AreLaidOut tasks.now layout.cores layout.homes.items []) }
     ensures count { IfOk result (λ layout. length layout.cores ≡ host.now.cores) }

@@ -34,15 +34,15 @@ pub fn plan<R: Threads + Sync>(_rt: &R, alloc: Global, host: &Host) -> Result<Pl
     ensures only { IfOk result (λ plan. (other : PlanView) → IsPlanned host.now other
         → other ≡ plan_view plan) }
     ensures fits_host { IfOk result (λ plan. IsPlanFor host.now (plan_view plan)) }
-    ensures chosen { IfOk result (λ plan. AreTasksOf host.now.vcpus plan.tasks) }
+    ensures chosen { IfOk result (λ plan. AreTasksOf host.now plan.tasks) }
     ensures no_period { (vcpu : ℕ) → IsErrOf result (PlanFault.NoPeriod vcpu)
-        → IsFirstWithoutPeriod host.now.vcpus vcpu }
-    ensures without_period { (vcpu : ℕ) → IsFirstWithoutPeriod host.now.vcpus vcpu → IsErr result }
+        → IsFirstWithoutPeriod host.now vcpu }
+    ensures without_period { (vcpu : ℕ) → IsFirstWithoutPeriod host.now vcpu → IsErr result }
     ensures no_room { (vcpu rest : ℕ) (over : List Over) → IsErrOf result (PlanFault.NoRoom vcpu rest over)
         → IsFirstWithoutRoom host.now vcpu rest over }
     ensures without_room { (vcpu rest : ℕ) (over : List Over)
         → IsFirstWithoutRoom host.now vcpu rest over → IsErr result }
-    ensures bound { (tasks : List (Option Periodic)) → AreTasksOf host.now.vcpus tasks
+    ensures bound { (tasks : List (Option Periodic)) → AreTasksOf host.now tasks
         → IsWithinBound tasks host.now.cores
         → IfErr result (λ fault. fault ≡ PlanFault.NoMemory) }
     ensures planned { (plan : PlanView) → IsPlanned host.now plan

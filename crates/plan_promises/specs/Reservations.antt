@@ -1,9 +1,10 @@
 -- What a plan keeps of its host's reservations where its rows repeat round after round without end,
--- in ticks from 0: each vCPU gets its share of each of its periods, and no wait exceeds its latency.
+-- in ticks from 0: each vCPU gets its share of each of its periods, and no wait exceeds its latency,
+-- with the host's tick.
 -- Source: the two promises of a reservation in M. Vanga, A. Gujarati, B. B. Brandenburg, "Tableau:
 -- a high-throughput and predictable VM scheduler for high-density workloads", EuroSys 2018.
 use Rattle.std.specs.Prelude.{◌≡◌, ℕ, zero, suc, ◌+◌, ◌-◌, ◌*◌, ◌%◌, ◌≤◌, Bool, false, Some, slice_get, if◌then◌else◌}
-use Rattle.tab_core.specs.declared.TheConstants.{ROUND, TICK_NS, WHOLE_PPM}
+use Rattle.tab_core.specs.declared.TheConstants.{ROUND, WHOLE_PPM}
 use Rattle.tab_core.specs.declared.host.Host.{Host}
 use Rattle.tab_core.specs.declared.periodic.Periodic.{Periodic}
 use Rattle.tab_core.specs.declared.reservation.Reservation.{Reservation}
@@ -33,10 +34,10 @@ pub record IsWait (plan : PlanView) (v first last : ℕ) : Type 0 where
   pub order : first ≤ last
   pub unoffered : (x : ℕ) → first ≤ x → x ≤ last → is_offered_in plan v x ≡ false
 
--- no wait is longer than so many nanoseconds
-abbrev pub WaitsWithin : PlanView → ℕ → ℕ → Type 0
-WaitsWithin plan v latency_ns = (first last : ℕ) → IsWait plan v first last
-    → TICK_NS * (suc last - first) ≤ latency_ns
+-- in ticks of so many nanoseconds, no wait is longer than the latency
+abbrev pub WaitsWithin : PlanView → ℕ → ℕ → ℕ → Type 0
+WaitsWithin plan tick_ns v latency_ns = (first last : ℕ) → IsWait plan v first last
+    → tick_ns * (suc last - first) ≤ latency_ns
 
 -- the host's vCPU has this reservation
 pub record IsReserved (host : Host) (v : ℕ) (reservation : Reservation) : Type 0 where
@@ -49,4 +50,4 @@ pub record KeepsReservations (host : Host) (plan : PlanView) : Type 0 where
   pub shares : (v : ℕ) (reservation : Reservation) → IsReserved host v reservation
       → GetsItsShare plan v reservation
   pub latencies : (v : ℕ) (reservation : Reservation) → IsReserved host v reservation
-      → WaitsWithin plan v reservation.latency_ns
+      → WaitsWithin plan host.tick_ns v reservation.latency_ns

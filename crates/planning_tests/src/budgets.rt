@@ -1,3 +1,6 @@
+ghost use Rattle.std.specs.Prelude.{◌≤◌};
+ghost use Rattle.tab_core.specs.declared.TheConstants.{MAX_TICK_NS, MIN_TICK_NS};
+
 use crate::samples::{host_of, vcpu_of};
 use period_choice::{TaskFault, choose, tasks_of};
 use reservation::cost_of;
@@ -29,33 +32,47 @@ fn costs_are_rounded_up_to_whole_ticks(rt: HostRuntime) {
 
 #[test]
 fn least_demand_and_of_those_the_largest(rt: HostRuntime) {
-    // the share in ppm, the latency in ns, and the period and cost in ticks
+    // the share in ppm, the latency and the tick in ns, and the period and cost in ticks
     let cases = [
-        (1_000_000, 0, Some((102_600, 102_600))),
-        (100_000, 180_180, Some((100, 10))),
-        (100_000, 180_179, None),
-        (250_000, 20_000_000, Some((11_400, 2_850))),
-        (600_000, 100_000_000, Some((102_600, 61_560))),
-        (200_000, 100_000_000, Some((51_300, 10_260))),
+        (1_000_000, 0, 1001, Some((102_600, 102_600))),
+        (100_000, 180_180, 1001, Some((100, 10))),
+        (100_000, 180_179, 1001, None),
+        (250_000, 20_000_000, 1001, Some((11_400, 2_850))),
+        (600_000, 100_000_000, 1001, Some((102_600, 61_560))),
+        (200_000, 100_000_000, 1001, Some((51_300, 10_260))),
+        (100_000, 180_180, 500, Some((200, 20))),
+        (100_000, 90_000, 500, Some((100, 10))),
+        (100_000, 89_999, 500, None),
+        (100_000, 180_180, 2002, None),
+        (100_000, 360_360, 2002, Some((100, 10))),
+        (100_000, 360_359, 2002, None),
     ];
-    for (share_ppm, latency_ns, expected) in cases {
+    for (share_ppm, latency_ns, tick_ns, expected) in cases {
         let reservation = Reservation {
             share_ppm,
             latency_ns,
         };
-        let found = choose(&reservation).map(|task| (task.period, task.cost));
-        assert_eq!(rt; found, expected, "{share_ppm} ppm within {latency_ns} ns");
+        let found = choose(&reservation, tick_ns).map(|task| (task.period, task.cost));
+        assert_eq!(rt;
+            found,
+            expected,
+            "{share_ppm} ppm within {latency_ns} ns, tick {tick_ns} ns"
+        );
     }
 }
 
 fn one_vcpu(
     alloc: Global,
     name: Name,
+    tick_ns: u32,
     reservation: Option<Reservation>,
-) -> Result<Host, AllocError> {
+) -> Result<Host, AllocError>
+    requires at_least { MIN_TICK_NS ≤ tick_ns }
+    requires at_most { tick_ns ≤ MAX_TICK_NS }
+{
     let mut items = Vec::new(alloc);
     items.push(vcpu_of(name, reservation))?;
-    Ok(host_of(1, 30, Vcpus::of(items)))
+    Ok(host_of(tick_ns, 1, 30, Vcpus::of(items)))
 }
 
 #[test]
@@ -68,14 +85,17 @@ fn each_vcpu_has_the_chosen_task(rt: HostRuntime) -> Result<(), Fail> {
         share_ppm: 100_000,
         latency_ns: 180_179,
     };
+    let lacks = TaskFault::NoPeriod { vcpu: VcpuNo(0) };
     let cases = [
-        (None, Ok(None)),
-        (Some(within), Ok(Some((100, 10)))),
-        (Some(beyond), Err(TaskFault::NoPeriod { vcpu: VcpuNo(0) })),
+        (1001, None, Ok(None)),
+        (1001, Some(within), Ok(Some((100, 10)))),
+        (1001, Some(beyond), Err(lacks)),
+        (500, Some(within), Ok(Some((200, 20)))),
+        (2002, Some(within), Err(lacks)),
     ];
-    for (reservation, expected) in cases {
+    for (tick_ns, reservation, expected) in cases {
         let name = Name::of(rt.alloc(), b"a")?;
-        let host = one_vcpu(rt.alloc(), name, reservation)?;
+        let host = one_vcpu(rt.alloc(), name, tick_ns, reservation)?;
         let found = tasks_of(rt.alloc(), &host).map(|tasks| numbers_of(&tasks));
         assert_eq!(rt; found, expected);
     }

@@ -6,7 +6,7 @@ use plan_make::{PlanFault, plan};
 use std::alloc::Global;
 use std::test::Fail;
 use std::thread::Threads;
-use tab_core::{Host, Name, Reservation, Vcpu, VcpuNo, Vcpus};
+use tab_core::{Host, Name, Reservation, TICK_NS, Vcpu, VcpuNo, Vcpus};
 use table_form::{CoreTable, Plan};
 
 // The vCPUs a, b and c.
@@ -32,7 +32,7 @@ pub(crate) fn host_with(
     requires few_cores { cores ≤ MAX_CORES }
     requires small_sliver { sliver ≤ MAX_SLIVER }
 {
-    Ok(host_of(cores, sliver, three_vcpus(alloc, reservations)?))
+    Ok(host_of(TICK_NS, cores, sliver, three_vcpus(alloc, reservations)?))
 }
 
 // A share in ppm that may wait a tenth of a second.

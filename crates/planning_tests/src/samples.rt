@@ -1,5 +1,5 @@
 ghost use Rattle.std.specs.Prelude.{◌≡◌, ◌≤◌};
-ghost use Rattle.tab_core.specs.declared.TheConstants.{MAX_CORES, MAX_SLIVER};
+ghost use Rattle.tab_core.specs.declared.TheConstants.{MAX_CORES, MAX_SLIVER, MAX_TICK_NS, MIN_TICK_NS};
 
 use tab_core::{Host, Name, Reservation, Vcpu, VcpuNo, Vcpus};
 use table_form::CoreTable;
@@ -16,12 +16,15 @@ pub(crate) fn vcpu_of(name: Name, reservation: Option<Reservation>) -> Vcpu
     }
 }
 
-pub(crate) fn host_of(cores: u32, sliver: u32, vcpus: Vcpus) -> Host
+pub(crate) fn host_of(tick_ns: u32, cores: u32, sliver: u32, vcpus: Vcpus) -> Host
+    requires tick_at_least { MIN_TICK_NS ≤ tick_ns }
+    requires tick_at_most { tick_ns ≤ MAX_TICK_NS }
     requires some_core { 1 ≤ cores }
     requires few_cores { cores ≤ MAX_CORES }
     requires small_sliver { sliver ≤ MAX_SLIVER }
 {
     Host {
+        tick_ns,
         cores,
         lag: 1000,
         sliver,

@@ -108,6 +108,7 @@ fn one_vcpu_host(alloc: Global) -> Result<Host, NameFault>
         capped: true,
     });
     Ok(Host {
+        tick_ns: 2002,
         cores: 2,
         lag: 3,
         sliver: 4,
@@ -120,8 +121,14 @@ fn one_vcpu_host(alloc: Global) -> Result<Host, NameFault>
 fn a_copy_has_the_same_vcpus(rt: HostRuntime) -> Result<(), Fail> {
     let copy = one_vcpu_host(rt.alloc())?.copy(rt.alloc())?;
     assert_eq!(rt;
-        (copy.cores, copy.lag, copy.sliver, copy.quantum),
-        (2, 3, 4, 5)
+        (
+            copy.tick_ns,
+            copy.cores,
+            copy.lag,
+            copy.sliver,
+            copy.quantum
+        ),
+        (2002, 2, 3, 4, 5)
     );
     assert_eq!(rt; copy.vcpus.items()[0].name.bytes(), b"a".as_slice());
     assert!(rt; copy.vcpus.items()[0].runnable);
@@ -162,8 +169,14 @@ fn the_last_edit_prevails(rt: HostRuntime) -> Result<(), Fail> {
     assert!(rt; back.vcpus.items()[0].runnable);
     assert!(rt; back.vcpus.items()[0].capped);
     assert_eq!(rt;
-        (back.cores, back.lag, back.sliver, back.quantum),
-        (2, 3, 4, 5)
+        (
+            back.tick_ns,
+            back.cores,
+            back.lag,
+            back.sliver,
+            back.quantum
+        ),
+        (2002, 2, 3, 4, 5)
     );
     Ok(())
 }

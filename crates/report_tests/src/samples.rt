@@ -3,11 +3,12 @@ use script_doc::read_script;
 use std::alloc::Global;
 use std::test::Fail;
 use std::thread::Threads;
-use tab_core::{Host, Name, Reservation, Vcpu, Vcpus};
+use tab_core::{Host, Name, Reservation, TICK_NS, Vcpu, Vcpus};
 
 // A host of one core.
 pub(crate) fn host_of(vcpus: Vcpus) -> Host {
     Host {
+        tick_ns: TICK_NS,
         cores: 1,
         lag: 102_600,
         sliver: 30,

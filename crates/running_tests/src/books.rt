@@ -8,7 +8,7 @@ use script_doc::{Script, read_script};
 use std::alloc::Global;
 use std::test::Fail;
 use std::thread::Threads;
-use tab_core::{Host, Name, Reservation, VcpuNo, Vcpus};
+use tab_core::{Host, Name, Reservation, TICK_NS, VcpuNo, Vcpus};
 
 // A share in ppm of a core that may wait a round.
 fn patient(share_ppm: u32) -> Option<Reservation>
@@ -33,6 +33,7 @@ fn host_of(
     vcpus.push(vcpu_of(a, first, true, false))?;
     vcpus.push(vcpu_of(b, second, false, false))?;
     Ok(Host {
+        tick_ns: TICK_NS,
         cores: 1,
         lag: 1000,
         sliver: 30,

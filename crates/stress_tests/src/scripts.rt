@@ -93,6 +93,7 @@ fn host_of(alloc: Global, case: &Case) -> Result<Host, Fail> {
     let host = generate(alloc, case.seed, case.cores, case.vcpus)?;
     let vcpus = with_caps(alloc, host.vcpus.items(), case.capped())?;
     Ok(Host {
+        tick_ns: host.tick_ns,
         cores: case.cores,
         lag: case.lag,
         sliver: case.sliver,

@@ -3,7 +3,7 @@ use Rattle.std.proofs.Common.{◌≡◌, ℕ, ◌<◌, ◌≤◌, Bool, List, Op
 use Rattle.std.proofs.Props.{props}
 use Rattle.std.specs.Option.{ForSome}
 use Rattle.tab_core.specs.Period.{IsPeriod}
-use Rattle.tab_core.specs.declared.TheConstants.{MAX_CORES, MAX_LATENCY_NS, MAX_SLIVER, MAX_VCPUS, ROUND, WHOLE_PPM}
+use Rattle.tab_core.specs.declared.TheConstants.{MAX_CORES, MAX_LATENCY_NS, MAX_SLIVER, MAX_TICK_NS, MAX_VCPUS, MIN_TICK_NS, ROUND, WHOLE_PPM}
 use Rattle.tab_core.specs.declared.host.Host.{Host}
 use Rattle.tab_core.specs.declared.periodic.Periodic.{Periodic}
 use Rattle.tab_core.specs.declared.reservation.Reservation.{Reservation}
@@ -102,7 +102,9 @@ same_vcpu a b name reservation runnable capped =
 -- ---- hosts
 
 -- what a host keeps of its numbers
-record HostFacts (cores lag sliver quantum : ℕ) : Type 0 where
+record HostFacts (tick cores lag sliver quantum : ℕ) : Type 0 where
+  pub tick_at_least : MIN_TICK_NS ≤ tick
+  pub tick_at_most : tick ≤ MAX_TICK_NS
   pub some_core : 1 ≤ cores
   pub few_cores : cores ≤ MAX_CORES
   pub some_lag : 1 ≤ lag
@@ -112,14 +114,17 @@ record HostFacts (cores lag sliver quantum : ℕ) : Type 0 where
   pub quantum_in_round : quantum ≤ ROUND
 
 -- a host made of its numbers and vCPUs
-abbrev host_with : (cores lag sliver quantum : ℕ) (vcpus : List Vcpu)
-    → HostFacts cores lag sliver quantum → Host
-host_with cores lag sliver quantum vcpus f = record {
+abbrev host_with : (tick cores lag sliver quantum : ℕ) (vcpus : List Vcpu)
+    → HostFacts tick cores lag sliver quantum → Host
+host_with tick cores lag sliver quantum vcpus f = record {
+  tick_ns = tick;
   cores = cores;
   lag = lag;
   sliver = sliver;
   quantum = quantum;
   vcpus = vcpus;
+  tick_at_least = f.tick_at_least;
+  tick_at_most = f.tick_at_most;
   some_core = f.some_core;
   few_cores = f.few_cores;
   some_lag = f.some_lag;
@@ -130,8 +135,10 @@ host_with cores lag sliver quantum vcpus f = record {
 }
 
 -- the facts of a host that there is
-abbrev host_facts : (host : Host) → HostFacts host.cores host.lag host.sliver host.quantum
+abbrev host_facts : (host : Host) → HostFacts host.tick_ns host.cores host.lag host.sliver host.quantum
 host_facts host = record {
+  tick_at_least = host.tick_at_least;
+  tick_at_most = host.tick_at_most;
   some_core = host.some_core;
   few_cores = host.few_cores;
   some_lag = host.some_lag;
@@ -142,23 +149,24 @@ host_facts host = record {
 }
 
 -- and these have one proof
-one_host_proof : (cores lag sliver quantum : ℕ) → IsProp (HostFacts cores lag sliver quantum)
-one_host_proof cores lag sliver quantum = hlevel props
+one_host_proof : (tick cores lag sliver quantum : ℕ) → IsProp (HostFacts tick cores lag sliver quantum)
+one_host_proof tick cores lag sliver quantum = hlevel props
 
 -- hosts are compared by their numbers and vCPUs
-pub same_host : (a b : Host) → a.cores ≡ b.cores → a.lag ≡ b.lag → a.sliver ≡ b.sliver
-    → a.quantum ≡ b.quantum → a.vcpus ≡ b.vcpus → a ≡ b
-same_host a b cores lag sliver quantum vcpus =
-    let At : ℕ → ℕ → ℕ → ℕ → List Vcpu → Type 0 =
-    λ c l s q vs. (f : HostFacts c l s q) → a ≡ host_with c l s q vs f in
-    let here : At a.cores a.lag a.sliver a.quantum a.vcpus =
-    λ f. ap (host_with a.cores a.lag a.sliver a.quantum a.vcpus)
-    (one_host_proof a.cores a.lag a.sliver a.quantum (host_facts a) f) in
-    subst (At b.cores b.lag b.sliver b.quantum) vcpus
-    (subst (λ q. At b.cores b.lag b.sliver q a.vcpus) quantum
-    (subst (λ s. At b.cores b.lag s a.quantum a.vcpus) sliver
-    (subst (λ l. At b.cores l a.sliver a.quantum a.vcpus) lag
-    (subst (λ c. At c a.lag a.sliver a.quantum a.vcpus) cores here)))) (host_facts b)
+pub same_host : (a b : Host) → a.tick_ns ≡ b.tick_ns → a.cores ≡ b.cores → a.lag ≡ b.lag
+    → a.sliver ≡ b.sliver → a.quantum ≡ b.quantum → a.vcpus ≡ b.vcpus → a ≡ b
+same_host a b tick cores lag sliver quantum vcpus =
+    let At : ℕ → ℕ → ℕ → ℕ → ℕ → List Vcpu → Type 0 =
+    λ t c l s q vs. (f : HostFacts t c l s q) → a ≡ host_with t c l s q vs f in
+    let here : At a.tick_ns a.cores a.lag a.sliver a.quantum a.vcpus =
+    λ f. ap (host_with a.tick_ns a.cores a.lag a.sliver a.quantum a.vcpus)
+    (one_host_proof a.tick_ns a.cores a.lag a.sliver a.quantum (host_facts a) f) in
+    subst (At b.tick_ns b.cores b.lag b.sliver b.quantum) vcpus
+    (subst (λ q. At b.tick_ns b.cores b.lag b.sliver q a.vcpus) quantum
+    (subst (λ s. At b.tick_ns b.cores b.lag s a.quantum a.vcpus) sliver
+    (subst (λ l. At b.tick_ns b.cores l a.sliver a.quantum a.vcpus) lag
+    (subst (λ c. At b.tick_ns c a.lag a.sliver a.quantum a.vcpus) cores
+    (subst (λ t. At t a.cores a.lag a.sliver a.quantum a.vcpus) tick here))))) (host_facts b)
 
 -- an owner that there may be is small in one way, so values with one are made of their numbers
 pub one_owner_proof : (owner : Option ℕ) (x y : ForSome owner (λ v. v < MAX_VCPUS)) → x ≡ y

@@ -33,6 +33,7 @@ reservations_of vcpus = map (λ vcpu. vcpu.reservation) vcpus
 
 -- the new host is the old one but for its reservations, which are the edited ones
 pub record IsEdited (old : Host) (edits : List Edit) (new : Host) : Type 0 where
+  pub tick_ns : new.tick_ns ≡ old.tick_ns
   pub cores : new.cores ≡ old.cores
   pub lag : new.lag ≡ old.lag
   pub sliver : new.sliver ≡ old.sliver

@@ -12,6 +12,7 @@ impl Host {
     {
         let vcpus = copies_of(alloc, self.vcpus.items())?;
         Ok(Host {
+            tick_ns: self.tick_ns,
             cores: self.cores,
             lag: self.lag,
             sliver: self.sliver,

@@ -24,6 +24,7 @@ impl Host {
         }
         let vcpus = with_reservations(alloc, vcpus, &reservations)?;
         Ok(Host {
+            tick_ns: self.tick_ns,
             cores: self.cores,
             lag: self.lag,
             sliver: self.sliver,

@@ -42,8 +42,14 @@ pub type NoMemory = std::alloc::AllocError;
 /// Ticks of a round, which is the length of every table.
 pub const ROUND: u32 = 102_600;
 
-/// Nanoseconds of a tick.
-pub const TICK_NS: u64 = 1001;
+/// Nanoseconds of a tick, where a host names no tick of its own.
+pub const TICK_NS: u32 = 1001;
+
+/// The least length of a host's tick, in nanoseconds.
+pub const MIN_TICK_NS: u32 = 500;
+
+/// The greatest length of a host's tick, in nanoseconds.
+pub const MAX_TICK_NS: u32 = 2002;
 
 /// Parts per million of a whole share.
 pub const WHOLE_PPM: u32 = 1_000_000;

@@ -33,7 +33,7 @@ nobody_is_left left before after v none some =
 no_vcpu_lacks_room : (host : Host) (v rest : ℕ) (over : List Over) → HasBoundedTasks host
     → IsFirstWithoutRoom host v rest over → ⊥
 no_vcpu_lacks_room host v rest over has first =
-    let same = tasks_unique host.vcpus first.tasks has.tasks first.is_start.tasks_are has.tasks_are in
+    let same = tasks_unique host first.tasks has.tasks first.is_start.tasks_are has.tasks_are in
     let within = subst (λ tasks. IsWithinBound tasks host.cores) (sym same) has.within in
     nobody_is_left first.placed.left first.stuck.before first.stuck.after v
     (placement_within_bound first.tasks host.cores first.placed host.some_core
@@ -46,7 +46,7 @@ bounded_is_planned sections bounded refusal names (Plans.BadHost fault is) =
     no_host_fault _ fault bounded.host is bounded.is_host
 bounded_is_planned sections bounded refusal names (Plans.NoPeriod host vcpu is lacks) =
     let has = subst HasBoundedTasks (one_host _ bounded.host host bounded.is_host is) bounded.bounded in
-    none_without_period host.vcpus has.tasks vcpu has.tasks_are lacks
+    none_without_period host has.tasks vcpu has.tasks_are lacks
 bounded_is_planned sections bounded refusal names (Plans.NoRoom host vcpu rest over is lacks) =
     let has = subst HasBoundedTasks (one_host _ bounded.host host bounded.is_host is) bounded.bounded in
     no_vcpu_lacks_room host vcpu rest over has lacks
@@ -60,7 +60,7 @@ bounded_is_faultless input one bounded refusal names h =
 -- a host whose demands fit isn't beyond its room
 none_beyond_room : (host : Host) (demand room : ℕ) → HasFittingTasks host → IsBeyondRoom host demand room → ⊥
 none_beyond_room host demand room has beyond =
-    let same = ap demands (tasks_unique host.vcpus beyond.tasks has.tasks beyond.tasks_are has.tasks_are) in
+    let same = ap demands (tasks_unique host beyond.tasks has.tasks beyond.tasks_are has.tasks_are) in
     omega (arith, beyond.demand_is, beyond.room_is, beyond.beyond, has.fits, same)
 
 -- so `plan whole` doesn't refuse it
@@ -70,7 +70,7 @@ fitting_is_planned sections fitting refusal names (PlansWhole.BadHost fault is) 
     no_host_fault _ fault fitting.host is fitting.is_host
 fitting_is_planned sections fitting refusal names (PlansWhole.NoPeriod host vcpu is lacks) =
     let has = subst HasFittingTasks (one_host _ fitting.host host fitting.is_host is) fitting.fitting in
-    none_without_period host.vcpus has.tasks vcpu has.tasks_are lacks
+    none_without_period host has.tasks vcpu has.tasks_are lacks
 fitting_is_planned sections fitting refusal names (PlansWhole.NoFit host demand room is beyond) =
     let has = subst HasFittingTasks (one_host _ fitting.host host fitting.is_host is) fitting.fitting in
     none_beyond_room host demand room has beyond

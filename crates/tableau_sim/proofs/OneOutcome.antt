@@ -107,8 +107,8 @@ OfTasks s h t =
 
 -- and of a host
 abbrev OfCheckedHost : List (List ℕ) → Host → Outcome → Type 0
-OfCheckedHost s h = Staged (IsFirstWithoutPeriod h.vcpus)
-    (λ vcpu. Refuses (status.NoPeriod vcpu) (names_of h.vcpus)) (AreTasksOf h.vcpus) (OfTasks s h)
+OfCheckedHost s h = Staged (IsFirstWithoutPeriod h)
+    (λ vcpu. Refuses (status.NoPeriod vcpu) (names_of h.vcpus)) (AreTasksOf h) (OfTasks s h)
 
 -- an outcome of `check`, by its stages
 check_stages : (s : List (List ℕ)) (o : Outcome) → Checks s o → HostStage s (OfCheckedHost s) o
@@ -123,7 +123,7 @@ check_stages s o (Checks.BadTables h t r f has faulty) =
 
 -- a text has one meaning for tasks, or one first bad line
 one_text : (s : List (List ℕ)) (h : Host) (t : List (Option Periodic)) → IsHostText (host_section s) h
-    → AreTasksOf h.vcpus t
+    → AreTasksOf h t
     → IsOne (IsFirstBadFor (IsSomePlan (names_of h.vcpus) h.cores t) 1 (worded (plan_section s)))
     (IsPlanText (names_of h.vcpus) h.cores t (plan_section s))
 one_text s h t is are =
@@ -141,9 +141,9 @@ one_text s h t is are =
 pub check_only : (s : List (List ℕ)) (a b : Outcome) → Checks s a → Checks s b → a ≡ b
 check_only s a b of_a of_b = one_host_stage s (OfCheckedHost s) a b (λ h is.
     one_staged _ _ _ (OfTasks s h) a b (record {
-      cause = one_without_period h.vcpus;
-      thing = tasks_unique h.vcpus;
-      apart = λ vcpu t lacks are. none_without_period h.vcpus t vcpu are lacks;
+      cause = one_without_period h;
+      thing = tasks_unique h;
+      apart = λ vcpu t lacks are. none_without_period h t vcpu are lacks;
     }) (λ t are.
     one_staged _ _ _ (OfTables h t) a b (one_text s h t is are) (λ raw text.
     one_end _ _ _ (λ (_ : Unit {0}). Writes (codes "ok\n")) a b (record {

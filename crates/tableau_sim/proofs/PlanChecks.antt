@@ -51,7 +51,7 @@ pub record WritesPlan (section text : List ℕ) : Type 0 where
   pub host : Host
   pub is_host : IsHostText section host
   pub plan : PlanView
-  pub tasks : AreTasksOf host.vcpus plan.tasks
+  pub tasks : AreTasksOf host plan.tasks
   pub rounds : All (λ (row : Row). length row ≡ ROUND) plan.rows
   pub keeps : IsPlan plan
   pub is_for : IsPlanFor host plan

@@ -22,7 +22,7 @@ use Rattle.tableau_sim.proofs.Stages.{Ends, HostStage, one_host_stage}
 
 -- why a host has no such plan, in the form in which `plan_whole` says it
 abbrev HasWholeFault : Host → WholeFault → Type 0
-HasWholeFault h (whole.NoPeriod vcpu) = IsFirstWithoutPeriod h.vcpus vcpu
+HasWholeFault h (whole.NoPeriod vcpu) = IsFirstWithoutPeriod h vcpu
 HasWholeFault h (whole.NoFit demand room) = IsBeyondRoom h demand room
 HasWholeFault h whole.NoMemory = ⊥
 
@@ -36,7 +36,7 @@ whole_refusal h whole.NoMemory = Refuses status.NoMemory []
 one_beyond : (h : Host) (demand other room more : ℕ) → IsBeyondRoom h demand room
     → IsBeyondRoom h other more → (demand ≡ other) × (room ≡ more)
 one_beyond h demand other room more a b = (
-  a.demand_is ∙ ap demands (tasks_unique h.vcpus a.tasks b.tasks a.tasks_are b.tasks_are) ∙ sym b.demand_is,
+  a.demand_is ∙ ap demands (tasks_unique h a.tasks b.tasks a.tasks_are b.tasks_are) ∙ sym b.demand_is,
   a.room_is ∙ sym b.room_is,
 )
 
@@ -45,11 +45,11 @@ one_whole_fault : (h : Host) (f g : WholeFault) → HasWholeFault h f → HasWho
 one_whole_fault h whole.NoMemory g of_f of_g = absurd of_f
 one_whole_fault h f whole.NoMemory of_f of_g = absurd of_g
 one_whole_fault h (whole.NoPeriod vcpu) (whole.NoPeriod other) of_f of_g =
-    ap whole.NoPeriod (one_without_period h.vcpus vcpu other of_f of_g)
+    ap whole.NoPeriod (one_without_period h vcpu other of_f of_g)
 one_whole_fault h (whole.NoPeriod vcpu) (whole.NoFit demand room) of_f of_g =
-    absurd (none_without_period h.vcpus of_g.tasks vcpu of_g.tasks_are of_f)
+    absurd (none_without_period h of_g.tasks vcpu of_g.tasks_are of_f)
 one_whole_fault h (whole.NoFit demand room) (whole.NoPeriod vcpu) of_f of_g =
-    absurd (none_without_period h.vcpus of_f.tasks vcpu of_f.tasks_are of_g)
+    absurd (none_without_period h of_f.tasks vcpu of_f.tasks_are of_g)
 one_whole_fault h (whole.NoFit demand room) (whole.NoFit other more) of_f of_g =
     let one = one_beyond h demand other room more of_f of_g in
     let due = one.0 in
@@ -58,10 +58,10 @@ one_whole_fault h (whole.NoFit demand room) (whole.NoFit other more) of_f of_g =
 
 -- and no plan with it, since an allotment needs room for all demands
 whole_or_fault : (h : Host) (p : PlanView) (f : WholeFault) → IsWholePlan h p → HasWholeFault h f → ⊥
-whole_or_fault h p (whole.NoPeriod vcpu) is bad = none_without_period h.vcpus p.tasks vcpu is.tasks bad
+whole_or_fault h p (whole.NoPeriod vcpu) is bad = none_without_period h p.tasks vcpu is.tasks bad
 whole_or_fault h p (whole.NoFit demand room) is bad =
     let fits = allotment_fits p.tasks h.cores is.allotment is.is_allotment in
-    let same = ap demands (tasks_unique h.vcpus bad.tasks p.tasks bad.tasks_are is.tasks) in
+    let same = ap demands (tasks_unique h bad.tasks p.tasks bad.tasks_are is.tasks) in
     omega (arith, bad.demand_is, bad.room_is, bad.beyond, same, fits)
 whole_or_fault h p whole.NoMemory is bad = bad
 

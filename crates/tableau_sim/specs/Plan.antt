@@ -31,7 +31,7 @@ pub data Plans (sections : List (List ℕ)) : Outcome → Type 0 where
   BadHost : (fault : HostFault) → IsHostFault (host_section sections) fault
       → Plans sections (Refuses (status.Host fault) [])
   NoPeriod : (host : Host) (vcpu : ℕ) → IsHostText (host_section sections) host
-      → IsFirstWithoutPeriod host.vcpus vcpu
+      → IsFirstWithoutPeriod host vcpu
       → Plans sections (Refuses (status.NoPeriod vcpu) (names_of host.vcpus))
   NoRoom : (host : Host) (vcpu rest : ℕ) (over : List Over) → IsHostText (host_section sections) host
       → IsFirstWithoutRoom host vcpu rest over

@@ -31,7 +31,7 @@ pub data PlansWhole (sections : List (List ℕ)) : Outcome → Type 0 where
   BadHost : (fault : HostFault) → IsHostFault (host_section sections) fault
       → PlansWhole sections (Refuses (status.Host fault) [])
   NoPeriod : (host : Host) (vcpu : ℕ) → IsHostText (host_section sections) host
-      → IsFirstWithoutPeriod host.vcpus vcpu
+      → IsFirstWithoutPeriod host vcpu
       → PlansWhole sections (Refuses (status.NoPeriod vcpu) (names_of host.vcpus))
   NoFit : (host : Host) (demand room : ℕ) → IsHostText (host_section sections) host
       → IsBeyondRoom host demand room → PlansWhole sections (Refuses (status.NoFit demand room) [])

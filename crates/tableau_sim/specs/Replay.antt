@@ -90,7 +90,7 @@ pub data Replays (rounds : ℕ) (sections : List (List ℕ)) : Outcome → Type 
       → IsFirstBadLine host.cores (statements_of (steps_section sections)) line
       → Replays rounds sections (Refuses (status.BadStep line) [])
   NoPeriod : (parts : Parts) (vcpu : ℕ) → HasParts rounds sections parts
-      → IsFirstWithoutPeriod parts.host.vcpus vcpu
+      → IsFirstWithoutPeriod parts.host vcpu
       → Replays rounds sections (Refuses (status.NoPeriod vcpu) (names_of parts.host.vcpus))
   NoRoom : (parts : Parts) (vcpu rest : ℕ) (over : List Over) → HasParts rounds sections parts
       → IsFirstWithoutRoom parts.host vcpu rest over

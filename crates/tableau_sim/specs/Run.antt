@@ -67,7 +67,7 @@ pub data Runs (rounds : ℕ) (mode : RunMode) (view : View) (sections : List (Li
       → IsFirstFault (names_of host.vcpus) rounds (statements_of (script_section sections)) fault
       → Runs rounds mode view sections (Refuses (status.Script fault) [])
   NoPeriod : (host : Host) (events : List Event) (vcpu : ℕ) → HasScript rounds sections host events
-      → IsFirstWithoutPeriod host.vcpus vcpu
+      → IsFirstWithoutPeriod host vcpu
       → Runs rounds mode view sections (Refuses (status.NoPeriod vcpu) (names_of host.vcpus))
   NoRoom : (host : Host) (events : List Event) (vcpu rest : ℕ) (over : List Over)
       → HasScript rounds sections host events → IsFirstWithoutRoom host vcpu rest over

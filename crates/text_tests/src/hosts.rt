@@ -49,7 +49,7 @@ fn documents(rt: HostRuntime) -> Result<(), Fail> {
         (b"quantum = 7\ncores = 3", "3 1000 30 7"),
         // each number beyond each edge of its range
         (b"cores = 1\nformat = 0", "host value format"),
-        (b"cores = 1\nformat = 2", "host value format"),
+        (b"cores = 1\nformat = 3", "host value format"),
         (b"cores = 33", "host value cores"),
         (b"cores = -1", "host value cores"),
         (b"cores = 4294967297", "host value cores"),
@@ -152,6 +152,80 @@ fn documents(rt: HostRuntime) -> Result<(), Fail> {
     ];
     for (document, expected) in cases {
         let line = told(rt.alloc(), document)?;
+        assert_eq!(rt; line.as_str(), expected, "of {document:?}");
+    }
+    Ok(())
+}
+
+// The tick of the host that a document is read as, in ns, or its fault.
+fn tick_of(alloc: Global, document: &[u8]) -> Result<String, AllocError> {
+    match read_host(alloc, document) {
+        Ok(host) => format!(in alloc; "{}", host.tick_ns),
+        Err(fault) => format!(in alloc; "{fault}"),
+    }
+}
+
+#[test]
+fn ticks(rt: HostRuntime) -> Result<(), Fail> {
+    let cases: [(&[u8], &str); 24] = [
+        (b"cores = 1", "1001"),
+        (b"format = 1\ncores = 1", "1001"),
+        (b"format = 2\ncores = 1", "1001"),
+        (b"format = 2\ncores = 1\ntick_ns = 1001", "1001"),
+        (b"format = 2\ncores = 1\ntick_ns = 500", "500"),
+        (b"tick_ns = 0x7d2\ncores = 1\nformat = 2", "2002"),
+        // beyond each edge of its range
+        (
+            b"format = 2\ncores = 1\ntick_ns = 499",
+            "host value tick_ns",
+        ),
+        (
+            b"format = 2\ncores = 1\ntick_ns = 2003",
+            "host value tick_ns",
+        ),
+        (b"format = 2\ncores = 1\ntick_ns = -1", "host value tick_ns"),
+        (
+            b"format = 2\ncores = 1\ntick_ns = 4294968297",
+            "host value tick_ns",
+        ),
+        // of another type
+        (
+            b"format = 2\ncores = 1\ntick_ns = \"500\"",
+            "host key tick_ns",
+        ),
+        (
+            b"format = 2\ncores = 1\ntick_ns = 500.0",
+            "host key tick_ns",
+        ),
+        // where the format has no such key
+        (b"cores = 1\ntick_ns = 500", "host key unknown key"),
+        (
+            b"format = 1\ncores = 1\ntick_ns = 1001",
+            "host key unknown key",
+        ),
+        (
+            b"format = 1\ncores = 1\ntick_ns = \"500\"",
+            "host key unknown key",
+        ),
+        (b"format = 0\ncores = 1\ntick_ns = 500", "host value format"),
+        (b"format = 3\ncores = 1\ntick_ns = 500", "host value format"),
+        (b"format = \"2\"\ncores = 1", "host key format"),
+        // next behind the format, and in front of all else
+        (
+            b"cores = 0\ntick_ns = 499\nformat = 2",
+            "host value tick_ns",
+        ),
+        (b"cores = 0\ntick_ns = 500\nformat = 2", "host value cores"),
+        (b"cores = 0\ntick_ns = 499\nformat = 1", "host value cores"),
+        (b"cores = 0\ntick_ns = 499\nformat = 3", "host value format"),
+        (
+            b"format = 2\ncores = 1\nspeed = 3\ntick_ns = 500",
+            "host key unknown key",
+        ),
+        (b"format = 2\ncores = 1\ntick = 500", "host key unknown key"),
+    ];
+    for (document, expected) in cases {
+        let line = tick_of(rt.alloc(), document)?;
         assert_eq!(rt; line.as_str(), expected, "of {document:?}");
     }
     Ok(())

@@ -1,7 +1,7 @@
 ghost use Rattle.std.specs.Prelude.{◌≡◌, ◌≤◌};
 ghost use Rattle.tab_core.specs.declared.TheConstants.{MAX_CORES};
 
-use tab_core::{Host, Name, Vcpu, Vcpus};
+use tab_core::{Host, Name, TICK_NS, Vcpu, Vcpus};
 
 // A vCPU of this name, which is runnable, and neither admitted nor capped.
 pub(crate) fn vcpu_of(name: Name) -> Vcpu
@@ -21,6 +21,7 @@ pub(crate) fn host_of(cores: u32, vcpus: Vcpus) -> Host
     ensures { result.vcpus ≡ vcpus }
 {
     Host {
+        tick_ns: TICK_NS,
         cores,
         lag: 1000,
         sliver: 30,

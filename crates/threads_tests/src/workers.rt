@@ -12,7 +12,7 @@ use std::sync::atomic::AtomicU64;
 use std::sync::atomic::Ordering::SeqCst;
 use std::test::Fail;
 use std::thread::{Threads, yield_now};
-use tab_core::{CoreNo, Host, Name, ROUND, Reservation, Vcpu, Vcpus};
+use tab_core::{CoreNo, Host, Name, ROUND, Reservation, TICK_NS, Vcpu, Vcpus};
 use table_form::Course;
 
 // The book of a host of so many cores, at most 20,000 ticks apart, of which one has a vCPU that wakes in the second
@@ -32,6 +32,7 @@ fn book_of<R: Threads + Sync>(rt: &R, alloc: Global, cores: u32) -> Result<PlanB
         capped: false,
     })?;
     let host = Host {
+        tick_ns: TICK_NS,
         cores,
         lag: 20_000,
         sliver: 30,

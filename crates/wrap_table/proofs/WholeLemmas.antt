@@ -6,7 +6,6 @@ use Rattle.tab_core.specs.Vcpus.{capped_of}
 use Rattle.tab_core.specs.declared.TheConstants.{MAX_VCPUS, ROUND}
 use Rattle.tab_core.specs.declared.host.Host.{Host}
 use Rattle.tab_core.specs.declared.periodic.Periodic.{Periodic}
-use Rattle.tab_core.specs.declared.vcpu.Vcpu.{Vcpu}
 use Rattle.tab_core.proofs.Periods.{period_facts}
 use Rattle.table_form.specs.Tables.Plans.{IsPlanFor, PlanView}
 use Rattle.table_form.specs.Tables.Serves.{supply}
@@ -75,32 +74,32 @@ fits_host host plan is = record {
   rows = is.wrapped.rows_are.count;
   vcpus = is.tasks.as_many;
   admitted = tasks_admit host.vcpus plan.tasks is.tasks.as_many
-      (tasks_where_reserved host.vcpus plan.tasks is.tasks);
+      (tasks_where_reserved host plan.tasks is.tasks);
 }
 
 -- where each vCPU has its task, of the two refusals of the choice of periods only want of memory is left
-pub no_memory_for_tasks : (vcpus : List Vcpu) (tasks : List (Option Periodic)) (fault : TaskFault)
-    → AreTasksOf vcpus tasks → ((vcpu : ℕ) → fault ≡ NoPeriod vcpu → IsFirstWithoutPeriod vcpus vcpu)
+pub no_memory_for_tasks : (host : Host) (tasks : List (Option Periodic)) (fault : TaskFault)
+    → AreTasksOf host tasks → ((vcpu : ℕ) → fault ≡ NoPeriod vcpu → IsFirstWithoutPeriod host vcpu)
     → fault_of_tasks fault ≡ whole.NoMemory
-no_memory_for_tasks vcpus tasks (NoPeriod vcpu) are told =
-    absurd (none_without_period vcpus tasks vcpu are (told vcpu refl))
-no_memory_for_tasks vcpus tasks NoMemory are told = refl
+no_memory_for_tasks host tasks (NoPeriod vcpu) are told =
+    absurd (none_without_period host tasks vcpu are (told vcpu refl))
+no_memory_for_tasks host tasks NoMemory are told = refl
 
 -- a host whose tasks fit isn't beyond its room
 pub not_beyond : (host : Host) (tasks : List (Option Periodic)) (demand room : ℕ)
-    → AreTasksOf host.vcpus tasks
+    → AreTasksOf host tasks
     → demands tasks ≤ host.cores * ROUND → IsBeyondRoom host demand room → ⊥
 not_beyond host tasks demand room are fit beyond =
-    let same = ap demands (tasks_unique host.vcpus beyond.tasks tasks beyond.tasks_are are) in
+    let same = ap demands (tasks_unique host beyond.tasks tasks beyond.tasks_are are) in
     omega (arith, beyond.demand_is, beyond.room_is, beyond.beyond, same, fit)
 
 -- what the three parts of planning make is a whole-host plan
 pub whole_plan : (host : Host) (tasks : List (Option Periodic)) (a : AllotmentView) (plan : PlanView)
-    → AreTasksOf host.vcpus tasks → IsAllotment tasks host.cores a → IsWrapped tasks a host.cores plan
+    → AreTasksOf host tasks → IsAllotment tasks host.cores a → IsWrapped tasks a host.cores plan
     → plan.capped ≡ capped_of host.vcpus → IsWholePlan host plan
 whole_plan host tasks a plan are is wrapped capped = record {
   allotment = a;
-  tasks = subst (λ (ts : List (Option Periodic)). AreTasksOf host.vcpus ts) (sym wrapped.tasks_are) are;
+  tasks = subst (λ (ts : List (Option Periodic)). AreTasksOf host ts) (sym wrapped.tasks_are) are;
   is_allotment = subst (λ (ts : List (Option Periodic)). IsAllotment ts host.cores a) (sym wrapped.tasks_are)
       is;
   wrapped = subst (λ (ts : List (Option Periodic)). IsWrapped ts a host.cores plan) (sym wrapped.tasks_are)

@@ -15,7 +15,7 @@ use Rattle.wrap_table.specs.Wrapping.{IsWrapped}
 -- the plan lays out some allotment of the host's tasks to its cores, and has the host's capped vCPUs
 pub record IsWholePlan (host : Host) (plan : PlanView) : Type 0 where
   pub allotment : AllotmentView
-  pub tasks : AreTasksOf host.vcpus plan.tasks
+  pub tasks : AreTasksOf host plan.tasks
   pub is_allotment : IsAllotment plan.tasks host.cores allotment
   pub wrapped : IsWrapped plan.tasks allotment host.cores plan
   pub capped : plan.capped ≡ capped_of host.vcpus
@@ -23,7 +23,7 @@ pub record IsWholePlan (host : Host) (plan : PlanView) : Type 0 where
 -- the demands of the host's tasks sum to so many ticks of a round, more than the room of its cores
 pub record IsBeyondRoom (host : Host) (demand room : ℕ) : Type 0 where
   pub tasks : List (Option Periodic)
-  pub tasks_are : AreTasksOf host.vcpus tasks
+  pub tasks_are : AreTasksOf host tasks
   pub demand_is : demand ≡ demands tasks
   pub room_is : room ≡ host.cores * ROUND
   pub beyond : room < demand

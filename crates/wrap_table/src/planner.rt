@@ -39,15 +39,15 @@ pub fn plan_whole<L: Ledger>(
     ensures ok { IfOk result (λ plan. IsWholePlan host.now (plan_view plan)) }
     ensures fits_host { IfOk result (λ plan. IsPlanFor host.now (plan_view plan)) }
     ensures no_period { (vcpu : ℕ) → IsErrOf result (WholeFault.NoPeriod vcpu)
-        → IsFirstWithoutPeriod host.now.vcpus vcpu }
-    ensures without_period { (vcpu : ℕ) → IsFirstWithoutPeriod host.now.vcpus vcpu → IsErr result }
+        → IsFirstWithoutPeriod host.now vcpu }
+    ensures without_period { (vcpu : ℕ) → IsFirstWithoutPeriod host.now vcpu → IsErr result }
     ensures no_fit { (demand room : ℕ) → IsErrOf result (WholeFault.NoFit demand room)
         → IsBeyondRoom host.now demand room }
     ensures without_fit { (demand room : ℕ) → IsBeyondRoom host.now demand room → IsErr result }
-    ensures planned { (tasks : List (Option Periodic)) → AreTasksOf host.now.vcpus tasks
+    ensures planned { (tasks : List (Option Periodic)) → AreTasksOf host.now tasks
         → demands tasks ≤ host.now.cores * ROUND
         → IfErr result (λ fault. fault ≡ WholeFault.NoMemory) }
-    ensures cost { (tasks : List (Option Periodic)) (marks : List ℕ) → AreTasksOf host.now.vcpus tasks
+    ensures cost { (tasks : List (Option Periodic)) (marks : List ℕ) → AreTasksOf host.now tasks
         → AreMarks (map period_of_task tasks) marks → (let l = load_of_tasks tasks marks host.now.cores in
         steps.new ≤ steps.old + 2 * (admitted l * l.count) * edges l) }
 {

@@ -34,10 +34,29 @@ core 1
 end
 ";
 
+// Half of a core, in ticks of 500 ns: its latency is that of the longest period. With the default tick
+// it isn't.
+const FAST: &str = "format = 2
+tick_ns = 500
+cores = 1
+[[vcpu]]
+name = \"a\"
+share_ppm = 500000
+latency_ns = 51300000
+";
+
+const FAST_PLAN: &str = "plan cores 1 vcpus 1
+vcpu a period 102600 cost 51300 home 0
+core 0
+51300 a
+102600 -
+end
+";
+
 #[test]
 fn plans_and_refusals(rt: HostRuntime) -> Result<(), Fail> {
     // words, input, the exit status and the text
-    let cases: [(&str, &str, u8, &str); 24] = [
+    let cases: [(&str, &str, u8, &str); 27] = [
         (
             "plan",
             "cores = 1\n",
@@ -67,6 +86,19 @@ fn plans_and_refusals(rt: HostRuntime) -> Result<(), Fail> {
             2,
             "refused: host key unknown key\n",
         ),
+        (
+            "plan",
+            "format = 1\ncores = 1\ntick_ns = 500",
+            2,
+            "refused: host key unknown key\n",
+        ),
+        (
+            "plan",
+            "format = 2\ncores = 1\ntick_ns = 499",
+            2,
+            "refused: host value tick_ns\n",
+        ),
+        ("plan", FAST, 0, FAST_PLAN),
         (
             "plan",
             "cores = 1\nvcpu = [1]",

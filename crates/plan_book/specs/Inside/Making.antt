@@ -36,7 +36,7 @@ KeepsPlans plans more = (more ≡ plans) ⊎ ((plan : Plan) × (more ≡ plans +
 
 -- why the host itself has no plan; want of memory says nothing of it
 abbrev pub IsHostFault : Host → PlanFault → Type 0
-IsHostFault host (NoPeriod vcpu) = IsFirstWithoutPeriod host.vcpus vcpu
+IsHostFault host (NoPeriod vcpu) = IsFirstWithoutPeriod host vcpu
 IsHostFault host (NoRoom vcpu rest over) = IsFirstWithoutRoom host vcpu rest over
 IsHostFault host NoMemory = Unit {0}
 

@@ -34,6 +34,7 @@ returns-clause-generated c =
     let inv = c.loop-number.invariant in
     let all : c.loop-number.number ≡ c.args.vcpus = omega arith in
     record {
+      tick_ns = refl;
       cores_are = refl;
       lag = refl;
       sliver = refl;

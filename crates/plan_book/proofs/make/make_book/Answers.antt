@@ -150,7 +150,7 @@ pub returns-clause-chosen : goal.returns-clause-chosen
 returns-clause-chosen g c n known is =
     let here = shows_known c.args.host.now c.args.script.now c.of.result.course n known
     (returns-clause-ok g c).course is in
-    subst (λ (p : PlanView). AreTasksOf known.host.vcpus p.tasks) (sym here.plan)
+    subst (λ (p : PlanView). AreTasksOf known.host p.tasks) (sym here.plan)
     ((known_planned c.args.host.now c.args.script.now n known is).layout.is_start.tasks_are)
 
 pub returns-clause-vcpus : goal.returns-clause-vcpus

@@ -2,7 +2,7 @@ use Rattle.plan_make.proofs.OneRefusal.{one_without_period, one_without_room, ro
 use Rattle.plan_make.proofs.laws.a_host_has_one_refusal.Goals as goal
 
 pub returns-clause-without_period : goal.returns-clause-without_period
-returns-clause-without_period c = λ host. one_without_period host.vcpus
+returns-clause-without_period c = one_without_period
 
 pub returns-clause-without_room : goal.returns-clause-without_room
 returns-clause-without_room c = one_without_room

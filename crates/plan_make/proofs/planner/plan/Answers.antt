@@ -13,14 +13,14 @@ use Rattle.plan_make.proofs.planner.plan.Goals as goal
 pub returns-in_err-tasks-clause-bound : goal.returns-in_err-tasks-clause-bound
 returns-in_err-tasks-clause-bound g c tasks are within =
     let p = err_from_is_err_and c.from_residual.result c.from_residual.ensures.1 in
-    rw (p.1, p.2) (no_memory_for_tasks c.args.host.now.vcpus tasks c.in_err-tasks.field-0.0 are
+    rw (p.1, p.2) (no_memory_for_tasks c.args.host.now tasks c.in_err-tasks.field-0.0 are
     (λ vcpu is. c.in_err-tasks.ensures.no_period vcpu (ap Err is)))
 
 pub returns-in_err-tasks-clause-planned : goal.returns-in_err-tasks-clause-planned
 returns-in_err-tasks-clause-planned g c plan planned =
     let p = err_from_is_err_and c.from_residual.result c.from_residual.ensures.1 in
     rw (p.1, p.2)
-    (no_memory_for_tasks c.args.host.now.vcpus plan.tasks c.in_err-tasks.field-0.0
+    (no_memory_for_tasks c.args.host.now plan.tasks c.in_err-tasks.field-0.0
     planned.layout.is_start.tasks_are
     (λ vcpu is. c.in_err-tasks.ensures.no_period vcpu (ap Err is)))
 
@@ -60,12 +60,12 @@ returns-clause-fits_host g c = record {
   vcpus = ap length ((made g c).tasks_are) ∙ c.in_ok-tasks.ensures.ok.as_many;
   admitted = λ v. ap (λ tasks. has_task tasks v) (made g c).tasks_are
       ∙ tasks_admit c.args.host.now.vcpus c.in_ok-tasks.tasks c.in_ok-tasks.ensures.ok.as_many
-      (tasks_where_reserved c.args.host.now.vcpus c.in_ok-tasks.tasks c.in_ok-tasks.ensures.ok) v;
+      (tasks_where_reserved c.args.host.now c.in_ok-tasks.tasks c.in_ok-tasks.ensures.ok) v;
 }
 
 pub returns-clause-without_period : goal.returns-clause-without_period
 returns-clause-without_period g c vcpu first =
-    absurd (none_without_period c.args.host.now.vcpus c.in_ok-tasks.tasks vcpu c.in_ok-tasks.ensures.ok first)
+    absurd (none_without_period c.args.host.now c.in_ok-tasks.tasks vcpu c.in_ok-tasks.ensures.ok first)
 
 pub returns-clause-without_room : goal.returns-clause-without_room
 returns-clause-without_room g c vcpu rest over first =

@@ -12,7 +12,7 @@ use Rattle.wrap_table.proofs.planner.plan_whole.Goals as goal
 pub returns-in_err-tasks-clause-planned : goal.returns-in_err-tasks-clause-planned
 returns-in_err-tasks-clause-planned g c = λ tasks are fit.
     let p = err_from_is_err_and c.from_residual.result c.from_residual.ensures.1 in
-    rw (p.1, p.2) (no_memory_for_tasks c.args.host.now.vcpus tasks c.in_err-tasks.field-0.0 are
+    rw (p.1, p.2) (no_memory_for_tasks c.args.host.now tasks c.in_err-tasks.field-0.0 are
     (λ vcpu is. c.in_err-tasks.ensures.no_period vcpu (ap Err is)))
 
 pub returns-clause-fits_host : goal.returns-clause-fits_host
@@ -25,7 +25,7 @@ returns-clause-fits_host g c =
 
 pub returns-clause-without_period : goal.returns-clause-without_period
 returns-clause-without_period g c = λ vcpu first.
-    absurd (none_without_period c.args.host.now.vcpus c.in_ok-tasks.tasks vcpu c.in_ok-tasks.ensures.ok first)
+    absurd (none_without_period c.args.host.now c.in_ok-tasks.tasks vcpu c.in_ok-tasks.ensures.ok first)
 
 -- the cost of an allotment of a host's tasks, by any list that is its tasks
 costs : (chosen tasks : List (Option Periodic)) (cores s s0 : ℕ) → tasks ≡ chosen
