@@ -17,6 +17,7 @@ returns-in-Ok-plan g c = (
       apart = c.in-Ok-plan.plan.apart;
       housed = c.in-Ok-plan.plan.housed;
       owned = c.in-Ok-plan.plan.owned;
+      exact = c.in-Ok-plan.plan.exact;
     };
     is_for = c.in-Ok-plan.ensures.fits_host;
     reservations = kept_by_rows c.in-Ok.host _ c.in-Ok-plan.ensures.chosen c.in-Ok-plan.plan.serves

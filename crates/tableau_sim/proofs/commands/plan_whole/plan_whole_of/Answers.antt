@@ -17,6 +17,7 @@ returns-in-Ok-plan_whole g c = (
       apart = c.in-Ok-plan_whole.plan.apart;
       housed = c.in-Ok-plan_whole.plan.housed;
       owned = c.in-Ok-plan_whole.plan.owned;
+      exact = c.in-Ok-plan_whole.plan.exact;
     };
     is_for = c.in-Ok-plan_whole.ensures.fits_host;
     reservations = kept_by_rows c.in-Ok.host _ c.in-Ok-plan_whole.ensures.ok.tasks c.in-Ok-plan_whole.plan.serves
