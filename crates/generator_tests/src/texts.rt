@@ -6,7 +6,7 @@ use host_doc::read_host;
 use host_gen::{generate, write_host};
 use std::alloc::{AllocError, Global};
 use std::test::Fail;
-use tab_core::{Host, Name, NameFault, Reservation, Vcpu, Vcpus};
+use tab_core::{Host, Name, NameFault, Reservation, TICK_NS, Vcpu, Vcpus};
 use tab_io::{MemSink, WriteFault};
 
 // What seed 1234567 makes for one core and one vCPU. Its words are 6457827717110365317 and
@@ -129,6 +129,7 @@ fn capped_host(alloc: Global) -> Result<Host, NameFault>
         capped: true,
     });
     Ok(Host {
+        tick_ns: TICK_NS,
         cores: 1,
         lag: 1000,
         sliver: 30,

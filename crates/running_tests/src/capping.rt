@@ -12,7 +12,9 @@ use std::process::Abort;
 use std::test::Fail;
 use std::thread::Threads;
 use step_machine::{Answer, World};
-use tab_core::{CoreNo, Host, MAX_CORES, MAX_SLIVER, Name, ROUND, Reservation, Vcpu, VcpuNo, Vcpus};
+use tab_core::{
+    CoreNo, Host, MAX_CORES, MAX_SLIVER, Name, ROUND, Reservation, TICK_NS, Vcpu, VcpuNo, Vcpus,
+};
 use table_form::Course;
 
 // A share in ppm, which is 0 where the vCPU isn't admitted, a latency in ns, and whether it is capped.
@@ -46,6 +48,7 @@ fn host_of(alloc: Global, cores: u32, sliver: u32, wishes: &[Wish; 3]) -> Result
     vcpus.push(wished(b, &wishes[1]))?;
     vcpus.push(wished(c, &wishes[2]))?;
     Ok(Host {
+        tick_ns: TICK_NS,
         cores,
         lag: 1000,
         sliver,
