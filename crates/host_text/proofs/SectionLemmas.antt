@@ -3,7 +3,8 @@ use Rattle.std.proofs.Common.{◌≡◌, ℕ, ◌^◌, ◌<◌, ◌≤◌, Optio
 use Rattle.std.proofs.lemmas.Bool.{and_parts}
 use Rattle.std.proofs.lemmas.Bool.Decides.{nat_tests}
 use Rattle.std.proofs.lemmas.List.Folds.{list_all-append}
-use Rattle.std.specs.List.{list_all, onto_first}
+use Rattle.std.proofs.lemmas.List.Sums.{AllPass-from_list_all}
+use Rattle.std.specs.List.{list_all}
 use Rattle.tab_core.specs.Name.{IsName, is_byte_of_name}
 use Rattle.tab_core.specs.declared.TheConstants.{MAX_TICK_NS}
 use Rattle.tab_core.specs.declared.host.Host.{Host}
@@ -51,8 +52,8 @@ IsOneSection bytes = sections_of bytes ≡ bytes ∷ []
 line_cut : (line rest : List ℕ) → list_all is_inside line ≡ true
     → raw_lines_of (line ++ 10 ∷ rest) ≡ (line ++ 10 ∷ []) ∷ raw_lines_of rest
 line_cut line rest all = raw_lines_of-line line rest (λ k d low is.
-  let inside = AllPass-from_list_all is_inside line all k d low in
-  let feed : is_inside 10 ≡ true = ap is_inside (sym is) ∙ inside in absurd (cc))
+    let inside = AllPass-from_list_all is_inside line all k d low in
+    let feed : is_inside 10 ≡ true = ap is_inside (sym is) ∙ inside in absurd (cc))
 
 -- a line that is no separator, in front of one section
 line_more : (line rest : List ℕ) → list_all is_inside line ≡ true → is_separator (line ++ 10 ∷ []) ≡ false
