@@ -24,6 +24,21 @@ latency_ns = 492492
 runnable = true
 ";
 
+// The same where the vCPU is capped.
+const CAPPED_TEXT: &[u8] = b"format = 1
+cores = 1
+lag = 1000
+sliver = 30
+quantum = 1000
+
+[[vcpu]]
+name = \"v0\"
+share_ppm = 180000
+latency_ns = 492492
+runnable = true
+capped = true
+";
+
 #[test]
 fn the_text_of_a_seed(rt: HostRuntime) -> Result<(), Fail> {
     let host = generate(rt.alloc(), 1_234_567, 1, 1)?;
@@ -143,9 +158,7 @@ fn the_text_of_a_capped_vcpu(rt: HostRuntime) -> Result<(), Fail> {
     let host = capped_host(rt.alloc())?;
     let mut sink = MemSink::with_room(rt.alloc(), 200)?;
     assert_eq!(rt; write_host(&mut sink, &host), Ok(()));
-    let (front, line) = sink.bytes().split_at(TEXT.len());
-    assert_eq!(rt; front, TEXT);
-    assert_eq!(rt; line, b"capped = true\n".as_slice());
+    assert_eq!(rt; sink.bytes(), CAPPED_TEXT);
     Ok(())
 }
 
