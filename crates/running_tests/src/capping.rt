@@ -130,9 +130,13 @@ fn ticks_of(world: &World<'_>, course: &Course) -> Ticks
 // Cores, sliver, wishes, script, and the ticks.
 type Case<'a> = (u32, u32, [Wish; 3], &'a [u8], Ticks);
 
-const SHARE: u32 = 600_000;
-
 const LATE: u32 = 102_702_600;
+
+const OPEN: Wish = (600_000, LATE, false);
+
+const HELD: Wish = (600_000, LATE, true);
+
+const ABSENT: Wish = (0, 0, false);
 
 // a is on core 0 and b on core 1; c is split, at home on core 1, and core 0 has it up to tick 41040. Core 1 has a
 // slot of c from 61560 to 82080, and then none.
@@ -140,21 +144,21 @@ const SPLIT: [Case<'static>; 5] = [
     (
         2,
         30,
-        [(SHARE, LATE, false), (SHARE, LATE, false), (SHARE, LATE, false)],
+        [OPEN, OPEN, OPEN],
         b"",
         ([(61_560, 0), (61_560, 10_520), (61_560, 10_000)], 0),
     ),
     (
         2,
         30,
-        [(SHARE, LATE, false), (SHARE, LATE, false), (SHARE, LATE, true)],
+        [OPEN, OPEN, HELD],
         b"",
         ([(61_560, 0), (61_560, 20_520), (61_560, 0)], 0),
     ),
     (
         2,
         30,
-        [(SHARE, LATE, false), (SHARE, LATE, true), (SHARE, LATE, true)],
+        [OPEN, HELD, HELD],
         b"",
         ([(61_560, 0), (61_560, 0), (61_560, 0)], 20_520),
     ),
@@ -162,14 +166,14 @@ const SPLIT: [Case<'static>; 5] = [
     (
         2,
         30,
-        [(SHARE, LATE, false), (SHARE, LATE, false), (SHARE, LATE, false)],
+        [OPEN, OPEN, OPEN],
         b"0 block b",
         ([(61_560, 0), (1_000, 0), (61_560, 41_040)], 40_040),
     ),
     (
         2,
         30,
-        [(SHARE, LATE, false), (SHARE, LATE, false), (SHARE, LATE, true)],
+        [OPEN, OPEN, HELD],
         b"0 block b",
         ([(61_560, 0), (1_000, 0), (61_560, 0)], 81_080),
     ),
@@ -187,21 +191,21 @@ const JOINED: [Case<'static>; 3] = [
     (
         1,
         11,
-        [(500_000, LATE, false), (100_000, SHORT, true), (0, 0, false)],
+        [(500_000, LATE, false), (100_000, SHORT, true), ABSENT],
         b"",
         ([(51_300, 41_040), (10_260, 0), (0, 0)], 0),
     ),
     (
         1,
         11,
-        [(500_000, LATE, true), (100_000, SHORT, false), (0, 0, false)],
+        [(500_000, LATE, true), (100_000, SHORT, false), ABSENT],
         b"",
         ([(51_300, 0), (10_260, 41_040), (0, 0)], 0),
     ),
     (
         1,
         11,
-        [(500_000, LATE, true), (100_000, SHORT, true), (0, 0, true)],
+        [(500_000, LATE, true), (100_000, SHORT, true), ABSENT],
         b"",
         ([(51_300, 0), (10_260, 0), (0, 0)], 41_040),
     ),
@@ -218,35 +222,35 @@ const LAST: [Case<'static>; 5] = [
     (
         1,
         1000,
-        [(995_000, LATE, false), (0, 0, false), (0, 0, false)],
+        [(995_000, LATE, false), ABSENT, ABSENT],
         b"",
         ([(102_600, 0), (0, 0), (0, 0)], 0),
     ),
     (
         1,
         1000,
-        [(995_000, LATE, true), (0, 0, false), (0, 0, false)],
+        [(995_000, LATE, true), ABSENT, ABSENT],
         b"",
         ([(102_087, 0), (0, 0), (0, 0)], 513),
     ),
     (
         1,
         1000,
-        [(995_000, LATE, true), (1_000, LATE, false), (0, 0, false)],
+        [(995_000, LATE, true), (1_000, LATE, false), ABSENT],
         b"",
         ([(102_087, 0), (513, 0), (0, 0)], 0),
     ),
     (
         1,
         1000,
-        [(995_000, LATE, false), (1_000, LATE, true), (0, 0, false)],
+        [(995_000, LATE, false), (1_000, LATE, true), ABSENT],
         b"",
         ([(102_087, 409), (104, 0), (0, 0)], 0),
     ),
     (
         1,
         1000,
-        [(995_000, LATE, true), (1_000, LATE, true), (0, 0, false)],
+        [(995_000, LATE, true), (1_000, LATE, true), ABSENT],
         b"",
         ([(102_087, 0), (104, 0), (0, 0)], 409),
     ),
@@ -257,7 +261,11 @@ fn idle_slivers_stay_behind_a_capped_vcpu(rt: HostRuntime) -> Result<(), Fail> {
     try_all(&rt, rt.alloc(), &LAST)
 }
 
-fn try_all<R: Threads + Sync + Abort>(rt: &R, alloc: Global, cases: &[Case<'_>]) -> Result<(), Fail> {
+fn try_all<R: Threads + Sync + Abort>(
+    rt: &R,
+    alloc: Global,
+    cases: &[Case<'_>],
+) -> Result<(), Fail> {
     for (cores, sliver, wishes, text, ticks) in cases {
         let host = host_of(alloc, *cores, *sliver, wishes)?;
         if text.len() >= 1000 {
@@ -265,7 +273,11 @@ fn try_all<R: Threads + Sync + Abort>(rt: &R, alloc: Global, cases: &[Case<'_>])
         }
         let book = book_of(rt, alloc, &host, text)?;
         let world = whole_run(alloc, book.course())?;
-        assert_eq!(rt; ticks_of(&world, book.course()), *ticks, "of {wishes:?} and {text:?}");
+        assert_eq!(rt;
+            ticks_of(&world, book.course()),
+            *ticks,
+            "of {wishes:?} and {text:?}"
+        );
     }
     Ok(())
 }
