@@ -1,5 +1,5 @@
 //! Hosts and scripts from a seed.
-ghost use Rattle.std.specs.Prelude.{◌≡◌, ◌≤◌, ◌+◌, ◌*◌, IfOk, map};
+ghost use Rattle.std.specs.Prelude.{◌≡◌, ◌≤◌, ◌+◌, ◌*◌, IfOk, length, map};
 ghost use Rattle.tab_core.specs.declared.TheConstants.{MAX_CORES, MAX_SLIVER, ROUND};
 ghost use Rattle.table_form.specs.Running.Courses.{FitsRounds};
 
@@ -75,7 +75,9 @@ impl Case {
 
 // The vCPUs, of which those of the word's bits are capped.
 fn with_caps(alloc: Global, vcpus: &[Vcpu], capped: u64) -> Result<Vec<Vcpu>, Fail>
-    ensures { IfOk result (λ made. map (λ vcpu. vcpu.name) made.items ≡ map (λ vcpu. vcpu.name) vcpus.now) }
+    ensures size { IfOk result (λ made. length made.items ≡ length vcpus.now) }
+    ensures names { IfOk result (λ made. map (λ vcpu. vcpu.name) made.items
+        ≡ map (λ vcpu. vcpu.name) vcpus.now) }
 {
     let mut made = Vec::with_capacity(alloc, vcpus.len())?;
     for (number, vcpu) in vcpus.iter().enumerate() {

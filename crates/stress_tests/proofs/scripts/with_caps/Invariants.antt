@@ -1,6 +1,8 @@
-use Rattle.std.proofs.Common.{◌≡◌, map, take}
+use Rattle.std.proofs.Common.{◌≡◌, length, map, take}
 use Rattle.stress_tests.proofs.scripts.with_caps.Given as goal
 
 abbrev pub invariant-loop-number : goal.invariant-loop-number
-invariant-loop-number l =
-    map (λ vcpu. vcpu.name) l.made.items ≡ map (λ vcpu. vcpu.name) (take l.number l.vcpus)
+invariant-loop-number l = record {
+  size : length l.made.items ≡ l.number;
+  names : map (λ vcpu. vcpu.name) l.made.items ≡ map (λ vcpu. vcpu.name) (take l.number l.vcpus);
+}
