@@ -298,11 +298,13 @@ fn judge_caps(setting: &Setting, marks: &[u64], used: &[u32]) -> Result<(), Brok
         let from = round.saturating_mul(ROUND as usize);
         let end = from.saturating_add(ROUND as usize);
         let marks = marks.get(from..end).ok_or(Broken::Number)?;
-        for (vcpu, task) in picture.tasks.iter().enumerate() {
-            let own = setting.capped & bit(vcpu as u32);
+        let mut vcpu: u32 = 0;
+        for task in &picture.tasks {
+            let own = setting.capped & bit(vcpu);
             if let Some(task) = task {
                 hold(own == 0 || is_within(marks, own, task), Broken::OverCap)?;
             }
+            vcpu = vcpu.saturating_add(1);
         }
     }
     Ok(())
