@@ -108,7 +108,8 @@ type Ticks = ([(u32, u32); 3], u32);
 fn ticks_of(world: &World<'_>, course: &Course) -> Ticks
     requires { world.now.course ≡ course.now }
 {
-    let mut ran = [(0u32, 0u32); 3];
+    let mut slots = [0u32; 3];
+    let mut shared = [0u32; 3];
     let mut idle: u32 = 0;
     for core in 0..course.cores() {
         for stint in world.stints(CoreNo(core)) {
@@ -118,12 +119,21 @@ fn ticks_of(world: &World<'_>, course: &Course) -> Ticks
                 idle = idle.saturating_add(ticks);
                 continue;
             };
-            if let Some((slots, shared)) = ran.get_mut(vcpu.index()) {
-                let sum = if owner == stint.ran { slots } else { shared };
+            let sums = if owner == stint.ran {
+                &mut slots
+            } else {
+                &mut shared
+            };
+            if let Some(sum) = sums.get_mut(vcpu.index()) {
                 *sum = sum.saturating_add(ticks);
             }
         }
     }
+    let ran = [
+        (slots[0], shared[0]),
+        (slots[1], shared[1]),
+        (slots[2], shared[2]),
+    ];
     (ran, idle)
 }
 
