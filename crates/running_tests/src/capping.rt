@@ -105,6 +105,12 @@ fn owner_at(course: &Course, used: u32, core: usize, place: u32) -> Option<VcpuN
 // The ticks that a, b and c ran in their own slots and beyond them, and those in which cores idled.
 type Ticks = ([(u32, u32); 3], u32);
 
+fn add_ticks(sums: &mut [u32; 3], vcpu: VcpuNo, ticks: u32) {
+    if let Some(sum) = sums.get_mut(vcpu.index()) {
+        *sum = sum.saturating_add(ticks);
+    }
+}
+
 fn ticks_of(world: &World<'_>, course: &Course) -> Ticks
     requires { world.now.course ≡ course.now }
 {
@@ -119,13 +125,10 @@ fn ticks_of(world: &World<'_>, course: &Course) -> Ticks
                 idle = idle.saturating_add(ticks);
                 continue;
             };
-            let sums = if owner == stint.ran {
-                &mut slots
+            if owner == stint.ran {
+                add_ticks(&mut slots, vcpu, ticks);
             } else {
-                &mut shared
-            };
-            if let Some(sum) = sums.get_mut(vcpu.index()) {
-                *sum = sum.saturating_add(ticks);
+                add_ticks(&mut shared, vcpu, ticks);
             }
         }
     }
