@@ -176,7 +176,7 @@ fn written_hosts_are_read_back(rt: HostRuntime) -> Result<(), Fail> {
         is_read_back(rt.alloc(), &many)?,
         is_read_back(rt.alloc(), &fast)?,
     ];
-    assert_eq!(rt; read_back, [true; 4]);
+    assert_eq!(rt; read_back, [true; 5]);
     Ok(())
 }
 

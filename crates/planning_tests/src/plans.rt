@@ -199,7 +199,7 @@ fn a_short_idle_end_stays_behind_a_capped_vcpu(rt: HostRuntime) -> Result<(), Fa
         share_ppm: 995_000,
         latency_ns: 102_702_600,
     };
-    let host = host_of(1, 1000, one_capped(rt.alloc(), nearly_whole)?);
+    let host = host_of(TICK_NS, 1, 1000, one_capped(rt.alloc(), nearly_whole)?);
     let made = plan(&rt, rt.alloc(), &host)?;
     assert!(rt; core_has(&made, 0, &[(Some(0), 102_087), (None, 102_600)]));
     assert!(rt; made.capped.has(VcpuNo(0)));

@@ -42,7 +42,7 @@ fn generated_hosts_have_whole_plans(rt: HostRuntime) -> Result<(), Fail> {
 }
 
 #[test]
-fn a_whole_plan_has_its_host_s_capped_vcpus(rt: HostRuntime) -> Result<(), Fail> {
+fn a_whole_plan_has_its_hosts_capped_vcpus(rt: HostRuntime) -> Result<(), Fail> {
     let document = "cores = 1
         vcpu = [
             {name = \"a\", share_ppm = 300000, latency_ns = 700000},
