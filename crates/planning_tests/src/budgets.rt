@@ -6,7 +6,10 @@ use period_choice::{TaskFault, choose, tasks_of};
 use reservation::cost_of;
 use std::alloc::{AllocError, Global};
 use std::test::Fail;
-use tab_core::{Host, Name, Reservation, Tasks, VcpuNo, Vcpus};
+use tab_core::{
+    Host, MAX_LATENCY_NS, MAX_TICK_NS, MIN_TICK_NS, Name, Reservation, Tasks, VcpuNo, Vcpus,
+    WHOLE_PPM,
+};
 
 #[test]
 fn costs_are_rounded_up_to_whole_ticks(rt: HostRuntime) {
@@ -48,6 +51,8 @@ fn least_demand_and_of_those_the_largest(rt: HostRuntime) {
         (100_000, 360_359, 2002, None),
     ];
     for (share_ppm, latency_ns, tick_ns, expected) in cases {
+        assert!(rt; 1 <= share_ppm && share_ppm <= WHOLE_PPM && latency_ns <= MAX_LATENCY_NS);
+        assert!(rt; MIN_TICK_NS <= tick_ns && tick_ns <= MAX_TICK_NS);
         let reservation = Reservation {
             share_ppm,
             latency_ns,
@@ -85,15 +90,23 @@ fn each_vcpu_has_the_chosen_task(rt: HostRuntime) -> Result<(), Fail> {
         share_ppm: 100_000,
         latency_ns: 180_179,
     };
-    let lacks = TaskFault::NoPeriod { vcpu: VcpuNo(0) };
     let cases = [
         (1001, None, Ok(None)),
         (1001, Some(within), Ok(Some((100, 10)))),
-        (1001, Some(beyond), Err(lacks)),
+        (
+            1001,
+            Some(beyond),
+            Err(TaskFault::NoPeriod { vcpu: VcpuNo(0) }),
+        ),
         (500, Some(within), Ok(Some((200, 20)))),
-        (2002, Some(within), Err(lacks)),
+        (
+            2002,
+            Some(within),
+            Err(TaskFault::NoPeriod { vcpu: VcpuNo(0) }),
+        ),
     ];
     for (tick_ns, reservation, expected) in cases {
+        assert!(rt; MIN_TICK_NS <= tick_ns && tick_ns <= MAX_TICK_NS);
         let name = Name::of(rt.alloc(), b"a")?;
         let host = one_vcpu(rt.alloc(), name, tick_ns, reservation)?;
         let found = tasks_of(rt.alloc(), &host).map(|tasks| numbers_of(&tasks));
