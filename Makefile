@@ -1,0 +1,42 @@
+# Builds by the launcher, checks by the gate, and copies. PREFIX and DESTDIR are as everywhere.
+.POSIX:
+PREFIX = /usr/local
+DESTDIR =
+VERSION = 0.1.0
+
+to = $(DESTDIR)$(PREFIX)
+program = crates/tableau/out/tableau
+package = tableau-$(VERSION)-x86_64-linux
+
+all:
+	./tableau --version
+
+check:
+	.ci/run
+
+install: all
+	install -d "$(to)/bin" "$(to)/share/man/man1" "$(to)/share/man/man5" "$(to)/share/doc/tableau/examples"
+	install -d "$(to)/share/bash-completion/completions" "$(to)/share/zsh/site-functions"
+	install -d "$(to)/share/fish/vendor_completions.d"
+	install -m 755 $(program) "$(to)/bin/tableau"
+	install -m 644 docs/tableau.1 "$(to)/share/man/man1/tableau.1"
+	install -m 644 docs/tableau-host.5 "$(to)/share/man/man5/tableau-host.5"
+	install -m 644 completions/tableau.bash "$(to)/share/bash-completion/completions/tableau"
+	install -m 644 completions/_tableau "$(to)/share/zsh/site-functions/_tableau"
+	install -m 644 completions/tableau.fish "$(to)/share/fish/vendor_completions.d/tableau.fish"
+	install -m 644 README.md LICENSE-MIT LICENSE-APACHE docs/MANUAL.md docs/FORMATS.md docs/RULES.md docs/GLOSSARY.md \
+	  docs/PROVED.md "$(to)/share/doc/tableau"
+	install -m 644 crates/tableau/data/hosts/*.toml "$(to)/share/doc/tableau/examples"
+	.ci/record $(program) > "$(to)/share/doc/tableau/BUILD"
+
+uninstall:
+	rm -f "$(to)/bin/tableau" "$(to)/share/man/man1/tableau.1" "$(to)/share/man/man5/tableau-host.5"
+	rm -f "$(to)/share/bash-completion/completions/tableau" "$(to)/share/zsh/site-functions/_tableau"
+	rm -f "$(to)/share/fish/vendor_completions.d/tableau.fish"
+	rm -rf "$(to)/share/doc/tableau"
+
+dist:
+	rm -rf $(package)
+	$(MAKE) install PREFIX= DESTDIR="$(package)"
+	tar -czf $(package).tar.gz $(package)
+	rm -rf $(package)
