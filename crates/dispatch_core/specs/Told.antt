@@ -110,7 +110,8 @@ CoreTold course rounds c v Finished w = ((part v c).clock ≡ rounds * ROUND) ×
 -- what its begin did; t is what the core's actor keeps afterwards
 abbrev pub BegunTold : OutlineView → ℕ → ℕ → View → Begun → StateView → View → Type 0
 BegunTold o rounds c v (At seen used) t w = BeginsStep o rounds c v seen (part w c) × HasBegun o t w seen used
-BegunTold o rounds c v (Unseen tick) t w = ((part v c).clock < rounds * ROUND) × LacksEvent o c v w tick
+BegunTold o rounds c v (Unseen seen tick) t w = ((part v c).clock < rounds * ROUND)
+    × (lacks : LacksEvent o c v w tick) × (lacks.count ≡ seen)
 BegunTold o rounds c v Over t w = ((part v c).clock ≡ rounds * ROUND) × (w ≡ v)
 
 -- what its end did
@@ -118,3 +119,8 @@ abbrev pub EndTold : CourseView → ℕ → View → Ended → View → Type 0
 EndTold course c v (RanOn s) w = RunsStint course c (part v c) (part w c) s
 EndTold course c v (TooEarly d tick) w = FindsLow course c (part v c) (part w c) d tick
     × (holds v d ≡ true → tick ≡ (part v d).clock)
+
+-- whatever the plan: a core that has begun its step and then waits for another keeps its clock, its entries and its stints
+abbrev pub StaysWhereBehind : Part → Ended → Part → Type 0
+StaysWhereBehind p (RanOn s) q = Unit {0}
+StaysWhereBehind p (TooEarly d tick) q = (q.clock ≡ p.clock) × (q.entries ≡ p.entries) × (q.stints ≡ p.stints)

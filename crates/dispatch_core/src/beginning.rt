@@ -91,6 +91,7 @@ pub(crate) fn begin(
     let seen = board.see(seat, CoreNo(log.core));
     if !has_events(outline, seen, log.clock) {
         return Begun::Behind {
+            seen,
             tick: outline.tick_of(seen),
         };
     }

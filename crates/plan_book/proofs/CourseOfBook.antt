@@ -41,7 +41,7 @@ event_at (event ∷ events) zero lt = event
 event_at (event ∷ events) (suc i) lt = event_at events i (omega arith)
 
 -- a course asks that the ticks never fall, which the script's type keeps
-ticks_rise : (events : List Event) → NeverFall events → (i : ℕ) → suc i < length events
+pub ticks_rise : (events : List Event) → NeverFall events → (i : ℕ) → suc i < length events
     → slice_index (ticks_of events) i ≤ slice_index (ticks_of events) (suc i)
 ticks_rise events order i lt =
     let d = event_at events i (omega arith) in

@@ -136,8 +136,10 @@ fn only(alloc: Global, plan: Plan) -> Result<Vec<Plan>, NoMemory>
     Ok(plans)
 }
 
-// The plan of a host, or why it has none.
-fn planned<R: Threads + Sync>(
+/// The plan of a host, or why it has none, as the outcome of a change that makes this host.
+///
+/// Fails only for want of memory.
+pub fn planned<R: Threads + Sync>(
     rt: &R,
     alloc: Global,
     host: &Host,

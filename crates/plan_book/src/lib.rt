@@ -17,10 +17,11 @@ mod make;
 mod outcome;
 
 pub use book::PlanBook;
+pub use book_so_far::planned;
 pub use fault::BookFault;
 pub use laws::{
     a_run_has_one_tick, a_script_makes_one_course, every_wait_is_within_latency,
     the_capped_stay_capped,
 };
-pub use make::make_book;
+pub use make::{make_book, ticks_in};
 pub use outcome::Outcome;

@@ -92,8 +92,8 @@ pub fn make_book<R: Threads + Sync>(
     Ok(PlanBook::of(course, so_far.outcomes))
 }
 
-// The ticks of the events.
-fn ticks_in(alloc: Global, events: &[Event]) -> Result<Vec<u32>, NoMemory>
+/// The ticks of the events, in their order. Fails only for want of memory.
+pub fn ticks_in(alloc: Global, events: &[Event]) -> Result<Vec<u32>, NoMemory>
     ensures { IfOk result (λ ticks. ticks.items ≡ ticks_of events.now) }
 {
     let mut ticks = Vec::with_capacity(alloc, events.len())?;
