@@ -12,10 +12,9 @@ use Rattle.round_words.specs.Hearing.{HearsCores}
 use Rattle.round_words.specs.Views.{hears, holds, last_of, part, sees}
 use Rattle.round_words.proofs.HearingLemmas.{SamePart, heard_same}
 use Rattle.round_words.proofs.ListLemmas.{last_of-push, length_push}
-use Rattle.dispatch_core.specs.Parts.{HasEvents, HasSeen}
+use Rattle.dispatch_core.specs.Parts.{HasEvents, HasSeen, SameRun}
 use Rattle.dispatch_core.specs.Told.{LacksEvent}
 use Rattle.dispatch_core.proofs.DueLemmas.{has_by_next}
-use Rattle.dispatch_core.proofs.PartLemmas.{SameRun}
 
 -- a part that was heard or saw has the same run
 pub run_of_same : (p q : Part) → SamePart p q → SameRun p q
@@ -58,7 +57,7 @@ has_seen o v c count q is sighted has events = subst (HasSeen o count) (sym is) 
 })
 
 -- a count that lacks an event that is due was seen
-pub lacks_event : (o : OutlineView) (v w : View) (c count tick : ℕ) → IsOutline o → (HasEvents o count (part v c).clock → ⊥)
+abbrev pub lacks_event : (o : OutlineView) (v w : View) (c count tick : ℕ) → IsOutline o → (HasEvents o count (part v c).clock → ⊥)
     → IsSight v c count → v.events ≡ length o.ticks → tick ≡ slice_index o.ticks count → part w c ≡ sees (part v c) count
     → LacksEvent o c v w tick
 lacks_event o v w c count tick ok lacks sighted events tick_is is = record {

@@ -21,6 +21,12 @@ IsOfOutline o v = IsStarted o.lag o.cores (length o.ticks) v
 abbrev pub HasEvents : OutlineView → ℕ → ℕ → Type 0
 HasEvents o count x = HasUpTo (with_plans o [] []) count x
 
+-- the same clock, entries and stints
+pub record SameRun (p q : Part) : Type 0 where
+  pub clock : q.clock ≡ p.clock
+  pub entries : q.entries ≡ p.entries
+  pub stints : q.stints ≡ p.stints
+
 -- nothing has happened to the core's part
 pub record IsNewPart (p : Part) : Type 0 where
   pub clock : p.clock ≡ 0

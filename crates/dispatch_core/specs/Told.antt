@@ -19,7 +19,7 @@ use Rattle.dispatch_core.specs.declared.answer.CoreAnswer.{CoreAnswer}
 use Rattle.dispatch_core.specs.declared.answer.CoreAnswer.TheVariants.{Ran, Behind, Finished}
 use Rattle.dispatch_core.specs.declared.answer.Ended.{Ended}
 use Rattle.dispatch_core.specs.declared.answer.Ended.TheVariants.{Ran as RanOn, Behind as TooEarly}
-use Rattle.dispatch_core.specs.Parts.{HasEvents}
+use Rattle.dispatch_core.specs.Parts.{HasEvents, SameRun}
 use Rattle.dispatch_core.specs.States.{HasBegun, StateView}
 
 -- the round of the part's clock
@@ -120,7 +120,7 @@ EndTold course c v (RanOn s) w = RunsStint course c (part v c) (part w c) s
 EndTold course c v (TooEarly d tick) w = FindsLow course c (part v c) (part w c) d tick
     × (holds v d ≡ true → tick ≡ (part v d).clock)
 
--- whatever the plan: a core that has begun its step and then waits for another keeps its clock, its entries and its stints
-abbrev pub StaysWhereBehind : Part → Ended → Part → Type 0
-StaysWhereBehind p (RanOn s) q = Unit {0}
-StaysWhereBehind p (TooEarly d tick) q = (q.clock ≡ p.clock) × (q.entries ≡ p.entries) × (q.stints ≡ p.stints)
+-- whatever the plan: where it ended in waiting for another core, the core has run nothing
+abbrev pub StaysWhereBehind : ℕ → View → Ended → View → Type 0
+StaysWhereBehind c v (RanOn s) w = Unit {0}
+StaysWhereBehind c v (TooEarly d tick) w = SameRun (part v c) (part w c)

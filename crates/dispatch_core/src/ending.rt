@@ -44,7 +44,7 @@ pub(crate) fn end(
     ensures told { (plan : PlanView) → IsTableOf plan log.old.core table.now → InEachCourse outline.now used plan
         (λ course. FollowsPlans course (log_view log.old) (part (view_of seat.old) log.old.core)
         → EndTold course log.old.core (view_of seat.old) result (view_of seat.new)) }
-    ensures waits { StaysWhereBehind (part (view_of seat.old) log.old.core) result (part (view_of seat.new) log.old.core) }
+    ensures waits { StaysWhereBehind log.old.core (view_of seat.old) result (view_of seat.new) }
     ensures plans { (plan : PlanView) → IsTableOf plan log.old.core table.now → InEachCourse outline.now used plan
         (λ course. FollowsPlans course (log_view log.old) (part (view_of seat.old) log.old.core)
         → FollowsPlans course (log_view log.new) (part (view_of seat.new) log.old.core)) }
@@ -81,7 +81,7 @@ fn run_at(
         span.now.sharers.now span.now.end → InEachCourse outline.now used plan (λ course.
         FollowsPlans course (log_view log.old) (part (view_of seat.old) log.old.core)
         → EndTold course log.old.core (view_of seat.old) result (view_of seat.new)) }
-    ensures waits { StaysWhereBehind (part (view_of seat.old) log.old.core) result (part (view_of seat.new) log.old.core) }
+    ensures waits { StaysWhereBehind log.old.core (view_of seat.old) result (view_of seat.new) }
     ensures plans { (plan : PlanView) → IsSpan plan log.old.core (log.old.clock % ROUND) span.now.owner
         span.now.sharers.now span.now.end → InEachCourse outline.now used plan (λ course.
         FollowsPlans course (log_view log.old) (part (view_of seat.old) log.old.core)

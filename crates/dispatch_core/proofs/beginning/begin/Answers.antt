@@ -44,6 +44,7 @@ returns-then-not-has_events-clause-told c =
           let yes = c.has_events.ensures.known.1 (subst (HasEvents o c.see-seen.result) clock has) in absurd cc))
           c.see-seen.ensures.sight s.of_outline.events_are c.tick_of.ensures
           (part_with v _ core _ s.core.1 c.see-seen.ensures.view),
+      refl,
     )
 
 pub returns-then-not-has_events-clause-plans : goal.returns-then-not-has_events-clause-plans
