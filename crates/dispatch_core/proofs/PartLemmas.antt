@@ -10,8 +10,14 @@ use Rattle.run_promises.proofs.Lists.{within}
 use Rattle.round_words.specs.declared.view.Part.{Part}
 use Rattle.round_words.specs.Views.{enters, last_of, runs}
 use Rattle.round_words.proofs.ListLemmas.{at_get}
-use Rattle.dispatch_core.specs.Parts.{HasEvents, HasSeen, IsTimely, SameRun}
+use Rattle.dispatch_core.specs.Parts.{HasEvents, HasSeen, IsTimely}
 use Rattle.dispatch_core.specs.Told.{BeginsNext, ComesToEnter, MakesEntry}
+
+-- the same clock, entries and stints
+pub record SameRun (p q : Part) : Type 0 where
+  pub clock : q.clock ≡ p.clock
+  pub entries : q.entries ≡ p.entries
+  pub stints : q.stints ≡ p.stints
 
 -- the part itself
 pub run_same : (p q : Part) → q ≡ p → SameRun p q

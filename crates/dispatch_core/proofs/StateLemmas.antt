@@ -17,10 +17,10 @@ use Rattle.round_words.proofs.ChangesLemmas.{core_still, started_still}
 use Rattle.dispatch_core.specs.declared.log.CoreLog.{CoreLog}
 use Rattle.dispatch_core.specs.Accounts.{IsAccountOf}
 use Rattle.dispatch_core.specs.Inside.Logs.{IsNewLog, log_view}
-use Rattle.dispatch_core.specs.Parts.{HasSeen, IsNewPart, IsOfOutline, IsPartOf, IsTimely, SameRun, used_counts}
+use Rattle.dispatch_core.specs.Parts.{HasSeen, IsNewPart, IsOfOutline, IsPartOf, IsTimely, used_counts}
 use Rattle.dispatch_core.specs.States.{AgreesWith, FollowsPlans, Stands, StateView}
 use Rattle.dispatch_core.specs.Told.{ComesToEnter}
-use Rattle.dispatch_core.proofs.PartLemmas.{entered_same, entered_timely, timely_same}
+use Rattle.dispatch_core.proofs.PartLemmas.{SameRun, entered_same, entered_timely, timely_same}
 
 -- the part of an actor that agrees with it is one of a run of the course
 pub agreed_part : (course : CourseView) (s : StateView) (v : View) → AgreesWith course s v

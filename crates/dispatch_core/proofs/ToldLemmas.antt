@@ -12,9 +12,10 @@ use Rattle.round_words.specs.Hearing.{HearsCores}
 use Rattle.round_words.specs.Views.{hears, holds, last_of, part, sees}
 use Rattle.round_words.proofs.HearingLemmas.{SamePart, heard_same}
 use Rattle.round_words.proofs.ListLemmas.{last_of-push, length_push}
-use Rattle.dispatch_core.specs.Parts.{HasEvents, HasSeen, SameRun}
+use Rattle.dispatch_core.specs.Parts.{HasEvents, HasSeen, SameButHeard}
 use Rattle.dispatch_core.specs.Told.{LacksEvent}
 use Rattle.dispatch_core.proofs.DueLemmas.{has_by_next}
+use Rattle.dispatch_core.proofs.PartLemmas.{SameRun}
 
 -- a part that was heard or saw has the same run
 pub run_of_same : (p q : Part) → SamePart p q → SameRun p q
@@ -25,6 +26,19 @@ pub low_same : (c lag tick d n : ℕ) (p heard q : Part) → HearsCores c lag ti
 low_same c lag tick d n p heard q near is =
     let same = heard_same c lag tick d p heard near in
     subst (SameRun p) (sym is) (record { clock = same.clock; entries = same.entries; stints = same.stints })
+
+-- and nothing else of its part has changed
+pub low_stays : (c lag tick d n : ℕ) (p heard q : Part) → HearsCores c lag tick d p heard → q ≡ hears heard d n
+    → SameButHeard p q
+low_stays c lag tick d n p heard q near is =
+    let same = heard_same c lag tick d p heard near in
+    subst (SameButHeard p) (sym is) (record {
+      clock = same.clock;
+      sights = same.sights;
+      entries = same.entries;
+      stints = same.stints;
+      floors = same.floors;
+    })
 
 -- what was heard of as many cores, with the same lag
 pub hears_same : (c lag lag' tick n n' : ℕ) (p q : Part) → lag ≡ lag' → n ≡ n' → HearsCores c lag tick n p q → HearsCores c lag' tick n' p q

@@ -21,11 +21,13 @@ IsOfOutline o v = IsStarted o.lag o.cores (length o.ticks) v
 abbrev pub HasEvents : OutlineView → ℕ → ℕ → Type 0
 HasEvents o count x = HasUpTo (with_plans o [] []) count x
 
--- the same clock, entries and stints
-pub record SameRun (p q : Part) : Type 0 where
+-- the same part, but for what it heard
+pub record SameButHeard (p q : Part) : Type 0 where
   pub clock : q.clock ≡ p.clock
+  pub sights : q.sights ≡ p.sights
   pub entries : q.entries ≡ p.entries
   pub stints : q.stints ≡ p.stints
+  pub floors : q.floors ≡ p.floors
 
 -- nothing has happened to the core's part
 pub record IsNewPart (p : Part) : Type 0 where

@@ -19,7 +19,7 @@ use Rattle.dispatch_core.specs.declared.answer.CoreAnswer.{CoreAnswer}
 use Rattle.dispatch_core.specs.declared.answer.CoreAnswer.TheVariants.{Ran, Behind, Finished}
 use Rattle.dispatch_core.specs.declared.answer.Ended.{Ended}
 use Rattle.dispatch_core.specs.declared.answer.Ended.TheVariants.{Ran as RanOn, Behind as TooEarly}
-use Rattle.dispatch_core.specs.Parts.{HasEvents, SameRun}
+use Rattle.dispatch_core.specs.Parts.{HasEvents, SameButHeard}
 use Rattle.dispatch_core.specs.States.{HasBegun, StateView}
 
 -- the round of the part's clock
@@ -120,7 +120,7 @@ EndTold course c v (RanOn s) w = RunsStint course c (part v c) (part w c) s
 EndTold course c v (TooEarly d tick) w = FindsLow course c (part v c) (part w c) d tick
     × (holds v d ≡ true → tick ≡ (part v d).clock)
 
--- whatever the plan: where it ended in waiting for another core, the core has run nothing
+-- whatever the plan: a core that waits for another has run nothing since its step's begin, and saw nothing more
 abbrev pub StaysWhereBehind : ℕ → View → Ended → View → Type 0
 StaysWhereBehind c v (RanOn s) w = Unit {0}
-StaysWhereBehind c v (TooEarly d tick) w = SameRun (part v c) (part w c)
+StaysWhereBehind c v (TooEarly d tick) w = SameButHeard (part v c) (part w c)

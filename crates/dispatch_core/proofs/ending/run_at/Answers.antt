@@ -9,11 +9,11 @@ use Rattle.round_words.specs.Views.{part}
 use Rattle.round_words.proofs.HearingLemmas.{heard_same}
 use Rattle.dispatch_core.specs.declared.log.CoreLog.{CoreLog}
 use Rattle.dispatch_core.specs.Inside.Logs.{log_view}
-use Rattle.dispatch_core.specs.Parts.{SameRun}
 use Rattle.dispatch_core.specs.States.{FollowsPlans}
+use Rattle.dispatch_core.proofs.PartLemmas.{SameRun}
 use Rattle.dispatch_core.proofs.StateLemmas.{plans_same, stands_same}
 use Rattle.dispatch_core.proofs.StintLemmas.{begins_next, begins_same, plans_ran, stands_ran}
-use Rattle.dispatch_core.proofs.ToldLemmas.{heard_seen, hears_same, low_same, run_of_same}
+use Rattle.dispatch_core.proofs.ToldLemmas.{heard_seen, hears_same, low_same, low_stays, run_of_same}
 use Rattle.dispatch_core.proofs.ending.run_at.Goals as goal
 
 pub advance-requires-clause-sight : goal.advance-requires-clause-sight
@@ -67,7 +67,7 @@ pub returns-in-Some-clause-waits : goal.returns-in-Some-clause-waits
 returns-in-Some-clause-waits c =
     let core : ℕ = c.args.log.now.core in
     let low = c.in-Some.ensures.low in
-    low_same core _ _ _ _ (part (view_of c.args.seat.now) core) low.heard (part (view_of c.hear_cores.new.seat) core) low.near low.becomes
+    low_stays core _ _ _ _ (part (view_of c.args.seat.now) core) low.heard (part (view_of c.hear_cores.new.seat) core) low.near low.becomes
 
 pub returns-in-Some-clause-plans : goal.returns-in-Some-clause-plans
 returns-in-Some-clause-plans c = λ plan shown plans numbers is follows.
