@@ -104,7 +104,7 @@ outcomes_applied known (Change edits) next count has (inr refused) = record {
 }
 
 -- one event more is one change more, if it is one
-changes_more : (events : List Event) (n : ℕ) (event : Event) → slice_get events n ≡ Some event
+pub changes_more : (events : List Event) (n : ℕ) (event : Event) → slice_get events n ≡ Some event
     → changes_in (take n events) + cond (is_change event.act) 1 0 ≡ changes_in (take (n + 1) events)
 changes_more events n event at =
     let lt = slice_get_within events n event at in
