@@ -1,5 +1,5 @@
 -- A line states one event at most, and none where a name of it is no vCPU's.
-use Rattle.std.proofs.Common.{◌≡◌, inl, inr, ℕ, zero, suc, ◌<◌, List, [], ◌∷◌, length, decimal, flat_map, map, Some, slice_get, refl, sym, ap, ◌∙◌, arith}
+use Rattle.std.proofs.Common.{◌≡◌, inl, inr, ℕ, zero, suc, ◌<◌, ◌≤◌, List, [], ◌∷◌, length, decimal, flat_map, map, Some, slice_get, refl, sym, ap, ◌∙◌, arith}
 use Rattle.std.proofs.lemmas.Fmt.{decimal_injective}
 use Rattle.std.proofs.lemmas.List.{length-map}
 use Rattle.std.proofs.lemmas.List.Elements.{All-head, All-tail}
@@ -10,10 +10,11 @@ use Rattle.tab_core.specs.declared.edit.Edit.{Edit}
 use Rattle.tab_core.specs.declared.edit.Edit.TheVariants.{Set, Leave}
 use Rattle.tab_core.specs.declared.vcpu.Vcpu.{Vcpu}
 use Rattle.vcpu_names.specs.Names.{IsUnknown, name_at, names_of}
-use Rattle.script_doc.specs.EventLines.{NamedAct, NamedEdit, act_words, blocks, changes, edit_words, leaves, sets, wakes}
+use Rattle.script_doc.specs.declared.event.TheConstants.{MAX_WORK}
+use Rattle.script_doc.specs.EventLines.{IsGoodAct, NamedAct, NamedEdit, act_words, blocks, bursts, changes, edit_words, leaves, sets, wakes}
 use Rattle.script_doc.specs.Events.{HasUnknown, HasUnknownEdit, IsActWithin, IsEvent, IsUnknownLine, named_act, named_edit}
 use Rattle.script_doc.specs.declared.event.Act.{Act}
-use Rattle.script_doc.specs.declared.event.Act.TheVariants.{Wake, Block, Change}
+use Rattle.script_doc.specs.declared.event.Act.TheVariants.{Wake, Block, Change, Burst}
 use Rattle.script_doc.specs.declared.event.Event.{Event}
 use Rattle.script_doc.proofs.ReadingLemmas.{other_word}
 
@@ -87,15 +88,23 @@ known_act names (wakes n) (Wake v) unknown within same =
     (let name : n ≡ name_at names v = cc in known_name names n v unknown within name)
 known_act names (wakes n) (Block v) unknown within same = other_word _ _ refl same
 known_act names (wakes n) (Change edits) unknown within same = other_word _ _ refl same
+known_act names (wakes n) (Burst v w) unknown within same = other_word _ _ refl same
 known_act names (blocks n) (Wake v) unknown within same = other_word _ _ refl same
 known_act names (blocks n) (Block v) unknown within same =
     (let name : n ≡ name_at names v = cc in known_name names n v unknown within name)
 known_act names (blocks n) (Change edits) unknown within same = other_word _ _ refl same
+known_act names (blocks n) (Burst v w) unknown within same = other_word _ _ refl same
 known_act names (changes named) (Wake v) unknown within same = other_word _ _ refl same
 known_act names (changes named) (Block v) unknown within same = other_word _ _ refl same
+known_act names (changes named) (Burst v w) unknown within same = other_word _ _ refl same
 known_act names (changes named) (Change edits) unknown within same =
     let rest : flat_map edit_words named ≡ flat_map edit_words (map (named_edit names) edits) = cc in
     known_edits names named edits unknown within rest
+known_act names (bursts n u) (Wake v) unknown within same = other_word _ _ refl same
+known_act names (bursts n u) (Block v) unknown within same = other_word _ _ refl same
+known_act names (bursts n u) (Change edits) unknown within same = other_word _ _ refl same
+known_act names (bursts n u) (Burst v w) unknown within same =
+    (let name : n ≡ name_at names v = cc in known_name names n v unknown within name)
 
 -- so a line of an unknown name states no event
 pub known_line : (names words : List (List ℕ)) (event : Event) → IsUnknownLine names words
@@ -148,21 +157,36 @@ one_edits names (Leave v ∷ us) (Leave w ∷ ws) distinct within also same =
 
 -- what is written alike is one
 one_act : (names : List (List ℕ)) (a b : Act) → AreDistinct names → IsActWithin (length names) a
-    → IsActWithin (length names) b → act_words (named_act names a) ≡ act_words (named_act names b) → a ≡ b
-one_act names (Wake v) (Wake w) distinct within also same =
+    → IsActWithin (length names) b → IsGoodAct (named_act names a) → IsGoodAct (named_act names b)
+    → act_words (named_act names a) ≡ act_words (named_act names b) → a ≡ b
+one_act names (Wake v) (Wake w) distinct within also good fine same =
     (let name : name_at names v ≡ name_at names w = cc in ap Wake (distinct.one v w within also name))
-one_act names (Block v) (Block w) distinct within also same =
+one_act names (Block v) (Block w) distinct within also good fine same =
     (let name : name_at names v ≡ name_at names w = cc in ap Block (distinct.one v w within also name))
-one_act names (Change us) (Change ws) distinct within also same =
+one_act names (Change us) (Change ws) distinct within also good fine same =
     let rest : flat_map edit_words (map (named_edit names) us)
     ≡ flat_map edit_words (map (named_edit names) ws) = cc in
     ap Change (one_edits names us ws distinct within also rest)
-one_act names (Wake v) (Block w) distinct within also same = absurd (other_word _ _ refl same)
-one_act names (Wake v) (Change ws) distinct within also same = absurd (other_word _ _ refl same)
-one_act names (Block v) (Wake w) distinct within also same = absurd (other_word _ _ refl same)
-one_act names (Block v) (Change ws) distinct within also same = absurd (other_word _ _ refl same)
-one_act names (Change us) (Wake w) distinct within also same = absurd (other_word _ _ refl same)
-one_act names (Change us) (Block w) distinct within also same = absurd (other_word _ _ refl same)
+one_act names (Burst v a) (Burst w b) distinct within also good fine same =
+    let name : name_at names v ≡ name_at names w = cc in
+    let works : decimal a ≡ decimal b = cc in
+    let vcpu : v ≡ w = distinct.one v w within also name in
+    let low : a ≤ MAX_WORK = good.2 in
+    let bounded : b ≤ MAX_WORK = fine.2 in
+    let work : a ≡ b = decimal_injective a b (omega arith) (omega arith) works in
+    cc
+one_act names (Wake v) (Block w) distinct within also good fine same = absurd (other_word _ _ refl same)
+one_act names (Wake v) (Change ws) distinct within also good fine same = absurd (other_word _ _ refl same)
+one_act names (Wake v) (Burst w b) distinct within also good fine same = absurd (other_word _ _ refl same)
+one_act names (Block v) (Wake w) distinct within also good fine same = absurd (other_word _ _ refl same)
+one_act names (Block v) (Change ws) distinct within also good fine same = absurd (other_word _ _ refl same)
+one_act names (Block v) (Burst w b) distinct within also good fine same = absurd (other_word _ _ refl same)
+one_act names (Change us) (Wake w) distinct within also good fine same = absurd (other_word _ _ refl same)
+one_act names (Change us) (Block w) distinct within also good fine same = absurd (other_word _ _ refl same)
+one_act names (Change us) (Burst w b) distinct within also good fine same = absurd (other_word _ _ refl same)
+one_act names (Burst v a) (Wake w) distinct within also good fine same = absurd (other_word _ _ refl same)
+one_act names (Burst v a) (Block w) distinct within also good fine same = absurd (other_word _ _ refl same)
+one_act names (Burst v a) (Change ws) distinct within also good fine same = absurd (other_word _ _ refl same)
 
 -- an event is its tick and what happens
 same_event : (a b : Event) → a.tick ≡ b.tick → a.act ≡ b.act → a ≡ b
@@ -181,4 +205,4 @@ one_event names words a b distinct of_a of_b =
     same_event a b
     (decimal_injective a.tick b.tick (let short = of_a.line.short in omega arith)
     (let short = of_b.line.short in omega arith) first)
-    (one_act names a.act b.act distinct of_a.within of_b.within rest)
+    (one_act names a.act b.act distinct of_a.within of_b.within of_a.line.good of_b.line.good rest)

@@ -9,9 +9,10 @@ use Rattle.tab_core.specs.declared.edit.Edit.{Edit}
 use Rattle.std.specs.Result.{IsErrAnd, IsErrOf}
 use Rattle.tab_core.specs.Name.{IsName}
 use Rattle.tab_core.specs.declared.TheConstants.{MAX_LATENCY_NS, WHOLE_PPM}
+use Rattle.script_doc.specs.declared.event.TheConstants.{MAX_WORK}
 use Rattle.script_doc.specs.declared.event_reader.LineFault.{LineFault}
 use Rattle.tab_core.specs.Edits.{AreEditsOf, vcpu_of}
-use Rattle.script_doc.specs.EventLines.{IsGoodEdit, NamedEdit, sets, leaves, wakes, blocks, changes, edit_words}
+use Rattle.script_doc.specs.EventLines.{IsGoodEdit, NamedEdit, sets, leaves, wakes, blocks, changes, bursts, edit_words}
 use Rattle.script_doc.specs.Events.{HasUnknownEdit, edit_name, named_edit}
 use Rattle.vcpu_names.specs.Names.{IsUnknown}
 use Rattle.script_doc.specs.Inside.Reading.{AreEdits, AreNoEdits, AreUnknownEdits, IsEdit, IsNoEdit, IsUnknownAct, IsUnknownName}
@@ -237,6 +238,13 @@ pub unknown_change : (names : List (List ℕ)) (kind : List ℕ) (words rest : L
 unknown_change names kind words rest is next has =
     let edits_are = has.written in
     record { act = changes has.edits; written = cc; good = (has.some, has.good); unknown = has.unknown }
+
+-- `burst` with an unknown name
+pub unknown_burst : (names : List (List ℕ)) (name spelled : List ℕ) (words after rest : List (List ℕ)) (work : ℕ)
+    → words ≡ name ∷ after → after ≡ spelled ∷ rest → rest ≡ [] → spelled ≡ decimal work → 1 ≤ work
+    → work ≤ MAX_WORK → IsName name → IsUnknown names name → IsUnknownAct names (codes "burst" ∷ words)
+unknown_burst names name spelled words after rest work next second last is some bounded good unknown =
+    record { act = bursts name work; written = cc; good = (good, some, bounded); unknown = unknown }
 
 -- the fault that a `?` hands on
 pub handed_on : {T U : Type 0} (result : Result T LineFault) (fault other : LineFault)

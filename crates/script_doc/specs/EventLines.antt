@@ -3,17 +3,19 @@ use Rattle.std.specs.Prelude.{◌≡◌, ℕ, ◌<◌, ◌≤◌, ◌^◌, List,
 use Rattle.std.specs.List.{All}
 use Rattle.tab_core.specs.Name.{IsName}
 use Rattle.tab_core.specs.declared.TheConstants.{MAX_LATENCY_NS, WHOLE_PPM}
+use Rattle.script_doc.specs.declared.event.TheConstants.{MAX_WORK}
 
 -- an edit as a line has it: `set NAME SHARE LATENCY` or `leave NAME`
 pub data NamedEdit : Type 0 where
   sets : List ℕ → ℕ → ℕ → NamedEdit
   leaves : List ℕ → NamedEdit
 
--- what happens as a line has it: `wake NAME`, `block NAME`, or `change` and edits
+-- what happens as a line has it: `wake NAME`, `block NAME`, `change` and edits, or `burst NAME WORK`
 pub data NamedAct : Type 0 where
   wakes : List ℕ → NamedAct
   blocks : List ℕ → NamedAct
   changes : List NamedEdit → NamedAct
+  bursts : List ℕ → ℕ → NamedAct
 
 -- the words of an edit
 abbrev pub edit_words : NamedEdit → List (List ℕ)
@@ -25,6 +27,7 @@ abbrev pub act_words : NamedAct → List (List ℕ)
 act_words (wakes name) = codes "wake" ∷ name ∷ []
 act_words (blocks name) = codes "block" ∷ name ∷ []
 act_words (changes edits) = codes "change" ∷ flat_map edit_words edits
+act_words (bursts name work) = codes "burst" ∷ name ∷ decimal work ∷ []
 
 -- the name and the numbers of an edit are in their ranges
 abbrev pub IsGoodEdit : NamedEdit → Type 0
@@ -32,11 +35,13 @@ IsGoodEdit (sets name share latency) = IsName name × (1 ≤ share) × (share �
     × (latency ≤ MAX_LATENCY_NS)
 IsGoodEdit (leaves name) = IsName name
 
--- the same of what happens; a change has one edit at least
+-- the same of what happens; a change has one edit at least, and a burst no more work than the longest run
+-- has ticks
 abbrev pub IsGoodAct : NamedAct → Type 0
 IsGoodAct (wakes name) = IsName name
 IsGoodAct (blocks name) = IsName name
 IsGoodAct (changes edits) = (0 < length edits) × All IsGoodEdit edits
+IsGoodAct (bursts name work) = IsName name × (1 ≤ work) × (work ≤ MAX_WORK)
 
 -- the words are those of an event
 pub record IsLine (words : List (List ℕ)) (tick : ℕ) (act : NamedAct) : Type 0 where

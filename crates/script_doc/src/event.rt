@@ -1,7 +1,10 @@
 ghost use Rattle.std.specs.Prelude.{◌≡◌};
 
 use std::marker::Model;
-use tab_core::{Edit, VcpuNo};
+use tab_core::{Edit, MAX_ROUNDS, ROUND, VcpuNo};
+
+/// The greatest work of a burst, in ticks: those of the longest run.
+pub const MAX_WORK: u32 = MAX_ROUNDS * ROUND;
 
 /// The edits of one change, in the order in which they apply. Contracts see the list.
 #[derive(Debug, Drop)]
@@ -42,6 +45,8 @@ pub enum Act {
     Block(VcpuNo),
     /// The reservations change by these edits, of which a later one prevails.
     Change(Edits),
+    /// Work arrives for the vCPU: so many ticks to run, from 1 to `MAX_WORK`.
+    Burst { vcpu: VcpuNo, work: u32 },
 }
 
 /// One event of a script.

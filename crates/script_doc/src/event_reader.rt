@@ -1,4 +1,4 @@
-ghost use Rattle.std.specs.Prelude.{◌≡◌, ℕ, ◌<◌, ◌≤◌, ◌∷◌, length, decimal, IfOk, IsErrOf, MatchOption, OnOk};
+ghost use Rattle.std.specs.Prelude.{◌≡◌, ℕ, ◌<◌, ◌≤◌, ◌∷◌, codes, length, decimal, IfOk, IsErrOf, MatchOption, OnOk};
 ghost use Rattle.tab_core.specs.Name.{IsName};
 ghost use Rattle.tab_core.specs.declared.TheConstants.{MAX_LATENCY_NS, WHOLE_PPM};
 ghost use Rattle.tab_words.specs.Words.{words_of};
@@ -8,7 +8,7 @@ ghost use Rattle.script_doc.specs.declared.event_reader.LineFault.TheVariants.{N
 ghost use Rattle.vcpu_names.specs.Names.{IsUnknown, name_at};
 ghost use Rattle.script_doc.specs.Inside.Reading.{AreEdits, AreNoEdits, AreUnknownEdits, IsAct, IsEdit, IsNoAct, IsNoEdit, IsNoName, IsOnly, IsUnknownAct, IsUnknownName};
 
-use crate::event::{Act, Edits, Event};
+use crate::event::{Act, Edits, Event, MAX_WORK};
 use std::alloc::{AllocFailed, Global};
 use tab_core::{Edit, MAX_LATENCY_NS, Name, Reservation, VcpuNo, WHOLE_PPM};
 use tab_words::{Words, read_number};
@@ -69,8 +69,32 @@ fn act_of(alloc: Global, words: &mut Words<'_>, names: &Names<'_>) -> Result<Act
     } else if kind == b"change".as_slice() {
         let edits = edits_of(alloc, words, names)?;
         Ok(Act::Change(edits))
+    } else if kind == b"burst".as_slice() {
+        burst_of(words, names)
     } else {
         Err(LineFault::BadLine)
+    }
+}
+
+// The burst that the word `burst` and all these words are.
+fn burst_of(words: &mut Words<'_>, names: &Names<'_>) -> Result<Act, LineFault>
+    ensures ok { IfOk result (IsAct names.now (codes "burst" ∷ words.old)) }
+    ensures bad_line { IsErrOf result LineFault.BadLine → IsNoAct (codes "burst" ∷ words.old) }
+    ensures unknown_name { IsErrOf result LineFault.UnknownName
+        → IsUnknownAct names.now (codes "burst" ∷ words.old) }
+{
+    let (Some(name), Some(work), None) = (words.next(), words.next(), words.next()) else {
+        return Err(LineFault::BadLine);
+    };
+    let Some(work) = number_within(work, 1, u64::from(MAX_WORK)) else {
+        return Err(LineFault::BadLine);
+    };
+    match vcpu_of(name, names)? {
+        Some(vcpu) => Ok(Act::Burst {
+            vcpu,
+            work: work as u32,
+        }),
+        None => Err(LineFault::UnknownName),
     }
 }
 

@@ -17,7 +17,7 @@ mod step;
 mod step_list;
 mod step_reader;
 
-pub use event::{Act, Edits, Event};
+pub use event::{Act, Edits, Event, MAX_WORK};
 pub use laws::{
     a_script_has_no_fault, a_step_list_has_no_bad_line, a_text_has_one_bad_step,
     a_text_has_one_script_fault, a_text_states_one_script, a_text_states_one_step_list,

@@ -19,11 +19,11 @@ use vcpu_names::Names;
 
 /// The script of a text of less than 2^32 bytes, for a host and a run of so many rounds.
 ///
-/// An event's line is `TICK wake NAME`, `TICK block NAME` or `TICK change` and one edit at least,
-/// each `set NAME SHARE LATENCY` or `leave NAME`. Its tick is below 2^32, the share is 1 to 1000000
-/// parts per million and the latency 0 to 1000000000000 ns. A line without words and one whose first
-/// byte is `#` are skipped, and count as lines. The fault is the first of the first line with one, and
-/// a text with a fault is never read as a script.
+/// An event's line is `TICK wake NAME`, `TICK block NAME`, `TICK burst NAME WORK` or `TICK change` and
+/// one edit at least, each `set NAME SHARE LATENCY` or `leave NAME`. Its tick is below 2^32, the work is
+/// 1 to 1026000000 ticks, the share 1 to 1000000 parts per million and the latency 0 to 1000000000000 ns.
+/// A line without words and one whose first byte is `#` are skipped, and count as lines. The fault is the
+/// first of the first line with one, and a text with a fault is never read as a script.
 /// A script that is read names only vCPUs of the host, and its events are before the run's end.
 pub fn read_script(
     alloc: Global,
