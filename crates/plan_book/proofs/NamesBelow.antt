@@ -4,7 +4,7 @@ use Rattle.std.proofs.lemmas.List.Elements.{All-push}
 use Rattle.std.proofs.lemmas.Option.{slice_get_within}
 use Rattle.tab_core.specs.declared.host.Host.{Host}
 use Rattle.script_doc.specs.declared.event.Act.{Act}
-use Rattle.script_doc.specs.declared.event.Act.TheVariants.{Wake, Block, Change}
+use Rattle.script_doc.specs.declared.event.Act.TheVariants.{Wake, Block, Change, Burst}
 use Rattle.script_doc.specs.declared.event.Event.{Event}
 use Rattle.plan_book.specs.After.{Applies, IsKnownAfter}
 use Rattle.plan_book.specs.Books.{NameVcpusBelow, NamesVcpuBelow}
@@ -42,6 +42,8 @@ named_applied count known (Change edits) next size named (inr refused) =
     (unplanned_below refused.host refused.outcome refused.unplanned) in
     subst (NameVcpusBelow count) (sym (ap (λ (k : BookState). k.outcomes) refused.becomes))
     (All-push (NamesVcpuBelow count) known.outcomes refused.outcome named below)
+named_applied count known (Burst vcpu work) next size named applies =
+    subst (NameVcpusBelow count) (sym (ap (λ (k : BookState). k.outcomes) applies)) named
 
 -- whatever is known has only such outcomes
 pub named_below : (host : Host) (events : List Event) (n : ℕ) (known : BookState)

@@ -7,7 +7,7 @@ use Rattle.plan_make.specs.Planned.{IsPlanned}
 use Rattle.plan_make.proofs.OnePlan.{planned_or_refused, planned_unique}
 use Rattle.plan_make.proofs.OneRefusal.{one_without_period, one_without_room, planned_or_without_period, room_or_without_period}
 use Rattle.script_doc.specs.declared.event.Act.{Act}
-use Rattle.script_doc.specs.declared.event.Act.TheVariants.{Wake, Block, Change}
+use Rattle.script_doc.specs.declared.event.Act.TheVariants.{Wake, Block, Change, Burst}
 use Rattle.script_doc.specs.declared.event.Event.{Event}
 use Rattle.plan_book.specs.After.{Applies, IsKnownAfter}
 use Rattle.plan_book.specs.Changes.{IsChangeRefused, IsChangeTaken, IsUnplanned}
@@ -108,6 +108,7 @@ applied_unique : (known : BookState) (act : Act) (a b : BookState)
 applied_unique known (Wake vcpu) a b of_a of_b = of_a ∙ sym of_b
 applied_unique known (Block vcpu) a b of_a of_b = of_a ∙ sym of_b
 applied_unique known (Change edits) a b of_a of_b = changed_unique known edits a b of_a of_b
+applied_unique known (Burst vcpu work) a b of_a of_b = of_a ∙ sym of_b
 
 -- the clause `only` of `make_book`; a course that shows one known state shows each
 pub known_unique : (host : Host) (events : List Event) (n : ℕ) (a b : BookState)

@@ -7,7 +7,7 @@ use Rattle.table_form.specs.Running.Courses.{CourseView, plan_after}
 use Rattle.table_form.specs.Tables.Plans.{PlanView}
 use Rattle.plan_make.specs.Planned.{IsPlanned}
 use Rattle.script_doc.specs.declared.event.Act.{Act}
-use Rattle.script_doc.specs.declared.event.Act.TheVariants.{Wake, Block, Change}
+use Rattle.script_doc.specs.declared.event.Act.TheVariants.{Wake, Block, Change, Burst}
 use Rattle.script_doc.specs.declared.event.Event.{Event}
 use Rattle.plan_book.specs.After.{Applies, IsKnownAfter}
 use Rattle.plan_book.specs.Courses.{IsCourseOf}
@@ -21,6 +21,7 @@ applied_planned before (Wake vcpu) next planned is = rw is planned
 applied_planned before (Block vcpu) next planned is = rw is planned
 applied_planned before (Change edits) next planned (inl taken) = taken.planned
 applied_planned before (Change edits) next planned (inr refused) = rw refused.becomes planned
+applied_planned before (Burst vcpu work) next planned is = rw is planned
 
 -- so each known state has its host's plan: the clause `planned_after` of `make_book`
 pub known_planned : (host : Host) (events : List Event) (n : ℕ) (known : BookState)
@@ -38,6 +39,7 @@ applied_capped before (Change edits) next (inl taken) =
     edited_capped before.host edits next.host taken.edited
 applied_capped before (Change edits) next (inr refused) =
     ap (λ (k : BookState). capped_of k.host.vcpus) refused.becomes
+applied_capped before (Burst vcpu work) next is = ap (λ (k : BookState). capped_of k.host.vcpus) is
 
 -- so those of each known host are the first host's
 known_capped : (host : Host) (events : List Event) (n : ℕ) (known : BookState)

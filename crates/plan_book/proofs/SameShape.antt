@@ -8,7 +8,7 @@ use Rattle.tab_core.specs.declared.host.Host.{Host}
 use Rattle.script_doc.specs.Events.{is_change}
 use Rattle.script_doc.specs.Script.{changes_in}
 use Rattle.script_doc.specs.declared.event.Act.{Act}
-use Rattle.script_doc.specs.declared.event.Act.TheVariants.{Wake, Block, Change}
+use Rattle.script_doc.specs.declared.event.Act.TheVariants.{Wake, Block, Change, Burst}
 use Rattle.script_doc.specs.declared.event.Event.{Event}
 use Rattle.plan_book.specs.After.{Applies, IsKnownAfter}
 use Rattle.plan_book.specs.States.{BookState}
@@ -46,6 +46,12 @@ shape_applied known (Change edits) next (inr refused) =
       tick_ns = ap (λ (k : BookState). k.host.tick_ns) refused.becomes;
       cores = ap (λ (k : BookState). k.host.cores) refused.becomes;
       vcpus = ap (λ (k : BookState). length k.host.vcpus) refused.becomes;
+    }
+shape_applied known (Burst vcpu work) next applies =
+    record {
+      tick_ns = ap (λ (k : BookState). k.host.tick_ns) applies;
+      cores = ap (λ (k : BookState). k.host.cores) applies;
+      vcpus = ap (λ (k : BookState). length k.host.vcpus) applies;
     }
 
 -- so each known host has those of the first
@@ -101,6 +107,10 @@ outcomes_applied known (Change edits) next count has (inr refused) = record {
   outcomes = ap (λ (k : BookState). length k.outcomes) refused.becomes ∙ length-append known.outcomes _
       ∙ omega (arith, has.outcomes);
   number = (let is = ap (λ (k : BookState). k.number) refused.becomes in omega (arith, has.number));
+}
+outcomes_applied known (Burst vcpu work) next count has applies = record {
+  outcomes = ap (λ (k : BookState). length k.outcomes) applies ∙ omega (arith, has.outcomes);
+  number = (let is = ap (λ (k : BookState). k.number) applies in omega (arith, has.number));
 }
 
 -- one event more is one change more, if it is one

@@ -72,6 +72,7 @@ impl BookSoFar {
             Act::Wake(vcpu) => self.runnable.put(*vcpu),
             Act::Block(vcpu) => self.runnable.take(*vcpu),
             Act::Change(edits) => self.change(rt, alloc, edits.items())?,
+            Act::Burst { .. } => {}
         }
         Ok(())
     }

@@ -26,7 +26,7 @@ use table_form::Course;
 
 /// The plan book of a host and a script, whose vCPUs are the host's.
 ///
-/// A wake or a block sets the runnable flag of its vCPU. A change is planned for the host after
+/// A wake or a block sets the runnable flag of its vCPU, and a burst changes nothing. A change is planned for the host after
 /// all planned changes before it: where the changed host has a plan, the host and its plan become
 /// these, and otherwise nothing changes and the outcome tells why. An outcome names only a vCPU of
 /// the host.
