@@ -58,6 +58,39 @@ fn reads_events_of_known_vcpus(rt: HostRuntime) -> Result<(), Fail> {
     Ok(())
 }
 
+// The vCPU and the work of a burst.
+fn burst_in(event: &Event) -> Option<(VcpuNo, u32)> {
+    match event.act {
+        Act::Burst { vcpu, work } => Some((vcpu, work)),
+        _ => None,
+    }
+}
+
+#[test]
+fn reads_bursts_of_known_vcpus(rt: HostRuntime) -> Result<(), Fail> {
+    let host = two_vcpus(rt.alloc())?;
+    // a line, and what it says
+    let cases: [(&[u8], u32, (VcpuNo, u32)); 3] = [
+        (b"0 burst a 1", 0, (VcpuNo(1), 1)),
+        (b" 7  burst b 60000 ", 7, (VcpuNo(0), 60_000)),
+        (
+            b"102599 burst a 1026000000",
+            102_599,
+            (VcpuNo(1), 1_026_000_000),
+        ),
+    ];
+    for (line, tick, burst) in cases {
+        assert!(rt; line.len() < 100);
+        let script = read_script(rt.alloc(), line, &host, 1)?;
+        let [event] = script.events() else {
+            return Err(Fail::from("one event"));
+        };
+        assert_eq!(rt; event.tick, tick, "of {line:?}");
+        assert_eq!(rt; burst_in(event), Some(burst), "of {line:?}");
+    }
+    Ok(())
+}
+
 #[test]
 fn names_the_first_fault_of_the_first_line_with_one(rt: HostRuntime) -> Result<(), Fail> {
     let host = two_vcpus(rt.alloc())?;
@@ -66,7 +99,7 @@ fn names_the_first_fault_of_the_first_line_with_one(rt: HostRuntime) -> Result<(
     let order = |line| ScriptFault::OutOfOrder { line };
     let late = |line| ScriptFault::LateEvent { line };
     // a text, and its fault in a run of one round
-    let cases: [(&[u8], ScriptFault); 34] = [
+    let cases: [(&[u8], ScriptFault); 45] = [
         (b"102600 wake a", late(1)),
         (b"5 wake x", unknown(1)),
         (b"5 wake a\n4 block a", order(2)),
@@ -96,6 +129,17 @@ fn names_the_first_fault_of_the_first_line_with_one(rt: HostRuntime) -> Result<(
         (b"5 change set x 1 1 leave", bad(1)),
         (b"5 change set x 1 1 leave a", unknown(1)),
         (b"5 change leave a set x 1 1", unknown(1)),
+        (b"5 burst a", bad(1)),
+        (b"5 burst a 0", bad(1)),
+        (b"5 burst a 1026000001", bad(1)),
+        (b"5 burst a 01", bad(1)),
+        (b"5 burst a -1", bad(1)),
+        (b"5 burst 1", bad(1)),
+        (b"5 burst a 1 1", bad(1)),
+        (b"5 burst x 0", bad(1)),
+        (b"5 burst x 1026000000", unknown(1)),
+        (b"5 burst a 1\n4 burst a 1", order(2)),
+        (b"102600 burst a 1", late(1)),
         (b"\n#\n7 wake a\n6 wake x\n6", unknown(4)),
         (b"102600 wake a\n5", late(1)),
         (b"7 wake a\n200000 wake a\n", late(2)),
