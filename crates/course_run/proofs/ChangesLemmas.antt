@@ -5,7 +5,7 @@ use Rattle.std.specs.Prelude.{drop}
 use Rattle.round_words.proofs.ListLemmas.{length_push}
 use Rattle.tab_core.specs.declared.edit.Edit.{Edit}
 use Rattle.script_doc.specs.declared.event.Act.{Act}
-use Rattle.script_doc.specs.declared.event.Act.TheVariants.{Wake, Block, Change}
+use Rattle.script_doc.specs.declared.event.Act.TheVariants.{Wake, Block, Change, Burst}
 use Rattle.script_doc.specs.declared.event.Event.{Event}
 use Rattle.plan_book.specs.declared.outcome.Outcome.{Outcome}
 use Rattle.course_run.specs.Changes.{changes_of, with_change}
@@ -54,6 +54,7 @@ module _ (events : List Event) (outcomes : List Outcome) (found : List (ℕ × O
       nothing (Wake vcpu) = refl
       nothing (Block vcpu) = refl
       nothing (Change edits) = refl
+      nothing (Burst vcpu work) = refl
 
   -- another event
   pub no_change : ((edits : List Edit) → event.act ≡ Change edits → ⊥)
@@ -65,3 +66,4 @@ module _ (events : List Event) (outcomes : List Outcome) (found : List (ℕ × O
     nothing (Wake vcpu) other = refl
     nothing (Block vcpu) other = refl
     nothing (Change edits) other = absurd (other edits refl)
+    nothing (Burst vcpu work) other = refl
