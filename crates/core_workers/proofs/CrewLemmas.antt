@@ -1,5 +1,5 @@
 -- A crew of which some actors step.
-use Rattle.std.proofs.Common.{◌≡◌, ◌≢◌, ℕ, ◌+◌, ◌-◌, ◌/◌, ◌%◌, ◌<◌, ◌≤◌, true, List, length, Option, Some, None, refl, sym, ap, ◌∙◌, subst, arith}
+use Rattle.std.proofs.Common.{◌≡◌, ◌≢◌, ℕ, ◌+◌, ◌-◌, ◌/◌, ◌%◌, ◌<◌, ◌≤◌, true, List, [], length, Option, Some, None, refl, sym, ap, ◌∙◌, subst, arith}
 use Rattle.std.specs.Prelude.{slice_get, take}
 use Rattle.std.specs.Vec.{with_item}
 use Rattle.std.proofs.lemmas.List.{length-set}
@@ -16,18 +16,15 @@ use Rattle.round_words.specs.Views.{IsStarted, controller, holds, part}
 use Rattle.dispatch_core.specs.Parts.{IsTimely, used_counts}
 use Rattle.slice_table.specs.CoreSlices.{AreSlicesOf}
 use Rattle.dispatch_core.specs.States.{AgreesWith, FollowsPlans, IsSameCore, StateView}
-use Rattle.dispatch_core.specs.declared.answer.CoreAnswer.{CoreAnswer}
 use Rattle.plan_switch.specs.Controllers as controllers
 use Rattle.plan_switch.specs.declared.state.ControlState.{ControlState}
 use Rattle.core_workers.specs.declared.team.Deal.{Deal}
 use Rattle.core_workers.specs.declared.team.Group.{Group}
-use Rattle.core_workers.specs.declared.team.Lead.{Lead}
 use Rattle.core_workers.specs.declared.team.Member.{Member}
 use Rattle.core_workers.specs.declared.team.Team.{Team}
-use Rattle.core_workers.specs.Groups.{CrewView, actor_in, actor_of, crew_of, crew_view, deal_of, member_of, team_view}
-use Rattle.core_workers.specs.Crews.{AllAgree, IsActorOf, IsCrew, IsSameAt, IsSameCrew, SameActors}
-use Rattle.core_workers.specs.Inside.Teams.{GoesOn, IsMemberOf, IsTeam, IsWholeTeam}
-use Rattle.core_workers.specs.Inside.Turns.{CoreStep, Steps}
+use Rattle.core_workers.specs.Groups.{CrewView, actor_in, actor_of, cores_view, crew_of, deal_of, member_of, team_view}
+use Rattle.core_workers.specs.Crews.{AllAgree, CoresAgree, IsActorOf, IsCrew, IsSameAt, IsSameCrew, SameActors}
+use Rattle.core_workers.specs.Inside.Teams.{CoresGoOn, GoesOn, IsMemberOf, IsTeam, IsWholeTeam}
 use Rattle.core_workers.proofs.GroupLemmas.{changed, changed_here, changed_other, found}
 
 -- the same actor
@@ -126,17 +123,13 @@ lead_part course k v w agrees board has is = record {
   known = subst (KnowsClocks k.known) (sym is) agrees.known;
 }
 
--- another's step leaves a core in agreement, and the controller
+-- another's step leaves a core in agreement
 board_step : (v w : View) (c : ℕ) → ChangesOnly v w c → SameBoard v w
 board_step v w c changes = record { started = changes.started; lag = changes.lag; cores = changes.cores; events = changes.events }
 
 pub agrees_others : (course : CourseView) (a : StateView) (v w : View) (c : ℕ) → AgreesWith course a v → ChangesOnly v w c → a.core ≢ c → AgreesWith course a w
 agrees_others course a v w c agrees changes away =
     agrees_part course a v w agrees (board_step v w c changes) (changes.actors a.core ∙ agrees.stands.core.1) (changes.parts a.core away)
-
-lead_others : (course : CourseView) (k : ControlState) (v w : View) (c : ℕ) → controllers.AgreesWith course k v → ChangesOnly v w c → controller ≢ c → controllers.AgreesWith course k w
-lead_others course k v w c agrees changes away =
-    lead_part course k v w agrees (board_step v w c changes) (changes.actors controller ∙ agrees.holds_it) (changes.parts controller away)
 
 -- the actors of a team are a crew
 
@@ -158,49 +151,49 @@ crew_is course rounds control deal groups team = record {
 pub small_core : (crew : CrewView) (c : ℕ) (a : StateView) → IsCrew crew → actor_of crew c ≡ Some a → c < 32
 small_core crew c a is h = omega (arith, (is.each c a h).within, is.course_kept.form.outline.few_cores)
 
--- after a core's step
-module _ (crew crew' : CrewView) (v w : View) (c : ℕ) (answer : CoreAnswer) where
-  pub on_step : IsCrew crew → AllAgree crew v → Steps crew v c answer crew' w → GoesOn crew v crew' w
-  on_step is agree s = record {
-    same = record { course = s.course; rounds = s.rounds; each = λ d. dite (ℕ_discrete d c) (λ e. subst (λ (i : ℕ). IsSameAt (actor_of crew i) (actor_of crew' i)) (sym e) here) (λ ne. there d ne) };
-    actors = actors_step v w c s.changes;
-    agree = record {
-      cores = λ d b h has. subst (λ (k : CourseView). AgreesWith k b w) (sym s.course) (dite (ℕ_discrete d c)
-          (λ e. subst (λ (x : StateView). AgreesWith crew.course x w) (same_as (actor_of crew' c) s.after b s.is (subst (λ (i : ℕ). actor_of crew' i ≡ Some b) e h)) s.agrees)
-          (λ ne. let was : actor_of crew d ≡ Some b = sym (s.rest d ne) ∙ h in
-          agrees_others crew.course b v w c (agree.cores d b was (sym (s.changes.actors d) ∙ has)) s.changes (λ e. ne (sym (is.each d b was).core ∙ e))));
-      control = λ has. subst (λ (k : CourseView). controllers.AgreesWith k crew'.control w) (sym s.course) (subst (λ (k : ControlState). controllers.AgreesWith crew.course k w) (sym s.control)
-          (lead_others crew.course crew.control v w c (agree.control (sym (s.changes.actors controller) ∙ has)) s.changes (λ e. omega (arith, e, small_core crew c s.before is s.was))));
-    };
-  }
-    where
-      here : IsSameAt (actor_of crew c) (actor_of crew' c)
-      here = subst (λ (o : Option StateView). IsSameAt o (actor_of crew' c)) (sym s.was) (subst (IsSameAt (Some s.before)) (sym s.is) s.same)
+-- steps of cores, and of all
+pub cores_twice : (x y z : CrewView) (u v w : View) → CoresGoOn x u y v → CoresGoOn y v z w → CoresGoOn x u z w
+cores_twice x y z u v w s t = record {
+  same = crew_more x y z s.same t.same;
+  actors = actors_twice u v w s.actors t.actors;
+  control = t.control ∙ s.control;
+  agree = t.agree;
+}
 
-      there : (d : ℕ) → d ≢ c → IsSameAt (actor_of crew d) (actor_of crew' d)
-      there d ne = subst (IsSameAt (actor_of crew d)) (sym (s.rest d ne)) (at_same (actor_of crew d))
+pub all_on : (course : CourseView) (rounds : ℕ) (control : ControlState) (deal : Deal) (groups groups' : List Group) (v w : View) → AllAgree (crew_of course rounds control deal groups) v
+    → CoresGoOn (cores_view course rounds deal groups) v (cores_view course rounds deal groups') w → GoesOn (crew_of course rounds control deal groups) v (crew_of course rounds control deal groups') w
+all_on course rounds control deal groups groups' v w agree on = record {
+  same = record { course = refl; rounds = refl; each = on.same.each };
+  actors = on.actors;
+  agree = record {
+    cores = on.agree;
+    control = λ has. lead_part course control v w (agree.control (sym (on.actors.actors controller) ∙ has))
+        (record { started = on.actors.started; lag = on.actors.lag; cores = on.actors.cores; events = on.actors.events }) has on.control;
+  };
+}
 
--- one member of a team has made a step
-module _ (course : CourseView) (lead : Lead) (deal : Deal) (groups : List Group) (c : ℕ) (m n : Member) (old : Group) where
-  pub team_changed : IsTeam course lead.rounds deal groups → member_of deal groups c ≡ Some m → slice_get groups (c / deal.per - deal.first) ≡ Some old
-      → IsSameCore m.state n.state → n.slices ≡ m.slices → IsTeam course lead.rounds deal (changed deal groups c m n old)
-  team_changed team h is same slices = record {
+-- one member of a team has made some steps
+module _ (course : CourseView) (rounds : ℕ) (deal : Deal) (groups : List Group) (c : ℕ) (m n : Member) (old : Group)
+    (team : IsTeam course rounds deal groups) (at : member_of deal groups c ≡ Some m)
+    (is : slice_get groups (c / deal.per - deal.first) ≡ Some old) (same : IsSameCore m.state n.state) where
+  pub team_changed : n.slices ≡ m.slices → IsTeam course rounds deal (changed deal groups c m n old)
+  team_changed slices = record {
     course_kept = team.course_kept;
     fits = team.fits;
-    few = λ g x at. dite (ℕ_discrete g (c / deal.per - deal.first))
+    few = λ g x here. dite (ℕ_discrete g (c / deal.per - deal.first))
         (λ e. let new : Group = record { members = with_item old.members (c % deal.per) n } in
-        let same : new ≡ x = cc_group (slice_get (changed deal groups c m n old) (c / deal.per - deal.first)) new x
+        let put : new ≡ x = cc_group (slice_get (changed deal groups c m n old) (c / deal.per - deal.first)) new x
         (set_here groups (c / deal.per - deal.first) new (slice_get_within groups (c / deal.per - deal.first) old is))
-        (subst (λ (k : ℕ). slice_get (changed deal groups c m n old) k ≡ Some x) e at) in
-        subst (λ (y : Group). length y.members.items ≤ deal.per) same
+        (subst (λ (k : ℕ). slice_get (changed deal groups c m n old) k ≡ Some x) e here) in
+        subst (λ (y : Group). length y.members.items ≤ deal.per) put
         (subst (λ (k : ℕ). k ≤ deal.per) (sym (length-set old.members.items (c % deal.per) n)) (team.few (c / deal.per - deal.first) old is)))
-        (λ ne. team.few g x (sym (set_other groups (c / deal.per - deal.first) g _ ne) ∙ at));
+        (λ ne. team.few g x (sym (set_other groups (c / deal.per - deal.first) g _ ne) ∙ here));
     some = team.some;
     short = subst (λ (k : ℕ). deal.first + k ≤ 64) (sym (length-set groups (c / deal.per - deal.first) _)) team.short;
-    each = λ d x at. dite (ℕ_discrete d c)
-        (λ e. let one : n ≡ x = same_member (member_of deal (changed deal groups c m n old) c) n x (changed_here deal groups c m n old h is) (subst (λ (i : ℕ). member_of deal (changed deal groups c m n old) i ≡ Some x) e at) in
-        subst (λ (i : ℕ). IsMemberOf course lead.rounds i x) (sym e) (subst (IsMemberOf course lead.rounds c) one new))
-        (λ ne. team.each d x (sym (changed_other deal groups c m n old h is d ne) ∙ at));
+    each = λ d x here. dite (ℕ_discrete d c)
+        (λ e. let one : n ≡ x = same_member (member_of deal (changed deal groups c m n old) c) n x (changed_here deal groups c m n old at is) (subst (λ (i : ℕ). member_of deal (changed deal groups c m n old) i ≡ Some x) e here) in
+        subst (λ (i : ℕ). IsMemberOf course rounds i x) (sym e) (subst (IsMemberOf course rounds c) one new))
+        (λ ne. team.each d x (sym (changed_other deal groups c m n old at is d ne) ∙ here));
   }
     where
       cc_group : (o : Option Group) (x y : Group) → o ≡ Some x → o ≡ Some y → x ≡ y
@@ -209,31 +202,49 @@ module _ (course : CourseView) (lead : Lead) (deal : Deal) (groups : List Group)
       same_member : (o : Option Member) (x y : Member) → o ≡ Some x → o ≡ Some y → x ≡ y
       same_member o x y h k = cc
 
-      new : IsMemberOf course lead.rounds c n
-      new = let was = team.each c m h in record {
+      new : IsMemberOf course rounds c n
+      new = let was = team.each c m at in record {
         slices = subst (λ (i : ℕ). AreSlicesOf course i n.slices) (sym same.core) (subst (AreSlicesOf course m.state.core) (sym slices) was.slices);
         core = same.core ∙ was.core;
         within = was.within;
         rounds_is = same.rounds ∙ was.rounds_is;
       }
 
-  pub steps_changed : (v w : View) (answer : CoreAnswer) → member_of deal groups c ≡ Some m → slice_get groups (c / deal.per - deal.first) ≡ Some old
-      → IsSameCore m.state n.state → ChangesOnly v w c → AgreesWith course n.state w → CoreStep course m.state v answer n.state
-      → Steps (crew_view course lead deal groups) v c answer (crew_view course lead deal (changed deal groups c m n old)) w
-  steps_changed v w answer h is same changes agrees step = record {
-    course = refl;
-    rounds = refl;
-    control = refl;
-    before = m.state;
-    was = ap actor_in h;
-    after = n.state;
-    is = ap actor_in (changed_here deal groups c m n old h is);
-    rest = λ d ne. ap actor_in (changed_other deal groups c m n old h is d ne);
-    same = same;
-    changes = changes;
-    agrees = agrees;
-    step = step;
+  abbrev crew : CrewView
+  crew = cores_view course rounds deal groups
+
+  abbrev crew' : CrewView
+  crew' = cores_view course rounds deal (changed deal groups c m n old)
+
+  -- the others stand as before
+  pub here_changed : actor_of crew' c ≡ Some n.state
+  here_changed = ap actor_in (changed_here deal groups c m n old at is)
+
+  pub there_changed : (d : ℕ) → d ≢ c → actor_of crew' d ≡ actor_of crew d
+  there_changed d ne = ap actor_in (changed_other deal groups c m n old at is d ne)
+
+  pub cores_changed : (v w : View) → CoresAgree crew v → ChangesOnly v w c → AgreesWith course n.state w → CoresGoOn crew v crew' w
+  cores_changed v w agree changes agrees = record {
+    same = record {
+      course = refl;
+      rounds = refl;
+      each = λ d. dite (ℕ_discrete d c)
+          (λ e. subst (λ (i : ℕ). IsSameAt (actor_of crew i) (actor_of crew' i)) (sym e) here)
+          (λ ne. subst (IsSameAt (actor_of crew d)) (sym (there_changed d ne)) (at_same (actor_of crew d)));
+    };
+    actors = actors_step v w c changes;
+    control = changes.parts controller (λ e. omega (arith, e, small_core crew c m.state of_team (ap actor_in at)));
+    agree = λ d b now has. dite (ℕ_discrete d c)
+        (λ e. subst (λ (x : StateView). AgreesWith course x w) (same_as (actor_of crew' c) n.state b here_changed (subst (λ (i : ℕ). actor_of crew' i ≡ Some b) e now)) agrees)
+        (λ ne. let was : actor_of crew d ≡ Some b = sym (there_changed d ne) ∙ now in
+        agrees_others course b v w c (agree d b was (sym (changes.actors d) ∙ has)) changes (λ e. ne (sym (of_team.each d b was).core ∙ e)));
   }
+    where
+      of_team : IsCrew crew
+      of_team = crew_is course rounds (record { posted = 0; known = [] }) deal groups team
+
+      here : IsSameAt (actor_of crew c) (actor_of crew' c)
+      here = subst (λ (o : Option StateView). IsSameAt o (actor_of crew' c)) (sym (ap actor_in at)) (subst (IsSameAt (Some m.state)) (sym here_changed) same)
 
 -- where a core of a whole team stands
 pub whole_at : (course : CourseView) (team : Team) → IsWholeTeam course team → (n c : ℕ) → n ≡ c → c < course.cores

@@ -1,117 +1,73 @@
 -- A turn: a core of least clock runs on, then the controller makes a step.
-use Rattle.std.proofs.Common.{◌≡◌, ◌≢◌, ◌⊎◌, ℕ, suc, ◌+◌, ◌-◌, ◌*◌, ◌<◌, ◌≤◌, Bool, true, false, inl, inr, List, length, Some, refl, sym, ap, ◌∙◌, subst, arith}
-use Rattle.std.specs.Prelude.{slice_set, slice_index, sum_by, if◌then◌else◌}
-use Rattle.std.proofs.lemmas.List.{get_or-set_same, get_or-set_other, length-set, set-get_or}
+use Rattle.std.proofs.Common.{◌≡◌, ◌≢◌, ◌⊎◌, ℕ, suc, ◌+◌, ◌-◌, ◌*◌, ◌<◌, ◌≤◌, Bool, true, false, inl, inr, List, length, Some, refl, sym, ap, ap₂, ◌∙◌, subst, arith}
+use Rattle.std.specs.Prelude.{slice_set, slice_index, if◌then◌else◌}
+use Rattle.std.proofs.lemmas.List.{get_or-set_same, get_or-set_other, length-set}
+use Rattle.std.proofs.lemmas.List.Sums.{sum_by-set}
 use mathlib.Core.Logic.{dite}
 use native.Mathlib.Decide.{ℕ_discrete}
 use Rattle.tab_core.specs.declared.TheConstants.{ROUND}
-use Rattle.tab_core.specs.declared.stint.Stint.{Stint}
-use Rattle.tab_core.specs.declared.actor.Actor.{Actor}
-use Rattle.table_form.specs.Running.Courses.{CourseView, tick_at}
+use Rattle.table_form.specs.Running.Courses.{CourseView, IsCourse, tick_at}
+use Rattle.round_words.specs.declared.view.Part.{Part}
 use Rattle.round_words.specs.declared.view.View.{View}
 use Rattle.round_words.specs.Changes.{ChangesOnly}
 use Rattle.round_words.specs.Views.{controller, holds, part}
-use Rattle.dispatch_core.specs.States.{StateView}
-use Rattle.dispatch_core.specs.declared.answer.CoreAnswer.TheVariants.{Ran, Behind, Finished}
+use Rattle.dispatch_core.specs.States.{AgreesWith, IsSameCore, StateView}
 use Rattle.plan_switch.specs.Controllers as controllers
+use Rattle.plan_switch.specs.declared.answer.ControlAnswer.TheVariants as control
 use Rattle.plan_switch.specs.declared.state.ControlState.{ControlState}
 use Rattle.core_workers.specs.declared.clocks.TheConstants.{OUT}
 use Rattle.core_workers.specs.declared.clocks.Clocks.{Clocks}
+use Rattle.core_workers.specs.declared.places.Places.{Places}
 use Rattle.core_workers.specs.declared.turns.Progress.{Progress}
+use Rattle.core_workers.specs.declared.turns.Roster.{Roster}
 use Rattle.core_workers.specs.declared.turns.Progress.TheVariants.{Moved, Waits, Done}
 use Rattle.core_workers.specs.declared.team.Deal.{Deal}
 use Rattle.core_workers.specs.declared.team.Group.{Group}
 use Rattle.core_workers.specs.declared.team.Lead.{Lead}
-use Rattle.core_workers.specs.Groups.{CrewView, actor_of, crew_view}
-use Rattle.core_workers.specs.Crews.{AllAgree, HasFinished, HasPosted, HeldFinished, HoldsAll, IsCrew}
-use Rattle.core_workers.specs.Inside.Clocks.{AreClocks, IsClockOf, IsLeast, left_of}
-use Rattle.core_workers.specs.Inside.Teams.{GoesOn}
-use Rattle.core_workers.specs.Inside.Turns.{CoresTold, IsStuck, LacksNext, LeadWaits, LeastIsStuck, RanTo, RunsOn, Steps, TurnTold, unless_moved}
-use Rattle.core_workers.proofs.CrewLemmas.{agrees_others, at_same, same_as}
+use Rattle.core_workers.specs.Groups.{CrewView, actor_of, cores_view, crew_view}
+use Rattle.core_workers.specs.Crews.{AllAgree, CoresAgree, HasFinished, HasPosted, HeldFinished, HoldsAll, IsCrew}
+use Rattle.core_workers.specs.Inside.Clocks.{AreClocks, AreTicks, IsClockOf, left_of, ticks_left}
+use Rattle.core_workers.specs.Inside.Teams.{CoresGoOn, GoesOn, IsTeam}
+use Rattle.core_workers.specs.Inside.Turns.{CoresTold, IsRoster, LacksNext, LeadStep, LeadWaits, LeastWaits, RosterGoesOn, RunsOn, TurnTold, WaitsFor, unless_moved}
+use Rattle.core_workers.proofs.CrewLemmas.{agrees_others, all_on, at_same, crew_is, on_twice, same_as}
 
 -- a core runs on
 
-pub ran_none : (crew : CrewView) (c clock : ℕ) (a : StateView) → actor_of crew c ≡ Some a → clock ≡ a.clock → RanTo crew c clock crew
-ran_none crew c clock a at is = record { rest = λ d ne. refl; after = a; is = at; clock_is = is }
-
-module _ (crew crew' crew'' : CrewView) (v w : View) (c clock : ℕ) where
-  pub ran_more : (s : Stint) → RanTo crew c clock crew' → Steps crew' v c (Ran s) crew'' w → RanTo crew c s.end crew'' × (clock < s.end)
-  ran_more s ran step =
-      let before : step.before ≡ ran.after = same_as (actor_of crew' c) step.before ran.after step.was ran.is in (
-        record { rest = λ d ne. step.rest d ne ∙ ran.rest d ne; after = step.after; is = step.is; clock_is = sym step.step.1 },
-        omega (arith, step.step.0, step.step.1, ran.clock_is, ap (λ (a : StateView). a.clock) before),
-      )
-
-  -- a core that waits by the view waits by what the actors keep
-  stuck : IsCrew crew' → AllAgree crew' v → HoldsAll crew' v → (who : Actor) (tick : ℕ) → RanTo crew c clock crew' → Steps crew' v c (Behind who tick) crew'' w → IsStuck crew'' clock
-  stuck is agree all who tick ran step =
-      let before : step.before ≡ ran.after = same_as (actor_of crew' c) step.before ran.after step.was ran.is in
-      let at : step.before.clock ≡ clock = ap (λ (a : StateView). a.clock) before ∙ sym ran.clock_is in
-      elim step.step.1 [
-        | inl lacks ↦ (
-            let l = lacks all.control in
-            let posted : length (part v controller).floors ≡ crew''.control.posted = sym (agree.control all.control).posted ∙ ap (λ (k : ControlState). k.posted) (sym step.control) in
-            let one = subst (λ (k : CourseView). LacksNext k (length (part v controller).floors) step.before.clock) (sym step.course) l in
-            inl (subst (LacksNext crew''.course crew''.control.posted) at (subst (λ (n : ℕ). LacksNext crew''.course n step.before.clock) posted one))
-            )
-        | inr low ↦ (
-            let d : ℕ = low.0 in
-            let lt : d < crew'.course.cores = low.1 in
-            let has : holds v d ≡ true = all.cores d lt in
-            let below : (part v d).clock < clock = omega (arith, low.2 has, at) in
-            inr (
-              d,
-              subst (λ (k : CourseView). d < k.cores) (sym step.course) lt,
-              λ x h. dite (ℕ_discrete d c)
-                  (λ e. let b : step.before.clock ≡ (part v d).clock = (agree.cores c step.before step.was (subst (λ (i : ℕ). holds v i ≡ true) e has)).stands.clock
-                  ∙ (ap (λ (i : ℕ). (part v i).clock) ((is.each c step.before step.was).core ∙ sym e)) in absurd (omega (arith, below, at, b)))
-                  (λ ne. let was : actor_of crew' d ≡ Some x = sym (step.rest d ne) ∙ h in
-                  let clock_is : x.clock ≡ (part v d).clock = (agree.cores d x was has).stands.clock ∙ ap (λ (i : ℕ). (part v i).clock) (is.each d x was).core in
-                  omega (arith, below, clock_is)),
-            )
-            )
-      ]
-
-  pub ran_stuck : (from : ℕ) (u : View) → IsCrew crew' → GoesOn crew u crew' v → (who : Actor) (tick : ℕ) → RanTo crew c clock crew' → crew'.control ≡ crew.control → from ≤ clock
-      → Steps crew' v c (Behind who tick) crew'' w → RunsOn crew u c from clock crew''
-  ran_stuck from u is on who tick ran posted le step =
-      let before : step.before ≡ ran.after = same_as (actor_of crew' c) step.before ran.after step.was ran.is in
-      record {
-        control = step.control ∙ posted;
-        rest = λ d ne. step.rest d ne ∙ ran.rest d ne;
-        after = step.after;
-        is = step.is;
-        ends = inr (
-          ran.clock_is ∙ (sym (ap (λ (a : StateView). a.clock) before) ∙ sym step.step.0),
-          dite (ℕ_discrete from clock)
-              (λ e. inr (
-                e,
-                λ all. subst (IsStuck crew'') (sym e) (stuck is on.agree (record {
-                  cores = λ d lt. on.actors.actors d ∙ all.cores d (subst (λ (k : CourseView). d < k.cores) on.same.course lt);
-                  control = on.actors.actors controller ∙ all.control;
-                }) who tick ran step),
-              ))
-              (λ ne. inl (omega (arith, le, ne))),
-        );
-      }
-
-  pub ran_done : (from : ℕ) (u : View) → IsCrew crew' → RanTo crew c clock crew' → crew'.control ≡ crew.control → Steps crew' v c Finished crew'' w → RunsOn crew u c from OUT crew''
-  ran_done from u is ran posted step = record {
-    control = step.control ∙ posted;
-    rest = λ d ne. step.rest d ne ∙ ran.rest d ne;
-    after = step.after;
-    is = step.is;
-    ends = inl (refl, step.step.0 ∙ (step.step.1 ∙ ap (λ (r : ℕ). r * ROUND) (sym step.same.rounds)));
-  }
-
--- the clocks after a core ran on
+-- who waits at a clock still waits when core c, which is at that clock, has made a step
+pub waits_on : (course : CourseView) (v w : View) (c clock : ℕ) → c ≢ controller → ChangesOnly v w c → (part v c).clock ≡ clock → WaitsFor course clock v → WaitsFor course clock w
+waits_on course v w c clock away changes at waits = elim waits [
+  | inl lacks ↦ inl (λ has. subst (λ (p : Part). LacksNext course (length p.floors) clock) (sym (changes.parts controller (λ e. away (sym e))))
+      (lacks (sym (changes.actors controller) ∙ has)))
+  | inr low ↦ inr (
+    low.0,
+    low.1,
+    λ has. let was : holds v low.0 ≡ true = sym (changes.actors low.0) ∙ has in
+        dite (ℕ_discrete low.0 c)
+        (λ e. absurd (omega (arith, low.2 was, ap (λ (i : ℕ). (part v i).clock) e, at)))
+        (λ ne. omega (arith, low.2 was, ap (λ (p : Part). p.clock) (changes.parts low.0 ne))),
+  )
+]
 
 -- a clock of the crew is at most the run's end, and less than OUT
-pub in_run : (crew : CrewView) (v : View) (c : ℕ) (a : StateView) → IsCrew crew → AllAgree crew v → actor_of crew c ≡ Some a → holds v c ≡ true → (a.clock ≤ crew.rounds * ROUND) × (a.clock < OUT)
+pub in_run : (crew : CrewView) (v : View) (c : ℕ) (a : StateView) → IsCrew crew → CoresAgree crew v → actor_of crew c ≡ Some a → holds v c ≡ true → (a.clock ≤ crew.rounds * ROUND) × (a.clock < OUT)
 in_run crew v c a is agree at has =
-    let g = agree.cores c a at has in
+    let g = agree c a at has in
     let le : a.clock ≤ crew.rounds * ROUND = omega (arith, g.stands.timely.in_run, g.stands.clock, ap (λ (r : ℕ). r * ROUND) (is.each c a at).rounds_is) in
     (le, omega (arith, le, is.fits.few_rounds))
+
+-- the core stops behind another, at its clock
+pub stops_behind : (course : CourseView) (a b n : StateView) (v w : View) (clock : ℕ) → IsCourse course → AgreesWith course b v → IsSameCore b n → ChangesOnly v w b.core → clock ≡ b.clock → a.clock ≤ clock
+    → (n.clock ≡ b.clock) × WaitsFor course b.clock v → RunsOn course a clock n w
+stops_behind course a b n v w clock kept agrees same changes is on step = inr (
+  is ∙ sym step.0,
+  dite (ℕ_discrete clock a.clock)
+      (λ e. inr (
+        e,
+        subst (λ (k : ℕ). WaitsFor course k w) (sym is)
+            (waits_on course v w b.core b.clock (λ c. omega (arith, c, agrees.stands.core.0, agrees.stands.of_outline.cores_are, kept.form.outline.few_cores)) changes (sym agrees.stands.clock) step.1),
+      ))
+      (λ ne. inl (omega (arith, ne, on))),
+)
 
 -- what stays at the other cores
 pub clock_same : (crew crew' : CrewView) (v w : View) (c clock : ℕ) → actor_of crew' c ≡ actor_of crew c → holds w c ≡ holds v c → IsClockOf crew v c clock → IsClockOf crew' w c clock
@@ -120,49 +76,52 @@ clock_same crew crew' v w c clock same held is = elim is [
   | inr at ↦ inr (at.0, at.1, same ∙ at.2, held ∙ at.3, at.4)
 ]
 
-module _ (crew crew' : CrewView) (v w : View) (clocks : Clocks) (c clock answer : ℕ) where
-  abbrev pub with_clock : Clocks
-  with_clock = record { ticks = slice_set clocks.ticks c answer; posting = clocks.posting }
+-- the clock of a core that is to go on
+pub going_on : (crew : CrewView) (v : View) (ticks : List ℕ) (c : ℕ) → AreTicks crew v ticks → c < crew.course.cores → slice_index ticks c ≢ OUT
+    → (slice_index ticks c < OUT) × (a : StateView) × (actor_of crew c ≡ Some a) × (holds v c ≡ true) × (slice_index ticks c ≡ a.clock)
+going_on crew v ticks c are lt on = elim (are.each c lt) [
+  | inl out ↦ absurd (on out.0)
+  | inr at ↦ at
+]
 
-  pub clocks_ran : IsCrew crew' → AreClocks crew v clocks → GoesOn crew v crew' w → c < 32 → holds v c ≡ true → RunsOn crew v c clock answer crew' → AreClocks crew' w with_clock
-  clocks_ran is clocks_are on small has runs = record {
-    size = length-set clocks.ticks c answer ∙ clocks_are.size;
-    cores = λ d lt. dite (ℕ_discrete d c)
-        (λ e. subst (λ (i : ℕ). IsClockOf crew' w i (slice_index (slice_set clocks.ticks c answer) i)) (sym e) (subst (IsClockOf crew' w c) (sym here) at))
-        (λ ne. subst (IsClockOf crew' w d) (sym (there d ne)) (clock_same crew crew' v w d (slice_index clocks.ticks d) (runs.rest d ne) (on.actors.actors d) (clocks_are.cores d (subst (λ (k : CourseView). d < k.cores) on.same.course lt))));
-    some = λ p. on.actors.actors controller ∙ clocks_are.some p;
-    over = λ p has'. ap (λ (k : ControlState). k.posted) runs.control ∙ (clocks_are.over p (sym (on.actors.actors controller) ∙ has') ∙ ap (λ (k : CourseView). length k.ticks) (sym on.same.course));
+module _ (crew crew' : CrewView) (v w : View) (ticks : List ℕ) (c answer : ℕ) (a b : StateView) where
+  -- the clocks after core c ran on
+  pub ticks_ran : IsCrew crew' → AreTicks crew v ticks → CoresGoOn crew v crew' w → c < 32 → actor_of crew' c ≡ Some b → ((d : ℕ) → d ≢ c → actor_of crew' d ≡ actor_of crew d) → holds v c ≡ true
+      → RunsOn crew.course a answer b w → AreTicks crew' w (slice_set ticks c answer)
+  ticks_ran is are on small at rest has runs = record {
+    size = length-set ticks c answer ∙ are.size;
+    each = λ d lt. dite (ℕ_discrete d c)
+        (λ e. subst (λ (i : ℕ). IsClockOf crew' w i (slice_index (slice_set ticks c answer) i)) (sym e) (subst (IsClockOf crew' w c) (sym here) now))
+        (λ ne. subst (IsClockOf crew' w d) (sym (get_or-set_other ticks c d answer _ ne)) (clock_same crew crew' v w d (slice_index ticks d) (rest d ne) (on.actors.actors d) (are.each d (subst (λ (k : CourseView). d < k.cores) on.same.course lt))));
   }
     where
-      here : slice_index (slice_set clocks.ticks c answer) c ≡ answer
-      here = get_or-set_same clocks.ticks c answer _ (omega (arith, small, clocks_are.size))
+      here : slice_index (slice_set ticks c answer) c ≡ answer
+      here = get_or-set_same ticks c answer _ (omega (arith, small, are.size))
 
-      there : (d : ℕ) → d ≢ c → slice_index (slice_set clocks.ticks c answer) d ≡ slice_index clocks.ticks d
-      there d ne = get_or-set_other clocks.ticks c d answer _ ne
-
-      at : IsClockOf crew' w c answer
-      at = elim runs.ends [
-        | inl out ↦ inl (out.0, λ has'. (runs.after, runs.is, out.1))
+      now : IsClockOf crew' w c answer
+      now = elim runs [
+        | inl out ↦ inl (out.0, λ has'. (b, at, out.1))
         | inr ran ↦ (let has' : holds w c ≡ true = on.actors.actors c ∙ has in
-            let small' = (in_run crew' w c runs.after is on.agree runs.is has').1 in
-            inr (omega (arith, ran.0, small'), runs.after, runs.is, has', ran.0))
+            let small' = (in_run crew' w c b is on.agree at has').1 in
+            inr (omega (arith, ran.0, small'), b, at, has', ran.0))
       ]
 
-  pub least_stuck : IsCrew crew' → GoesOn crew v crew' w → c < length clocks.ticks → holds v c ≡ true → RunsOn crew v c clock answer crew' → answer ≡ clock → clock < OUT → clock ≡ slice_index clocks.ticks c
-      → IsLeast clocks c crew.course.cores → HoldsAll crew v → LeastIsStuck crew' with_clock
-  least_stuck is on small has runs same less clock_is least all = elim runs.ends [
+  -- it got on, or waits
+  pub ran_further : slice_index ticks c < OUT → slice_index ticks c ≡ a.clock → c < length ticks → answer ≢ slice_index ticks c → RunsOn crew.course a answer b w → ticks_left (slice_set ticks c answer) < ticks_left ticks
+  ran_further less is inside moved runs = by_less (elim runs [
+    | inl out ↦ omega (arith, out.0, less)
+    | inr ran ↦ elim ran.1 [ inl more ↦ omega (arith, more, is) | inr here ↦ absurd (moved (here.0 ∙ sym is)) ]
+  ])
+    where
+      by_less : slice_index ticks c < answer → ticks_left (slice_set ticks c answer) < ticks_left ticks
+      by_less more = let s = sum_by-set (λ (k : ℕ). OUT - k) ticks c answer 0 inside in omega (arith, s, more, less)
+
+  pub ran_waits : slice_index ticks c < OUT → slice_index ticks c ≡ a.clock → answer ≡ slice_index ticks c → RunsOn crew.course a answer b w → WaitsFor crew.course (slice_index ticks c) w
+  ran_waits less is same runs = elim runs [
     | inl out ↦ absurd (omega (arith, out.0, same, less))
     | inr ran ↦ elim ran.1 [
-      | inl more ↦ absurd (omega (arith, more, same))
-      | inr here ↦ (
-        clock,
-        (let le = (in_run crew' w c runs.after is on.agree runs.is (on.actors.actors c ∙ has)).0 in omega (arith, le, ran.0, same)),
-        here.1 all,
-        λ d lt. dite (ℕ_discrete d c)
-            (λ e. (let x : slice_index (slice_set clocks.ticks c answer) d ≡ answer = ap (slice_index (slice_set clocks.ticks c answer)) e ∙ get_or-set_same clocks.ticks c answer _ small in omega (arith, x, same)))
-            (λ ne. (let x : slice_index (slice_set clocks.ticks c answer) d ≡ slice_index clocks.ticks d = get_or-set_other clocks.ticks c d answer _ ne in
-            omega (arith, x, clock_is, least d (subst (λ (k : CourseView). d < k.cores) on.same.course lt)))),
-      )
+      | inl more ↦ absurd (omega (arith, more, same, is))
+      | inr here ↦ subst (λ (k : ℕ). WaitsFor crew.course k w) same here.1
     ]
   ]
 
@@ -189,43 +148,50 @@ lead_stands crew v is agree all waits = inr (
       omega (arith, waits.low has, clock),
 )
 
-module _ (crew : CrewView) (v : View) (clocks : Clocks) where
+module _ (crew : CrewView) (v : View) (clocks : Clocks) (is : IsCrew crew) (agree : AllAgree crew v) (are : AreClocks crew v clocks) (all : HoldsAll crew v) where
   -- no core is at a lower clock than the least one that is stuck
-  none_below : IsCrew crew → AreClocks crew v clocks → HoldsAll crew v → (clock : ℕ) → clock ≤ crew.rounds * ROUND → ((d : ℕ) → d < crew.course.cores → clock ≤ slice_index clocks.ticks d)
+  none_below : (clock : ℕ) → clock ≤ crew.rounds * ROUND → ((d : ℕ) → d < crew.course.cores → clock ≤ slice_index clocks.ticks d)
       → (d : ℕ) → d < crew.course.cores → ((a : StateView) → actor_of crew d ≡ Some a → a.clock < clock) → ⊥
-  none_below is are all clock le least d lt low = elim (are.cores d lt) [
+  none_below clock le least d lt low = elim (are.cores.each d lt) [
     | inl out ↦ (let x = out.1 (all.cores d lt) in omega (arith, low x.0 x.1, x.2, le, ap (λ (r : ℕ). r * ROUND) (is.each d x.0 x.1).rounds_is))
     | inr at ↦ omega (arith, low at.1 at.2, at.4, least d lt)
   ]
 
+  -- a core's actor is at its part's clock
+  clock_of : (d : ℕ) → d < crew.course.cores → (a : StateView) → actor_of crew d ≡ Some a → a.clock ≡ (part v d).clock
+  clock_of d lt a at = (agree.cores d a at (all.cores d lt)).stands.clock ∙ ap (λ (i : ℕ). (part v i).clock) (is.each d a at).core
+
   -- so where the view holds all parts, the core or the controller gets on
-  pub nobody : IsCrew crew → AreClocks crew v clocks → HoldsAll crew v → LeadStands crew → LeastIsStuck crew clocks → ⊥
-  nobody is are all stands stuck = elim stuck.2 [
-    | inr low ↦ none_below is are all stuck.0 stuck.1 stuck.3 low.0 low.1 low.2
-    | inl lacks ↦ elim stands [
-      | inl posted ↦ omega (arith, lacks.some, posted)
-      | inr low ↦ none_below is are all stuck.0 stuck.1 stuck.3 low.1 low.2 (λ a at. omega (arith, low.3 a at, lacks.due))
-    ]
+  pub nobody : LeadStands crew → LeastWaits crew.course crew.rounds clocks.ticks v → ⊥
+  nobody stands stuck = elim stuck.2 [
+    | inr low ↦ none_below stuck.0 stuck.1 stuck.3 low.0 low.1 (λ a at. omega (arith, low.2 (all.cores low.0 low.1), clock_of low.0 low.1 a at))
+    | inl lacks ↦ (let next = lacks all.control in
+        let posted : crew.control.posted ≡ length (part v controller).floors = (agree.control all.control).posted in
+        let one : LacksNext crew.course crew.control.posted stuck.0 = subst (λ (n : ℕ). LacksNext crew.course n stuck.0) (sym posted) next in
+        elim stands [
+          | inl over ↦ omega (arith, one.some, over)
+          | inr low ↦ none_below stuck.0 stuck.1 stuck.3 low.1 low.2 (λ a at. omega (arith, low.3 a at, one.due))
+        ])
   ]
 
   -- nor does the controller wait once all cores have finished
-  pub none_low : IsCrew crew → AreClocks crew v clocks → HoldsAll crew v → ((d : ℕ) → d < crew.course.cores → slice_index clocks.ticks d ≡ OUT) → LeadStands crew → HasPosted crew
-  none_low is are all out stands = elim stands [
+  pub none_low : ((d : ℕ) → d < crew.course.cores → slice_index clocks.ticks d ≡ OUT) → LeadStands crew → HasPosted crew
+  none_low out stands = elim stands [
     | inl posted ↦ posted
-    | inr low ↦ elim (are.cores low.1 low.2) [
+    | inr low ↦ elim (are.cores.each low.1 low.2) [
       | inl done ↦ (let x = done.1 (all.cores low.1 low.2) in absurd (omega (arith, low.3 x.0 x.1, x.2, is.fits.in_run crew.control.posted low.0, ap (λ (r : ℕ). r * ROUND) (is.each low.1 x.0 x.1).rounds_is)))
       | inr at ↦ absurd (omega (arith, at.0, out low.1 low.2))
     ]
   ]
 
-  pub all_finished : IsCrew crew → AreClocks crew v clocks → ((d : ℕ) → d < crew.course.cores → slice_index clocks.ticks d ≡ OUT) → clocks.posting ≡ false → HeldFinished crew v
-  all_finished is are out over = record {
-    cores = λ c a at has. elim (are.cores c (is.each c a at).within) [
-      | inl done ↦ (let x = done.1 has in subst HasFinished (same_as (actor_of crew c) x.0 a x.1 at) x.2)
-      | inr on ↦ absurd (omega (arith, on.0, out c (is.each c a at).within))
-    ];
-    control = λ has. are.over over has;
-  }
+pub all_finished : (crew : CrewView) (v : View) (clocks : Clocks) → IsCrew crew → AreClocks crew v clocks → ((d : ℕ) → d < crew.course.cores → slice_index clocks.ticks d ≡ OUT) → clocks.posting ≡ false → HeldFinished crew v
+all_finished crew v clocks is are out over = record {
+  cores = λ c a at has. elim (are.cores.each c (is.each c a at).within) [
+    | inl done ↦ (let x = done.1 has in subst HasFinished (same_as (actor_of crew c) x.0 a x.1 at) x.2)
+    | inr on ↦ absurd (omega (arith, on.0, out c (is.each c a at).within))
+  ];
+  control = λ has. are.over over has;
+}
 
 module _ (crew : CrewView) (n : ControlState) (v w : View) where
   pub on_lead : IsCrew crew → AllAgree crew v → ChangesOnly v w controller → controllers.AgreesWith crew.course n w → GoesOn crew v (with_control crew n) w
@@ -241,27 +207,13 @@ module _ (crew : CrewView) (n : ControlState) (v w : View) where
 
   pub clocks_lead : (clocks : Clocks) (on : Bool) → AreClocks crew v clocks → clocks.posting ≡ true → ChangesOnly v w controller → (on ≡ false → HasPosted (with_control crew n)) → AreClocks (with_control crew n) w (record { ticks = clocks.ticks; posting = on })
   clocks_lead clocks on are was others over = record {
-    size = are.size;
-    cores = λ c lt. clock_same crew (with_control crew n) v w c (slice_index clocks.ticks c) refl (others.actors c) (are.cores c lt);
+    cores = record {
+      size = are.cores.size;
+      each = λ c lt. clock_same crew (with_control crew n) v w c (slice_index clocks.ticks c) refl (others.actors c) (are.cores.each c lt);
+    };
     some = λ _. others.actors controller ∙ are.some was;
     over = λ e has. over e;
   }
-
--- a core whose number isn't OUT is held, and has its clock there
-pub going_on : (crew : CrewView) (v : View) (clocks : Clocks) (c : ℕ) → AreClocks crew v clocks → c < crew.course.cores → slice_index clocks.ticks c ≢ OUT
-    → (slice_index clocks.ticks c < OUT) × (holds v c ≡ true)
-going_on crew v clocks c are lt on = elim (are.cores c lt) [
-  | inl out ↦ absurd (on out.0)
-  | inr at ↦ (at.0, at.3)
-]
-
--- a clock that stays leaves as much to do
-pub left_same : (crew crew' : CrewView) (clocks : Clocks) (c answer : ℕ) → crew'.course ≡ crew.course → crew'.control ≡ crew.control → c < length clocks.ticks → answer ≡ slice_index clocks.ticks c
-    → left_of crew' (record { ticks = slice_set clocks.ticks c answer; posting = clocks.posting }) ≤ left_of crew clocks
-left_same crew crew' clocks c answer course control inside is =
-    let same : slice_set clocks.ticks c answer ≡ clocks.ticks = ap (slice_set clocks.ticks c) is ∙ set-get_or clocks.ticks c _ in
-    let less : sum_by (λ (t : ℕ). OUT - t) (slice_set clocks.ticks c answer) ≡ sum_by (λ (t : ℕ). OUT - t) clocks.ticks = ap (sum_by (λ (t : ℕ). OUT - t)) same in
-    omega (arith, less, ap (λ (k : ControlState). k.posted) control, ap (λ (k : CourseView). length k.ticks) course)
 
 -- the whole turn, of which the cores' part led from crew to crew'
 
@@ -274,38 +226,53 @@ all_held crew crew' u v on all = record {
   control = on.actors.actors controller ∙ all.control;
 }
 
--- a turn of cores after a guess that brought nothing
-pub told_after : (x y z : CrewView) (u v : View) (k l m : Clocks) → GoesOn x u y v → left_of y l ≤ left_of x k → (p : Progress) → CoresTold y l v p z m → CoresTold x k u p z m
-told_after x y z u v k l m on less Moved told = omega (arith, less, told)
-told_after x y z u v k l m on less Waits told = (omega (arith, less, told.0), λ all. told.1 (all_held x y u v on all))
-told_after x y z u v k l m on less Done told = (omega (arith, less, told.0), told.1)
+-- the cores' part leaves the controller's part of what is to be done
+module _ (crew crew' : CrewView) (u v : View) (clocks clocks' : Clocks) (course : crew'.course ≡ crew.course) (rounds : crew'.rounds ≡ crew.rounds)
+    (control : crew'.control ≡ crew.control) (posting : clocks'.posting ≡ clocks.posting) where
+  ticks_less : (p : Progress) → CoresTold crew.course crew.rounds clocks.ticks p clocks'.ticks v → ticks_left clocks'.ticks ≤ ticks_left clocks.ticks
+  ticks_less Moved told = omega (arith, told)
+  ticks_less Waits told = told.0
+  ticks_less Done told = told.0
 
-module _ (crew crew' : CrewView) (u v : View) (clocks clocks' : Clocks) where
-  cores_left : (p : Progress) → CoresTold crew clocks u p crew' clocks' → left_of crew' clocks' ≤ left_of crew clocks
-  cores_left Moved told = omega (arith, told)
-  cores_left Waits told = told.0
-  cores_left Done told = told.0
+  rest_same : (length crew'.course.ticks - crew'.control.posted) + (if clocks'.posting then 1 else 0)
+      ≡ (length crew.course.ticks - crew.control.posted) + (if clocks.posting then 1 else 0)
+  rest_same = ap₂ (λ (n k : ℕ). n + k) (ap₂ (λ (k : CourseView) (s : ControlState). length k.ticks - s.posted) course control) (ap (λ (b : Bool). if b then 1 else 0) posting)
 
-  pub told_over : IsCrew crew' → GoesOn crew u crew' v → AreClocks crew' v clocks' → clocks'.posting ≡ false → (p : Progress) → CoresTold crew clocks u p crew' clocks' → TurnTold crew clocks u p crew' clocks' v
-  told_over is on are over Moved told = told
-  told_over is on are over Waits told = (told.0, λ all. let held = all_held crew crew' u v on all in nobody crew' v clocks' is are held (inl (are.over over held.control)) (told.1 all))
-  told_over is on are over Done told = all_finished crew' v clocks' is are told.1 over
+  cores_less : (p : Progress) → CoresTold crew.course crew.rounds clocks.ticks p clocks'.ticks v → left_of crew' clocks' ≤ left_of crew clocks
+  cores_less p told = omega (arith, ticks_less p told, rest_same)
 
-  pub told_posted : (n : ControlState) → (p : Progress) → CoresTold crew clocks u p crew' clocks' → (crew'.control.posted < length crew'.course.ticks) × (n.posted ≡ suc crew'.control.posted) → left_of (with_control crew' n) clocks' < left_of crew clocks
-  told_posted n p told posted = omega (arith, cores_left p told, posted.0, posted.1)
+  waits_here : LeastWaits crew.course crew.rounds clocks'.ticks v → LeastWaits crew'.course crew'.rounds clocks'.ticks v
+  waits_here waits = subst (λ (k : CourseView). LeastWaits k crew'.rounds clocks'.ticks v) (sym course) (subst (λ (n : ℕ). LeastWaits crew.course n clocks'.ticks v) (sym rounds) waits)
 
-  pub told_done : (n : ControlState) → (p : Progress) → CoresTold crew clocks u p crew' clocks' → n.posted ≡ crew'.control.posted → clocks'.posting ≡ true
+  all_out : ((d : ℕ) → d < crew.course.cores → slice_index clocks'.ticks d ≡ OUT) → (d : ℕ) → d < crew'.course.cores → slice_index clocks'.ticks d ≡ OUT
+  all_out out d lt = out d (subst (λ (k : CourseView). d < k.cores) course lt)
+
+  pub told_over : IsCrew crew' → GoesOn crew u crew' v → AreClocks crew' v clocks' → clocks'.posting ≡ false → (p : Progress) → CoresTold crew.course crew.rounds clocks.ticks p clocks'.ticks v → TurnTold crew clocks u p crew' clocks' v
+  told_over is on are over Moved told = omega (arith, told, rest_same)
+  told_over is on are over Waits told = (
+    cores_less Waits told,
+    λ all. let held = all_held crew crew' u v on all in nobody crew' v clocks' is on.agree are held (inl (are.over over held.control)) (waits_here told.1),
+  )
+  told_over is on are over Done told = all_finished crew' v clocks' is are (all_out told.1) over
+
+  pub told_posted : (n : ControlState) → (p : Progress) → CoresTold crew.course crew.rounds clocks.ticks p clocks'.ticks v → (crew'.control.posted < length crew'.course.ticks) × (n.posted ≡ suc crew'.control.posted) → left_of (with_control crew' n) clocks' < left_of crew clocks
+  told_posted n p told posted = omega (arith, cores_less p told, posted.0, posted.1)
+
+  pub told_done : (n : ControlState) → (p : Progress) → CoresTold crew.course crew.rounds clocks.ticks p clocks'.ticks v → n.posted ≡ crew'.control.posted → clocks'.posting ≡ true
       → left_of (with_control crew' n) (record { ticks = clocks'.ticks; posting = false }) < left_of crew clocks
-  told_done n p told same on = let one : ◌≡◌ {A = ℕ} (if clocks'.posting then 1 else 0) 1 = ap (λ (b : Bool). if b then 1 else 0) on in omega (arith, cores_left p told, same, one)
+  told_done n p told same on = let one : ◌≡◌ {A = ℕ} (if clocks'.posting then 1 else 0) 1 = ap (λ (b : Bool). if b then 1 else 0) on in omega (arith, cores_less p told, same, one)
 
-  pub told_behind : (n : ControlState) (w : View) → IsCrew crew' → GoesOn crew u crew' v → AreClocks crew' v clocks' → LeadWaits crew'.course crew'.control.posted v → n.posted ≡ crew'.control.posted → (p : Progress) → CoresTold crew clocks u p crew' clocks'
+  pub told_behind : (n : ControlState) (w : View) → IsCrew crew' → GoesOn crew u crew' v → AreClocks crew' v clocks' → LeadWaits crew'.course crew'.control.posted v → n.posted ≡ crew'.control.posted → (p : Progress) → CoresTold crew.course crew.rounds clocks.ticks p clocks'.ticks v
       → TurnTold crew clocks u (unless_moved p) (with_control crew' n) clocks' w
-  told_behind n w is on are waits same Moved told = omega (arith, told, same)
-  told_behind n w is on are waits same Waits told = (omega (arith, told.0, same), λ all. let held = all_held crew crew' u v on all in nobody crew' v clocks' is are held (lead_stands crew' v is on.agree held waits) (told.1 all))
+  told_behind n w is on are waits same Moved told = omega (arith, told, rest_same, same)
+  told_behind n w is on are waits same Waits told = (
+    omega (arith, cores_less Waits told, same),
+    λ all. let held = all_held crew crew' u v on all in nobody crew' v clocks' is on.agree are held (lead_stands crew' v is on.agree held waits) (waits_here told.1),
+  )
   told_behind n w is on are waits same Done told = (
-    omega (arith, told.0, same),
+    omega (arith, cores_less Done told, same),
     λ all. let held = all_held crew crew' u v on all in
-        let posted = none_low crew' v clocks' is are held told.1 (lead_stands crew' v is on.agree held waits) in omega (arith, posted, waits.some),
+        let posted = none_low crew' v clocks' is on.agree are held (all_out told.1) (lead_stands crew' v is on.agree held waits) in omega (arith, posted, waits.some),
   )
 
 module _ (course : CourseView) (lead lead' : Lead) (deal : Deal) (groups : List Group) (u w : View) (same : lead'.rounds ≡ lead.rounds) where
@@ -318,3 +285,78 @@ module _ (course : CourseView) (lead lead' : Lead) (deal : Deal) (groups : List 
       → (on ≡ false → lead'.control.posted ≡ length course.ticks) → AreClocks (crew_view course lead' deal groups) w (record { ticks = clocks.ticks; posting = on })
   lead_clocks clocks on are was changes over = subst (λ (k : CrewView). AreClocks k w (record { ticks = clocks.ticks; posting = on })) (lead_view course lead lead' deal groups same)
       (clocks_lead (crew_view course lead deal groups) lead'.control u w clocks on are was changes over)
+
+-- a whole turn: the cores' part leads from groups to groups', and then the controller's step from lead to lead'
+module _ (course : CourseView) (rounds : ℕ) (lead : Lead) (roster roster' : Roster) (groups groups' : List Group) (v u : View) (rounds_are : lead.rounds ≡ rounds)
+    (agree : AllAgree (crew_view course lead roster.places.deal groups) v) (are : AreClocks (crew_view course lead roster.places.deal groups) v roster.clocks)
+    (is_roster : IsRoster course rounds groups' roster' u) (on : RosterGoesOn course rounds groups roster v groups' roster' u) where
+  abbrev deal : Deal
+  deal = roster.places.deal
+
+  abbrev clocks : Clocks
+  clocks = roster.clocks
+
+  abbrev clocks' : Clocks
+  clocks' = roster'.clocks
+
+  goes : CoresGoOn (cores_view course rounds deal groups) v (cores_view course rounds deal groups') u
+  goes = on.goes
+
+  posting : clocks'.posting ≡ clocks.posting
+  posting = on.posting
+
+  team : IsTeam course rounds deal groups'
+  team = subst (λ (p : Places). IsTeam course rounds p.deal groups') on.places is_roster.team
+
+  ticks : AreTicks (cores_view course rounds deal groups') u clocks'.ticks
+  ticks = subst (λ (p : Places). AreTicks (cores_view course rounds p.deal groups') u clocks'.ticks) on.places is_roster.ticks
+
+  abbrev crew : CrewView
+  crew = crew_view course lead deal groups
+
+  abbrev mid : CrewView
+  mid = crew_view course lead deal groups'
+
+  pub goes_cores : GoesOn crew v mid u
+  goes_cores = all_on course lead.rounds lead.control deal groups groups' v u agree
+      (subst (λ (r : ℕ). CoresGoOn (cores_view course r deal groups) v (cores_view course r deal groups') u) (sym rounds_are) goes)
+
+  pub clocks_cores : AreClocks mid u clocks'
+  clocks_cores = record {
+    cores = record { size = ticks.size; each = ticks.each };
+    some = λ was. goes.actors.actors controller ∙ are.some (sym posting ∙ was);
+    over = λ off has. are.over (sym posting ∙ off) (sym (goes.actors.actors controller) ∙ has);
+  }
+
+  is_mid : IsCrew mid
+  is_mid = crew_is course lead.rounds lead.control deal groups' (subst (λ (r : ℕ). IsTeam course r deal groups') (sym rounds_are) team)
+
+  module _ (p : Progress) (told : CoresTold course rounds clocks.ticks p clocks'.ticks u) where
+    told_mid : CoresTold course lead.rounds clocks.ticks p clocks'.ticks u
+    told_mid = subst (λ (r : ℕ). CoresTold course r clocks.ticks p clocks'.ticks u) (sym rounds_are) told
+
+    pub turn_over : clocks'.posting ≡ false → TurnTold crew clocks v p mid clocks' u
+    turn_over over = told_over crew mid v u clocks clocks' refl refl refl posting is_mid goes_cores clocks_cores over p told_mid
+
+  module _ (lead' : Lead) (w : View) (same : lead'.rounds ≡ lead.rounds) (changes : ChangesOnly u w controller) where
+    abbrev crew' : CrewView
+    crew' = crew_view course lead' deal groups'
+
+    pub goes_turn : controllers.AgreesWith course lead'.control w → GoesOn crew v crew' w
+    goes_turn agrees = on_twice crew mid crew' v u w goes_cores (lead_goes course lead lead' deal groups' u w same is_mid goes_cores.agree changes agrees)
+
+    pub clocks_turn : (goes_on : Bool) → clocks'.posting ≡ true → (goes_on ≡ false → lead'.control.posted ≡ length course.ticks) → AreClocks crew' w (record { ticks = clocks'.ticks; posting = goes_on })
+    clocks_turn goes_on was over = lead_clocks course lead lead' deal groups' u w same clocks' goes_on clocks_cores was changes over
+
+    module _ (p : Progress) (told : CoresTold course rounds clocks.ticks p clocks'.ticks u) where
+      pub turn_posted : (count : ℕ) → LeadStep course lead.control.posted u (control.Posted count) lead'.control.posted → left_of crew' clocks' < left_of crew clocks
+      turn_posted count step = subst (λ (k : CrewView). left_of k clocks' < left_of crew clocks) (lead_view course lead lead' deal groups' same)
+          (told_posted crew mid v u clocks clocks' refl refl refl posting lead'.control p (told_mid p told) step)
+
+      pub turn_behind : (core tick : ℕ) → LeadStep course lead.control.posted u (control.Behind core tick) lead'.control.posted → TurnTold crew clocks v (unless_moved p) crew' clocks' w
+      turn_behind core tick step = subst (λ (k : CrewView). TurnTold crew clocks v (unless_moved p) k clocks' w) (lead_view course lead lead' deal groups' same)
+          (told_behind crew mid v u clocks clocks' refl refl refl posting lead'.control w is_mid goes_cores clocks_cores step.1 step.0 p (told_mid p told))
+
+      pub turn_done : LeadStep course lead.control.posted u control.Finished lead'.control.posted → clocks'.posting ≡ true → left_of crew' (record { ticks = clocks'.ticks; posting = false }) < left_of crew clocks
+      turn_done step was = subst (λ (k : CrewView). left_of k (record { ticks = clocks'.ticks; posting = false }) < left_of crew clocks) (lead_view course lead lead' deal groups' same)
+          (told_done crew mid v u clocks clocks' refl refl refl posting lead'.control p (told_mid p told) step.0 was)

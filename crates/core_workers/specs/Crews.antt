@@ -27,9 +27,13 @@ pub record IsCrew (crew : CrewView) : Type 0 where
 abbrev pub IsWhole : CrewView → Type 0
 IsWhole crew = (c : ℕ) → c < crew.course.cores → (a : StateView) × (actor_of crew c ≡ Some a)
 
--- those whose parts the view holds agree with them
+-- the cores' actors whose parts the view holds agree with them
+abbrev pub CoresAgree : CrewView → View → Type 0
+CoresAgree crew v = (c : ℕ) (a : StateView) → actor_of crew c ≡ Some a → holds v c ≡ true → AgreesWith crew.course a v
+
+-- all actors whose parts the view holds agree with them
 pub record AllAgree (crew : CrewView) (v : View) : Type 0 where
-  pub cores : (c : ℕ) (a : StateView) → actor_of crew c ≡ Some a → holds v c ≡ true → AgreesWith crew.course a v
+  pub cores : CoresAgree crew v
   pub control : holds v controller ≡ true → controllers.AgreesWith crew.course crew.control v
 
 -- the same actor, some steps on, or none

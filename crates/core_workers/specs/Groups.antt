@@ -53,6 +53,10 @@ crew_view course lead deal groups = crew_of course lead.rounds lead.control deal
 abbrev pub team_view : CourseView → Team → CrewView
 team_view course team = crew_view course team.lead (deal_of team) team.groups.items
 
+-- what the cores of some groups show without a controller
+abbrev pub cores_view : CourseView → ℕ → Deal → List Group → CrewView
+cores_view course rounds deal groups = crew_of course rounds (record { posted = 0; known = [] }) deal groups
+
 -- what a thread's worker shows, that has no controller
 abbrev pub worker_view : CourseView → ℕ → Deal → Group → CrewView
-worker_view course rounds deal group = crew_of course rounds (record { posted = 0; known = [] }) deal (group ∷ [])
+worker_view course rounds deal group = cores_view course rounds deal (group ∷ [])

@@ -1,15 +1,19 @@
 ghost use Rattle.std.specs.Prelude.{◌≡◌, ◌<◌, ◌≤◌, slice_index};
 ghost use Rattle.tab_core.specs.declared.TheConstants.{MAX_CORES};
 ghost use Rattle.round_words.specs.Seats.{view_of};
-ghost use Rattle.core_workers.specs.Crews.{AllAgree};
-ghost use Rattle.core_workers.specs.Groups.{crew_view};
-ghost use Rattle.core_workers.specs.Inside.Clocks.{AreClocks, IsClockOf, IsLeast};
+ghost use Rattle.round_words.specs.Views.{controller as the_controller, holds};
+ghost use Rattle.core_workers.specs.Crews.{CoresAgree};
+ghost use Rattle.core_workers.specs.Groups.{cores_view};
+ghost use Rattle.core_workers.specs.Inside.Clocks.{AreTicks, IsLeast};
+ghost use Rattle.core_workers.specs.Inside.Places.{ArePlaces};
 ghost use Rattle.core_workers.specs.Inside.Teams.{IsManned, IsTeam};
 
+use crate::gate::Gate;
+use crate::places::Places;
+use crate::site::Site;
 use crate::steps::CONTROLLER;
-use crate::team::{Deal, Group, Lead};
+use crate::team::Group;
 use round_words::RoundSeat;
-use table_form::Course;
 
 // the clock of a core that isn't to go on
 pub(crate) const OUT: u32 = u32::MAX;
@@ -23,51 +27,33 @@ pub(crate) struct Clocks {
 }
 
 // The clocks of those cores whose parts the seat holds.
-pub(crate) fn read_clocks(
+pub(crate) fn read_clocks<G: Gate>(
+    site: &Site<'_, G>,
     seat: &RoundSeat,
-    course: &Course,
-    lead: &Lead,
-    deal: Deal,
+    places: &Places,
     groups: &[Group],
 ) -> Clocks
-    requires team { IsTeam course.now lead.now.rounds deal groups.now }
-    requires agree { AllAgree (crew_view course.now lead.now deal groups.now) (view_of seat.now) }
-    requires manned { IsManned (crew_view course.now lead.now deal groups.now) (view_of seat.now) }
-    ensures { AreClocks (crew_view course.now lead.now deal groups.now) (view_of seat.now) result }
+    requires places { ArePlaces site.now.course.now.cores places.now }
+    requires team { IsTeam site.now.course.now site.now.rounds places.now.deal groups.now }
+    requires agree { CoresAgree (cores_view site.now.course.now site.now.rounds places.now.deal groups.now) (view_of seat.now) }
+    requires manned { IsManned (cores_view site.now.course.now site.now.rounds places.now.deal groups.now) (view_of seat.now) }
+    ensures ticks { AreTicks (cores_view site.now.course.now site.now.rounds places.now.deal groups.now) (view_of seat.now) result.ticks }
+    ensures posting { result.posting ≡ holds (view_of seat.now) the_controller }
 {
-    let mut clocks = Clocks {
-        ticks: [OUT; 32],
+    let mut ticks = [OUT; 32];
+    for core in 0..site.course.cores() {
+        ticks[core as usize] = if seat.holds(core) {
+            let place = places.of_core(core);
+            let group = &groups[place.group as usize];
+            group.members[place.at as usize].state.clock()
+        } else {
+            OUT
+        };
+    }
+    Clocks {
+        ticks,
         posting: seat.holds(CONTROLLER),
-    };
-    for core in 0..course.cores() {
-        clocks.ticks[core as usize] = read_clock(seat, course, lead, deal, groups, core);
     }
-    clocks
-}
-
-// The clock of a core, or OUT where the seat doesn't hold its part. `course` and `lead` are for the proof alone.
-fn read_clock(
-    seat: &RoundSeat,
-    course: &Course,
-    lead: &Lead,
-    deal: Deal,
-    groups: &[Group],
-    core: u32,
-) -> u32
-    requires team { IsTeam course.now lead.now.rounds deal groups.now }
-    requires agree { AllAgree (crew_view course.now lead.now deal groups.now) (view_of seat.now) }
-    requires manned { IsManned (crew_view course.now lead.now deal groups.now) (view_of seat.now) }
-    requires core { core < course.now.cores }
-    ensures { IsClockOf (crew_view course.now lead.now deal groups.now) (view_of seat.now) core result }
-{
-    let _ = course;
-    let _ = lead;
-    if !seat.holds(core) {
-        return OUT;
-    }
-    let group = (core / deal.per - deal.first) as usize;
-    let at = (core % deal.per) as usize;
-    groups[group].members[at].state.clock()
 }
 
 /// A core of least clock, and the least clock of the others.
@@ -78,16 +64,16 @@ pub(crate) struct Least {
 }
 
 // Of the first so many cores, the first of those of least clock.
-pub(crate) fn find_least(clocks: &Clocks, cores: u32) -> Least
+pub(crate) fn find_least(ticks: &[u32; 32], cores: u32) -> Least
     requires { (1 ≤ cores) × (cores ≤ MAX_CORES) }
     ensures within { result.core < cores }
-    ensures least { IsLeast clocks.now result.core cores }
-    ensures next { slice_index clocks.now.ticks result.core ≤ result.next }
+    ensures least { IsLeast ticks.now result.core cores }
+    ensures next { slice_index ticks.now result.core ≤ result.next }
 {
     let mut least = Least { core: 0, next: OUT };
-    let mut low = clocks.ticks[0];
+    let mut low = ticks[0];
     for core in 1..cores {
-        let tick = clocks.ticks[core as usize];
+        let tick = ticks[core as usize];
         if tick < low {
             least = Least { core, next: low };
             low = tick;

@@ -1,3 +1,4 @@
+ghost use Rattle.std.specs.Prelude.{◌≡◌};
 ghost use Rattle.round_words.specs.Seats.{view_of, IsSeatOf};
 ghost use Rattle.core_workers.specs.Crews.{AllAgree, HeldFinished, HoldsAll};
 ghost use Rattle.core_workers.specs.Groups.{crew_view, team_view};
@@ -6,9 +7,10 @@ ghost use Rattle.core_workers.specs.Inside.Teams.{GoesOn, IsManned, IsSameShape,
 use crate::clocks::read_clocks;
 use crate::gate::Gate;
 use crate::guess::Guess;
-use crate::places::places_of;
+use crate::places::Places;
+use crate::site::Site;
 use crate::team::{Deal, Group, Lead, Team};
-use crate::turns::{Progress, turn};
+use crate::turns::{Progress, Roster, turn};
 use round_words::{RoundBoard, RoundSeat};
 use std::hint::spin_loop;
 use std::thread::yield_now;
@@ -19,42 +21,37 @@ pub const PATIENCE: u32 = 10_000_000;
 
 // Turns of those actors whose parts the seat holds, until all of them have finished or none got on for long.
 pub(crate) fn drive_groups<G: Gate>(
-    board: &RoundBoard,
+    site: &Site<'_, G>,
     seat: &mut RoundSeat,
-    course: &Course,
     lead: &mut Lead,
     deal: Deal,
     groups: &mut [Group],
     spins: u32,
-    gate: &G,
 )
-    requires board { IsSeatOf board.now seat.old }
-    requires team { IsTeam course.now lead.old.rounds deal groups.old }
-    requires agree { AllAgree (crew_view course.now lead.old deal groups.old) (view_of seat.old) }
-    requires manned { IsManned (crew_view course.now lead.old deal groups.old) (view_of seat.old) }
-    ensures board { IsSeatOf board.now seat.new }
-    ensures team { IsTeam course.now lead.new.rounds deal groups.new }
-    ensures goes { GoesOn (crew_view course.now lead.old deal groups.old) (view_of seat.old) (crew_view course.now lead.new deal groups.new) (view_of seat.new) }
-    ensures finished { HoldsAll (crew_view course.now lead.old deal groups.old) (view_of seat.old)
-        → HeldFinished (crew_view course.now lead.new deal groups.new) (view_of seat.new) }
+    requires board { IsSeatOf site.now.board.now seat.old }
+    requires rounds { lead.old.rounds ≡ site.now.rounds }
+    requires team { IsTeam site.now.course.now site.now.rounds deal groups.old }
+    requires agree { AllAgree (crew_view site.now.course.now lead.old deal groups.old) (view_of seat.old) }
+    requires manned { IsManned (crew_view site.now.course.now lead.old deal groups.old) (view_of seat.old) }
+    ensures board { IsSeatOf site.now.board.now seat.new }
+    ensures rounds { lead.new.rounds ≡ site.now.rounds }
+    ensures team { IsTeam site.now.course.now site.now.rounds deal groups.new }
+    ensures goes { GoesOn (crew_view site.now.course.now lead.old deal groups.old) (view_of seat.old)
+        (crew_view site.now.course.now lead.new deal groups.new) (view_of seat.new) }
+    ensures finished { HoldsAll (crew_view site.now.course.now lead.old deal groups.old) (view_of seat.old)
+        → HeldFinished (crew_view site.now.course.now lead.new deal groups.new) (view_of seat.new) }
 {
-    let places = places_of(deal, course.cores());
-    let mut clocks = read_clocks(seat, course, lead, deal, groups);
-    let mut guess = Guess::of(&clocks.ticks);
+    let places = Places::of(deal, site.course.cores());
+    let clocks = read_clocks(site, seat, &places, groups);
+    let guess = Guess::of(&clocks.ticks);
+    let mut roster = Roster {
+        places,
+        clocks,
+        guess,
+    };
     let mut left = PATIENCE;
     'driving: while left > 0 {
-        match turn(
-            board,
-            seat,
-            course,
-            lead,
-            deal,
-            &places,
-            groups,
-            &mut clocks,
-            &mut guess,
-            gate,
-        ) {
+        match turn(site, seat, lead, groups, &mut roster) {
             Progress::Moved => left = PATIENCE,
             Progress::Waits => {
                 left -= 1;
@@ -83,19 +80,23 @@ pub(crate) fn drive_team<G: Gate>(
     ensures finished { HoldsAll (team_view course.now team.old) (view_of seat.old) → HeldFinished (team_view course.now team.new) (view_of seat.new) }
     ensures shape { IsSameShape team.old team.new }
 {
+    let site = Site {
+        board,
+        course,
+        rounds: team.lead.rounds,
+        gate,
+    };
     let deal = Deal {
         per: team.per,
         first: 0,
     };
     drive_groups(
-        board,
+        &site,
         seat,
-        course,
         &mut team.lead,
         deal,
         &mut team.groups,
         team.spins,
-        gate,
     );
 }
 

@@ -1,24 +1,22 @@
-ghost use Rattle.std.specs.Prelude.{◌≡◌, ◌≤◌, Some, true};
+ghost use Rattle.std.specs.Prelude.{◌≡◌, ◌≢◌, ◌<◌, ◌≤◌, slice_index};
 ghost use Rattle.round_words.specs.Seats.{view_of, IsSeatOf};
-ghost use Rattle.round_words.specs.Views.{holds};
-ghost use Rattle.dispatch_core.specs.States.{StateView};
 ghost use Rattle.core_workers.specs.Crews.{AllAgree};
-ghost use Rattle.core_workers.specs.Groups.{actor_of, crew_view};
+ghost use Rattle.core_workers.specs.Groups.{crew_view};
+ghost use Rattle.core_workers.specs.declared.clocks.TheConstants.{OUT as THE_OUT};
 ghost use Rattle.core_workers.specs.Inside.Clocks.{AreClocks};
-ghost use Rattle.core_workers.specs.Inside.Places.{ArePlaces, IsPlace};
+ghost use Rattle.core_workers.specs.Inside.Places.{ArePlaces};
 ghost use Rattle.core_workers.specs.Inside.Teams.{GoesOn, IsTeam};
-ghost use Rattle.core_workers.specs.Inside.Turns.{CoresTold, GuessTold, RunsOn, TurnTold, unless_moved};
+ghost use Rattle.core_workers.specs.Inside.Turns.{CoresTold, GuessTold, IsRoster, RosterGoesOn, RunTold, TurnTold, unless_moved};
 
 use crate::clocks::{Clocks, OUT, find_least};
 use crate::gate::Gate;
 use crate::guess::Guess;
-use crate::places::place_of;
-use crate::steps::{step_core, step_lead};
-use crate::team::{Deal, Group, Lead, Place, Places};
-use dispatch_core::CoreAnswer;
+use crate::places::Places;
+use crate::site::Site;
+use crate::steps::{run_member, step_lead};
+use crate::team::{Group, Lead};
 use plan_switch::ControlAnswer;
-use round_words::{RoundBoard, RoundSeat};
-use table_form::Course;
+use round_words::RoundSeat;
 
 /// What became of a turn.
 #[derive(Clone, Copy, Debug, PartialEq, Eq)]
@@ -31,42 +29,53 @@ pub(crate) enum Progress {
     Done,
 }
 
+/// What turns go by: where the cores' members stand, the clocks, and a guess which core is the one of least clock.
+#[derive(Debug, Drop)]
+pub(crate) struct Roster {
+    pub(crate) places: Places,
+    pub(crate) clocks: Clocks,
+    pub(crate) guess: Guess,
+}
+
 // A core runs on: the one that is guessed to be least, or else one of least clock. Then the controller makes a step.
 pub(crate) fn turn<G: Gate>(
-    board: &RoundBoard,
+    site: &Site<'_, G>,
     seat: &mut RoundSeat,
-    course: &Course,
     lead: &mut Lead,
-    deal: Deal,
-    places: &Places,
     groups: &mut [Group],
-    clocks: &mut Clocks,
-    guess: &mut Guess,
-    gate: &G,
+    roster: &mut Roster,
 ) -> Progress
-    requires board { IsSeatOf board.now seat.old }
-    requires places { ArePlaces deal course.now.cores places.now }
-    requires team { IsTeam course.now lead.old.rounds deal groups.old }
-    requires agree { AllAgree (crew_view course.now lead.old deal groups.old) (view_of seat.old) }
-    requires clocks { AreClocks (crew_view course.now lead.old deal groups.old) (view_of seat.old) clocks.old }
-    ensures board { IsSeatOf board.now seat.new }
-    ensures team { IsTeam course.now lead.new.rounds deal groups.new }
-    ensures goes { GoesOn (crew_view course.now lead.old deal groups.old) (view_of seat.old) (crew_view course.now lead.new deal groups.new) (view_of seat.new) }
-    ensures clocks { AreClocks (crew_view course.now lead.new deal groups.new) (view_of seat.new) clocks.new }
-    ensures told { TurnTold (crew_view course.now lead.old deal groups.old) clocks.old (view_of seat.old) result
-        (crew_view course.now lead.new deal groups.new) clocks.new (view_of seat.new) }
+    requires board { IsSeatOf site.now.board.now seat.old }
+    requires rounds { lead.old.rounds ≡ site.now.rounds }
+    requires places { ArePlaces site.now.course.now.cores roster.old.places }
+    requires team { IsTeam site.now.course.now site.now.rounds roster.old.places.deal groups.old }
+    requires agree { AllAgree (crew_view site.now.course.now lead.old roster.old.places.deal groups.old)
+        (view_of seat.old) }
+    requires clocks { AreClocks (crew_view site.now.course.now lead.old roster.old.places.deal groups.old)
+        (view_of seat.old) roster.old.clocks }
+    ensures board { IsSeatOf site.now.board.now seat.new }
+    ensures rounds { lead.new.rounds ≡ site.now.rounds }
+    ensures places { roster.new.places ≡ roster.old.places }
+    ensures team { IsTeam site.now.course.now site.now.rounds roster.old.places.deal groups.new }
+    ensures goes { GoesOn (crew_view site.now.course.now lead.old roster.old.places.deal groups.old)
+        (view_of seat.old) (crew_view site.now.course.now lead.new roster.old.places.deal groups.new)
+        (view_of seat.new) }
+    ensures clocks { AreClocks (crew_view site.now.course.now lead.new roster.old.places.deal groups.new)
+        (view_of seat.new) roster.new.clocks }
+    ensures told { TurnTold (crew_view site.now.course.now lead.old roster.old.places.deal groups.old)
+        roster.old.clocks (view_of seat.old) result
+        (crew_view site.now.course.now lead.new roster.old.places.deal groups.new) roster.new.clocks
+        (view_of seat.new) }
 {
-    let cores = turn_cores(
-        board, seat, course, lead, deal, places, groups, clocks, guess, gate,
-    );
-    if !clocks.posting {
+    let cores = turn_cores(site, seat, groups, roster);
+    if !roster.clocks.posting {
         return cores;
     }
-    match step_lead(board, seat, course, lead, gate) {
+    match step_lead(site, seat, lead) {
         ControlAnswer::Posted { count: _ } => Progress::Moved,
         ControlAnswer::Behind { core: _, tick: _ } => or_waits(cores),
         ControlAnswer::Finished => {
-            clocks.posting = false;
+            roster.clocks.posting = false;
             Progress::Moved
         }
     }
@@ -83,169 +92,115 @@ fn or_waits(cores: Progress) -> Progress
 
 // The core that is guessed runs on, or else one of least clock.
 fn turn_cores<G: Gate>(
-    board: &RoundBoard,
+    site: &Site<'_, G>,
     seat: &mut RoundSeat,
-    course: &Course,
-    lead: &Lead,
-    deal: Deal,
-    places: &Places,
     groups: &mut [Group],
-    clocks: &mut Clocks,
-    guess: &mut Guess,
-    gate: &G,
+    roster: &mut Roster,
 ) -> Progress
-    requires board { IsSeatOf board.now seat.old }
-    requires places { ArePlaces deal course.now.cores places.now }
-    requires team { IsTeam course.now lead.now.rounds deal groups.old }
-    requires agree { AllAgree (crew_view course.now lead.now deal groups.old) (view_of seat.old) }
-    requires clocks { AreClocks (crew_view course.now lead.now deal groups.old) (view_of seat.old) clocks.old }
-    ensures board { IsSeatOf board.now seat.new }
-    ensures team { IsTeam course.now lead.now.rounds deal groups.new }
-    ensures goes { GoesOn (crew_view course.now lead.now deal groups.old) (view_of seat.old) (crew_view course.now lead.now deal groups.new) (view_of seat.new) }
-    ensures clocks { AreClocks (crew_view course.now lead.now deal groups.new) (view_of seat.new) clocks.new }
-    ensures posting { clocks.new.posting ≡ clocks.old.posting }
-    ensures told { CoresTold (crew_view course.now lead.now deal groups.old) clocks.old (view_of seat.old) result
-        (crew_view course.now lead.now deal groups.new) clocks.new }
+    requires board { IsSeatOf site.now.board.now seat.old }
+    requires roster { IsRoster site.now.course.now site.now.rounds groups.old roster.old (view_of seat.old) }
+    ensures board { IsSeatOf site.now.board.now seat.new }
+    ensures roster { IsRoster site.now.course.now site.now.rounds groups.new roster.new (view_of seat.new) }
+    ensures goes { RosterGoesOn site.now.course.now site.now.rounds groups.old roster.old (view_of seat.old)
+        groups.new roster.new (view_of seat.new) }
+    ensures told { CoresTold site.now.course.now site.now.rounds roster.old.clocks.ticks result
+        roster.new.clocks.ticks (view_of seat.new) }
 {
-    if turn_guessed(
-        board, seat, course, lead, deal, places, groups, clocks, guess, gate,
-    ) {
+    if turn_guessed(site, seat, groups, roster) {
         return Progress::Moved;
     }
-    turn_least(
-        board, seat, course, lead, deal, places, groups, clocks, guess, gate,
-    )
+    turn_least(site, seat, groups, roster)
 }
 
 // The core that is guessed runs on. The answer is whether it got on.
 fn turn_guessed<G: Gate>(
-    board: &RoundBoard,
+    site: &Site<'_, G>,
     seat: &mut RoundSeat,
-    course: &Course,
-    lead: &Lead,
-    deal: Deal,
-    places: &Places,
     groups: &mut [Group],
-    clocks: &mut Clocks,
-    guess: &mut Guess,
-    gate: &G,
+    roster: &mut Roster,
 ) -> bool
-    requires board { IsSeatOf board.now seat.old }
-    requires places { ArePlaces deal course.now.cores places.now }
-    requires team { IsTeam course.now lead.now.rounds deal groups.old }
-    requires agree { AllAgree (crew_view course.now lead.now deal groups.old) (view_of seat.old) }
-    requires clocks { AreClocks (crew_view course.now lead.now deal groups.old) (view_of seat.old) clocks.old }
-    ensures board { IsSeatOf board.now seat.new }
-    ensures team { IsTeam course.now lead.now.rounds deal groups.new }
-    ensures goes { GoesOn (crew_view course.now lead.now deal groups.old) (view_of seat.old) (crew_view course.now lead.now deal groups.new) (view_of seat.new) }
-    ensures clocks { AreClocks (crew_view course.now lead.now deal groups.new) (view_of seat.new) clocks.new }
-    ensures posting { clocks.new.posting ≡ clocks.old.posting }
-    ensures told { GuessTold (crew_view course.now lead.now deal groups.old) clocks.old result
-        (crew_view course.now lead.now deal groups.new) clocks.new }
+    requires board { IsSeatOf site.now.board.now seat.old }
+    requires roster { IsRoster site.now.course.now site.now.rounds groups.old roster.old (view_of seat.old) }
+    ensures board { IsSeatOf site.now.board.now seat.new }
+    ensures roster { IsRoster site.now.course.now site.now.rounds groups.new roster.new (view_of seat.new) }
+    ensures goes { RosterGoesOn site.now.course.now site.now.rounds groups.old roster.old (view_of seat.old)
+        groups.new roster.new (view_of seat.new) }
+    ensures told { GuessTold roster.old.clocks.ticks result roster.new.clocks.ticks }
 {
-    let core = guess.core();
-    let cores = course.cores();
-    if core >= cores {
+    let core = roster.guess.core();
+    if core >= site.course.cores() {
         return false;
     }
-    let clock = clocks.ticks[core as usize];
+    let clock = roster.clocks.ticks[core as usize];
     if clock == OUT {
         return false;
     }
-    let limit = guess.limit(clock);
-    let place = place_of(places, deal, cores, core);
-    let reached = run_core(
-        board, seat, course, lead, deal, groups, core, place, clock, limit, gate,
-    );
-    clocks.ticks[core as usize] = reached;
-    if reached == clock {
-        return false;
-    }
-    guess.note(core, reached);
-    true
+    let limit = roster.guess.limit(clock);
+    run_core(site, seat, groups, roster, core, limit)
 }
 
 // A core of least clock runs on until it is stuck, or too far ahead of the others.
 #[inline(never)]
 fn turn_least<G: Gate>(
-    board: &RoundBoard,
+    site: &Site<'_, G>,
     seat: &mut RoundSeat,
-    course: &Course,
-    lead: &Lead,
-    deal: Deal,
-    places: &Places,
     groups: &mut [Group],
-    clocks: &mut Clocks,
-    guess: &mut Guess,
-    gate: &G,
+    roster: &mut Roster,
 ) -> Progress
-    requires board { IsSeatOf board.now seat.old }
-    requires places { ArePlaces deal course.now.cores places.now }
-    requires team { IsTeam course.now lead.now.rounds deal groups.old }
-    requires agree { AllAgree (crew_view course.now lead.now deal groups.old) (view_of seat.old) }
-    requires clocks { AreClocks (crew_view course.now lead.now deal groups.old) (view_of seat.old) clocks.old }
-    ensures board { IsSeatOf board.now seat.new }
-    ensures team { IsTeam course.now lead.now.rounds deal groups.new }
-    ensures goes { GoesOn (crew_view course.now lead.now deal groups.old) (view_of seat.old) (crew_view course.now lead.now deal groups.new) (view_of seat.new) }
-    ensures clocks { AreClocks (crew_view course.now lead.now deal groups.new) (view_of seat.new) clocks.new }
-    ensures posting { clocks.new.posting ≡ clocks.old.posting }
-    ensures told { CoresTold (crew_view course.now lead.now deal groups.old) clocks.old (view_of seat.old) result
-        (crew_view course.now lead.now deal groups.new) clocks.new }
+    requires board { IsSeatOf site.now.board.now seat.old }
+    requires roster { IsRoster site.now.course.now site.now.rounds groups.old roster.old (view_of seat.old) }
+    ensures board { IsSeatOf site.now.board.now seat.new }
+    ensures roster { IsRoster site.now.course.now site.now.rounds groups.new roster.new (view_of seat.new) }
+    ensures goes { RosterGoesOn site.now.course.now site.now.rounds groups.old roster.old (view_of seat.old)
+        groups.new roster.new (view_of seat.new) }
+    ensures told { CoresTold site.now.course.now site.now.rounds roster.old.clocks.ticks result
+        roster.new.clocks.ticks (view_of seat.new) }
 {
-    let cores = course.cores();
-    let lag = course.lag();
-    let next = find_least(clocks, cores);
-    let clock = clocks.ticks[next.core as usize];
+    let lag = site.course.lag();
+    let least = find_least(&roster.clocks.ticks, site.course.cores());
+    let clock = roster.clocks.ticks[least.core as usize];
     if clock == OUT {
         return Progress::Done;
     }
-    let limit = next.next.min(clock.saturating_add(lag)).saturating_add(lag);
-    let place = place_of(places, deal, cores, next.core);
-    let reached = run_core(
-        board, seat, course, lead, deal, groups, next.core, place, clock, limit, gate,
-    );
-    clocks.ticks[next.core as usize] = reached;
-    if reached == clock {
-        return Progress::Waits;
+    let limit = least
+        .next
+        .min(clock.saturating_add(lag))
+        .saturating_add(lag);
+    if run_core(site, seat, groups, roster, least.core, limit) {
+        Progress::Moved
+    } else {
+        Progress::Waits
     }
-    guess.note(next.core, reached);
-    Progress::Moved
 }
 
-// Steps of a core whose clock is given, while it runs and its clock is at most the limit. The answer is its clock then, or
-// OUT if it has finished.
+// The core, which is to go on, does so up to the limit. The answer is whether it got on.
 fn run_core<G: Gate>(
-    board: &RoundBoard,
+    site: &Site<'_, G>,
     seat: &mut RoundSeat,
-    course: &Course,
-    lead: &Lead,
-    deal: Deal,
     groups: &mut [Group],
+    roster: &mut Roster,
     core: u32,
-    place: Place,
-    from: u32,
     limit: u32,
-    gate: &G,
-) -> u32
-    requires board { IsSeatOf board.now seat.old }
-    requires place { IsPlace deal core place }
-    requires team { IsTeam course.now lead.now.rounds deal groups.old }
-    requires agree { AllAgree (crew_view course.now lead.now deal groups.old) (view_of seat.old) }
-    requires there { (a : StateView) × (actor_of (crew_view course.now lead.now deal groups.old) core ≡ Some a) × (from ≡ a.clock) }
-    requires held { holds (view_of seat.old) core ≡ true }
-    requires limit { from ≤ limit }
-    ensures board { IsSeatOf board.now seat.new }
-    ensures team { IsTeam course.now lead.now.rounds deal groups.new }
-    ensures goes { GoesOn (crew_view course.now lead.now deal groups.old) (view_of seat.old) (crew_view course.now lead.now deal groups.new) (view_of seat.new) }
-    ensures runs { RunsOn (crew_view course.now lead.now deal groups.old) (view_of seat.old) core from result (crew_view course.now lead.now deal groups.new) }
+) -> bool
+    requires board { IsSeatOf site.now.board.now seat.old }
+    requires roster { IsRoster site.now.course.now site.now.rounds groups.old roster.old (view_of seat.old) }
+    requires core { core < site.now.course.now.cores }
+    requires on { slice_index roster.old.clocks.ticks core ≢ THE_OUT }
+    requires limit { slice_index roster.old.clocks.ticks core ≤ limit }
+    ensures board { IsSeatOf site.now.board.now seat.new }
+    ensures roster { IsRoster site.now.course.now site.now.rounds groups.new roster.new (view_of seat.new) }
+    ensures goes { RosterGoesOn site.now.course.now site.now.rounds groups.old roster.old (view_of seat.old)
+        groups.new roster.new (view_of seat.new) }
+    ensures told { RunTold site.now.course.now site.now.rounds core roster.old.clocks.ticks result
+        roster.new.clocks.ticks (view_of seat.new) }
 {
-    let mut clock = from;
-    'running: while clock <= limit {
-        match step_core(board, seat, course, lead, deal, groups, core, place, gate) {
-            CoreAnswer::Ran(stint) => clock = stint.end,
-            CoreAnswer::Behind { who: _, tick: _ } => return clock,
-            CoreAnswer::Finished => return OUT,
-        }
+    let place = roster.places.of_core(core);
+    let member = &mut groups[place.group as usize].members[place.at as usize];
+    let reached = run_member(site, seat, member, core, limit);
+    if reached == roster.clocks.ticks[core as usize] {
+        return false;
     }
-    clock
+    roster.clocks.ticks[core as usize] = reached;
+    roster.guess.note(core, reached);
+    true
 }

@@ -1,5 +1,5 @@
 -- The clocks by which a turn picks its core.
-use Rattle.std.specs.Prelude.{◌≡◌, ◌⊎◌, ℕ, ◌+◌, ◌-◌, ◌<◌, ◌≤◌, true, false, Some, if◌then◌else◌, slice_index, length, sum_by}
+use Rattle.std.specs.Prelude.{◌≡◌, ◌⊎◌, ℕ, ◌+◌, ◌-◌, ◌<◌, ◌≤◌, true, false, List, Some, if◌then◌else◌, slice_index, length, sum_by}
 use Rattle.round_words.specs.declared.view.View.{View}
 use Rattle.round_words.specs.Views.{controller, holds}
 use Rattle.dispatch_core.specs.States.{StateView}
@@ -14,18 +14,26 @@ IsClockOf crew v c clock =
     ((clock ≡ OUT) × (holds v c ≡ true → (a : StateView) × (actor_of crew c ≡ Some a) × HasFinished a))
     ⊎ ((clock < OUT) × (a : StateView) × (actor_of crew c ≡ Some a) × (holds v c ≡ true) × (clock ≡ a.clock))
 
--- each core's number is right, and the controller is to go on until it has posted all
+-- each core's number is right
+pub record AreTicks (crew : CrewView) (v : View) (ticks : List ℕ) : Type 0 where
+  pub size : length ticks ≡ 32
+  pub each : (c : ℕ) → c < crew.course.cores → IsClockOf crew v c (slice_index ticks c)
+
+-- and the controller is to go on until it has posted all
 pub record AreClocks (crew : CrewView) (v : View) (clocks : Clocks) : Type 0 where
-  pub size : length clocks.ticks ≡ 32
-  pub cores : (c : ℕ) → c < crew.course.cores → IsClockOf crew v c (slice_index clocks.ticks c)
+  pub cores : AreTicks crew v clocks.ticks
   pub some : clocks.posting ≡ true → holds v controller ≡ true
   pub over : clocks.posting ≡ false → holds v controller ≡ true → HasPosted crew
 
--- how much is left to do, at most
+-- how much is left to do for the cores, at most
+abbrev pub ticks_left : List ℕ → ℕ
+ticks_left ticks = sum_by (λ (t : ℕ). OUT - t) ticks
+
+-- and for all
 abbrev pub left_of : CrewView → Clocks → ℕ
-left_of crew clocks = sum_by (λ (t : ℕ). OUT - t) clocks.ticks + (length crew.course.ticks - crew.control.posted)
+left_of crew clocks = ticks_left clocks.ticks + (length crew.course.ticks - crew.control.posted)
     + (if clocks.posting then 1 else 0)
 
 -- no core of the first n is behind core c
-abbrev pub IsLeast : Clocks → ℕ → ℕ → Type 0
-IsLeast clocks c n = (d : ℕ) → d < n → slice_index clocks.ticks c ≤ slice_index clocks.ticks d
+abbrev pub IsLeast : List ℕ → ℕ → ℕ → Type 0
+IsLeast ticks c n = (d : ℕ) → d < n → slice_index ticks c ≤ slice_index ticks d

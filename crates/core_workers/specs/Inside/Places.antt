@@ -1,8 +1,8 @@
 -- Where the cores' members stand.
 use Rattle.std.specs.Prelude.{◌≡◌, ℕ, ◌-◌, ◌/◌, ◌%◌, ◌<◌, slice_index}
+use Rattle.core_workers.specs.declared.places.Place.{Place}
+use Rattle.core_workers.specs.declared.places.Places.{Places}
 use Rattle.core_workers.specs.declared.team.Deal.{Deal}
-use Rattle.core_workers.specs.declared.team.Place.{Place}
-use Rattle.core_workers.specs.declared.team.Places.{Places}
 
 -- the core's member, if it is in one of the groups, is in this one and at this place
 pub record IsPlace (deal : Deal) (c : ℕ) (place : Place) : Type 0 where
@@ -10,6 +10,6 @@ pub record IsPlace (deal : Deal) (c : ℕ) (place : Place) : Type 0 where
   pub at_is : place.at ≡ c % deal.per
 
 -- of each of the first cores it is kept
-pub record ArePlaces (deal : Deal) (cores : ℕ) (places : Places) : Type 0 where
-  pub groups_are : (c : ℕ) → c < cores → slice_index places.groups c ≡ c / deal.per - deal.first
-  pub ats_are : (c : ℕ) → c < cores → slice_index places.ats c ≡ c % deal.per
+pub record ArePlaces (cores : ℕ) (places : Places) : Type 0 where
+  pub groups_are : (c : ℕ) → c < cores → slice_index places.groups c ≡ c / places.deal.per - places.deal.first
+  pub ats_are : (c : ℕ) → c < cores → slice_index places.ats c ≡ c % places.deal.per

@@ -2,14 +2,14 @@
 use Rattle.std.specs.Prelude.{◌≡◌, ℕ, ◌+◌, ◌*◌, ◌<◌, ◌≤◌, true, false, List, [], ◌∷◌, Some, length, slice_get, vec_capacity}
 use Rattle.table_form.specs.Running.Courses.{CourseView, FitsRounds, IsCourse}
 use Rattle.round_words.specs.declared.view.View.{View}
-use Rattle.round_words.specs.Views.{controller, holds, names}
+use Rattle.round_words.specs.Views.{controller, holds, names, part}
 use Rattle.slice_table.specs.CoreSlices.{AreSlicesOf}
 use Rattle.dispatch_core.specs.States.{StateView}
 use Rattle.core_workers.specs.declared.team.Deal.{Deal}
 use Rattle.core_workers.specs.declared.team.Group.{Group}
 use Rattle.core_workers.specs.declared.team.Member.{Member}
 use Rattle.core_workers.specs.declared.team.Team.{Team}
-use Rattle.core_workers.specs.Crews.{AllAgree, IsSameCrew, IsWhole, SameActors}
+use Rattle.core_workers.specs.Crews.{AllAgree, CoresAgree, IsSameCrew, IsWhole, SameActors}
 use Rattle.core_workers.specs.Groups.{CrewView, actor_of, deal_of, member_of, team_view, worker_view}
 
 -- the member is that of core c, in a run of the course
@@ -41,6 +41,13 @@ pub record GoesOn (crew : CrewView) (v : View) (crew' : CrewView) (w : View) : T
   pub same : IsSameCrew crew crew'
   pub actors : SameActors v w
   pub agree : AllAgree crew' w
+
+-- the same of steps of cores alone: the controller's part is as before
+pub record CoresGoOn (crew : CrewView) (v : View) (crew' : CrewView) (w : View) : Type 0 where
+  pub same : IsSameCrew crew crew'
+  pub actors : SameActors v w
+  pub control : part w controller ≡ part v controller
+  pub agree : CoresAgree crew' w
 
 -- the view holds the parts of the crew's cores
 abbrev pub HoldsEach : CrewView → View → Type 0

@@ -1,21 +1,24 @@
 -- What a step, and a turn of steps, brings.
-use Rattle.std.specs.Prelude.{◌≡◌, ◌≢◌, ◌⊎◌, ℕ, suc, ◌+◌, ◌*◌, ◌<◌, ◌≤◌, Bool, false, true, Some, length, slice_index}
+use Rattle.std.specs.Prelude.{◌≡◌, ◌⊎◌, ℕ, suc, ◌+◌, ◌*◌, ◌<◌, ◌≤◌, Bool, false, true, List, length, slice_index}
 use Rattle.tab_core.specs.declared.TheConstants.{ROUND}
 use Rattle.table_form.specs.Running.Courses.{CourseView, tick_at}
 use Rattle.round_words.specs.declared.view.View.{View}
 use Rattle.round_words.specs.Views.{controller, holds, part}
-use Rattle.round_words.specs.Changes.{ChangesOnly}
-use Rattle.dispatch_core.specs.States.{AgreesWith, IsSameCore, StateView}
+use Rattle.dispatch_core.specs.States.{StateView}
 use Rattle.dispatch_core.specs.declared.answer.CoreAnswer.{CoreAnswer}
 use Rattle.dispatch_core.specs.declared.answer.CoreAnswer.TheVariants.{Ran, Behind, Finished}
 use Rattle.plan_switch.specs.declared.answer.ControlAnswer.{ControlAnswer}
 use Rattle.plan_switch.specs.declared.answer.ControlAnswer.TheVariants as control
 use Rattle.core_workers.specs.declared.clocks.TheConstants.{OUT}
-use Rattle.core_workers.specs.Groups.{CrewView, actor_of}
-use Rattle.core_workers.specs.Crews.{HasFinished, HeldFinished, HoldsAll}
-use Rattle.core_workers.specs.Inside.Clocks.{left_of}
+use Rattle.core_workers.specs.declared.team.Group.{Group}
+use Rattle.core_workers.specs.Groups.{CrewView, cores_view}
+use Rattle.core_workers.specs.Crews.{CoresAgree, HasFinished, HeldFinished, HoldsAll}
+use Rattle.core_workers.specs.Inside.Clocks.{AreTicks, left_of, ticks_left}
+use Rattle.core_workers.specs.Inside.Places.{ArePlaces}
+use Rattle.core_workers.specs.Inside.Teams.{CoresGoOn, IsTeam}
 use Rattle.core_workers.specs.declared.clocks.Clocks.{Clocks}
 use Rattle.core_workers.specs.declared.turns.Progress.{Progress}
+use Rattle.core_workers.specs.declared.turns.Roster.{Roster}
 use Rattle.core_workers.specs.declared.turns.Progress.TheVariants.{Moved, Waits, Done}
 
 -- the next event isn't posted though it is due at the core's clock
@@ -48,52 +51,47 @@ LeadStep course n v (control.Posted count) k = (n < length course.ticks) × (k �
 LeadStep course n v (control.Behind core tick) k = (k ≡ n) × LeadWaits course n v
 LeadStep course n v control.Finished k = (k ≡ n) × (n ≡ length course.ticks)
 
--- core c of the crew made a step
-pub record Steps (crew : CrewView) (v : View) (c : ℕ) (answer : CoreAnswer) (crew' : CrewView) (w : View) : Type 0 where
-  pub course : crew'.course ≡ crew.course
-  pub rounds : crew'.rounds ≡ crew.rounds
-  pub control : crew'.control ≡ crew.control
-  pub before : StateView
-  pub was : actor_of crew c ≡ Some before
-  pub after : StateView
-  pub is : actor_of crew' c ≡ Some after
-  pub rest : (d : ℕ) → d ≢ c → actor_of crew' d ≡ actor_of crew d
-  pub same : IsSameCore before after
-  pub changes : ChangesOnly v w c
-  pub agrees : AgreesWith crew.course after w
-  pub step : CoreStep crew.course before v answer after
+-- the core ran on as far as the answer, which is OUT where it has finished. Where it didn't move it waits
+abbrev pub RunsOn : CourseView → StateView → ℕ → StateView → View → Type 0
+RunsOn course a answer b w = ((answer ≡ OUT) × HasFinished b)
+    ⊎ ((answer ≡ b.clock) × ((a.clock < answer) ⊎ ((answer ≡ a.clock) × WaitsFor course answer w)))
 
--- at this clock a core waits for the controller, or for a core of lower clock
-abbrev pub IsStuck : CrewView → ℕ → Type 0
-IsStuck crew clock = LacksNext crew.course crew.control.posted clock
-    ⊎ ((d : ℕ) × (d < crew.course.cores) × ((a : StateView) → actor_of crew d ≡ Some a → a.clock < clock))
+-- what turns go by is right for the groups, whose actors agree with the view
+pub record IsRoster (course : CourseView) (rounds : ℕ) (groups : List Group) (roster : Roster) (v : View) : Type 0 where
+  pub places : ArePlaces course.cores roster.places
+  pub team : IsTeam course rounds roster.places.deal groups
+  pub agree : CoresAgree (cores_view course rounds roster.places.deal groups) v
+  pub ticks : AreTicks (cores_view course rounds roster.places.deal groups) v roster.clocks.ticks
 
--- core c ran on from the clock as far as the answer, which is OUT where it has finished. If it didn't move it is stuck
-pub record RunsOn (crew : CrewView) (v : View) (c clock answer : ℕ) (crew' : CrewView) : Type 0 where
-  pub control : crew'.control ≡ crew.control
-  pub rest : (d : ℕ) → d ≢ c → actor_of crew' d ≡ actor_of crew d
-  pub after : StateView
-  pub is : actor_of crew' c ≡ Some after
-  pub ends : ((answer ≡ OUT) × HasFinished after)
-      ⊎ ((answer ≡ after.clock) × ((clock < answer) ⊎ ((clock ≡ answer) × (HoldsAll crew v → IsStuck crew' clock))))
+-- cores took some steps: they are dealt out as before, and the controller took none
+pub record RosterGoesOn (course : CourseView) (rounds : ℕ) (groups : List Group) (roster : Roster) (v : View)
+    (groups' : List Group) (roster' : Roster) (w : View) : Type 0 where
+  pub places : roster'.places ≡ roster.places
+  pub posting : roster'.clocks.posting ≡ roster.clocks.posting
+  pub goes : CoresGoOn (cores_view course rounds roster.places.deal groups) v (cores_view course rounds roster.places.deal groups') w
 
--- a core is stuck at this clock, and none is at a lower one
-abbrev pub LeastIsStuck : CrewView → Clocks → Type 0
-LeastIsStuck crew clocks = (clock : ℕ) × (clock ≤ crew.rounds * ROUND) × IsStuck crew clock
-    × ((d : ℕ) → d < crew.course.cores → clock ≤ slice_index clocks.ticks d)
+-- what came of the turn of core c, by whether it got on
+abbrev pub RunTold : CourseView → ℕ → ℕ → List ℕ → Bool → List ℕ → View → Type 0
+RunTold course rounds c ticks true ticks' w = ticks_left ticks' < ticks_left ticks
+RunTold course rounds c ticks false ticks' w = (ticks' ≡ ticks) × (slice_index ticks c ≤ rounds * ROUND)
+    × WaitsFor course (slice_index ticks c) w
+
+-- the same of the core that is guessed
+abbrev pub GuessTold : List ℕ → Bool → List ℕ → Type 0
+GuessTold ticks true ticks' = ticks_left ticks' < ticks_left ticks
+GuessTold ticks false ticks' = ticks' ≡ ticks
+
+-- a core waits at this clock, and none is at a lower one
+abbrev pub LeastWaits : CourseView → ℕ → List ℕ → View → Type 0
+LeastWaits course rounds ticks w = (clock : ℕ) × (clock ≤ rounds * ROUND) × WaitsFor course clock w
+    × ((d : ℕ) → d < course.cores → clock ≤ slice_index ticks d)
 
 -- what came of the cores' part of a turn
-abbrev pub CoresTold : CrewView → Clocks → View → Progress → CrewView → Clocks → Type 0
-CoresTold crew clocks v Moved crew' clocks' = left_of crew' clocks' < left_of crew clocks
-CoresTold crew clocks v Waits crew' clocks' = (left_of crew' clocks' ≤ left_of crew clocks)
-    × (HoldsAll crew v → LeastIsStuck crew' clocks')
-CoresTold crew clocks v Done crew' clocks' = (left_of crew' clocks' ≤ left_of crew clocks)
-    × ((d : ℕ) → d < crew'.course.cores → slice_index clocks'.ticks d ≡ OUT)
-
--- what came of the turn of the core that was guessed
-abbrev pub GuessTold : CrewView → Clocks → Bool → CrewView → Clocks → Type 0
-GuessTold crew clocks true crew' clocks' = left_of crew' clocks' < left_of crew clocks
-GuessTold crew clocks false crew' clocks' = left_of crew' clocks' ≤ left_of crew clocks
+abbrev pub CoresTold : CourseView → ℕ → List ℕ → Progress → List ℕ → View → Type 0
+CoresTold course rounds ticks Moved ticks' w = ticks_left ticks' < ticks_left ticks
+CoresTold course rounds ticks Waits ticks' w = (ticks_left ticks' ≤ ticks_left ticks) × LeastWaits course rounds ticks' w
+CoresTold course rounds ticks Done ticks' w = (ticks_left ticks' ≤ ticks_left ticks)
+    × ((d : ℕ) → d < course.cores → slice_index ticks' d ≡ OUT)
 
 -- what a turn is in which the controller waits
 abbrev pub unless_moved : Progress → Progress
@@ -106,10 +104,3 @@ abbrev pub TurnTold : CrewView → Clocks → View → Progress → CrewView →
 TurnTold crew clocks v Moved crew' clocks' w = left_of crew' clocks' < left_of crew clocks
 TurnTold crew clocks v Waits crew' clocks' w = (left_of crew' clocks' ≤ left_of crew clocks) × (HoldsAll crew v → ⊥)
 TurnTold crew clocks v Done crew' clocks' w = HeldFinished crew' w
-
--- core c ran, if at all, as far as the clock
-pub record RanTo (crew : CrewView) (c clock : ℕ) (crew' : CrewView) : Type 0 where
-  pub rest : (d : ℕ) → d ≢ c → actor_of crew' d ≡ actor_of crew d
-  pub after : StateView
-  pub is : actor_of crew' c ≡ Some after
-  pub clock_is : clock ≡ after.clock

@@ -7,7 +7,7 @@ abbrev pub invariant-loop-core : goal.invariant-loop-core
 invariant-loop-core l = record {
   within : l.least.core < l.core;
   few : l.core ≤ l.fn.cores;
-  low : l.low ≡ slice_index l.fn.clocks.ticks l.least.core;
-  least : IsLeast l.fn.clocks l.least.core l.core;
+  low : l.low ≡ slice_index l.fn.ticks l.least.core;
+  least : IsLeast l.fn.ticks l.least.core l.core;
   next : l.low ≤ l.least.next;
 }

@@ -1,44 +1,72 @@
 use Rattle.std.proofs.Common.{refl, arith}
 use Rattle.round_words.specs.Seats.{view_of}
-use Rattle.core_workers.specs.Groups.{CrewView, crew_view}
-use Rattle.core_workers.proofs.CrewLemmas.{crew_is, on_step, on_twice}
-use Rattle.core_workers.proofs.TurnLemmas.{ran_more, ran_stuck}
+use Rattle.core_workers.proofs.RunLemmas.{agrees_now, clock_now, cores_ran, further, team_ran, ticks_now, ticks_stay, waits}
 use Rattle.core_workers.proofs.turns.run_core.Goals as goal
 
-pub running-preserved : goal.running-preserved
-running-preserved g c =
-    let crew : CrewView = crew_view c.args.course.now c.args.lead.now c.args.deal c.args.groups.now in
-    let inv = c.running.invariant in
-    let x : CrewView = crew_view c.args.course.now c.args.lead.now c.args.deal c.running.groups in
-    let y : CrewView = crew_view c.args.course.now c.args.lead.now c.args.deal c.step_core.new.groups in
-    let is = crew_is c.args.course.now c.args.lead.now.rounds c.args.lead.now.control c.args.deal c.running.groups inv.team in
-    let ran = ran_more crew x y (view_of c.running.seat) (view_of c.step_core.new.seat) c.args.core c.running.clock c.in-Ran.stint inv.ran c.in-Ran.ensures.steps in
-    record {
-      board = c.in-Ran.ensures.board;
-      team = c.in-Ran.ensures.team;
-      goes = on_twice crew x y (view_of c.args.seat.now) (view_of c.running.seat) (view_of c.step_core.new.seat) inv.goes
-          (on_step x y (view_of c.running.seat) (view_of c.step_core.new.seat) c.args.core c.step_core.result is inv.goes.agree c.step_core.ensures.steps);
-      ran = ran.0;
-      on = (omega (arith, inv.on.0, ran.1), λ e. absurd (omega (arith, inv.on.0, ran.1, e)));
-    }
+pub run_member-reached-requires-clause-agrees : goal.run_member-reached-requires-clause-agrees
+run_member-reached-requires-clause-agrees g c κs within = agrees_now c.args.site.now.course.now c.args.site.now.rounds c.args.roster.now.places.deal c.args.groups.now c.args.core c.of_core-place.result c.index_mut-member.result.now _ c.index-groups-place.result (view_of c.args.seat.now) c.args.roster.now.clocks.ticks
+    c.requires.roster.team c.requires.roster.agree c.requires.roster.ticks c.requires.core c.requires.on (c.of_core-place.ensures c.args.site.now.course.now.cores c.requires.core c.requires.roster.places) c.index_mut-member.ensures.value
 
-pub returns-in-Behind-clause-goes : goal.returns-in-Behind-clause-goes
-returns-in-Behind-clause-goes g c =
-    let inv = c.running.invariant in
-    let x : CrewView = crew_view c.args.course.now c.args.lead.now c.args.deal c.running.groups in
-    let is = crew_is c.args.course.now c.args.lead.now.rounds c.args.lead.now.control c.args.deal c.running.groups inv.team in
-    on_twice _ x _ _ (view_of c.running.seat) _ inv.goes (on_step x _ _ _ c.args.core c.step_core.result is inv.goes.agree c.step_core.ensures.steps)
+pub run_member-reached-requires-clause-limit : goal.run_member-reached-requires-clause-limit
+run_member-reached-requires-clause-limit g c κs within =
+    let is = clock_now c.args.site.now.course.now c.args.site.now.rounds c.args.roster.now.places.deal c.args.groups.now c.args.core c.of_core-place.result c.index_mut-member.result.now _ c.index-groups-place.result (view_of c.args.seat.now) c.args.roster.now.clocks.ticks
+    c.requires.roster.team c.requires.roster.agree c.requires.roster.ticks c.requires.core c.requires.on (c.of_core-place.ensures c.args.site.now.course.now.cores c.requires.core c.requires.roster.places) c.index_mut-member.ensures.value in
+    omega (arith, is, c.requires.limit)
 
-pub returns-in-Behind-clause-runs : goal.returns-in-Behind-clause-runs
-returns-in-Behind-clause-runs g c =
-    let inv = c.running.invariant in
-    let is = crew_is c.args.course.now c.args.lead.now.rounds c.args.lead.now.control c.args.deal c.running.groups inv.team in
-    ran_stuck (crew_view c.args.course.now c.args.lead.now c.args.deal c.args.groups.now) (crew_view c.args.course.now c.args.lead.now c.args.deal c.running.groups) (crew_view c.args.course.now c.args.lead.now c.args.deal c.step_core.new.groups)
-    (view_of c.running.seat) (view_of c.step_core.new.seat) c.args.core c.running.clock c.args.from (view_of c.args.seat.now) is inv.goes c.in-Behind.who c.in-Behind.tick inv.ran refl inv.on.0 c.in-Behind.ensures.steps
+pub returns-clause-told : goal.returns-clause-told
+returns-clause-told g c = further c.args.site.now.course.now c.args.site.now.rounds c.args.roster.now.places.deal c.args.groups.now c.args.core c.of_core-place.result c.index_mut-member.result.now _ c.index-groups-place.result (view_of c.args.seat.now) c.args.roster.now.clocks.ticks
+    c.requires.roster.team c.requires.roster.agree c.requires.roster.ticks c.requires.core c.requires.on (c.of_core-place.ensures c.args.site.now.course.now.cores c.requires.core c.requires.roster.places) c.index_mut-member.ensures.value
+    c.run_member-reached.new.member c.run_member-reached.result (view_of c.run_member-reached.new.seat) c.run_member-reached.ensures.same c.run_member-reached.ensures.slices c.run_member-reached.ensures.changes c.run_member-reached.ensures.agrees c.run_member-reached.ensures.runs c.if-reached-roster.false
 
-pub returns-in-Finished-clause-goes : goal.returns-in-Finished-clause-goes
-returns-in-Finished-clause-goes g c =
-    let inv = c.running.invariant in
-    let x : CrewView = crew_view c.args.course.now c.args.lead.now c.args.deal c.running.groups in
-    let is = crew_is c.args.course.now c.args.lead.now.rounds c.args.lead.now.control c.args.deal c.running.groups inv.team in
-    on_twice _ x _ _ (view_of c.running.seat) _ inv.goes (on_step x _ _ _ c.args.core c.step_core.result is inv.goes.agree c.step_core.ensures.steps)
+pub returns-then-reached-roster-clause-told : goal.returns-then-reached-roster-clause-told
+returns-then-reached-roster-clause-told g c =
+    let w = waits c.args.site.now.course.now c.args.site.now.rounds c.args.roster.now.places.deal c.args.groups.now c.args.core c.of_core-place.result c.index_mut-member.result.now _ c.index-groups-place.result (view_of c.args.seat.now) c.args.roster.now.clocks.ticks
+    c.requires.roster.team c.requires.roster.agree c.requires.roster.ticks c.requires.core c.requires.on (c.of_core-place.ensures c.args.site.now.course.now.cores c.requires.core c.requires.roster.places) c.index_mut-member.ensures.value
+    c.run_member-reached.new.member c.run_member-reached.result (view_of c.run_member-reached.new.seat) c.run_member-reached.ensures.same c.run_member-reached.ensures.slices c.run_member-reached.ensures.changes c.run_member-reached.ensures.agrees c.run_member-reached.ensures.runs c.if-reached-roster.true in
+    (refl, w.0, w.1)
+
+pub returns-then-reached-roster-clause-roster : goal.returns-then-reached-roster-clause-roster
+returns-then-reached-roster-clause-roster g c = record {
+  places = c.requires.roster.places;
+  team = team_ran c.args.site.now.course.now c.args.site.now.rounds c.args.roster.now.places.deal c.args.groups.now c.args.core c.of_core-place.result c.index_mut-member.result.now _ c.index-groups-place.result (view_of c.args.seat.now) c.args.roster.now.clocks.ticks
+      c.requires.roster.team c.requires.roster.agree c.requires.roster.ticks c.requires.core c.requires.on (c.of_core-place.ensures c.args.site.now.course.now.cores c.requires.core c.requires.roster.places) c.index_mut-member.ensures.value
+      c.run_member-reached.new.member c.run_member-reached.result (view_of c.run_member-reached.new.seat) c.run_member-reached.ensures.same c.run_member-reached.ensures.slices c.run_member-reached.ensures.changes c.run_member-reached.ensures.agrees c.run_member-reached.ensures.runs;
+  agree = (cores_ran c.args.site.now.course.now c.args.site.now.rounds c.args.roster.now.places.deal c.args.groups.now c.args.core c.of_core-place.result c.index_mut-member.result.now _ c.index-groups-place.result (view_of c.args.seat.now) c.args.roster.now.clocks.ticks
+      c.requires.roster.team c.requires.roster.agree c.requires.roster.ticks c.requires.core c.requires.on (c.of_core-place.ensures c.args.site.now.course.now.cores c.requires.core c.requires.roster.places) c.index_mut-member.ensures.value
+      c.run_member-reached.new.member c.run_member-reached.result (view_of c.run_member-reached.new.seat) c.run_member-reached.ensures.same c.run_member-reached.ensures.slices c.run_member-reached.ensures.changes c.run_member-reached.ensures.agrees c.run_member-reached.ensures.runs).agree;
+  ticks = ticks_stay c.args.site.now.course.now c.args.site.now.rounds c.args.roster.now.places.deal c.args.groups.now c.args.core c.of_core-place.result c.index_mut-member.result.now _ c.index-groups-place.result (view_of c.args.seat.now) c.args.roster.now.clocks.ticks
+      c.requires.roster.team c.requires.roster.agree c.requires.roster.ticks c.requires.core c.requires.on (c.of_core-place.ensures c.args.site.now.course.now.cores c.requires.core c.requires.roster.places) c.index_mut-member.ensures.value
+      c.run_member-reached.new.member c.run_member-reached.result (view_of c.run_member-reached.new.seat) c.run_member-reached.ensures.same c.run_member-reached.ensures.slices c.run_member-reached.ensures.changes c.run_member-reached.ensures.agrees c.run_member-reached.ensures.runs c.if-reached-roster.true;
+}
+
+pub returns-then-reached-roster-clause-goes : goal.returns-then-reached-roster-clause-goes
+returns-then-reached-roster-clause-goes g c = record {
+  places = refl;
+  posting = refl;
+  goes = cores_ran c.args.site.now.course.now c.args.site.now.rounds c.args.roster.now.places.deal c.args.groups.now c.args.core c.of_core-place.result c.index_mut-member.result.now _ c.index-groups-place.result (view_of c.args.seat.now) c.args.roster.now.clocks.ticks
+      c.requires.roster.team c.requires.roster.agree c.requires.roster.ticks c.requires.core c.requires.on (c.of_core-place.ensures c.args.site.now.course.now.cores c.requires.core c.requires.roster.places) c.index_mut-member.ensures.value
+      c.run_member-reached.new.member c.run_member-reached.result (view_of c.run_member-reached.new.seat) c.run_member-reached.ensures.same c.run_member-reached.ensures.slices c.run_member-reached.ensures.changes c.run_member-reached.ensures.agrees c.run_member-reached.ensures.runs;
+}
+
+pub returns-clause-roster : goal.returns-clause-roster
+returns-clause-roster g c = record {
+  places = c.requires.roster.places;
+  team = team_ran c.args.site.now.course.now c.args.site.now.rounds c.args.roster.now.places.deal c.args.groups.now c.args.core c.of_core-place.result c.index_mut-member.result.now _ c.index-groups-place.result (view_of c.args.seat.now) c.args.roster.now.clocks.ticks
+      c.requires.roster.team c.requires.roster.agree c.requires.roster.ticks c.requires.core c.requires.on (c.of_core-place.ensures c.args.site.now.course.now.cores c.requires.core c.requires.roster.places) c.index_mut-member.ensures.value
+      c.run_member-reached.new.member c.run_member-reached.result (view_of c.run_member-reached.new.seat) c.run_member-reached.ensures.same c.run_member-reached.ensures.slices c.run_member-reached.ensures.changes c.run_member-reached.ensures.agrees c.run_member-reached.ensures.runs;
+  agree = (cores_ran c.args.site.now.course.now c.args.site.now.rounds c.args.roster.now.places.deal c.args.groups.now c.args.core c.of_core-place.result c.index_mut-member.result.now _ c.index-groups-place.result (view_of c.args.seat.now) c.args.roster.now.clocks.ticks
+      c.requires.roster.team c.requires.roster.agree c.requires.roster.ticks c.requires.core c.requires.on (c.of_core-place.ensures c.args.site.now.course.now.cores c.requires.core c.requires.roster.places) c.index_mut-member.ensures.value
+      c.run_member-reached.new.member c.run_member-reached.result (view_of c.run_member-reached.new.seat) c.run_member-reached.ensures.same c.run_member-reached.ensures.slices c.run_member-reached.ensures.changes c.run_member-reached.ensures.agrees c.run_member-reached.ensures.runs).agree;
+  ticks = ticks_now c.args.site.now.course.now c.args.site.now.rounds c.args.roster.now.places.deal c.args.groups.now c.args.core c.of_core-place.result c.index_mut-member.result.now _ c.index-groups-place.result (view_of c.args.seat.now) c.args.roster.now.clocks.ticks
+      c.requires.roster.team c.requires.roster.agree c.requires.roster.ticks c.requires.core c.requires.on (c.of_core-place.ensures c.args.site.now.course.now.cores c.requires.core c.requires.roster.places) c.index_mut-member.ensures.value
+      c.run_member-reached.new.member c.run_member-reached.result (view_of c.run_member-reached.new.seat) c.run_member-reached.ensures.same c.run_member-reached.ensures.slices c.run_member-reached.ensures.changes c.run_member-reached.ensures.agrees c.run_member-reached.ensures.runs;
+}
+
+pub returns-clause-goes : goal.returns-clause-goes
+returns-clause-goes g c = record {
+  places = refl;
+  posting = refl;
+  goes = cores_ran c.args.site.now.course.now c.args.site.now.rounds c.args.roster.now.places.deal c.args.groups.now c.args.core c.of_core-place.result c.index_mut-member.result.now _ c.index-groups-place.result (view_of c.args.seat.now) c.args.roster.now.clocks.ticks
+      c.requires.roster.team c.requires.roster.agree c.requires.roster.ticks c.requires.core c.requires.on (c.of_core-place.ensures c.args.site.now.course.now.cores c.requires.core c.requires.roster.places) c.index_mut-member.ensures.value
+      c.run_member-reached.new.member c.run_member-reached.result (view_of c.run_member-reached.new.seat) c.run_member-reached.ensures.same c.run_member-reached.ensures.slices c.run_member-reached.ensures.changes c.run_member-reached.ensures.agrees c.run_member-reached.ensures.runs;
+}

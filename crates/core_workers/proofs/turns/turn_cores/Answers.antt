@@ -1,25 +1,25 @@
-use Rattle.std.proofs.Common.{Bool, subst}
+use Rattle.std.proofs.Common.{subst, ◌∙◌}
+use Rattle.round_words.specs.declared.view.View.{View}
 use Rattle.round_words.specs.Seats.{view_of}
-use Rattle.core_workers.specs.Groups.{CrewView, crew_view}
-use Rattle.core_workers.specs.Inside.Turns.{GuessTold}
-use Rattle.core_workers.proofs.CrewLemmas.{on_twice}
-use Rattle.core_workers.proofs.TurnLemmas.{told_after}
+use Rattle.core_workers.specs.declared.places.Places.{Places}
+use Rattle.core_workers.specs.Groups.{CrewView, cores_view}
+use Rattle.core_workers.specs.Inside.Teams.{CoresGoOn}
+use Rattle.core_workers.proofs.CrewLemmas.{cores_twice}
 use Rattle.core_workers.proofs.turns.turn_cores.Goals as goal
 
 pub returns-clause-goes : goal.returns-clause-goes
 returns-clause-goes g c =
-    let crew : CrewView = crew_view c.args.course.now c.args.lead.now c.args.deal c.args.groups.now in
-    let mid : CrewView = crew_view c.args.course.now c.args.lead.now c.args.deal c.turn_guessed.new.groups in
-    let crew' : CrewView = crew_view c.args.course.now c.args.lead.now c.args.deal c.turn_least.new.groups in
-    on_twice crew mid crew' (view_of c.args.seat.now) (view_of c.turn_guessed.new.seat) (view_of c.turn_least.new.seat)
-    c.turn_guessed.ensures.goes c.turn_least.ensures.goes
-
-pub returns-clause-told : goal.returns-clause-told
-returns-clause-told g c =
-    let crew : CrewView = crew_view c.args.course.now c.args.lead.now c.args.deal c.args.groups.now in
-    let mid : CrewView = crew_view c.args.course.now c.args.lead.now c.args.deal c.turn_guessed.new.groups in
-    let crew' : CrewView = crew_view c.args.course.now c.args.lead.now c.args.deal c.turn_least.new.groups in
-    told_after crew mid crew' (view_of c.args.seat.now) (view_of c.turn_guessed.new.seat) c.args.clocks.now c.turn_guessed.new.clocks c.turn_least.new.clocks
-    c.turn_guessed.ensures.goes
-    (subst (λ (b : Bool). GuessTold crew c.args.clocks.now b mid c.turn_guessed.new.clocks) c.if-turn_guessed.false c.turn_guessed.ensures.told)
-    c.turn_least.result c.turn_least.ensures.told
+    let course = c.args.site.now.course.now in
+    let rounds = c.args.site.now.rounds in
+    let deal = c.args.roster.now.places.deal in
+    let mid : CrewView = cores_view course rounds deal c.turn_guessed.new.groups in
+    let u : View = view_of c.turn_guessed.new.seat in
+    let w : View = view_of c.turn_least.new.seat in
+    let e = c.turn_guessed.ensures.goes in
+    let f = c.turn_least.ensures.goes in
+    record {
+      places = f.places ∙ e.places;
+      posting = f.posting ∙ e.posting;
+      goes = cores_twice (cores_view course rounds deal c.args.groups.now) mid (cores_view course rounds deal c.turn_least.new.groups) (view_of c.args.seat.now) u w e.goes
+          (subst (λ (p : Places). CoresGoOn (cores_view course rounds p.deal c.turn_guessed.new.groups) u (cores_view course rounds p.deal c.turn_least.new.groups) w) e.places f.goes);
+    }
