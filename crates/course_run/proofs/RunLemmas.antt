@@ -1,12 +1,11 @@
 -- A crew that has finished: what it tells of the state as which its view reads.
-use Rattle.std.proofs.Common.{◌≡◌, ℕ, zero, suc, ◌+◌, ◌*◌, ◌<◌, ◌≤◌, inl, inr, List, [], ◌∷◌, ◌++◌, length, Some, refl, sym, ap, ◌∙◌, subst, arith}
+use Rattle.std.proofs.Common.{◌≡◌, true, ℕ, zero, suc, ◌+◌, ◌*◌, ◌<◌, ◌≤◌, inl, inr, List, [], ◌∷◌, ◌++◌, length, Some, refl, sym, ap, ◌∙◌, subst, arith}
 use Rattle.std.specs.Prelude.{slice_get, take}
 use Rattle.std.proofs.lemmas.List.{take_all}
 use Rattle.tab_core.proofs.Lists.{push_split}
 use Rattle.tab_core.specs.declared.TheConstants.{MAX_ROUNDS, ROUND}
 use Rattle.tab_core.specs.declared.stint.Stint.{Stint}
 use Rattle.tab_words.specs.declared.command.RunMode.{RunMode}
-use Rattle.tab_words.specs.declared.command.RunMode.TheVariants.{Trace}
 use Rattle.table_form.specs.Running.Courses.{CourseView, outline_of}
 use Rattle.table_form.specs.Running.Invariant.{StateInvariant}
 use Rattle.table_form.specs.Running.State.{State}
@@ -31,7 +30,7 @@ use Rattle.trace_report.specs.ReportViews.{ReportView}
 use Rattle.trace_report.specs.RunReports.{IsReportOf}
 use Rattle.course_run.specs.Inside.Keeping.{IsReady, IsRoomFor}
 use Rattle.course_run.specs.Inside.Telling.{AreTold, account_in, accounts_below, first_used, used_in}
-use Rattle.course_run.specs.Runs.{AreAccountsOf, IsRunOf, kept_in, ran_view, stints_at, stints_of}
+use Rattle.course_run.specs.Runs.{AreAccountsOf, IsRunOf, keeps_stints, kept_in, ran_view, stints_at, stints_of}
 
 -- ---- the accounts of the first cores
 
@@ -166,7 +165,7 @@ module _ (crew : CrewView) (v : View) (is : IsCrew crew) (whole : IsWhole crew) 
   -- the run, with the report of what they tell
   pub run_of : (course : CourseView) (rounds : ℕ) (mode : RunMode) (report : ReportView) → crew.course ≡ course
       → crew.rounds ≡ rounds
-      → (mode ≡ Trace → (c : ℕ) (a : StateView) → actor_of crew c ≡ Some a → c < crew.course.cores → IsRoomFor crew.course crew.rounds c a.keep)
+      → (keeps_stints mode ≡ true → (c : ℕ) (a : StateView) → actor_of crew c ≡ Some a → c < crew.course.cores → IsRoomFor crew.course crew.rounds c a.keep)
       → IsReportOf crew.course (first_used crew) (accounts_below crew crew.course.cores) report
       → IsRunOf course rounds mode v (ran_view crew report)
   run_of course rounds mode report course_is rounds_are keeps told =
@@ -183,7 +182,8 @@ module _ (crew : CrewView) (v : View) (is : IsCrew crew) (whole : IsWhole crew) 
           are = accounts_are crew v is whole agree all invariant;
           is = subst (λ (used : List ℕ). IsReportOf crew.course used (accounts_below crew crew.course.cores) report) first_decided told;
         };
-        trace = λ trace c lt.
+        used = λ c a at. used_decided c a at;
+        stints = λ trace c lt.
             let a = whole c lt in
             let room = keeps trace c a.0 a.1 lt in
             let of = (agree.control all.control).of_outline in
@@ -196,7 +196,7 @@ module _ (crew : CrewView) (v : View) (is : IsCrew crew) (whole : IsWhole crew) 
 
 -- a crew that was ready keeps, some steps on, what it kept
 pub keeps_on : (course : CourseView) (rounds : ℕ) (mode : RunMode) (crew crew' : CrewView)
-    → IsReady course rounds mode crew → IsSameCrew crew crew' → mode ≡ Trace → (c : ℕ) (a : StateView)
+    → IsReady course rounds mode crew → IsSameCrew crew crew' → keeps_stints mode ≡ true → (c : ℕ) (a : StateView)
     → actor_of crew' c ≡ Some a → c < crew'.course.cores → IsRoomFor crew'.course crew'.rounds c a.keep
 keeps_on course rounds mode crew crew' ready same trace c a at lt =
     let was = at_was (actor_of crew c) (actor_of crew' c) a (same.each c) at in

@@ -9,7 +9,7 @@ use Rattle.tab_core.specs.declared.TheConstants.{ROUND}
 use Rattle.tab_words.proofs.NumberedTextLemmas.{texts_below-suc, texts_below-zero}
 use Rattle.tab_words.specs.Texts.{texts_below}
 use Rattle.tab_words.specs.declared.command.RunMode.{RunMode}
-use Rattle.tab_words.specs.declared.command.RunMode.TheVariants.{Report, Trace}
+use Rattle.tab_words.specs.declared.command.RunMode.TheVariants.{Report, Trace, Burst}
 use Rattle.vcpu_names.specs.Names.{names_of}
 use Rattle.run_promises.proofs.Lists.{element_at}
 use Rattle.table_form.specs.Running.Courses.{CourseView}
@@ -57,7 +57,7 @@ can_be_told course rounds mode view ran host is vcpus cores =
       used = λ trace c lt.
           let here : c < course.cores = subst (λ (k : CourseView). c < k.cores) is.course_is lt in
           subst (λ (k : CourseView). All (λ (st : Stint). st.used ≤ length k.ticks) (kept_stints ran c)) (sym is.course_is)
-          (subst (All (λ (st : Stint). st.used ≤ length course.ticks)) (sym (is.trace trace c here))
+          (subst (All (λ (st : Stint). st.used ≤ length course.ticks)) (sym (is.stints trace c here))
           (all_in_course course rounds s c is.promises.invariant));
     }
 
@@ -74,10 +74,11 @@ same_traces : (course : CourseView) (rounds : ℕ) (mode : RunMode) (view : View
     → IsRunOf course rounds mode view ran
     → trace_part mode names course (kept_stints ran) ≡ trace_part mode names course (stints_at (state_of course view))
 same_traces course rounds Report view ran names is = refl
+same_traces course rounds Burst view ran names is = refl
 same_traces course rounds Trace view ran names is =
     same_below (λ c. trace_text names course c (kept_stints ran c))
     (λ c. trace_text names course c (stints_at (state_of course view) c)) course.cores
-    (λ c lt. ap (trace_text names course c) (is.trace refl c lt))
+    (λ c lt. ap (trace_text names course c) (is.stints refl c lt))
 
 -- what is written of the run is the text of the state
 pub tells_of_state : (course : CourseView) (rounds : ℕ) (mode : RunMode) (view : View) (ran : RanView) (host : Host)

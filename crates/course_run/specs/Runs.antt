@@ -1,10 +1,10 @@
 -- What a run by threads gives back.
 -- Source: the rules of this project.
-use Rattle.std.specs.Prelude.{◌≡◌, ℕ, ◌<◌, ◌≤◌, All, List, [], Option, None, Some, length, slice_get}
+use Rattle.std.specs.Prelude.{◌≡◌, ℕ, ◌<◌, ◌≤◌, All, Bool, true, false, List, [], Option, None, Some, length, slice_get}
 use Rattle.tab_core.specs.declared.host.Host.{Host}
 use Rattle.tab_core.specs.declared.stint.Stint.{Stint}
 use Rattle.tab_words.specs.declared.command.RunMode.{RunMode}
-use Rattle.tab_words.specs.declared.command.RunMode.TheVariants.{Trace}
+use Rattle.tab_words.specs.declared.command.RunMode.TheVariants.{Report, Trace, Burst}
 use Rattle.table_form.specs.Running.Courses.{CourseView, IsCourse, outline_of}
 use Rattle.table_form.specs.Running.Invariant.{IsComplete}
 use Rattle.table_form.specs.Running.Promises.{KeepsPromises}
@@ -46,9 +46,15 @@ pub record IsReportOfState (course : CourseView) (s : State) (report : ReportVie
 
 -- ---- a trace's length
 
--- a trace is asked for, and may have more stints than are kept
+-- all stints are kept: they are written, or looked through for bursts
+abbrev pub keeps_stints : RunMode → Bool
+keeps_stints Report = false
+keeps_stints Trace = true
+keeps_stints Burst = true
+
+-- all stints are to be kept, and may be more than can be
 pub record IsTooLong (rounds : ℕ) (mode : RunMode) (course : CourseView) (bound : ℕ) : Type 0 where
-  pub asked : mode ≡ Trace
+  pub asked : keeps_stints mode ≡ true
   pub is : IsStintBound course rounds bound
   pub beyond : TRACE_LIMIT < bound
 
@@ -71,7 +77,7 @@ abbrev pub kept_stints : RanView → ℕ → List Stint
 kept_stints ran c = kept_in (actor_of ran.crew c)
 
 -- the view is of all parts of a whole run of the course, read as a state it keeps all promises, the report is
--- that state's, and with a trace all its stints are kept
+-- that state's, and the actors have its used counts and, where they are to, all its stints
 pub record IsRunOf (course : CourseView) (rounds : ℕ) (mode : RunMode) (view : View) (ran : RanView) : Type 0 where
   pub course_is : ran.crew.course ≡ course
   pub course_kept : IsCourse course
@@ -80,7 +86,8 @@ pub record IsRunOf (course : CourseView) (rounds : ℕ) (mode : RunMode) (view :
   pub promises : KeepsPromises course rounds (state_of course view)
   pub complete : IsComplete course rounds (state_of course view)
   pub report : IsReportOfState course (state_of course view) ran.report
-  pub trace : mode ≡ Trace → (c : ℕ) → c < course.cores
+  pub used : (c : ℕ) (a : StateView) → actor_of ran.crew c ≡ Some a → a.used ≡ (state_of course view).decided
+  pub stints : keeps_stints mode ≡ true → (c : ℕ) → c < course.cores
       → kept_stints ran c ≡ stints_at (state_of course view) c
 
 -- the run can be written for the names of the host: its report tells of the host's vCPUs and cores, and the
@@ -88,5 +95,5 @@ pub record IsRunOf (course : CourseView) (rounds : ℕ) (mode : RunMode) (view :
 pub record CanBeTold (mode : RunMode) (host : Host) (ran : RanView) : Type 0 where
   pub each_vcpu : length ran.report.vcpus ≡ length host.vcpus
   pub each_core : length ran.report.cores ≡ host.cores
-  pub used : mode ≡ Trace → (c : ℕ) → c < ran.crew.course.cores
+  pub used : keeps_stints mode ≡ true → (c : ℕ) → c < ran.crew.course.cores
       → All (λ (s : Stint). s.used ≤ length ran.crew.course.ticks) (kept_stints ran c)

@@ -1,33 +1,33 @@
-ghost use Rattle.std.specs.Prelude.{◌≡◌, ◌≤◌, IfErr, IfOk};
+ghost use Rattle.std.specs.Prelude.{◌≡◌, ◌≤◌, IfErr, IfOk, true};
 ghost use Rattle.tab_core.specs.declared.TheConstants.{MAX_ROUNDS};
-ghost use Rattle.tab_words.specs.declared.command.RunMode.TheVariants.{Trace};
 ghost use Rattle.course_run.specs.Inside.Keeping.{IsShort, StopsRun, KeepAll};
+ghost use Rattle.course_run.specs.Runs.{keeps_stints};
 
 use stint_limit::{round_stints, stint_bound};
 use tab_core::CoreNo;
 use tab_words::RunMode;
 use table_form::Course;
 
-/// The most stints of a trace.
+/// The most stints that a run keeps, for a trace or for bursts.
 pub const TRACE_LIMIT: u64 = 1_048_576;
 
 /// Why a run doesn't begin.
 #[derive(Clone, Copy, Debug, PartialEq, Eq)]
 pub enum RunFault {
-    /// A trace is asked for, and the bound on the run's stints is greater than `TRACE_LIMIT`.
+    /// All stints are to be kept, for a trace or for bursts, and the bound on them is greater than `TRACE_LIMIT`.
     TraceTooLong { bound: u64 },
     NoMemory,
 }
 
-// How many stints each core keeps: all that the run can have for a trace, else none.
+// How many stints each core keeps: all that the run can have, or none.
 pub(crate) fn keep_of(course: &Course, rounds: u32, mode: RunMode) -> Result<[u32; 32], RunFault>
     requires { rounds ≤ MAX_ROUNDS }
-    ensures keeps { IfOk result (λ keep. mode ≡ Trace → KeepAll course.now rounds keep course.now.cores) }
+    ensures keeps { IfOk result (λ keep. keeps_stints mode ≡ true → KeepAll course.now rounds keep course.now.cores) }
     ensures short { IfOk result (λ _. IsShort course.now rounds mode) }
     ensures cause { IfErr result (StopsRun course.now rounds mode) }
 {
     let mut keep = [0; 32];
-    if mode == RunMode::Report {
+    if !keeps_stints(mode) {
         return Ok(keep);
     }
     let bound = stint_bound(course, rounds);
@@ -38,4 +38,14 @@ pub(crate) fn keep_of(course: &Course, rounds: u32, mode: RunMode) -> Result<[u3
         keep[core as usize] = (u64::from(rounds) * round_stints(course, CoreNo(core))) as u32;
     }
     Ok(keep)
+}
+
+// Whether all stints are kept.
+fn keeps_stints(mode: RunMode) -> bool
+    ensures { result ≡ keeps_stints mode }
+{
+    match mode {
+        RunMode::Report => false,
+        RunMode::Trace | RunMode::Burst => true,
+    }
 }

@@ -33,13 +33,22 @@ impl<'a> Model for Ran<'a> {
     ghost view = { λ r. ran_view r.crew r.report };
 }
 
+impl<'a> Ran<'a> {
+    /// The run's actors.
+    pub fn crew(&self) -> &Crew<'a>
+        ensures { result.now ≡ self.now.crew }
+    {
+        &self.crew
+    }
+}
+
 /// Runs a course for so many rounds, by threads, on a board that isn't started.
 ///
 /// All memory is taken before the board is started. Without a fault the view of the seat that comes back is
 /// that of a whole run which keeps all promises, whatever the threads did, and the report and the kept
 /// stints are those of that run. With a fault the board isn't started, and the seat is as it was.
 ///
-/// `TraceTooLong` comes exactly where a trace is asked for whose stints may be more than `TRACE_LIMIT`.
+/// `TraceTooLong` comes exactly where all stints are to be kept, which may be more than `TRACE_LIMIT`.
 pub fn run_course<'a, R: Threads + Sync, G: Gate>(
     rt: &R,
     alloc: Global,

@@ -13,7 +13,7 @@ use Rattle.tab_words.specs.Numbers.{Spells}
 use Rattle.tab_words.specs.declared.command.Command.{Command}
 use Rattle.tab_words.specs.declared.command.Command.TheVariants.{Plan, PlanWhole, Check, Replay, Run, Gen, Selftest, Help, Version}
 use Rattle.tab_words.specs.declared.command.RunMode.{RunMode}
-use Rattle.tab_words.specs.declared.command.RunMode.TheVariants.{Report, Trace}
+use Rattle.tab_words.specs.declared.command.RunMode.TheVariants.{Report, Trace, Burst}
 use Rattle.tab_words.specs.declared.command.Usage.{Usage}
 use Rattle.tab_words.proofs.NumberLemmas.{spelled_once}
 
@@ -219,9 +219,14 @@ same_number m n few other same = decimal_injective m n (omega arith) (omega arit
 -- what a run writes has one spelling
 same_mode : (a b : RunMode) → mode_words a ≡ mode_words b → a ≡ b
 same_mode Report Report same = refl
-same_mode Report Trace same = absurd (omega (arith, ap length same))
-same_mode Trace Report same = absurd (omega (arith, ap length same))
 same_mode Trace Trace same = refl
+same_mode Burst Burst same = refl
+same_mode Report Trace same = absurd (omega (arith, ap length same))
+same_mode Report Burst same = absurd (omega (arith, ap length same))
+same_mode Trace Report same = absurd (omega (arith, ap length same))
+same_mode Burst Report same = absurd (omega (arith, ap length same))
+same_mode Trace Burst same = absurd (other_name [] [] refl same)
+same_mode Burst Trace same = absurd (other_name [] [] refl same)
 
 -- words are one command at most
 same_command : (words : List (List ℕ)) (a b : Command) → IsCommand words a → IsCommand words b → a ≡ b
@@ -444,31 +449,34 @@ pub reading_run : (rounds : ℕ) → IsRoundCount rounds
     → IsCommand (codes "run" ∷ decimal rounds ∷ []) (Run rounds Report)
 reading_run rounds count = (refl, count)
 
--- the word behind the count is that of the trace
-only_trace : (mode : RunMode) (word : List ℕ) (more : List (List ℕ)) → word ∷ more ≡ mode_words mode
-    → (word ≡ codes "trace") × (more ≡ [])
-only_trace Report word more is = absurd (omega (arith, ap length is))
-only_trace Trace word more is = (cc, cc)
+-- at most one word stands behind the count
+one_word : (mode : RunMode) (word : List ℕ) (more : List (List ℕ)) → word ∷ more ≡ mode_words mode
+    → (mode_words mode ≡ word ∷ []) × (more ≡ [])
+one_word Report word more is = absurd (omega (arith, ap length is))
+one_word Trace word more is = (cc, cc)
+one_word Burst word more is = (cc, cc)
 
 -- another word behind the count
 pub fault_of_mode : (rounds : ℕ) (word : List ℕ) (rest : List (List ℕ)) → IsRoundCount rounds
-    → word ≢ codes "trace" → IsFaultAt (codes "run" ∷ decimal rounds ∷ word ∷ rest) 2
+    → ((mode : RunMode) → mode_words mode ≡ word ∷ [] → ⊥)
+    → IsFaultAt (codes "run" ∷ decimal rounds ∷ word ∷ rest) 2
 fault_of_mode rounds word rest count other =
     fault_at_word (codes "run" ∷ decimal rounds ∷ []) word rest
     (record { command = Run rounds Report; rest = []; whole = (refl, count) })
     (λ command more is.
     let run = only_run (decimal rounds ∷ word ∷ more) command is in
-    other (only_trace run.mode word more (cc run.words)).0)
+    other run.mode (one_word run.mode word more (cc run.words)).0)
 
--- the reader of the words behind that for the trace answers by the grammar
-pub reading_trace : (rounds : ℕ) (rest : List (String Global)) (r : Result Command Usage)
-    → IsRoundCount rounds → ReadsEnd (Run rounds Trace) 3 rest r
-    → IsReading (codes "run" ∷ decimal rounds ∷ codes "trace" ∷ texts rest) r
-reading_trace rounds rest r count reads =
-    reading_end (codes "run" ∷ decimal rounds ∷ codes "trace" ∷ []) (Run rounds Trace) rest r (refl, count)
-    (λ word command more is.
-    let run = only_run (decimal rounds ∷ codes "trace" ∷ word ∷ more) command is in
-    omega (arith, ap length (only_trace run.mode (codes "trace") (word ∷ more) (cc run.words)).1)) reads
+-- the reader of the words behind that for what is written answers by the grammar
+pub reading_mode : (rounds : ℕ) (mode : RunMode) (word : List ℕ) (rest : List (String Global)) (r : Result Command Usage)
+    → IsRoundCount rounds → mode_words mode ≡ word ∷ [] → ReadsEnd (Run rounds mode) 3 rest r
+    → IsReading (codes "run" ∷ decimal rounds ∷ word ∷ texts rest) r
+reading_mode rounds mode word rest r count is reads =
+    reading_end (codes "run" ∷ decimal rounds ∷ word ∷ []) (Run rounds mode) rest r
+    (ap (λ (words : List (List ℕ)). codes "run" ∷ decimal rounds ∷ words) (sym is), count)
+    (λ next command more whole.
+    let run = only_run (decimal rounds ∷ word ∷ next ∷ more) command whole in
+    omega (arith, ap length (one_word run.mode word (next ∷ more) (cc run.words)).1)) reads
 
 -- ---- `gen` and its three numbers
 

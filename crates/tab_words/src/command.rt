@@ -1,6 +1,6 @@
 ghost use Rattle.std.specs.Prelude.{◌≡◌, ℕ, ◌<◌, ◌≤◌, [], ◌∷◌, ◌++◌, List, length, codes, decimal, Some, Ok, Err, IfNone, IfOk, IfSome, IsErrOf, MatchResult};
 ghost use Rattle.tab_words.specs.Commands.{IsCommand, IsFaultAt, texts};
-ghost use Rattle.tab_words.specs.Inside.Readings.{BeginsWithNumber, IsReading};
+ghost use Rattle.tab_words.specs.Inside.Readings.{BeginsWithNumber, IsModeOf, IsReading};
 
 use crate::number::read_number;
 use std::error::Error;
@@ -14,6 +14,8 @@ pub enum RunMode {
     Report,
     /// `trace`: every stint, then the report.
     Trace,
+    /// `burst`: when each burst of work was seen and done and by when at the latest, then the report.
+    Burst,
 }
 
 /// What the words of the command line ask for.
@@ -27,7 +29,7 @@ pub enum Command {
     Check,
     /// `replay ROUNDS`, from 1 to `MAX_ROUNDS` rounds
     Replay { rounds: u32 },
-    /// `run ROUNDS` or `run ROUNDS trace`, with as many rounds
+    /// `run ROUNDS`, `run ROUNDS trace` or `run ROUNDS burst`, with as many rounds
     Run { rounds: u32, mode: RunMode },
     /// `gen SEED CORES VCPUS`, from 1 to `MAX_CORES` cores, with at most `MAX_VCPUS` vCPUs and at most
     /// 99 for each core and one more
@@ -147,7 +149,7 @@ fn read_replay(rest: &[String]) -> Result<Command, Usage>
     read_end(Command::Replay { rounds }, more, 2)
 }
 
-// The count of rounds behind `run`, after which nothing or `trace` stands.
+// The count of rounds behind `run`, after which nothing or a word for what is written stands.
 fn read_run(rest: &[String]) -> Result<Command, Usage>
     ensures { IsReading (codes "run" ∷ texts rest.now) result }
 {
@@ -161,16 +163,20 @@ fn read_run(rest: &[String]) -> Result<Command, Usage>
             mode: RunMode::Report,
         });
     };
-    match word.as_str() {
-        "trace" => read_end(
-            Command::Run {
-                rounds,
-                mode: RunMode::Trace,
-            },
-            more,
-            3,
-        ),
-        _ => Err(Usage { place: 2 }),
+    match mode_of(word.as_str()) {
+        Some(mode) => read_end(Command::Run { rounds, mode }, more, 3),
+        None => Err(Usage { place: 2 }),
+    }
+}
+
+// What the word behind the count of rounds asks for.
+fn mode_of(word: &str) -> Option<RunMode>
+    ensures { IsModeOf word.now result }
+{
+    match word {
+        "trace" => Some(RunMode::Trace),
+        "burst" => Some(RunMode::Burst),
+        _ => None,
     }
 }
 

@@ -156,6 +156,13 @@ fn reads_commands_and_places_faults(rt: HostRuntime) -> Result<(), Fail> {
             }),
         ),
         (
+            "run 3 burst",
+            Ok(Command::Run {
+                rounds: 3,
+                mode: RunMode::Burst,
+            }),
+        ),
+        (
             "gen 0 1 100",
             Ok(Command::Gen {
                 seed: 0,
@@ -199,6 +206,7 @@ fn reads_commands_and_places_faults(rt: HostRuntime) -> Result<(), Fail> {
         ("run 10001", fault(1)),
         ("run 1 traces", fault(2)),
         ("run 1 trace x", fault(3)),
+        ("run 1 burst trace", fault(3)),
         ("gen 1 33 1", fault(2)),
         ("gen 1 1 101", fault(3)),
         ("gen 1 1 1 1", fault(4)),
