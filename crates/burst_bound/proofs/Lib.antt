@@ -1,0 +1,16 @@
+pub mod AnswerLemmas
+pub mod BoundLemmas
+pub mod CountLemmas
+pub mod DoneLemmas
+pub mod FoundLemmas
+pub mod GatherLemmas
+pub mod KeptLemmas
+pub mod LeastLemmas
+pub mod PeriodLemmas
+pub mod RunningLemmas
+pub mod RanLemmas
+pub mod ScriptBurstLemmas
+pub mod SeenLemmas
+pub mod SightLemmas
+pub mod TextLemmas
+pub mod UnseenLemmas

@@ -1,0 +1,4 @@
+pub mod Bounding
+pub mod Counting
+pub mod Runs
+pub mod Seeing

@@ -1,0 +1,7 @@
+pub mod Answers
+pub mod BurstText
+pub mod Bursts
+pub mod Inside
+pub mod KeptRuns
+pub mod Reports
+pub mod ScriptBursts
