@@ -1,12 +1,21 @@
 -- A command that is given a seat: its replies, and the runs that it makes.
-use Rattle.std.proofs.Common.{◌≡◌, ℕ, List, [], length, Result, Ok, Err, refl, subst, inl, inr, arith}
+use Rattle.std.proofs.Common.{◌≡◌, ℕ, ◌<◌, true, List, [], length, Result, Ok, Err, refl, sym, ap, ◌∙◌, subst, inl, inr, arith}
+use Rattle.std.proofs.lemmas.Option.{slice_get_within}
 use Rattle.tab_core.specs.declared.host.Host.{Host}
 use Rattle.tab_io.specs.Views.{SinkView}
 use Rattle.tab_words.specs.declared.command.RunMode.{RunMode}
 use Rattle.script_doc.specs.declared.event.Event.{Event}
 use Rattle.plan_book.specs.Books.{BookView, IsBookOf}
 use Rattle.round_words.specs.declared.view.View.{View}
-use Rattle.course_run.specs.Inside.Keeping.{StopsRun}
+use Rattle.table_form.specs.Running.Courses.{CourseView, IsCourse}
+use Rattle.table_form.specs.Running.Invariant.{StateInvariant}
+use Rattle.table_form.specs.Running.State.{State}
+use Rattle.stint_limit.proofs.StintBoundLemmas.{all_stints}
+use Rattle.burst_bound.specs.Reports.{BurstReportView, HasRoomFor}
+use Rattle.board_state.specs.Readings.{state_of}
+use Rattle.burst_bound.specs.KeptRuns.{IsKeptRun}
+use Rattle.course_run.specs.Inside.Keeping.{IsShort, StopsRun}
+use Rattle.course_run.specs.Runs.{IsRunOf, RanView, keeps_stints, kept_in, stints_of}
 use Rattle.tab_io.specs.Views.{SourceView}
 use Rattle.tab_words.specs.Commands.{IsCommand}
 use Rattle.tab_words.specs.Sections.{sections_of}
@@ -32,7 +41,7 @@ use Rattle.tableau_sim.specs.Sections.{OfSections}
 use Rattle.tableau_sim.specs.Sections.OfSections.{Sectioned}
 use Rattle.tableau_sim.proofs.ReplyLemmas.{answers_of, input_reply, off_sections}
 use Rattle.std.proofs.KnownBytes.{Consumes-nil}
-use Rattle.tableau_sim.specs.Inside.Running.{AnswersBy}
+use Rattle.tableau_sim.specs.Inside.Running.{AnswersBy, HasBurstRoom}
 
 -- a reply that was written, over a seat that is as it was
 pub answered : (P : Outcome → Type 0) (old new : View) (sink sink' : SinkView) (told : Status) (reply : Result Text Stop)
@@ -65,6 +74,29 @@ pub run_stops : (rounds : ℕ) (mode : RunMode) (view : View) (sections : List (
 run_stops rounds mode view sections host events book (fault.TraceTooLong bound) script is long =
     Runs.TraceTooLong host events book bound script is long
 run_stops rounds mode view sections host events book fault.NoMemory script is long = tt {0}
+
+-- the crew of a run that keeps all stints has those of a whole run
+pub kept_run : (course : CourseView) (rounds : ℕ) (mode : RunMode) (view : View) (ran : RanView)
+    → IsRunOf course rounds mode view ran → keeps_stints mode ≡ true → IsKeptRun course rounds ran.crew (state_of course view)
+kept_run course rounds mode view ran is asked = record {
+  course_is = is.course_is;
+  invariant = is.promises.invariant;
+  complete = is.complete;
+  used = is.used;
+  stints = λ c a core at here.
+      let within : c < course.cores = omega (arith, slice_get_within (state_of course view).cores c core here, is.promises.invariant.size) in
+      sym (ap kept_in at) ∙ (is.stints asked c within ∙ ap stints_of here);
+}
+
+-- there is room for a run that is made
+pub room_for : (course : CourseView) (rounds : ℕ) (mode : RunMode) (s : State) (events : List Event) (report : BurstReportView)
+    → IsCourse course → StateInvariant course rounds s → keeps_stints mode ≡ true → IsShort course rounds mode
+    → HasBurstRoom course rounds events report → HasRoomFor rounds s events report
+room_for course rounds mode s events report kept invariant asked short room = record {
+  rounds_fit = room.rounds_fit;
+  stints_fit = omega (arith, all_stints course rounds room.bound s kept invariant room.is, room.stints_fit (short asked room.bound room.is));
+  events_fit = room.events_fit;
+}
 
 -- ---- the whole answer
 

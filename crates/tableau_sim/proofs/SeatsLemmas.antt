@@ -102,7 +102,7 @@ run_has : (rounds : ℕ) (mode : RunMode) (view : View) (input : List ℕ) (outc
     → status_of outcome ≡ status.Ok → Runs rounds mode view (sections_of input) outcome
     → HasRun rounds source source' view
 run_has rounds mode view input _ source source' consumed ok
-    (Runs.Ran host events book report script is whole short reports) = record {
+    (Runs.Ran host events book report answers script is whole short reports told) = record {
       input = input;
       consumed = consumed;
       host = host;

@@ -1,9 +1,10 @@
 -- `run`, of a host and a script: a whole run of the host's cores by threads; or the first cause that there
 -- is none.
-use Rattle.std.specs.Prelude.{ℕ, List, []}
+use Rattle.std.specs.Prelude.{◌≡◌, ℕ, List, [], ◌++◌}
 use Rattle.tab_core.specs.declared.host.Host.{Host}
 use Rattle.tab_core.specs.declared.over.Over.{Over}
 use Rattle.tab_words.specs.declared.command.RunMode.{RunMode}
+use Rattle.tab_words.specs.declared.command.RunMode.TheVariants.{Report, Trace, Burst}
 use Rattle.host_doc.specs.Document.{IsHostText}
 use Rattle.host_doc.specs.declared.fault.HostFault.{HostFault}
 use Rattle.vcpu_names.specs.Names.{names_of}
@@ -24,6 +25,9 @@ use Rattle.round_words.specs.declared.view.View.{View}
 use Rattle.board_state.specs.Readings.{state_of}
 use Rattle.board_state.specs.RunViews.{HoldsAllParts}
 use Rattle.trace_report.specs.ReportViews.{ReportView}
+use Rattle.burst_bound.specs.Reports.{AreBurstAnswers}
+use Rattle.burst_bound.specs.BurstText.{bursts_text}
+use Rattle.burst_bound.specs.declared.answer.BurstAnswer.{BurstAnswer}
 use Rattle.course_run.specs.Changes.{changes_of}
 use Rattle.course_run.specs.Runs.{IsReportOfState, IsTooLong, stints_at}
 use Rattle.course_run.specs.RunText.{run_text}
@@ -54,13 +58,21 @@ text_of_run rounds mode host events book view report =
     run_text mode host (changes_of events book.outcomes) book.course rounds
     (stints_at (state_of book.course view)) report
 
+-- the lines of the script's bursts before it, if they are asked for
+abbrev pub burst_part : RunMode → Host → List Event → List BurstAnswer → List ℕ
+burst_part Report host events answers = []
+burst_part Trace host events answers = []
+burst_part Burst host events answers = bursts_text host events answers
+
 pub data Runs (rounds : ℕ) (mode : RunMode) (view : View) (sections : List (List ℕ)) : Outcome → Type 0 where
-  Ran : (host : Host) (events : List Event) (book : BookView) (report : ReportView)
+  Ran : (host : Host) (events : List Event) (book : BookView) (report : ReportView) (answers : List BurstAnswer)
       → HasScript rounds sections host events → IsBookOf host events book
       → RunsWhole rounds host events book.course view
       → ((bound : ℕ) → IsTooLong rounds mode book.course bound → ⊥)
       → IsReportOfState book.course (state_of book.course view) report
-      → Runs rounds mode view sections (Writes (text_of_run rounds mode host events book view report))
+      → (mode ≡ Burst → AreBurstAnswers book.course rounds (state_of book.course view) events answers)
+      → Runs rounds mode view sections (Writes (burst_part mode host events answers
+      ++ text_of_run rounds mode host events book view report))
   BadHost : (fault : HostFault) → IsHostFault (host_section sections) fault
       → Runs rounds mode view sections (Refuses (status.Host fault) [])
   BadScript : (host : Host) (fault : ScriptFault) → IsHostText (host_section sections) host

@@ -57,6 +57,30 @@ capped = true
 %%
 ";
 
+// Work for a vCPU at tick 0, where stints are as long as a round. The vCPU is capped in the second.
+const BURST: &str = "cores = 1
+lag = 102600
+quantum = 102600
+[[vcpu]]
+name = \"a\"
+share_ppm = 500000
+latency_ns = 102702600
+%%
+0 burst a 60000
+";
+
+const CAPPED_BURST: &str = "cores = 1
+lag = 102600
+quantum = 102600
+[[vcpu]]
+name = \"a\"
+share_ppm = 500000
+latency_ns = 102702600
+capped = true
+%%
+0 burst a 60000
+";
+
 const THREE_CHANGES: &str = "20000 change set a 250000 102702600
 40000 change set a 1000 0
 60000 change set a 1000000 0
@@ -101,6 +125,12 @@ done
         ("run 1 trace", IDLE, 0, IDLE_TRACE),
         (
             "run 10000 trace",
+            "cores = 1\nlag = 1\n%%\n",
+            2,
+            "refused: trace may have 1027030000 stints\n",
+        ),
+        (
+            "run 10000 burst",
             "cores = 1\nlag = 1\n%%\n",
             2,
             "refused: trace may have 1027030000 stints\n",
@@ -212,6 +242,42 @@ change 0 at 102600: planned
 round 0 plan 1
 vcpu a offered 51300 slots 51300 shared 153900 gap 38475
 core 0 slots 51300 shared 153900 idle 0
+done
+",
+        ),
+        (
+            "run 3 burst",
+            BURST,
+            (0, 32, 1),
+            "burst 0 a at 0 work 60000 seen 0 bound 307800 done 60000
+run 3 rounds 1 cores 1 events
+round 0 plan 0
+vcpu a offered 153900 slots 153900 shared 153900 gap 51300
+core 0 slots 153900 shared 153900 idle 0
+done
+",
+        ),
+        (
+            "run 3 burst",
+            CAPPED_BURST,
+            (0, 32, 1),
+            "burst 0 a at 0 work 60000 seen 0 bound 307800 done 111300
+run 3 rounds 1 cores 1 events
+round 0 plan 0
+vcpu a offered 153900 slots 153900 shared 0 gap 51300
+core 0 slots 153900 shared 0 idle 153900
+done
+",
+        ),
+        (
+            "run 1 burst",
+            BURST,
+            (0, 32, 1),
+            "burst 0 a at 0 work 60000 seen 0 bound - done 60000
+run 1 rounds 1 cores 1 events
+round 0 plan 0
+vcpu a offered 51300 slots 51300 shared 51300 gap 51300
+core 0 slots 51300 shared 51300 idle 0
 done
 ",
         ),

@@ -1,12 +1,18 @@
 -- What stands between running and the whole answer: an outcome that was written, and the seat.
-use Rattle.std.specs.Prelude.{◌≡◌, ◌⊎◌, ℕ, [], length}
+use Rattle.std.specs.Prelude.{◌≡◌, ◌⊎◌, ℕ, ◌≤◌, List, [], length}
 use Rattle.tab_core.specs.declared.host.Host.{Host}
+use Rattle.script_doc.specs.declared.event.Event.{Event}
 use Rattle.tab_io.specs.Views.{SinkView}
 use Rattle.host_gen.specs.Generated.{IsGenerated}
-use Rattle.table_form.specs.Running.Courses.{FitsRounds}
+use Rattle.table_form.specs.Running.Courses.{CourseView, FitsRounds}
 use Rattle.plan_book.specs.Books.{BookView, IsBookOf}
 use Rattle.trace_report.specs.RunReports.{vcpus_of}
+use Rattle.stint_limit.specs.StintBounds.{IsStintBound}
+use Rattle.burst_bound.specs.Reports.{BurstReportView}
+use Rattle.course_run.specs.declared.keeping.TheConstants.{TRACE_LIMIT}
+use Rattle.course_run.specs.Changes.{changes_of}
 use Rattle.round_words.specs.declared.view.View.{View}
+use Rattle.tableau_sim.specs.declared.commands.run.Prepared.{Prepared}
 use Rattle.tableau_sim.specs.declared.status.Status.{Status}
 use Rattle.tableau_sim.specs.declared.status.Status.TheVariants as status
 use Rattle.tableau_sim.specs.Frame.{WritesReply}
@@ -27,3 +33,20 @@ pub record IsTestHost (seed : ℕ) (host : Host) (book : BookView) : Type 0 wher
   pub is : IsBookOf host [] book
   pub fits : FitsRounds book.course 4
   pub vcpus : length host.vcpus ≡ vcpus_of book.course
+
+-- there is room for the rounds, for the script's events, and for all stints, if they are few enough to be kept
+pub record HasBurstRoom (course : CourseView) (rounds : ℕ) (events : List Event) (report : BurstReportView) : Type 0 where
+  pub rounds_fit : rounds ≤ report.rounds
+  pub events_fit : length events ≤ report.events
+  pub bound : ℕ
+  pub is : IsStintBound course rounds bound
+  pub stints_fit : bound ≤ TRACE_LIMIT → bound ≤ report.stints
+
+-- the run that hasn't begun is one of this script for the host, of so many rounds
+pub record IsPrepared (rounds : ℕ) (host : Host) (events : List Event) (run : Prepared) : Type 0 where
+  pub host_is : run.host ≡ host
+  pub script_is : run.script ≡ events
+  pub book : IsBookOf run.host run.script run.book
+  pub vcpus : length run.host.vcpus ≡ vcpus_of run.book.course
+  pub fits : FitsRounds run.book.course rounds
+  pub changes : run.changes.items ≡ changes_of run.script run.book.outcomes

@@ -1,17 +1,27 @@
-ghost use Rattle.std.specs.Prelude.{◌≡◌, ◌<◌, ◌≤◌, ◌^◌, ℕ, [], List, length, slice_index_or};
+ghost use Rattle.std.specs.Prelude.{◌≡◌, ◌++◌, ◌<◌, ◌≤◌, ◌^◌, ℕ, [], Err, IfErr, IfOk, List, length, slice_index_or};
 ghost use Rattle.tab_core.specs.declared.TheConstants.{MAX_ROUNDS};
+ghost use Rattle.tab_io.specs.Sinks.{Writes as Puts};
 ghost use Rattle.tab_words.specs.Commands.{IsCommand};
 ghost use Rattle.tab_words.specs.declared.command.Command.TheVariants as called;
+ghost use Rattle.tab_words.specs.declared.command.RunMode.TheVariants.{Burst};
 ghost use Rattle.script_doc.specs.Script.{AreInRun, AreWithin};
+ghost use Rattle.table_form.specs.Running.State.{State as StateValue};
+ghost use Rattle.burst_bound.specs.Reports.{AreBurstAnswers};
+ghost use Rattle.burst_bound.specs.KeptRuns.{IsKeptRun};
+ghost use Rattle.burst_bound.specs.ScriptBursts.{bursts_of};
+ghost use Rattle.round_words.specs.declared.view.View.{View as ViewValue};
 ghost use Rattle.round_words.specs.Seats.{view_of, IsSeatOf};
 ghost use Rattle.round_words.specs.Views.{opening};
+ghost use Rattle.table_form.specs.Running.Courses.{IsCourse};
+ghost use Rattle.course_run.specs.Inside.Keeping.{IsShort};
 ghost use Rattle.course_run.specs.RunText.{run_text};
 ghost use Rattle.course_run.specs.Runs.{CanBeTold, kept_stints};
 ghost use Rattle.tableau_sim.specs.Frame.{Answers, WritesReply};
-ghost use Rattle.tableau_sim.specs.Inside.Running.{AnswersBy};
+ghost use Rattle.tableau_sim.specs.Inside.Reply.{Makes};
+ghost use Rattle.tableau_sim.specs.Inside.Running.{AnswersBy, HasBurstRoom, IsPrepared};
 ghost use Rattle.tableau_sim.specs.Outcomes.Outcome.{Writes};
 ghost use Rattle.tableau_sim.specs.Replay.{HasScript};
-ghost use Rattle.tableau_sim.specs.Run.{Runs};
+ghost use Rattle.tableau_sim.specs.Run.{Runs, burst_part};
 ghost use Rattle.tableau_sim.specs.Seats.{OnSeat};
 
 use crate::call::Done;
@@ -20,16 +30,19 @@ use crate::output::{settle, write_reply};
 use crate::reply::Stop;
 use crate::status::Status;
 use crate::stops::{script_of, stop_of_plan, stop_of_run};
-use core_workers::Gate;
-use course_run::{Ran, changes_of, run_course, write_run};
-use plan_book::{Outcome, make_book};
+use burst_bound::{BurstAnswer, BurstReport, write_bursts};
+use core_workers::{Crew, Gate};
+use course_run::{Ran, TRACE_LIMIT, changes_of, run_course, write_run};
+use plan_book::{Outcome, PlanBook, make_book};
 use round_words::{RoundBoard, RoundSeat};
 use script_doc::Script;
 use std::alloc::Global;
 use std::thread::Threads;
-use tab_core::Host;
-use tab_io::{Sink, Source};
+use stint_limit::stint_bound;
+use tab_core::{Host, NoMemory};
+use tab_io::{Sink, Source, WriteFault};
 use tab_words::{RunMode, Sections};
+use table_form::Course;
 
 // Answers `run`: reads its input, runs the host's cores on a board that isn't started, and writes the text.
 pub(crate) fn run<R: Threads + Sync, S: Source, K: Sink, G: Gate>(
@@ -105,6 +118,73 @@ fn run_sections<R: Threads + Sync, K: Sink, G: Gate>(
     }
 }
 
+// A run that hasn't begun: its book, and what became of the changes.
+#[derive(Debug, Drop)]
+pub(crate) struct Prepared {
+    pub(crate) host: Host,
+    pub(crate) script: Script,
+    pub(crate) book: PlanBook,
+    pub(crate) changes: Vec<(u32, Outcome)>,
+}
+
+// Prepares a run of a host and a script, with room for what is told of its bursts.
+fn prepare<R: Threads + Sync>(
+    rt: &R,
+    alloc: Global,
+    rounds: u32,
+    mode: RunMode,
+    host: Host,
+    script: Script,
+) -> Result<(Prepared, BurstReport), Stop>
+    requires some { 1 ≤ rounds }
+    requires few { rounds ≤ MAX_ROUNDS }
+    requires within { AreWithin (length host.vcpus) script }
+    requires in_run { AreInRun rounds script }
+    ensures prepared { IfOk result (λ ready. IsPrepared rounds host script ready.0) }
+    ensures room { IfOk result (λ ready. mode ≡ Burst
+        → HasBurstRoom ready.0.book.course rounds ready.0.script ready.1) }
+    ensures stop { IfErr result (λ stop. (view : ViewValue) (sections : List (List ℕ))
+        → HasScript rounds sections host script → Makes (Runs rounds mode view sections) (Err stop)) }
+{
+    let book = match make_book(rt, alloc, &host, &script) {
+        Ok(book) => book,
+        Err(fault) => return Err(stop_of_plan(fault, host)),
+    };
+    let Ok(changes) = changes_of(alloc, script.events(), book.outcomes()) else {
+        return Err(Stop::NoMemory);
+    };
+    let Ok(bursts) = burst_room(alloc, book.course(), rounds, mode, &script) else {
+        return Err(Stop::NoMemory);
+    };
+    let run = Prepared {
+        host,
+        script,
+        book,
+        changes,
+    };
+    Ok((run, bursts))
+}
+
+// Room for what is told of a run's bursts, if they are asked for. A run that may have more stints than are kept
+// isn't begun.
+fn burst_room(
+    alloc: Global,
+    course: &Course,
+    rounds: u32,
+    mode: RunMode,
+    script: &Script,
+) -> Result<BurstReport, NoMemory>
+    requires few { rounds ≤ MAX_ROUNDS }
+    ensures { IfOk result (λ report. mode ≡ Burst → HasBurstRoom course.now rounds script.now report) }
+{
+    if mode != RunMode::Burst {
+        return BurstReport::room(alloc, 0, 0, 0);
+    }
+    let stints = stint_bound(course, rounds).min(TRACE_LIMIT);
+    let events = script.events().len();
+    BurstReport::room(alloc, rounds, stints as u32, events as u32)
+}
+
 // Answers `run` for a host and a script.
 fn run_script<R: Threads + Sync, K: Sink, G: Gate>(
     rt: &R,
@@ -129,27 +209,24 @@ fn run_script<R: Threads + Sync, K: Sink, G: Gate>(
         → AnswersBy (Runs rounds mode (view_of result.seat) sections)
         (view_of seat) (view_of result.seat) (K.state output.old) (K.state output.new) result.status }
 {
-    let book = match make_book(rt, alloc, &host, &script) {
-        Ok(book) => book,
-        Err(fault) => {
-            let stop = stop_of_plan(fault, host);
+    let (run, mut bursts) = match prepare(rt, alloc, rounds, mode, host, script) {
+        Ok(ready) => ready,
+        Err(stop) => {
             return Done {
                 status: write_reply(output, Err(stop)),
                 seat,
             };
         }
     };
-    let Ok(changes) = changes_of(alloc, script.events(), book.outcomes()) else {
-        return Done {
-            status: write_reply(output, Err(Stop::NoMemory)),
-            seat,
-        };
-    };
-    match run_course(rt, alloc, book.course(), rounds, mode, board, seat, gate) {
-        Ok((seat, ran)) => Done {
-            status: write_ran(output, mode, &host, &changes, rounds, &ran),
-            seat,
-        },
+    let course = run.book.course();
+    match run_course(rt, alloc, course, rounds, mode, board, seat, gate) {
+        Ok((seat, ran)) => {
+            tell_bursts(mode, course, rounds, &run.script, ran.crew(), &mut bursts);
+            Done {
+                status: write_ran(output, mode, rounds, &run, bursts.answers(), &ran),
+                seat,
+            }
+        }
         Err((seat, fault)) => Done {
             status: write_reply(output, Err(stop_of_run(fault))),
             seat,
@@ -157,20 +234,73 @@ fn run_script<R: Threads + Sync, K: Sink, G: Gate>(
     }
 }
 
+// Tells of the bursts of a run, if they are asked for. Takes no memory.
+fn tell_bursts(
+    mode: RunMode,
+    course: &Course,
+    rounds: u32,
+    script: &Script,
+    crew: &Crew<'_>,
+    bursts: &mut BurstReport,
+)
+    requires few { rounds ≤ MAX_ROUNDS }
+    requires course { IsCourse course.now }
+    requires events { length script.now ≡ length course.now.ticks }
+    requires room { mode ≡ Burst → HasBurstRoom course.now rounds script.now bursts.old }
+    requires short { IsShort course.now rounds mode }
+    requires kept { mode ≡ Burst → (s : StateValue) × IsKeptRun course.now rounds crew.now s }
+    ensures { mode ≡ Burst → (s : StateValue) → IsKeptRun course.now rounds crew.now s
+        → AreBurstAnswers course.now rounds s script.now bursts.new.answers }
+{
+    match mode {
+        RunMode::Report | RunMode::Trace => {}
+        RunMode::Burst => bursts.fill(course, rounds, script, crew),
+    }
+}
+
 // Writes a run that was made, and settles it.
 fn write_ran<K: Sink>(
     output: &mut K,
     mode: RunMode,
-    host: &Host,
-    changes: &[(u32, Outcome)],
     rounds: u32,
+    run: &Prepared,
+    answers: &[BurstAnswer],
     ran: &Ran<'_>,
 ) -> Status
-    requires { CanBeTold mode host.now ran.now }
-    ensures { WritesReply (K.state output.old) (K.state output.new)
-        (Writes (run_text mode host.now changes.now ran.now.crew.course rounds (kept_stints ran.now) ran.now.report))
-        result }
+    requires told { CanBeTold mode run.now.host ran.now }
+    requires answers { mode ≡ Burst → length answers.now ≡ length (bursts_of run.now.script) }
+    ensures { WritesReply (K.state output.old) (K.state output.new) (Writes (
+        burst_part mode run.now.host run.now.script answers.now
+        ++ run_text mode run.now.host run.now.changes.items ran.now.crew.course rounds (kept_stints ran.now)
+        ran.now.report)) result }
 {
-    let put = write_run(output, mode, host, changes, rounds, ran);
+    let put = put_ran(output, mode, rounds, run, answers, ran);
     settle(output, put, Status::Ok)
+}
+
+// The lines of bursts, if they are asked for, and the run.
+fn put_ran<K: Sink>(
+    sink: &mut K,
+    mode: RunMode,
+    rounds: u32,
+    run: &Prepared,
+    answers: &[BurstAnswer],
+    ran: &Ran<'_>,
+) -> Result<(), WriteFault>
+    requires told { CanBeTold mode run.now.host ran.now }
+    requires answers { mode ≡ Burst → length answers.now ≡ length (bursts_of run.now.script) }
+    ensures { Puts (K.state sink.old) (K.state sink.new) (
+        burst_part mode run.now.host run.now.script answers.now
+        ++ run_text mode run.now.host run.now.changes.items ran.now.crew.course rounds (kept_stints ran.now)
+        ran.now.report) result }
+{
+    match mode {
+        RunMode::Report | RunMode::Trace => {
+            write_run(sink, mode, &run.host, &run.changes, rounds, ran)
+        }
+        RunMode::Burst => {
+            write_bursts(sink, &run.host, &run.script, answers)?;
+            write_run(sink, mode, &run.host, &run.changes, rounds, ran)
+        }
+    }
 }

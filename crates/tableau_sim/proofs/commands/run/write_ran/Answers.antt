@@ -2,4 +2,4 @@ use Rattle.std.proofs.Common.{refl}
 use Rattle.tableau_sim.proofs.commands.run.write_ran.Goals as goal
 
 pub returns : goal.returns
-returns g c = c.settle.ensures _ _ c.write_run-put.ensures refl
+returns g c = c.settle.ensures _ _ c.put_ran-put.ensures refl
