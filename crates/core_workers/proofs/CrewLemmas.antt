@@ -8,6 +8,7 @@ use Rattle.tab_core.proofs.Lists.{set_here, set_other}
 use mathlib.Core.Logic.{dite}
 use native.Mathlib.Decide.{ℕ_discrete}
 use Rattle.table_form.specs.Running.Courses.{CourseView, outline_of}
+use Rattle.table_form.specs.Running.Outlines.{OutlineView}
 use Rattle.round_words.specs.declared.view.Part.{Part}
 use Rattle.round_words.specs.declared.view.View.{View}
 use Rattle.round_words.specs.Changes.{ChangesOnly}
@@ -15,7 +16,7 @@ use Rattle.round_words.specs.Hearing.{KnowsClocks}
 use Rattle.round_words.specs.Views.{IsStarted, controller, holds, part}
 use Rattle.dispatch_core.specs.Parts.{IsTimely, used_counts}
 use Rattle.slice_table.specs.CoreSlices.{AreSlicesOf}
-use Rattle.dispatch_core.specs.States.{AgreesWith, FollowsPlans, IsSameCore, StateView}
+use Rattle.dispatch_core.specs.States.{AgreesWith, FollowsPlans, IsSameCore, Stands, StateView}
 use Rattle.plan_switch.specs.Controllers as controllers
 use Rattle.plan_switch.specs.declared.state.ControlState.{ControlState}
 use Rattle.core_workers.specs.declared.team.Deal.{Deal}
@@ -99,27 +100,30 @@ started_on : (lag cores events : ℕ) (v w : View) → SameBoard v w → IsStart
 started_on lag cores events v w board is = record { started = board.started ∙ is.started; lag_is = board.lag ∙ is.lag_is; cores_are = board.cores ∙ is.cores_are; events_are = board.events ∙ is.events_are }
 
 -- a core agrees with each view of the board that has its part, and so does the controller
+pub stands_part : (o : OutlineView) (a : StateView) (v w : View) → Stands o a v → SameBoard v w → holds w a.core ≡ true → part w a.core ≡ part v a.core → Stands o a w
+stands_part o a v w stands board has is = record {
+  of_outline = started_on o.lag o.cores (length o.ticks) v w board stands.of_outline;
+  core = (subst (λ (n : ℕ). a.core < n) (sym board.cores) stands.core.0, has);
+  timely = subst (IsTimely o a.rounds) (sym is) stands.timely;
+  clock = stands.clock ∙ ap (λ (p : Part). p.clock) (sym is);
+  used = stands.used ∙ ap (λ (p : Part). used_counts p.entries) (sym is);
+  stints = stands.stints ∙ ap (λ (p : Part). take a.keep p.stints) (sym is);
+  known = subst (KnowsClocks a.known) (sym is) stands.known;
+  within = stands.within;
+}
+
 pub agrees_part : (course : CourseView) (a : StateView) (v w : View) → AgreesWith course a v → SameBoard v w → holds w a.core ≡ true → part w a.core ≡ part v a.core → AgreesWith course a w
-agrees_part course a v w agrees board has is = let s = agrees.stands in record {
-  stands = record {
-    of_outline = started_on course.lag course.cores (length course.ticks) v w board s.of_outline;
-    core = (subst (λ (n : ℕ). a.core < n) (sym board.cores) s.core.0, has);
-    timely = subst (IsTimely (outline_of course) a.rounds) (sym is) s.timely;
-    clock = s.clock ∙ ap (λ (p : Part). p.clock) (sym is);
-    used = s.used ∙ ap (λ (p : Part). used_counts p.entries) (sym is);
-    stints = s.stints ∙ ap (λ (p : Part). take a.keep p.stints) (sym is);
-    known = subst (KnowsClocks a.known) (sym is) s.known;
-    within = s.within;
-  };
+agrees_part course a v w agrees board has is = record {
+  stands = stands_part (outline_of course) a v w agrees.stands board has is;
   plans = subst (FollowsPlans course a) (sym is) agrees.plans;
 }
 
-pub lead_part : (course : CourseView) (k : ControlState) (v w : View) → controllers.AgreesWith course k v → SameBoard v w → holds w controller ≡ true → part w controller ≡ part v controller → controllers.AgreesWith course k w
-lead_part course k v w agrees board has is = record {
-  of_outline = started_on course.lag course.cores (length course.ticks) v w board agrees.of_outline;
+pub lead_part : (o : OutlineView) (k : ControlState) (v w : View) → controllers.HasPosted o k v → SameBoard v w → holds w controller ≡ true → part w controller ≡ part v controller → controllers.HasPosted o k w
+lead_part o k v w agrees board has is = record {
+  of_outline = started_on o.lag o.cores (length o.ticks) v w board agrees.of_outline;
   holds_it = has;
   posted = agrees.posted ∙ ap (λ (p : Part). length p.floors) (sym is);
-  floors = subst (λ (p : Part). controllers.AreFloorsOf (outline_of course) p.floors) (sym is) agrees.floors;
+  floors = subst (λ (p : Part). controllers.AreFloorsOf o p.floors) (sym is) agrees.floors;
   known = subst (KnowsClocks k.known) (sym is) agrees.known;
 }
 
@@ -167,7 +171,7 @@ all_on course rounds control deal groups groups' v w agree on = record {
   actors = on.actors;
   agree = record {
     cores = on.agree;
-    control = λ has. lead_part course control v w (agree.control (sym (on.actors.actors controller) ∙ has))
+    control = λ has. lead_part (outline_of course) control v w (agree.control (sym (on.actors.actors controller) ∙ has))
         (record { started = on.actors.started; lag = on.actors.lag; cores = on.actors.cores; events = on.actors.events }) has on.control;
   };
 }

@@ -4,7 +4,7 @@ use mathlib.Core.Logic.{dite}
 use native.Mathlib.Decide.{ℕ_discrete}
 use Rattle.round_words.proofs.ListLemmas.{length_push}
 use Rattle.tab_core.proofs.Lists.{push_new, push_old, push_split}
-use Rattle.table_form.specs.Running.Courses.{CourseView, FitsRounds, IsCourse}
+use Rattle.table_form.specs.Running.Courses.{CourseView, FitsRounds, IsCourse, outline_of}
 use Rattle.round_words.specs.declared.view.View.{View}
 use Rattle.round_words.specs.Views.{both, controller, holds, names, only, part, without}
 use Rattle.round_words.proofs.MaskLemmas.{holds_both}
@@ -125,7 +125,7 @@ module _ (course : CourseView) (rounds per : ℕ) (control : ControlState) (grou
             let was = of_without mask v c has in
             agrees_part course a v (without mask v) (held.agree.cores c a (subst (λ (x : StateView). actor_in (member_of (first_of per groups group) (groups ++ group ∷ []) c) ≡ Some x) m.2 (ap actor_in big)) was.1) (board_without mask v)
             (subst (λ (i : ℕ). holds (without mask v) i ≡ true) (sym core) has) (subst (λ (i : ℕ). part (without mask v) i ≡ part v i) (sym core) was.2));
-        control = λ has. (let was = of_without mask v controller has in lead_part course control v (without mask v) (held.agree.control was.1) (board_without mask v) has was.2);
+        control = λ has. (let was = of_without mask v controller has in lead_part (outline_of course) control v (without mask v) (held.agree.control was.1) (board_without mask v) has was.2);
       };
       holds_each = λ c there. (let m = member (first_of per groups group) groups c there.0 there.1 in
           (without_others mask v c (off_rest c m.0 m.1)).0 ∙ held.holds_each c (m.0.state, ap actor_in (rest_whole c m.0 m.1).0));
@@ -174,7 +174,7 @@ module _ (course : CourseView) (rounds per : ℕ) (control : ControlState) (grou
                 (record { started = sym board.started; lag = sym board.lag; cores = sym board.cores; events = sym board.events })
                 (subst (λ (i : ℕ). holds (both x y) i ≡ true) (sym core) has) (subst (λ (i : ℕ). part (both x y) i ≡ part y i) (sym core) theirs.1))
           ]);
-      control = λ has. lead_part course control x (both x y) (held.agree.control held.control) (board_both x y) has (both_mine x y controller held.control);
+      control = λ has. lead_part (outline_of course) control x (both x y) (held.agree.control held.control) (board_both x y) has (both_mine x y controller held.control);
     };
     holds_each = λ c there. (let m = member (first_of per groups group) (groups ++ group ∷ []) c there.0 there.1 in
         elim (whole_either c m.0 m.1) [

@@ -15,25 +15,26 @@ use Rattle.core_workers.specs.declared.team.Group.{Group}
 use Rattle.core_workers.specs.declared.team.Member.{Member}
 use Rattle.core_workers.specs.Groups.{member_of, members_in}
 use Rattle.core_workers.specs.Inside.Teams.{Names, NamesFirst}
+use Rattle.core_workers.specs.Numbers.{NamesFrom}
 use Rattle.core_workers.proofs.GroupLemmas.{found, member_in, member_not}
 
--- the mask of a group's cores
+-- the mask of some neighbours
 
-pub named_none : (deal : Deal) → NamesFirst deal 0 0
-named_none deal = record { there = λ c on. absurd (true≢false (sym on ∙ none c)); all = λ i lt. absurd (omega arith) }
+pub named_none : (first : ℕ) → NamesFrom first 0 0
+named_none first = record { there = λ c on. absurd (true≢false (sym on ∙ none c)); all = λ i lt. absurd (omega arith) }
   where
     none : (c : ℕ) → names 0 c ≡ false
     none c = rw (bit_at-zero c) refl
 
-module _ (deal : Deal) (n mask k : ℕ) where
-  pub named_more : k < 32 → k ≡ deal.first * deal.per + n → NamesFirst deal n mask → NamesFirst deal (n + 1) (bit_or mask (1 * 2 ^ k % 18446744073709551616))
+module _ (first n mask k : ℕ) where
+  pub named_more : k < 32 → k ≡ first + n → NamesFrom first n mask → NamesFrom first (n + 1) (bit_or mask (1 * 2 ^ k % 18446744073709551616))
   named_more small is named = record {
     there = λ c on. dite (ℕ_discrete c k)
         (λ e. (n, omega arith, e ∙ is))
         (λ ne. let was = named.there c (sym (other c ne) ∙ on) in (was.0, omega (arith, was.1), was.2));
-    all = λ i lt. dite (ℕ_discrete (deal.first * deal.per + i) k)
+    all = λ i lt. dite (ℕ_discrete (first + i) k)
         (λ e. subst (λ (c : ℕ). names (bit_or mask (1 * 2 ^ k % 18446744073709551616)) c ≡ true) (sym e) here)
-        (λ ne. other (deal.first * deal.per + i) ne ∙ named.all i (below i lt ne));
+        (λ ne. other (first + i) ne ∙ named.all i (below i lt ne));
   }
     where
       here : names (bit_or mask (1 * 2 ^ k % 18446744073709551616)) k ≡ true
@@ -42,8 +43,8 @@ module _ (deal : Deal) (n mask k : ℕ) where
       other : (c : ℕ) → c ≢ k → names (bit_or mask (1 * 2 ^ k % 18446744073709551616)) c ≡ names mask c
       other c ne = rw (bit_at_set_other w64 mask k (omega arith) c ne) refl
 
-      below : (i : ℕ) → i < n + 1 → deal.first * deal.per + i ≢ k → i < n
-      below i lt ne = dite (ℕ_discrete i n) (λ e. absurd (ne (ap (λ (j : ℕ). deal.first * deal.per + j) e ∙ sym is))) (λ away. omega (arith, lt, away))
+      below : (i : ℕ) → i < n + 1 → first + i ≢ k → i < n
+      below i lt ne = dite (ℕ_discrete i n) (λ e. absurd (ne (ap (λ (j : ℕ). first + j) e ∙ sym is))) (λ away. omega (arith, lt, away))
 
 -- a group alone
 module _ (deal : Deal) (group : Group) where

@@ -4,9 +4,10 @@ ghost use Rattle.round_words.specs.Seats.{view_of};
 ghost use Rattle.round_words.specs.Views.{controller as the_controller, holds};
 ghost use Rattle.core_workers.specs.Crews.{CoresAgree};
 ghost use Rattle.core_workers.specs.Groups.{cores_view};
-ghost use Rattle.core_workers.specs.Inside.Clocks.{AreTicks, IsLeast};
+ghost use Rattle.core_workers.specs.Inside.Clocks.{AreTicks};
 ghost use Rattle.core_workers.specs.Inside.Places.{ArePlaces};
 ghost use Rattle.core_workers.specs.Inside.Teams.{IsManned, IsTeam};
+ghost use Rattle.core_workers.specs.Numbers.{IsLeast};
 
 use crate::gate::Gate;
 use crate::places::Places;
@@ -15,8 +16,8 @@ use crate::steps::CONTROLLER;
 use crate::team::Group;
 use round_words::RoundSeat;
 
-// the clock of a core that isn't to go on
-pub(crate) const OUT: u32 = u32::MAX;
+/// The clock of a core that isn't to go on.
+pub const OUT: u32 = u32::MAX;
 
 /// By core number the clocks of those cores that are to go on, and OUT for each other. `posting` is whether the
 /// controller is to go on.
@@ -58,13 +59,13 @@ pub(crate) fn read_clocks<G: Gate>(
 
 /// A core of least clock, and the least clock of the others.
 #[derive(Clone, Copy, Debug)]
-pub(crate) struct Least {
-    pub(crate) core: u32,
-    pub(crate) next: u32,
+pub struct Least {
+    pub core: u32,
+    pub next: u32,
 }
 
-// Of the first so many cores, the first of those of least clock.
-pub(crate) fn find_least(ticks: &[u32; 32], cores: u32) -> Least
+/// Of the first so many cores, the first of those of least clock.
+pub fn find_least(ticks: &[u32; 32], cores: u32) -> Least
     requires { (1 ≤ cores) × (cores ≤ MAX_CORES) }
     ensures within { result.core < cores }
     ensures least { IsLeast ticks.now result.core cores }

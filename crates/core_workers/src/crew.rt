@@ -11,6 +11,7 @@ ghost use Rattle.core_workers.specs.Inside.Making.{AreGroups, AreMembers};
 
 use crate::driving::drive_team;
 use crate::gate::Gate;
+use crate::patience::spins_of;
 use crate::team::{Deal, Group, Lead, Member, Team};
 use dispatch_core::CoreState;
 use plan_switch::ControlState;
@@ -18,16 +19,12 @@ use round_words::{RoundBoard, RoundSeat};
 use slice_table::{CoreSlices, RowOwners, course_owners};
 use std::alloc::Global;
 use std::marker::Model;
-use std::num::NonZeroUsize;
-use std::thread::{Threads, available_parallelism};
+use std::thread::Threads;
 use tab_core::{CoreNo, NoMemory};
 use table_form::Course;
 
-// The most threads that carry cores: more of them wait for each other longer than they work.
-const MOST_THREADS: u32 = 2;
-
-// how many turns in a row a thread that has a processor of its own tries before it lets others have it
-const SPINS: u32 = 64;
+/// The most threads that carry cores: more of them wait for each other longer than they work.
+pub const MOST_THREADS: u32 = 2;
 
 /// All actors of a run: one for each core, and the controller.
 #[derive(Debug, Drop)]
@@ -67,11 +64,7 @@ impl<'a> Crew<'a> {
     {
         let per = course.cores().div_ceil(MOST_THREADS);
         let groups = make_groups(alloc, course, per, rounds, keep)?;
-        let spins = if groups.len() < processors(rt) {
-            SPINS
-        } else {
-            0
-        };
+        let spins = spins_of(rt, groups.len());
         let lead = Lead {
             control: ControlState::new(),
             rounds,
@@ -110,14 +103,6 @@ impl<'a> Crew<'a> {
         let number = core.index();
         let per = self.team.per as usize;
         &self.team.groups[number / per].members[number % per].state
-    }
-}
-
-// How many processors there are, or 1 where that can't be told.
-fn processors<R: Threads>(rt: &R) -> usize {
-    match available_parallelism(rt) {
-        Ok(count) => count.get(),
-        Err(_) => 1,
     }
 }
 

@@ -7,17 +7,13 @@ ghost use Rattle.core_workers.specs.Inside.Teams.{GoesOn, IsManned, IsSameShape,
 use crate::clocks::read_clocks;
 use crate::gate::Gate;
 use crate::guess::Guess;
+use crate::patience::{PATIENCE, give_way};
 use crate::places::Places;
 use crate::site::Site;
 use crate::team::{Deal, Group, Lead, Team};
 use crate::turns::{Progress, Roster, turn};
 use round_words::{RoundBoard, RoundSeat};
-use std::hint::spin_loop;
-use std::thread::yield_now;
 use table_form::Course;
-
-/// How many turns in a row in which nobody gets on are made before the actors are left as they are.
-pub const PATIENCE: u32 = 10_000_000;
 
 // Turns of those actors whose parts the seat holds, until all of them have finished or none got on for long.
 pub(crate) fn drive_groups<G: Gate>(
@@ -98,13 +94,4 @@ pub(crate) fn drive_team<G: Gate>(
         &mut team.groups,
         team.spins,
     );
-}
-
-// What a thread does after so many turns in a row in which it didn't get on.
-fn give_way(turns: u32, spins: u32) {
-    if turns <= spins {
-        spin_loop();
-    } else {
-        yield_now();
-    }
 }

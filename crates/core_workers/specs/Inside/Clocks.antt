@@ -1,5 +1,5 @@
 -- The clocks by which a turn picks its core.
-use Rattle.std.specs.Prelude.{◌≡◌, ◌⊎◌, ℕ, ◌+◌, ◌-◌, ◌<◌, ◌≤◌, true, false, List, Some, if◌then◌else◌, slice_index, length, sum_by}
+use Rattle.std.specs.Prelude.{◌≡◌, ◌⊎◌, ℕ, ◌+◌, ◌-◌, ◌<◌, true, false, List, Some, if◌then◌else◌, slice_index, length, sum_by}
 use Rattle.round_words.specs.declared.view.View.{View}
 use Rattle.round_words.specs.Views.{controller, holds}
 use Rattle.dispatch_core.specs.States.{StateView}
@@ -33,7 +33,3 @@ ticks_left ticks = sum_by (λ (t : ℕ). OUT - t) ticks
 abbrev pub left_of : CrewView → Clocks → ℕ
 left_of crew clocks = ticks_left clocks.ticks + (length crew.course.ticks - crew.control.posted)
     + (if clocks.posting then 1 else 0)
-
--- no core of the first n is behind core c
-abbrev pub IsLeast : List ℕ → ℕ → ℕ → Type 0
-IsLeast ticks c n = (d : ℕ) → d < n → slice_index ticks c ≤ slice_index ticks d

@@ -11,6 +11,7 @@ use Rattle.core_workers.specs.declared.team.Member.{Member}
 use Rattle.core_workers.specs.declared.team.Team.{Team}
 use Rattle.core_workers.specs.Crews.{AllAgree, CoresAgree, IsSameCrew, IsWhole, SameActors}
 use Rattle.core_workers.specs.Groups.{CrewView, actor_of, deal_of, member_of, team_view, worker_view}
+use Rattle.core_workers.specs.Numbers.{NamesFrom}
 
 -- the member is that of core c, in a run of the course
 pub record IsMemberOf (course : CourseView) (rounds c : ℕ) (m : Member) : Type 0 where
@@ -88,9 +89,8 @@ pub record Names (deal : Deal) (group : Group) (mask : ℕ) : Type 0 where
   pub all : (c : ℕ) (m : Member) → member_of deal (group ∷ []) c ≡ Some m → names mask c ≡ true
 
 -- the bits of the mask are the cores of the group's first members
-pub record NamesFirst (deal : Deal) (n mask : ℕ) : Type 0 where
-  pub there : (c : ℕ) → names mask c ≡ true → (i : ℕ) × (i < n) × (c ≡ deal.first * deal.per + i)
-  pub all : (i : ℕ) → i < n → names mask (deal.first * deal.per + i) ≡ true
+abbrev pub NamesFirst : Deal → ℕ → ℕ → Type 0
+NamesFirst deal n mask = NamesFrom (deal.first * deal.per) n mask
 
 -- as many groups, of as many cores each, in as much room
 pub record IsSameShape (team team' : Team) : Type 0 where

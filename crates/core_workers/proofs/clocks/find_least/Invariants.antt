@@ -1,6 +1,6 @@
 use Rattle.std.proofs.Common.{◌≡◌, ◌<◌, ◌≤◌}
 use Rattle.std.specs.Prelude.{slice_index}
-use Rattle.core_workers.specs.Inside.Clocks.{IsLeast}
+use Rattle.core_workers.specs.Numbers.{IsLeast}
 use Rattle.core_workers.proofs.clocks.find_least.Given as goal
 
 abbrev pub invariant-loop-core : goal.invariant-loop-core

@@ -1,0 +1,16 @@
+pub mod BooksLemmas
+pub mod ChangesLemmas
+pub mod CoursesLemmas
+pub mod FindingLemmas
+pub mod GrowthLemmas
+pub mod SeekingLemmas
+pub mod ShelvesLemmas
+pub mod SteppingLemmas
+pub mod ListsLemmas
+pub mod PlannersLemmas
+pub mod PlacesLemmas
+pub mod WorkingLemmas
+pub mod CellsLemmas
+pub mod CrewsLemmas
+pub mod MeetingLemmas
+pub mod TellingLemmas

@@ -1,0 +1,12 @@
+use Rattle.std.proofs.Common.{◌≡◌}
+use Rattle.live_plan.specs.Inside.Seeking.{IsTaken}
+use Rattle.live_plan.specs.Shelves.{Grows}
+use Rattle.live_plan.proofs.seeking.take_up.Given as goal
+
+abbrev pub invariant-loop-change : goal.invariant-loop-change
+invariant-loop-change g l = record {
+  shelf : g.H.Shelf.is_of l.shelf l.book;
+  grows : Grows (g.H.Shelf.state l.fn.shelf) (g.H.Shelf.state l.shelf);
+  taken : IsTaken l.book l.taken;
+  count : l.taken.changes ≡ l._change;
+}

@@ -1,0 +1,48 @@
+-- What the end of a live core's step did.
+use Rattle.std.specs.Prelude.{◌≡◌, ◌⊎◌, ℕ, ◌<◌, true}
+use Rattle.tab_core.specs.declared.actor.Actor.{Actor}
+use Rattle.tab_core.specs.declared.actor.Actor.TheVariants.{Core, Controller}
+use Rattle.table_form.specs.Running.Courses.{CourseView}
+use Rattle.round_words.specs.declared.view.View.{View}
+use Rattle.round_words.specs.Views.{holds, part}
+use Rattle.dispatch_core.specs.Parts.{SameButHeard}
+use Rattle.dispatch_core.specs.Told.{FindsLow, RunsStint}
+use Rattle.live_plan.specs.declared.answer.LiveAnswer.{LiveAnswer}
+use Rattle.live_plan.specs.declared.answer.LiveAnswer.TheVariants.{Ran, Behind, NotMade, Stopped, Finished}
+use Rattle.live_plan.specs.Asking.{IsBeyond, LooksBeyond}
+use Rattle.live_plan.specs.Books.{LiveView, changes_before}
+use Rattle.live_plan.specs.Courses.{IsLiveCourse}
+use Rattle.live_plan.specs.Shelves.{Knows, Missed, ShelfView}
+
+-- a core that waits looked beyond what it saw
+abbrev pub WaitTold : LiveView → ℕ → Actor → ℕ → ShelfView → LiveAnswer → ShelfView → Type 0
+WaitTold b seen who tick s (Behind who' tick') t = (who' ≡ who) × (tick' ≡ tick) × LooksBeyond b seen s t
+WaitTold b seen who tick s (Stopped change) t = IsBeyond b seen change × Knows t change true
+WaitTold b seen who tick s (Ran stint) t = ⊥
+WaitTold b seen who tick s (NotMade change) t = ⊥
+WaitTold b seen who tick s Finished t = ⊥
+
+-- core c waits for core d, by each course of the book, and only heard the others
+pub record WaitsForCore (b : LiveView) (c : ℕ) (v : View) (d tick : ℕ) (w : View) : Type 0 where
+  pub low : (course : CourseView) → IsLiveCourse b course → FindsLow course c (part v c) (part w c) d tick
+      × (holds v d ≡ true → tick ≡ (part v d).clock)
+  pub still : SameButHeard (part v c) (part w c)
+
+-- it waits for some core
+pub record WaitsForSome (b : LiveView) (c : ℕ) (v w : View) : Type 0 where
+  pub core : ℕ
+  pub tick : ℕ
+  pub waits : WaitsForCore b c v core tick w
+
+-- what the end of core c's step did, which has seen the one count and uses the other
+abbrev pub FinishTold : LiveView → ℕ → ℕ → ℕ → View → ShelfView → LiveAnswer → View → ShelfView → Type 0
+FinishTold b c seen used v s (Ran stint) w t = (course : CourseView) → IsLiveCourse b course
+    → RunsStint course c (part v c) (part w c) stint
+FinishTold b c seen used v s (Behind (Core d) tick) w t = WaitsForCore b c v d tick w × LooksBeyond b seen s t
+FinishTold b c seen used v s (Behind Controller tick) w t = ⊥
+FinishTold b c seen used v s (NotMade change) w t = (w ≡ v) × (change < changes_before b used)
+    × Missed s t change
+FinishTold b c seen used v s (Stopped change) w t =
+    (((w ≡ v) × (change < changes_before b used)) ⊎ (WaitsForSome b c v w × IsBeyond b seen change))
+    × Knows t change true
+FinishTold b c seen used v s Finished w t = ⊥

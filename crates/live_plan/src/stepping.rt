@@ -1,0 +1,168 @@
+ghost use Rattle.std.specs.Prelude.{◌≤◌, length};
+ghost use Rattle.round_words.specs.Changes.{ChangesOnly};
+ghost use Rattle.round_words.specs.Seats.{view_of, IsSeatOf};
+ghost use Rattle.dispatch_core.specs.States.{HasBegun, IsSameCore};
+ghost use Rattle.live_plan.specs.Actors.{IsActorOf, LiveAgrees};
+ghost use Rattle.live_plan.specs.Books.{changes_before};
+ghost use Rattle.live_plan.specs.Inside.Finishing.{FinishTold, WaitTold};
+ghost use Rattle.live_plan.specs.Inside.Seeking.{IsSliceAt};
+ghost use Rattle.live_plan.specs.Shelves.{Grows};
+ghost use Rattle.live_plan.specs.Told.{LiveTold};
+
+use crate::actor::LiveActor;
+use crate::answer::LiveAnswer;
+use crate::book::LiveBook;
+use crate::seeking::{Unmade, seek};
+use crate::shelf::Shelf;
+use dispatch_core::{Begun, CoreState, Ended, begin_step, end_step};
+use round_words::{RoundBoard, RoundSeat};
+use slice_table::SliceTable;
+use tab_core::Actor;
+
+/// One step of a core by a live book: `core_step`, with the plans that the shelf gives.
+///
+/// The seat holds the core, the actor is of the book and agrees with the core's part, and the shelf is of the
+/// book; all are so afterwards. `Ran`, `Behind` and `Finished` come as those of `core_step` by each course of
+/// the book. `NotMade` names a change among the events of the round's used count, a look at which missed in
+/// this call. `Stopped` names such a change for which the look gave want of memory, or where the core would
+/// wait, the first change beyond what it saw. After these two the core has run nothing, and an entry that was
+/// made stays.
+pub fn live_core_step<'a, H: Shelf<'a>>(
+    board: &RoundBoard,
+    seat: &mut RoundSeat,
+    actor: &mut LiveActor,
+    book: &'a LiveBook,
+    shelf: &mut H,
+) -> LiveAnswer
+    requires board { IsSeatOf board.now seat.old }
+    requires actor { IsActorOf book.now actor.old }
+    requires agrees { LiveAgrees book.now actor.old.state (view_of seat.old) }
+    requires shelf { H.is_of shelf.old book.now }
+    ensures board { IsSeatOf board.now seat.new }
+    ensures actor { IsActorOf book.now actor.new }
+    ensures agrees { LiveAgrees book.now actor.new.state (view_of seat.new) }
+    ensures same { IsSameCore actor.old.state actor.new.state }
+    ensures changes { ChangesOnly (view_of seat.old) (view_of seat.new) actor.old.state.core }
+    ensures shelf { H.is_of shelf.new book.now }
+    ensures grows { Grows (H.state shelf.old) (H.state shelf.new) }
+    ensures told { LiveTold book.now actor.old.state.rounds actor.old.state.core (view_of seat.old)
+        (H.state shelf.old) result (view_of seat.new) (H.state shelf.new) }
+{
+    match begin_step(board, seat, book.outline(), &mut actor.state) {
+        Begun::Finished => LiveAnswer::Finished,
+        Begun::Behind { seen, tick } => wait(book, shelf, seen, Actor::Controller, tick),
+        Begun::At { seen, used } => finish(board, seat, actor, book, shelf, seen, used),
+    }
+}
+
+// The end of a step, with the plan that the shelf gives for the used count.
+fn finish<'a, H: Shelf<'a>>(
+    board: &RoundBoard,
+    seat: &mut RoundSeat,
+    actor: &mut LiveActor,
+    book: &'a LiveBook,
+    shelf: &mut H,
+    seen: u32,
+    used: u32,
+) -> LiveAnswer
+    requires board { IsSeatOf board.now seat.old }
+    requires actor { IsActorOf book.now actor.old }
+    requires agrees { LiveAgrees book.now actor.old.state (view_of seat.old) }
+    requires begun { HasBegun book.now.outline actor.old.state (view_of seat.old) seen used }
+    requires shelf { H.is_of shelf.old book.now }
+    ensures board { IsSeatOf board.now seat.new }
+    ensures actor { IsActorOf book.now actor.new }
+    ensures agrees { LiveAgrees book.now actor.new.state (view_of seat.new) }
+    ensures same { IsSameCore actor.old.state actor.new.state }
+    ensures changes { ChangesOnly (view_of seat.old) (view_of seat.new) actor.old.state.core }
+    ensures shelf { H.is_of shelf.new book.now }
+    ensures grows { Grows (H.state shelf.old) (H.state shelf.new) }
+    ensures told { FinishTold book.now actor.old.state.core seen used (view_of seat.old)
+        (H.state shelf.old) result (view_of seat.new) (H.state shelf.new) }
+{
+    let changes = book.changes_before(used);
+    match seek(book, shelf, &mut actor.taken, actor.core, changes) {
+        Err(Unmade::NotMade { change }) => LiveAnswer::NotMade { change },
+        Err(Unmade::Stopped { change }) => LiveAnswer::Stopped { change },
+        Ok(Some(table)) => run(
+            board,
+            seat,
+            &mut actor.state,
+            table,
+            book,
+            shelf,
+            seen,
+            used,
+        ),
+        Ok(None) => run(
+            board,
+            seat,
+            &mut actor.state,
+            &actor.table,
+            book,
+            shelf,
+            seen,
+            used,
+        ),
+    }
+}
+
+// The end of a step by this slice table.
+fn run<'a, H: Shelf<'a>>(
+    board: &RoundBoard,
+    seat: &mut RoundSeat,
+    state: &mut CoreState,
+    table: &SliceTable,
+    book: &'a LiveBook,
+    shelf: &mut H,
+    seen: u32,
+    used: u32,
+) -> LiveAnswer
+    requires board { IsSeatOf board.now seat.old }
+    requires agrees { LiveAgrees book.now state.old (view_of seat.old) }
+    requires begun { HasBegun book.now.outline state.old (view_of seat.old) seen used }
+    requires table { IsSliceAt book.now (changes_before book.now used) state.old.core table.now }
+    requires shelf { H.is_of shelf.old book.now }
+    ensures board { IsSeatOf board.now seat.new }
+    ensures agrees { LiveAgrees book.now state.new (view_of seat.new) }
+    ensures same { IsSameCore state.old state.new }
+    ensures changes { ChangesOnly (view_of seat.old) (view_of seat.new) state.old.core }
+    ensures shelf { H.is_of shelf.new book.now }
+    ensures grows { Grows (H.state shelf.old) (H.state shelf.new) }
+    ensures told { FinishTold book.now state.old.core seen used (view_of seat.old) (H.state shelf.old) result
+        (view_of seat.new) (H.state shelf.new) }
+{
+    match end_step(board, seat, book.outline(), state, seen, used, table) {
+        Ended::Ran(stint) => LiveAnswer::Ran(stint),
+        Ended::Behind { core, tick } => wait(book, shelf, seen, Actor::Core(core), tick),
+    }
+}
+
+// The core waits for this actor, unless memory ran out for the first change beyond what it saw.
+fn wait<'a, H: Shelf<'a>>(
+    book: &'a LiveBook,
+    shelf: &mut H,
+    seen: u32,
+    who: Actor,
+    tick: u32,
+) -> LiveAnswer
+    requires seen { seen ≤ length book.now.outline.ticks }
+    requires shelf { H.is_of shelf.old book.now }
+    ensures shelf { H.is_of shelf.new book.now }
+    ensures grows { Grows (H.state shelf.old) (H.state shelf.new) }
+    ensures told { WaitTold book.now seen who tick (H.state shelf.old) result (H.state shelf.new) }
+{
+    let change = book.changes_before(seen);
+    if change as usize >= book.changes().len() {
+        return LiveAnswer::Behind { who, tick };
+    }
+    match shelf.look(book, change) {
+        None => LiveAnswer::Behind { who, tick },
+        Some(made) => {
+            if made.found().is_stopped() {
+                return LiveAnswer::Stopped { change };
+            }
+            LiveAnswer::Behind { who, tick }
+        }
+    }
+}
