@@ -6,10 +6,12 @@ VERSION = 0.1.0
 
 to = $(DESTDIR)$(PREFIX)
 program = crates/tableau/out/tableau
+tools = crates/tableau_tools/out/tableau_tools
 package = tableau-$(VERSION)-x86_64-linux
 
 all:
 	./tableau --version
+	./tableau-tools --version
 
 check:
 	.ci/run
@@ -19,18 +21,19 @@ install: all
 	install -d "$(to)/share/bash-completion/completions" "$(to)/share/zsh/site-functions"
 	install -d "$(to)/share/fish/vendor_completions.d"
 	install -m 755 $(program) "$(to)/bin/tableau"
+	install -m 755 $(tools) "$(to)/bin/tableau-tools"
 	install -m 644 docs/tableau.1 "$(to)/share/man/man1/tableau.1"
 	install -m 644 docs/tableau-host.5 "$(to)/share/man/man5/tableau-host.5"
 	install -m 644 completions/tableau.bash "$(to)/share/bash-completion/completions/tableau"
 	install -m 644 completions/_tableau "$(to)/share/zsh/site-functions/_tableau"
 	install -m 644 completions/tableau.fish "$(to)/share/fish/vendor_completions.d/tableau.fish"
 	install -m 644 README.md LICENSE-MIT LICENSE-APACHE docs/MANUAL.md docs/FORMATS.md docs/RULES.md docs/GLOSSARY.md \
-	  docs/PROVED.md "$(to)/share/doc/tableau"
+	  docs/PROVED.md docs/TOOLS.md "$(to)/share/doc/tableau"
 	install -m 644 crates/tableau/data/hosts/*.toml "$(to)/share/doc/tableau/examples"
 	.ci/record $(program) > "$(to)/share/doc/tableau/BUILD"
 
 uninstall:
-	rm -f "$(to)/bin/tableau" "$(to)/share/man/man1/tableau.1" "$(to)/share/man/man5/tableau-host.5"
+	rm -f "$(to)/bin/tableau" "$(to)/bin/tableau-tools" "$(to)/share/man/man1/tableau.1" "$(to)/share/man/man5/tableau-host.5"
 	rm -f "$(to)/share/bash-completion/completions/tableau" "$(to)/share/zsh/site-functions/_tableau"
 	rm -f "$(to)/share/fish/vendor_completions.d/tableau.fish"
 	rm -rf "$(to)/share/doc/tableau"

@@ -1,0 +1,50 @@
+use std::alloc::{AllocError, AllocFailed};
+use tab_io::WriteFault;
+use thiserror::Error;
+use view_doc::ReadView;
+
+// Why a command doesn't end well.
+#[derive(Clone, Copy, Debug, Error)]
+pub(crate) enum Fault {
+    #[error("line {line} isn't of a plan, a replay or a trace, or may not stand there")]
+    BadLine { line: u32 },
+    #[error("the input is longer than 67108864 bytes")]
+    TooLong,
+    #[error("the input can't be read")]
+    ReadFault,
+    #[error("the file can't be opened")]
+    NoFile,
+    #[error("a word of the command isn't text")]
+    NoText,
+    #[error("want of memory")]
+    NoMemory,
+    #[error("the output failed")]
+    WriteFault,
+}
+
+impl From<AllocError> for Fault {
+    fn from(_: AllocError) -> Fault {
+        Fault::NoMemory
+    }
+}
+
+impl<T: Drop> From<AllocFailed<T>> for Fault {
+    fn from(_: AllocFailed<T>) -> Fault {
+        Fault::NoMemory
+    }
+}
+
+impl From<WriteFault> for Fault {
+    fn from(_: WriteFault) -> Fault {
+        Fault::WriteFault
+    }
+}
+
+impl From<ReadView> for Fault {
+    fn from(fault: ReadView) -> Fault {
+        match fault {
+            ReadView::BadLine { line } => Fault::BadLine { line },
+            ReadView::NoMemory => Fault::NoMemory,
+        }
+    }
+}

@@ -1,0 +1,64 @@
+//! The program `tableau-tools`: it shows what `tableau` wrote.
+//!
+//! Each command has a file. What it reads is a text, and what it writes is a definition's text of the
+//! view that was read: `view_doc` has the reader, `view_export` the texts.
+#![tactic(auto)]
+
+mod command;
+mod export;
+mod fault;
+mod input;
+
+use clap::{ArgMatches, Error};
+use fault::Fault;
+use std::env;
+use std::process::ExitCode;
+
+// The status of a text that is refused, and of a fault.
+const REFUSED: u8 = 1;
+
+fn main(rt: HostRuntime) -> ExitCode {
+    match run(&rt) {
+        Ok(status) => ExitCode::from(status),
+        Err(fault) => {
+            // (where the line can't be written, the status says it)
+            let _ = eprintln!(rt; "tableau-tools: {fault}");
+            ExitCode::from(REFUSED)
+        }
+    }
+}
+
+// Does what the words say. The status is 0, or 2 where they are no command.
+fn run(rt: &HostRuntime) -> Result<u8, Fault> {
+    let Ok(all) = env::args(rt) else {
+        return Err(Fault::NoText);
+    };
+    let Ok(words) = all.collect(rt.alloc()) else {
+        return Err(Fault::NoMemory);
+    };
+    let words: Vec<String> = words;
+    let Ok(command) = command::command(rt.alloc()) else {
+        return Err(Fault::NoMemory);
+    };
+    match command.try_get_matches_from(words.as_slice()) {
+        Ok(matches) => {
+            dispatch(rt, &matches)?;
+            Ok(0)
+        }
+        Err(error) => Ok(told(rt, &error)),
+    }
+}
+
+// Prints what clap answers, which is help or a version or a usage, and gives its status.
+fn told(rt: &HostRuntime, error: &Error) -> u8 {
+    let _ = error.print(rt);
+    if error.exit_code() == 0 { 0 } else { 2 }
+}
+
+// Does the command that was met.
+fn dispatch(rt: &HostRuntime, matches: &ArgMatches<'_>) -> Result<(), Fault> {
+    match matches.subcommand() {
+        Some(("export", matches)) => export::export(rt, matches),
+        _ => Ok(()),
+    }
+}

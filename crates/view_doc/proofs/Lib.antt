@@ -1,0 +1,5 @@
+pub mod ItemLemmas
+pub mod LineLemmas
+pub mod NameLemmas
+pub mod ReadLemmas
+pub mod OneText

@@ -1,0 +1,73 @@
+-- The parts that the reader has read.
+use Rattle.std.specs.Prelude.{◌≡◌, ℕ, ◌⊎◌, List, ◌++◌, map, Option, Some, None}
+use Rattle.tab_core.specs.Name.{IsName}
+use Rattle.view_doc.specs.Grammar.{Front, ends_behind, front_behind, names_behind, with_name}
+use Rattle.view_doc.specs.Lines.{IsGoodHolder, IsGoodOwner, Told, nobody, in_slot, in_unused, segment, stint, task}
+use Rattle.view_doc.specs.Lines.{Holder as Held}
+use Rattle.view_doc.specs.Views.{cores_behind, entries_in, is_run, slots_in, stints_in, stretch_told, tasks_in}
+use Rattle.view_doc.specs.declared.view.View.{View}
+use Rattle.view_doc.specs.declared.view.Entry.{Entry}
+use Rattle.view_doc.specs.declared.view.Stretch.{Stretch}
+use Rattle.view_doc.specs.declared.view.Task.{Task}
+
+-- what was read so far
+pub record Reading : Type 0 where
+  pub front : Front
+  pub cores : ℕ
+  pub tasks : List Task
+  pub slots : List Stretch
+  pub entries : List Entry
+  pub stints : List Stretch
+
+-- behind the stretches that were read there are those that are told
+pub record AreAppended (names : List (List ℕ)) (old new : List Stretch) (tolds : List Told) : Type 0 where
+  pub more : List Stretch
+  pub appended : new ≡ old ++ more
+  pub told : map (stretch_told names) more ≡ tolds
+
+-- what is told was put to the rest, at the same place
+pub record IsPut (told : Told) (old new : Reading) : Type 0 where
+  pub place : new.front.place ≡ old.front.place
+  pub names : names_behind old.front.names told ≡ Some new.front.names
+  pub ends : ends_behind old.front.ends told ≡ Some new.front.ends
+  pub cores : new.cores ≡ cores_behind old.cores told
+  pub tasks : new.tasks ≡ old.tasks ++ tasks_in told
+  pub slots : AreAppended new.front.names old.slots new.slots (slots_in old.front.place told)
+  pub entries : new.entries ≡ old.entries ++ entries_in told
+  pub stints : AreAppended new.front.names old.stints new.stints (stints_in told)
+
+-- what is told can't be put there
+abbrev pub CantBePut : Told → Reading → Type 0
+CantBePut told old = (names_behind old.front.names told ≡ None) ⊎ (ends_behind old.front.ends told ≡ None)
+
+-- what is told was read
+pub record IsTaken (told : Told) (old new : Reading) : Type 0 where
+  pub front : front_behind old.front told ≡ Some new.front
+  pub cores : new.cores ≡ cores_behind old.cores told
+  pub tasks : new.tasks ≡ old.tasks ++ tasks_in told
+  pub slots : AreAppended new.front.names old.slots new.slots (slots_in old.front.place told)
+  pub entries : new.entries ≡ old.entries ++ entries_in told
+  pub stints : AreAppended new.front.names old.stints new.stints (stints_in told)
+
+-- the names in what is told have the form of names
+abbrev pub HasNames : Told → Type 0
+HasNames (task name period cost home) = IsName name
+HasNames (stint c from to used seen holder) = IsGoodHolder holder
+HasNames (segment to holder) = IsGoodOwner holder
+HasNames _ = Unit {0}
+
+-- the names with a holder's, where there is room for it
+abbrev pub names_with : List (List ℕ) → Held → Option (List (List ℕ))
+names_with names nobody = Some names
+names_with names (in_slot name) = with_name names name
+names_with names (in_unused name) = with_name names name
+
+-- the view has what was read
+pub record HasRead (read : Reading) (view : View) : Type 0 where
+  pub cores : view.cores ≡ read.cores
+  pub run : view.is_run ≡ is_run read.front.place
+  pub names : view.names.items ≡ read.front.names
+  pub tasks : view.tasks.items ≡ read.tasks
+  pub slots : view.slots.items ≡ read.slots
+  pub entries : view.entries.items ≡ read.entries
+  pub stints : view.stints.items ≡ read.stints

@@ -1,0 +1,65 @@
+-- The lines of a report, which is read past.
+use Rattle.std.specs.Prelude.{◌≡◌, ℕ, ◌⊎◌, List, [], ◌∷◌, codes}
+use Rattle.tab_core.specs.Name.{IsName}
+use Rattle.tab_words.specs.Numbers.{Spells}
+
+-- a line, as its words
+abbrev pub Line : Type 0
+Line = List (List ℕ)
+
+-- what stands at a place of a report's line: this word, a number, a name, or any word
+pub data Blank : Type 0 where
+  this : List ℕ → Blank
+  a_number : Blank
+  a_name : Blank
+  any_word : Blank
+
+-- the word is a number below 2^64
+pub record IsNumber (word : List ℕ) : Type 0 where
+  pub value : ℕ
+  pub spelled : Spells word value
+
+-- the word stands there rightly
+abbrev pub Fills : List ℕ → Blank → Type 0
+Fills word (this other) = word ≡ other
+Fills word a_number = IsNumber word
+Fills word a_name = IsName word
+Fills word any_word = Unit {0}
+
+-- each of the words stands rightly
+abbrev pub Fits : Line → List Blank → Type 0
+Fits [] [] = Unit {0}
+Fits (word ∷ words) (blank ∷ form) = Fills word blank × Fits words form
+Fits _ _ = ⊥
+
+-- the first line of a report: how many rounds, cores and events there are
+abbrev pub report_form : List Blank
+report_form = this (codes "run") ∷ a_number ∷ this (codes "rounds") ∷ a_number ∷ this (codes "cores") ∷ a_number
+    ∷ this (codes "events") ∷ []
+
+-- on a round: the number of its plan
+abbrev pub round_form : List Blank
+round_form = this (codes "round") ∷ a_number ∷ this (codes "plan") ∷ a_number ∷ []
+
+-- on a vCPU: how many ticks it was offered, had in its slots and had besides, and its gap
+abbrev pub vcpu_form : List Blank
+vcpu_form = this (codes "vcpu") ∷ a_name ∷ this (codes "offered") ∷ a_number ∷ this (codes "slots") ∷ a_number
+    ∷ this (codes "shared") ∷ a_number ∷ this (codes "gap") ∷ a_number ∷ []
+
+-- on a core: how many ticks it ran slots, ran others, and idled
+abbrev pub core_form : List Blank
+core_form = this (codes "core") ∷ a_number ∷ this (codes "slots") ∷ a_number ∷ this (codes "shared") ∷ a_number
+    ∷ this (codes "idle") ∷ a_number ∷ []
+
+-- on a change that was planned, and on one that wasn't; the tick's word, which ends in a colon, isn't read
+abbrev pub planned_form : List Blank
+planned_form = this (codes "change") ∷ a_number ∷ this (codes "at") ∷ any_word ∷ this (codes "planned") ∷ []
+
+abbrev pub refused_form : List Blank
+refused_form = this (codes "change") ∷ a_number ∷ this (codes "at") ∷ any_word
+    ∷ this (codes "no") ∷ any_word ∷ this (codes "for") ∷ a_name ∷ []
+
+-- the words are a report's line between its first and its last
+abbrev pub IsItem : Line → Type 0
+IsItem words = Fits words round_form ⊎ (Fits words vcpu_form ⊎ (Fits words core_form
+    ⊎ (Fits words planned_form ⊎ Fits words refused_form)))

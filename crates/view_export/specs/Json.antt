@@ -1,0 +1,90 @@
+-- A view as JSON: what it is, and for each kind of things a table whose first row names the columns.
+-- Source: RFC 8259. Names need no escape.
+use Rattle.std.specs.Prelude.{ℕ, Bool, true, false, ◌++◌, List, codes, decimal, flat_map, length, Option, Some, None, slice_get}
+use Rattle.tab_words.specs.Texts.{texts_below}
+use Rattle.vcpu_names.specs.Names.{name_at}
+use Rattle.view_doc.specs.declared.view.Entry.{Entry}
+use Rattle.view_doc.specs.declared.view.Stretch.{Stretch}
+use Rattle.view_doc.specs.declared.view.Task.{Task}
+use Rattle.view_doc.specs.declared.view.Use.{Use}
+use Rattle.view_doc.specs.declared.view.Use.TheVariants.{Idle, Slot, Shared}
+use Rattle.view_doc.specs.declared.view.View.{View}
+use Rattle.view_export.specs.Shown.{how_text}
+
+-- the row of a vCPU of the plan, and of one that has no reservation there
+unfoldable pub task_row : List ℕ → Task → List ℕ
+task_row name t = codes ",\n[\"" ++ (name ++ (codes "\"," ++ (decimal t.period
+    ++ (codes "," ++ (decimal t.cost ++ (codes "," ++ (decimal t.home ++ codes "]")))))))
+
+unfoldable pub bare_row : List ℕ → List ℕ
+bare_row name = codes ",\n[\"" ++ (name ++ codes "\",null,null,null]")
+
+-- the row of a vCPU, which may have a reservation
+abbrev pub row_of : List ℕ → Option Task → List ℕ
+row_of name None = bare_row name
+row_of name (Some t) = task_row name t
+
+-- the row of the vCPU of a number
+abbrev pub vcpu_row : List (List ℕ) → List Task → ℕ → List ℕ
+vcpu_row names tasks vcpu = row_of (name_at names vcpu) (slice_get tasks vcpu)
+
+-- a name in quotes, and null for nobody
+abbrev pub quoted_holder : List (List ℕ) → Use → List ℕ
+quoted_holder names Idle = codes "null"
+quoted_holder names (Slot vcpu) = codes "\"" ++ (name_at names vcpu ++ codes "\"")
+quoted_holder names (Shared vcpu) = codes "\"" ++ (name_at names vcpu ++ codes "\"")
+
+-- the row of a stretch: where and when, who, and how with the counts
+unfoldable pub row_begin : Stretch → List ℕ
+row_begin s = codes ",\n[" ++ (decimal s.core ++ (codes "," ++ (decimal s.from
+    ++ (codes "," ++ (decimal s.end ++ codes ",")))))
+
+unfoldable pub row_end : Stretch → List ℕ
+row_end s = codes ",\"" ++ (how_text s.by ++ (codes "\"," ++ (decimal s.used
+    ++ (codes "," ++ (decimal s.seen ++ codes "]")))))
+
+abbrev pub stretch_row : List (List ℕ) → Stretch → List ℕ
+stretch_row names s = row_begin s ++ (quoted_holder names s.by ++ row_end s)
+
+-- the row of an entry
+unfoldable pub entry_row : Entry → List ℕ
+entry_row e = codes ",\n[" ++ (decimal e.core ++ (codes "," ++ (decimal e.round
+    ++ (codes "," ++ (decimal e.count ++ codes "]")))))
+
+-- what it is
+abbrev pub kind_text : Bool → List ℕ
+kind_text false = codes "plan"
+kind_text true = codes "run"
+
+-- the text up to the rows of vCPUs
+unfoldable pub json_begin : ℕ → ℕ → List ℕ → List ℕ
+json_begin tick cores kind = codes "{\"kind\":\"" ++ (kind
+    ++ (codes "\",\"tick_ns\":" ++ (decimal tick ++ (codes ",\"cores\":" ++ (decimal cores
+    ++ codes ",\"vcpus\":[\n[\"name\",\"period\",\"cost\",\"home\"]")))))
+
+abbrev pub slot_head : List ℕ
+slot_head = codes "\n],\"slots\":[\n[\"core\",\"from\",\"end\",\"vcpu\",\"how\",\"used\",\"seen\"]"
+
+abbrev pub entry_head : List ℕ
+entry_head = codes "\n],\"rounds\":[\n[\"core\",\"round\",\"count\"]"
+
+abbrev pub stint_head : List ℕ
+stint_head = codes "\n],\"stints\":[\n[\"core\",\"from\",\"end\",\"vcpu\",\"how\",\"used\",\"seen\"]"
+
+-- a table: its first row, and one for each of these
+abbrev pub table_of : {X : Type 0} → List ℕ → (X → List ℕ) → List X → List ℕ
+table_of first row xs = first ++ flat_map row xs
+
+-- the text of these vCPUs, slots, entries and stints
+abbrev pub json_of : ℕ → ℕ → Bool → List (List ℕ) → List Task → List Stretch → List Entry → List Stretch
+    → List ℕ
+json_of tick cores is_run names tasks slots entries stints = json_begin tick cores (kind_text is_run)
+    ++ (texts_below (vcpu_row names tasks) (length names)
+    ++ (table_of slot_head (stretch_row names) slots
+    ++ (table_of entry_head entry_row entries
+    ++ (table_of stint_head (stretch_row names) stints ++ codes "\n]}\n"))))
+
+-- the text of a view
+abbrev pub json_text : ℕ → View → List ℕ
+json_text tick view = json_of tick view.cores view.is_run view.names.items view.tasks.items view.slots.items
+    view.entries.items view.stints.items

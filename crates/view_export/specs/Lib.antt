@@ -1,0 +1,4 @@
+pub mod Chrome
+pub mod Csv
+pub mod Json
+pub mod Shown
