@@ -117,7 +117,8 @@ fn make_groups(
     requires fits { FitsRounds course.now rounds }
     requires count { length keep.now ≡ course.now.cores }
     requires per { (0 < per) × (per ≤ MAX_CORES) }
-    ensures { IfOk result (λ groups. AreGroups course.now rounds keep.now per groups.items × (length groups.items ≡ (course.now.cores + per - 1) / per)) }
+    ensures { IfOk result (λ groups. AreGroups course.now rounds keep.now per groups.items
+        × (length groups.items ≡ (course.now.cores + per - 1) / per)) }
 {
     let owners = course_owners(alloc, course)?;
     let threads = (course.cores() + per - 1) / per;

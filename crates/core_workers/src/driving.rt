@@ -72,8 +72,10 @@ pub(crate) fn drive_team<G: Gate>(
     requires manned { IsManned (team_view course.now team.old) (view_of seat.old) }
     ensures board { IsSeatOf board.now seat.new }
     ensures kept { IsTeamKept course.now team.new }
-    ensures goes { GoesOn (team_view course.now team.old) (view_of seat.old) (team_view course.now team.new) (view_of seat.new) }
-    ensures finished { HoldsAll (team_view course.now team.old) (view_of seat.old) → HeldFinished (team_view course.now team.new) (view_of seat.new) }
+    ensures goes { GoesOn (team_view course.now team.old) (view_of seat.old) (team_view course.now team.new)
+        (view_of seat.new) }
+    ensures finished { HoldsAll (team_view course.now team.old) (view_of seat.old)
+        → HeldFinished (team_view course.now team.new) (view_of seat.new) }
     ensures shape { IsSameShape team.old team.new }
 {
     let site = Site {

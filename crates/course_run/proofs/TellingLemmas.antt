@@ -9,7 +9,7 @@ use Rattle.tab_core.specs.declared.TheConstants.{ROUND}
 use Rattle.tab_words.proofs.NumberedTextLemmas.{texts_below-suc, texts_below-zero}
 use Rattle.tab_words.specs.Texts.{texts_below}
 use Rattle.tab_words.specs.declared.command.RunMode.{RunMode}
-use Rattle.tab_words.specs.declared.command.RunMode.TheVariants.{Report, Trace, Burst}
+use Rattle.tab_words.specs.declared.command.RunMode.TheVariants.{Report, Trace, Burst, Live}
 use Rattle.vcpu_names.specs.Names.{names_of}
 use Rattle.run_promises.proofs.Lists.{element_at}
 use Rattle.table_form.specs.Running.Courses.{CourseView}
@@ -75,6 +75,7 @@ same_traces : (course : CourseView) (rounds : ℕ) (mode : RunMode) (view : View
     → trace_part mode names course (kept_stints ran) ≡ trace_part mode names course (stints_at (state_of course view))
 same_traces course rounds Report view ran names is = refl
 same_traces course rounds Burst view ran names is = refl
+same_traces course rounds Live view ran names is = refl
 same_traces course rounds Trace view ran names is =
     same_below (λ c. trace_text names course c (kept_stints ran c))
     (λ c. trace_text names course c (stints_at (state_of course view) c)) course.cores

@@ -4,7 +4,7 @@ use Rattle.tab_core.specs.declared.host.Host.{Host}
 use Rattle.tab_core.specs.declared.stint.Stint.{Stint}
 use Rattle.tab_words.specs.Texts.{texts_below}
 use Rattle.tab_words.specs.declared.command.RunMode.{RunMode}
-use Rattle.tab_words.specs.declared.command.RunMode.TheVariants.{Report, Trace, Burst}
+use Rattle.tab_words.specs.declared.command.RunMode.TheVariants.{Report, Trace, Burst, Live}
 use Rattle.vcpu_names.specs.Names.{names_of}
 use Rattle.table_form.specs.Running.Courses.{CourseView}
 use Rattle.plan_book.specs.declared.outcome.Outcome.{Outcome}
@@ -21,6 +21,7 @@ abbrev pub trace_part : RunMode → List (List ℕ) → CourseView → (ℕ → 
 trace_part Report names course stints = []
 trace_part Trace names course stints = traces names course stints
 trace_part Burst names course stints = []
+trace_part Live names course stints = []
 
 -- a run of so many rounds of the course of a host, whose script's changes are these; `stints` has the
 -- stints of each core

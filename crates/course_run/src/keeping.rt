@@ -45,7 +45,7 @@ fn keeps_stints(mode: RunMode) -> bool
     ensures { result ≡ keeps_stints mode }
 {
     match mode {
-        RunMode::Report => false,
+        RunMode::Report | RunMode::Live => false,
         RunMode::Trace | RunMode::Burst => true,
     }
 }

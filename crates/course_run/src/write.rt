@@ -13,8 +13,8 @@ use tab_io::{Sink, WriteFault};
 use tab_words::RunMode;
 use trace_report::{write_report, write_trace};
 
-/// Writes a run: its trace if that is asked for, then its report, for the names of a host. Lines of bursts are not written. `changes` has for
-/// each change of the script its tick and what became of it.
+/// Writes a run: its trace if that is asked for, then its report, for the names of a host. Lines of bursts
+/// are not written. `changes` has for each change of the script its tick and what became of it.
 ///
 /// A fault leaves a front of the text in the sink. Nothing is settled, and nothing is allocated.
 pub fn write_run<K: Sink>(
@@ -30,7 +30,9 @@ pub fn write_run<K: Sink>(
         (run_text mode host.now changes.now ran.now.crew.course rounds (kept_stints ran.now) ran.now.report) result }
 {
     match mode {
-        RunMode::Report | RunMode::Burst => put_report(sink, host, changes, rounds, ran),
+        RunMode::Report | RunMode::Burst | RunMode::Live => {
+            put_report(sink, host, changes, rounds, ran)
+        }
         RunMode::Trace => {
             put_traces(sink, host, ran)?;
             put_report(sink, host, changes, rounds, ran)

@@ -82,7 +82,8 @@ pub(crate) fn begin(
     ensures changes { ChangesOnly (view_of seat.old) (view_of seat.new) log.old.core }
     ensures told { BegunTold outline.now log.old.rounds log.old.core (view_of seat.old) result (log_view log.new)
         (view_of seat.new) }
-    ensures plans { (course : CourseView) → FollowsPlans course (log_view log.old) (part (view_of seat.old) log.old.core)
+    ensures plans { (course : CourseView)
+        → FollowsPlans course (log_view log.old) (part (view_of seat.old) log.old.core)
         → FollowsPlans course (log_view log.new) (part (view_of seat.new) log.old.core) }
 {
     if log.clock == log.rounds * ROUND {

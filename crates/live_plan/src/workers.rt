@@ -105,8 +105,12 @@ fn work<R: Threads, G: Gate>(
     let ((own, mut upper), (mut seat, mut lower, lead)) = join(
         rt,
         move || -> (RoundSeat, Vec<Member>)
-            requires { IsSync G.row × IsSeatOf board.now own × IsWorker book.now rounds first upper.items (view_of own) }
-            ensures { IsSeatOf board.entry.now result.0 × IsWorker book.entry.now rounds first result.1.items (view_of result.0) × SameActors (view_of own) (view_of result.0) × (length result.1.items ≡ length upper.items) }
+            requires { IsSync G.row × IsSeatOf board.now own
+                × IsWorker book.now rounds first upper.items (view_of own) }
+            ensures { IsSeatOf board.entry.now result.0
+                × IsWorker book.entry.now rounds first result.1.items (view_of result.0)
+                × SameActors (view_of own) (view_of result.0)
+                × (length result.1.items ≡ length upper.items) }
         {
             work_upper(
                 &Site {
@@ -122,8 +126,13 @@ fn work<R: Threads, G: Gate>(
             )
         },
         move || -> (RoundSeat, Vec<Member>, Lead)
-            requires { IsSync G.row × IsSeatOf board.now seat × IsHeld book.now rounds lower.items lead (view_of seat) }
-            ensures { IsSeatOf board.entry.now result.0 × IsHeld book.entry.now rounds result.1.items result.2 (view_of result.0) × SameActors (view_of seat) (view_of result.0) × (length result.1.items ≡ length lower.items) × (vec_capacity result.1 ≡ vec_capacity lower) }
+            requires { IsSync G.row × IsSeatOf board.now seat
+                × IsHeld book.now rounds lower.items lead (view_of seat) }
+            ensures { IsSeatOf board.entry.now result.0
+                × IsHeld book.entry.now rounds result.1.items result.2 (view_of result.0)
+                × SameActors (view_of seat) (view_of result.0)
+                × (length result.1.items ≡ length lower.items)
+                × (vec_capacity result.1 ≡ vec_capacity lower) }
         {
             work_lower(
                 &Site {
@@ -246,8 +255,14 @@ pub fn run_live<R: Threads + Wait + Sync, G: Gate>(
             ensures { IsMakerOf book.entry.now result × HasPlanned book.entry.now result.planner }
         { plan_all(rt, alloc, book, maker, gate) },
         move || -> Cores
-            requires { IsSync R.row × IsSync G.row × IsSeatOf board.now cores.seat × HasRoom (length cores.lower.items) (length cores.upper.items) (vec_capacity cores.lower) × IsHeld book.now rounds (cores.lower.items ++ cores.upper.items) cores.lead (view_of cores.seat) }
-            ensures { IsSeatOf board.entry.now result.seat × IsHeld book.entry.now rounds result.lower.items result.lead (view_of result.seat) × SameActors (view_of cores.seat) (view_of result.seat) × (length result.lower.items ≡ length cores.lower.items + length cores.upper.items) × (result.upper.items ≡ []) × (vec_capacity cores.lower ≤ vec_capacity result.lower) }
+            requires { IsSync R.row × IsSync G.row × IsSeatOf board.now cores.seat
+                × HasRoom (length cores.lower.items) (length cores.upper.items) (vec_capacity cores.lower)
+                × IsHeld book.now rounds (cores.lower.items ++ cores.upper.items) cores.lead (view_of cores.seat) }
+            ensures { IsSeatOf board.entry.now result.seat
+                × IsHeld book.entry.now rounds result.lower.items result.lead (view_of result.seat)
+                × SameActors (view_of cores.seat) (view_of result.seat)
+                × (length result.lower.items ≡ length cores.lower.items + length cores.upper.items)
+                × (result.upper.items ≡ []) × (vec_capacity cores.lower ≤ vec_capacity result.lower) }
         { work(rt, board, book, rounds, gate, cores, spins) },
     );
     let stopped = maker.stopped_at(book);

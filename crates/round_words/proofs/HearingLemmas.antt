@@ -10,7 +10,7 @@ use Rattle.round_words.specs.Changes.{ChangesOnly}
 use Rattle.round_words.specs.Shown.{IsHeardClock}
 use Rattle.round_words.specs.Hearing.{KnowsClocks, HearsCore, HearsCores, MeetsLow}
 use Rattle.round_words.specs.Hearing.HearsCore.{itself, well_known, asked}
-use Rattle.round_words.specs.Inside.Held.{HasSeenTo}
+use Rattle.round_words.specs.Inside.Known.{HasSeenTo}
 use Rattle.round_words.proofs.ChangesLemmas.{part_with, changes_with, changes_more}
 use Rattle.std.proofs.lemmas.List.{get_or-set_other}
 use Rattle.round_words.proofs.ListLemmas.{each_set, last_of-push, word_here, word_else}

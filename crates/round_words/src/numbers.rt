@@ -3,7 +3,7 @@ ghost use Rattle.std.specs.Prelude.{◌≡◌, ◌<◌, ◌≤◌, ◌-◌, ◌/
 ghost use Rattle.tab_core.specs.declared.TheConstants.{MAX_CORES, MAX_EVENTS};
 ghost use Rattle.tab_core.specs.declared.entry.Entry.{Entry};
 ghost use Rattle.tab_core.specs.declared.stint.Stint.{Stint};
-ghost use Rattle.round_words.specs.Inside.Held.{AreKnown, TakesClocks};
+ghost use Rattle.round_words.specs.Inside.Known.{AreKnown, TakesClocks};
 ghost use Rattle.round_words.specs.Inside.Numbers.{NumbersAgree};
 ghost use Rattle.round_words.specs.Views.{both, controller, enters, hears, holds, just_started, names, only, part, posts, runs, sees, with_part, without};
 ghost use Rattle.round_words.specs.Shown.{IsHeardClock};
@@ -29,7 +29,8 @@ pub(crate) struct Numbers {
 
 // Takes over the numbers of those cores whose bit is not set in `held`.
 fn take_over(mine: &mut [u32; 32], theirs: &[u32; 32], held: u64)
-    ensures { (c : ℕ) → c < 32 → slice_index mine.new c ≡ cond (names held c) (slice_index mine.old c) (slice_index theirs.now c) }
+    ensures { (c : ℕ) → c < 32
+        → slice_index mine.new c ≡ cond (names held c) (slice_index mine.old c) (slice_index theirs.now c) }
 {
     for core in 0..32 {
         if (held >> core) & 1 == 0 {
@@ -40,7 +41,8 @@ fn take_over(mine: &mut [u32; 32], theirs: &[u32; 32], held: u64)
 
 // The same, where each core has four numbers.
 fn take_rows(mine: &mut [u32; 128], theirs: &[u32; 128], held: u64)
-    ensures { (i : ℕ) → i < 128 → slice_index mine.new i ≡ cond (names held (i / 4)) (slice_index mine.old i) (slice_index theirs.now i) }
+    ensures { (i : ℕ) → i < 128
+        → slice_index mine.new i ≡ cond (names held (i / 4)) (slice_index mine.old i) (slice_index theirs.now i) }
 {
     for place in 0..128 {
         if (held >> (place / 4)) & 1 == 0 {
@@ -141,7 +143,8 @@ impl Numbers {
     // Those of the seat that started a board.
     pub(crate) fn of_all(cores: u32) -> Numbers
         requires cores { cores ≤ MAX_CORES }
-        ensures { (lag events : ℕ) → 0 < lag → events ≤ MAX_EVENTS → NumbersAgree result (just_started lag cores events) }
+        ensures { (lag events : ℕ) → 0 < lag → events ≤ MAX_EVENTS
+            → NumbersAgree result (just_started lag cores events) }
     {
         Numbers::new(((1 << cores) - 1) | (1 << 32), cores)
     }
@@ -149,7 +152,8 @@ impl Numbers {
     // Gives the parts of these actors away.
     pub(crate) fn give(&mut self, actors: u64) -> Numbers
         ensures kept { (v : View) → NumbersAgree self.old v → NumbersAgree self.new (without actors v) }
-        ensures given { (v : View) → ((a : ℕ) → names actors a ≡ true → holds v a ≡ true) → NumbersAgree self.old v → NumbersAgree result (only actors v) }
+        ensures given { (v : View) → ((a : ℕ) → names actors a ≡ true → holds v a ≡ true)
+            → NumbersAgree self.old v → NumbersAgree result (only actors v) }
     {
         let mut given = Numbers {
             held: actors,
@@ -167,16 +171,21 @@ impl Numbers {
 
     // Of the cores that the seat doesn't hold no clock is known from then on.
     fn forget_others(&mut self)
-        ensures same { (self.new.held ≡ self.old.held) × (self.new.cores ≡ self.old.cores) × (self.new.posted ≡ self.old.posted) × (self.new.sights ≡ self.old.sights) × (self.new.useds ≡ self.old.useds) }
-        ensures held { (c : ℕ) → c < 32 → names self.new.held c ≡ true → slice_index self.new.clocks c ≡ slice_index self.old.clocks c }
-        ensures others { (c : ℕ) → c < 32 → c < self.new.cores → names self.new.held c ≡ false → slice_index self.new.clocks c ≡ 0 }
+        ensures same { (self.new.held ≡ self.old.held) × (self.new.cores ≡ self.old.cores)
+            × (self.new.posted ≡ self.old.posted) × (self.new.sights ≡ self.old.sights)
+            × (self.new.useds ≡ self.old.useds) }
+        ensures held { (c : ℕ) → c < 32 → names self.new.held c ≡ true
+            → slice_index self.new.clocks c ≡ slice_index self.old.clocks c }
+        ensures others { (c : ℕ) → c < 32 → c < self.new.cores → names self.new.held c ≡ false
+            → slice_index self.new.clocks c ≡ 0 }
     {
         take_over(&mut self.clocks, &first_clocks(self.cores), self.held);
     }
 
     // Takes in the parts of another seat.
     pub(crate) fn take_in(&mut self, theirs: &Numbers)
-        ensures { (v u : View) → NumbersAgree self.old v → NumbersAgree theirs.now u → NumbersAgree self.new (both v u) }
+        ensures { (v u : View) → NumbersAgree self.old v → NumbersAgree theirs.now u
+            → NumbersAgree self.new (both v u) }
     {
         self.posted = posted_of(self.posted, theirs.posted, self.held);
         take_over(&mut self.clocks, &theirs.clocks, self.held);
@@ -188,7 +197,9 @@ impl Numbers {
 
     // The controller has posted one event more.
     pub(crate) fn note_post(&mut self, count: u32)
-        ensures { (v : View) (floor : ℕ) → holds v controller ≡ true → count ≡ suc (length (part v controller).floors) → NumbersAgree self.old v → NumbersAgree self.new (with_part v controller (posts (part v controller) floor)) }
+        ensures { (v : View) (floor : ℕ) → holds v controller ≡ true
+            → count ≡ suc (length (part v controller).floors) → NumbersAgree self.old v
+            → NumbersAgree self.new (with_part v controller (posts (part v controller) floor)) }
     {
         self.posted = count;
     }
@@ -196,7 +207,8 @@ impl Numbers {
     // A core has seen this count.
     pub(crate) fn note_sight(&mut self, core: usize, count: u32)
         requires core { core < 32 }
-        ensures { (v : View) → holds v core ≡ true → NumbersAgree self.old v → NumbersAgree self.new (with_part v core (sees (part v core) count)) }
+        ensures { (v : View) → holds v core ≡ true → NumbersAgree self.old v
+            → NumbersAgree self.new (with_part v core (sees (part v core) count)) }
     {
         self.sights[core] = count;
     }
@@ -204,7 +216,8 @@ impl Numbers {
     // Whether no clock is known below the tick.
     #[inline(always)]
     pub(crate) fn reach(&self, tick: u32) -> bool
-        ensures { result ≡ true → (v : View) → v.started ≡ true → NumbersAgree self.now v → AreKnown self.now.clocks v v.cores tick }
+        ensures { result ≡ true → (v : View) → v.started ≡ true → NumbersAgree self.now v
+            → AreKnown self.now.clocks v v.cores tick }
     {
         tick <= least_of(&self.clocks)
     }
@@ -212,7 +225,9 @@ impl Numbers {
     // An actor has heard this clock of the core.
     pub(crate) fn note_heard(&mut self, core: usize, clock: u32)
         requires core { core < 32 }
-        ensures { (v : View) (a : ℕ) → holds v a ≡ true → IsHeardClock v a core clock → NumbersAgree self.old v → NumbersAgree self.new (with_part v a (hears (part v a) core clock)) }
+        ensures { (v : View) (a : ℕ) → holds v a ≡ true → IsHeardClock v a core clock
+            → NumbersAgree self.old v
+            → NumbersAgree self.new (with_part v a (hears (part v a) core clock)) }
     {
         self.clocks[core] = clock;
     }
@@ -220,7 +235,9 @@ impl Numbers {
     // A core has entered this round.
     pub(crate) fn note_entry(&mut self, core: usize, round: u32, used: u32)
         requires core { core < 32 }
-        ensures { (v : View) (e : Entry) → holds v core ≡ true → length (part v core).entries ≡ round → e.used ≡ used → NumbersAgree self.old v → NumbersAgree self.new (with_part v core (enters (part v core) e)) }
+        ensures { (v : View) (e : Entry) → holds v core ≡ true → length (part v core).entries ≡ round
+            → e.used ≡ used → NumbersAgree self.old v
+            → NumbersAgree self.new (with_part v core (enters (part v core) e)) }
     {
         self.useds[4 * core + round as usize % 4] = used;
     }
@@ -228,7 +245,8 @@ impl Numbers {
     // A core has run up to this tick.
     pub(crate) fn note_stint(&mut self, core: usize, end: u32)
         requires core { core < 32 }
-        ensures { (v : View) (s : Stint) → holds v core ≡ true → s.end ≡ end → NumbersAgree self.old v → NumbersAgree self.new (with_part v core (runs (part v core) s)) }
+        ensures { (v : View) (s : Stint) → holds v core ≡ true → s.end ≡ end → NumbersAgree self.old v
+            → NumbersAgree self.new (with_part v core (runs (part v core) s)) }
     {
         self.clocks[core] = end;
         self.sights[core] = 0;

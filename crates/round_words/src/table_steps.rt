@@ -22,7 +22,8 @@ impl RoundBoard {
         requires word { word < 37 }
         requires rule { StepKeepsRule seat.old.id seat.old.me.0 word (λ n. n) (J.claim seat.old.me.0) }
         requires lag { (n : ℕ) (w : View) → J.claim seat.old.me.0 n w → HasLag w }
-        ensures seat { (seat.new.table_id ≡ seat.old.table_id) × (seat.new.id ≡ seat.old.id) × (seat.new.me.1 ≡ seat.old.me.1) }
+        ensures seat { (seat.new.table_id ≡ seat.old.table_id) × (seat.new.id ≡ seat.old.id)
+            × (seat.new.me.1 ≡ seat.old.me.1) }
         ensures claim { J.claim seat.old.me.0 result seat.new.me.0 }
         ensures shown { ViewInvariant seat.new.me.0 }
     {
@@ -41,7 +42,8 @@ impl RoundBoard {
         requires word { word < 37 }
         requires rule { StepKeepsRule seat.old.id seat.old.me.0 word (λ _. new) (λ _. J.claim seat.old.me.0 new) }
         requires lag { (n : ℕ) (w : View) → J.claim seat.old.me.0 n w → HasLag w }
-        ensures seat { (seat.new.table_id ≡ seat.old.table_id) × (seat.new.id ≡ seat.old.id) × (seat.new.me.1 ≡ seat.old.me.1) }
+        ensures seat { (seat.new.table_id ≡ seat.old.table_id) × (seat.new.id ≡ seat.old.id)
+            × (seat.new.me.1 ≡ seat.old.me.1) }
         ensures claim { J.claim seat.old.me.0 new seat.new.me.0 }
         ensures shown { ViewInvariant seat.new.me.0 }
     {
@@ -61,7 +63,8 @@ impl RoundBoard {
         requires word { word < 37 }
         requires rule { StepKeepsRule seat.old.id seat.old.me.0 word (λ n. either (eqb n old) new n) (J.claim seat.old.me.0) }
         requires lag { (n : ℕ) (w : View) → J.claim seat.old.me.0 n w → HasLag w }
-        ensures seat { (seat.new.table_id ≡ seat.old.table_id) × (seat.new.id ≡ seat.old.id) × (seat.new.me.1 ≡ seat.old.me.1) }
+        ensures seat { (seat.new.table_id ≡ seat.old.table_id) × (seat.new.id ≡ seat.old.id)
+            × (seat.new.me.1 ≡ seat.old.me.1) }
         ensures claim { J.claim seat.old.me.0 result seat.new.me.0 }
         ensures shown { ViewInvariant seat.new.me.0 }
     {

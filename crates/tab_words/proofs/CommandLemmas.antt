@@ -13,7 +13,7 @@ use Rattle.tab_words.specs.Numbers.{Spells}
 use Rattle.tab_words.specs.declared.command.Command.{Command}
 use Rattle.tab_words.specs.declared.command.Command.TheVariants.{Plan, PlanWhole, Check, Replay, Run, Gen, Selftest, Help, Version}
 use Rattle.tab_words.specs.declared.command.RunMode.{RunMode}
-use Rattle.tab_words.specs.declared.command.RunMode.TheVariants.{Report, Trace, Burst}
+use Rattle.tab_words.specs.declared.command.RunMode.TheVariants.{Report, Trace, Burst, Live}
 use Rattle.tab_words.specs.declared.command.Usage.{Usage}
 use Rattle.tab_words.proofs.NumberLemmas.{spelled_once}
 
@@ -221,12 +221,19 @@ same_mode : (a b : RunMode) → mode_words a ≡ mode_words b → a ≡ b
 same_mode Report Report same = refl
 same_mode Trace Trace same = refl
 same_mode Burst Burst same = refl
+same_mode Live Live same = refl
 same_mode Report Trace same = absurd (omega (arith, ap length same))
-same_mode Report Burst same = absurd (omega (arith, ap length same))
 same_mode Trace Report same = absurd (omega (arith, ap length same))
+same_mode Report Burst same = absurd (omega (arith, ap length same))
 same_mode Burst Report same = absurd (omega (arith, ap length same))
+same_mode Report Live same = absurd (omega (arith, ap length same))
+same_mode Live Report same = absurd (omega (arith, ap length same))
 same_mode Trace Burst same = absurd (other_name [] [] refl same)
+same_mode Trace Live same = absurd (other_name [] [] refl same)
 same_mode Burst Trace same = absurd (other_name [] [] refl same)
+same_mode Burst Live same = absurd (other_name [] [] refl same)
+same_mode Live Trace same = absurd (other_name [] [] refl same)
+same_mode Live Burst same = absurd (other_name [] [] refl same)
 
 -- words are one command at most
 same_command : (words : List (List ℕ)) (a b : Command) → IsCommand words a → IsCommand words b → a ≡ b
@@ -455,6 +462,7 @@ one_word : (mode : RunMode) (word : List ℕ) (more : List (List ℕ)) → word 
 one_word Report word more is = absurd (omega (arith, ap length is))
 one_word Trace word more is = (cc, cc)
 one_word Burst word more is = (cc, cc)
+one_word Live word more is = (cc, cc)
 
 -- another word behind the count
 pub fault_of_mode : (rounds : ℕ) (word : List ℕ) (rest : List (List ℕ)) → IsRoundCount rounds

@@ -5,7 +5,7 @@ use Rattle.tab_core.specs.declared.TheConstants.{MAX_CORES, MAX_ROUNDS, MAX_VCPU
 use Rattle.tab_words.specs.declared.command.Command.{Command}
 use Rattle.tab_words.specs.declared.command.Command.TheVariants.{Plan, PlanWhole, Check, Replay, Run, Gen, Selftest, Help, Version}
 use Rattle.tab_words.specs.declared.command.RunMode.{RunMode}
-use Rattle.tab_words.specs.declared.command.RunMode.TheVariants.{Report, Trace, Burst}
+use Rattle.tab_words.specs.declared.command.RunMode.TheVariants.{Report, Trace, Burst, Live}
 
 -- the words as bytes
 abbrev pub texts : List (String Global) → List (List ℕ)
@@ -28,6 +28,7 @@ abbrev pub mode_words : RunMode → List (List ℕ)
 mode_words Report = []
 mode_words Trace = codes "trace" ∷ []
 mode_words Burst = codes "burst" ∷ []
+mode_words Live = codes "live" ∷ []
 
 -- the words are this command
 abbrev pub IsCommand : List (List ℕ) → Command → Type 0

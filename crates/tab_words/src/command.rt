@@ -16,6 +16,8 @@ pub enum RunMode {
     Trace,
     /// `burst`: when each burst of work was seen and done and by when at the latest, then the report.
     Burst,
+    /// `live`: the report alone, of a run whose later plans are made while the cores run.
+    Live,
 }
 
 /// What the words of the command line ask for.
@@ -29,7 +31,7 @@ pub enum Command {
     Check,
     /// `replay ROUNDS`, from 1 to `MAX_ROUNDS` rounds
     Replay { rounds: u32 },
-    /// `run ROUNDS`, `run ROUNDS trace` or `run ROUNDS burst`, with as many rounds
+    /// `run ROUNDS`, or that with `trace`, `burst` or `live`, with as many rounds
     Run { rounds: u32, mode: RunMode },
     /// `gen SEED CORES VCPUS`, from 1 to `MAX_CORES` cores, with at most `MAX_VCPUS` vCPUs and at most
     /// 99 for each core and one more
@@ -176,6 +178,7 @@ fn mode_of(word: &str) -> Option<RunMode>
     match word {
         "trace" => Some(RunMode::Trace),
         "burst" => Some(RunMode::Burst),
+        "live" => Some(RunMode::Live),
         _ => None,
     }
 }

@@ -4,7 +4,7 @@ use Rattle.std.specs.Prelude.{◌≡◌, ℕ, List, [], ◌++◌}
 use Rattle.tab_core.specs.declared.host.Host.{Host}
 use Rattle.tab_core.specs.declared.over.Over.{Over}
 use Rattle.tab_words.specs.declared.command.RunMode.{RunMode}
-use Rattle.tab_words.specs.declared.command.RunMode.TheVariants.{Report, Trace, Burst}
+use Rattle.tab_words.specs.declared.command.RunMode.TheVariants.{Report, Trace, Burst, Live}
 use Rattle.host_doc.specs.Document.{IsHostText}
 use Rattle.host_doc.specs.declared.fault.HostFault.{HostFault}
 use Rattle.vcpu_names.specs.Names.{names_of}
@@ -63,6 +63,7 @@ abbrev pub burst_part : RunMode → Host → List Event → List BurstAnswer →
 burst_part Report host events answers = []
 burst_part Trace host events answers = []
 burst_part Burst host events answers = bursts_text host events answers
+burst_part Live host events answers = []
 
 pub data Runs (rounds : ℕ) (mode : RunMode) (view : View) (sections : List (List ℕ)) : Outcome → Type 0 where
   Ran : (host : Host) (events : List Event) (book : BookView) (report : ReportView) (answers : List BurstAnswer)

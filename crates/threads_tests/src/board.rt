@@ -68,7 +68,8 @@ fn post_and_enter(board: &RoundBoard, mut seat: RoundSeat) -> (RoundSeat, u32)
     requires board { IsSeatOf board.now seat }
     requires started { (view_of seat).started ≡ true }
     requires core { HoldsCore (view_of seat) 0 × (part (view_of seat) 0 ≡ new_part) }
-    requires controller { (holds (view_of seat) controller ≡ true) × (part (view_of seat) controller ≡ new_part) × (0 < (view_of seat).events) }
+    requires controller { (holds (view_of seat) controller ≡ true)
+        × (part (view_of seat) controller ≡ new_part) × (0 < (view_of seat).events) }
     ensures board { IsSeatOf board.now result.0 }
 {
     board.post(&mut seat, 0);
@@ -81,18 +82,23 @@ fn enter_both<R: Threads>(rt: &R, board: &RoundBoard, mut seat: RoundSeat) -> (R
     requires started { (view_of seat).started ≡ true }
     requires first { HoldsCore (view_of seat) 0 × (part (view_of seat) 0 ≡ new_part) }
     requires second { HoldsCore (view_of seat) 1 × (part (view_of seat) 1 ≡ new_part) }
-    requires controller { (holds (view_of seat) controller ≡ true) × (part (view_of seat) controller ≡ new_part) × (0 < (view_of seat).events) }
+    requires controller { (holds (view_of seat) controller ≡ true)
+        × (part (view_of seat) controller ≡ new_part) × (0 < (view_of seat).events) }
     ensures board { IsSeatOf board.now result.0 }
 {
     let other = board.part(&mut seat, 2);
     let ((mut seat, first), (other, second)) = join(
         rt,
         move || -> (RoundSeat, u32)
-            requires { IsSeatOf board.now seat × ((view_of seat).started ≡ true) × HoldsCore (view_of seat) 0 × (part (view_of seat) 0 ≡ new_part) × (holds (view_of seat) controller ≡ true) × (part (view_of seat) controller ≡ new_part) × (0 < (view_of seat).events) }
+            requires { IsSeatOf board.now seat × ((view_of seat).started ≡ true)
+                × HoldsCore (view_of seat) 0 × (part (view_of seat) 0 ≡ new_part)
+                × (holds (view_of seat) controller ≡ true) × (part (view_of seat) controller ≡ new_part)
+                × (0 < (view_of seat).events) }
             ensures { IsSeatOf board.entry.now result.0 }
         { post_and_enter(board, seat) },
         move || -> (RoundSeat, u32)
-            requires { IsSeatOf board.now other × ((view_of other).started ≡ true) × HoldsCore (view_of other) 1 × (part (view_of other) 1 ≡ new_part) }
+            requires { IsSeatOf board.now other × ((view_of other).started ≡ true)
+                × HoldsCore (view_of other) 1 × (part (view_of other) 1 ≡ new_part) }
             ensures { IsSeatOf board.entry.now result.0 }
         { enter(board, other, 1) },
     );

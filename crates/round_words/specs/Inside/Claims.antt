@@ -11,7 +11,7 @@ use Rattle.round_words.specs.Views.{just_started, part, with_part, entry, enters
 use Rattle.round_words.specs.Changes.{PostsFloor, SeesCount, HearsClock, AppendsStint}
 use Rattle.round_words.specs.Rule.{decision_word, KeepsRule}
 use Rattle.round_words.specs.Shown.{IsSight, IsHeardClock}
-use Rattle.round_words.specs.Inside.Held.{hears_all_known}
+use Rattle.round_words.specs.Inside.Known.{hears_all_known}
 
 -- `start`, of the lag, the cores and the events
 abbrev pub StartClaim : ℕ × ℕ × ℕ → View → ℕ → View → Type 0

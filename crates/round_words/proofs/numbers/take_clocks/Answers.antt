@@ -1,8 +1,8 @@
 use Rattle.std.proofs.Common.{arith, ap, set, sym, subst, ◌∙◌, length-set, ℕ, List, ◌≡◌}
 use Rattle.std.specs.Prelude.{slice_set}
 use Rattle.std.proofs.lemmas.List.{set-get_or}
-use Rattle.round_words.specs.Inside.Held.{TakesClocks}
-use Rattle.round_words.proofs.HeldLemmas.{here_none, here_more, own_put_back}
+use Rattle.round_words.specs.Inside.Known.{TakesClocks}
+use Rattle.round_words.proofs.KnownLemmas.{here_none, here_more, own_put_back}
 use Rattle.round_words.proofs.numbers.take_clocks.Goals as goal
 
 pub loop-core-init : goal.loop-core-init

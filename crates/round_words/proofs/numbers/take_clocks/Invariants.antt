@@ -1,5 +1,5 @@
 use Rattle.std.specs.Prelude.{slice_set}
-use Rattle.round_words.specs.Inside.Held.{TakesClocks}
+use Rattle.round_words.specs.Inside.Known.{TakesClocks}
 use Rattle.round_words.proofs.numbers.take_clocks.Given as goal
 
 abbrev pub invariant-loop-core : goal.invariant-loop-core

@@ -4,9 +4,9 @@ use Rattle.round_words.specs.declared.view.View.{View}
 use Rattle.round_words.specs.Seats.{view_of}
 use Rattle.round_words.specs.Views.{holds, part, with_part}
 use Rattle.round_words.specs.Inside.Claims.{HasLag}
-use Rattle.round_words.specs.Inside.Held.{AreKnown, HasSeenTo, hears_all_known}
+use Rattle.round_words.specs.Inside.Known.{AreKnown, HasSeenTo, hears_all_known}
 use Rattle.round_words.specs.Inside.Numbers.{NumbersAgree}
-use Rattle.round_words.proofs.HeldLemmas.{known_keeps, here_kept, here_rises}
+use Rattle.round_words.proofs.KnownLemmas.{known_keeps, here_kept, here_rises}
 use Rattle.round_words.proofs.NumbersLemmas.{agree_hears}
 use Rattle.round_words.proofs.board.RoundBoard.hear_known.Goals as goal
 

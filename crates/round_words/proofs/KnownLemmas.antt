@@ -9,7 +9,7 @@ use Rattle.round_words.specs.declared.view.Part.{Part}
 use Rattle.round_words.specs.declared.view.View.{View}
 use Rattle.round_words.specs.Hearing.{KnowsClocks}
 use Rattle.round_words.specs.Inside.Claims.{KnownClaim, StepKeepsRule}
-use Rattle.round_words.specs.Inside.Held.{AreKnown, HasSeenTo, hears_all_known}
+use Rattle.round_words.specs.Inside.Known.{AreKnown, HasSeenTo, hears_all_known}
 use Rattle.round_words.specs.Rule.{Board, CoreFits, HeardFits, IsRunning}
 use Rattle.round_words.specs.Views.{holds, part, with_part, heard_of, hears, last_of, last_heard}
 use Rattle.round_words.proofs.ChangesLemmas.{changes_with, part_with}
