@@ -40,7 +40,7 @@ plain_name (byte ∷ bytes) all =
     rw (plain_name_byte byte parts.0) (plain_name bytes parts.1)
 
 -- a name is one word
-name_word : (name : List ℕ) → IsName name → is_word name ≡ true
+pub name_word : (name : List ℕ) → IsName name → is_word name ≡ true
 name_word name good =
     let parts =
     and_parts ((nat_le 1 (length name) && nat_le (length name) MAX_NAME)

@@ -1,0 +1,15 @@
+pub mod FitStints
+pub mod Known
+pub mod Leading
+pub mod PlanLed
+pub mod PlanReadBack
+pub mod PlanTicks
+pub mod PlanTold
+pub mod ReplayLed
+pub mod ReplayReadBack
+pub mod ReportTold
+pub mod RunLed
+pub mod SizeLemmas
+pub mod PlainLines
+pub mod TraceLed
+pub mod TraceReadBack

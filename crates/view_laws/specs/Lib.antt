@@ -1,0 +1,4 @@
+pub mod ShownPlans
+pub mod ShownReplays
+pub mod ShownRuns
+pub mod ShownTraces
