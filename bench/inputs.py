@@ -120,6 +120,9 @@ def generated(seed, cores, vcpus):
 def runs():
     usual = host(32, [(f"v{n}", 100_000, 20_000_000) for n in range(256)])
     write("cores32.run_10000", usual + "%%\n")
+    changes = "".join(f"{n * 600_000} change set v{n} 90000 20000000\n" for n in range(15))
+    for words in ("run_100", "run_100_live"):
+        write(f"changes32.{words}", usual + "%%\n" + changes)
     write("generated32.run_1000", generated(1, 32, 256) + "%%\n")
     write("cores4.run_10000", host(4, [(f"v{n}", 100_000, 20_000_000) for n in range(32)]) + "%%\n")
     write("core1.run_10000", "cores = 1\n%%\n")

@@ -4,7 +4,7 @@ _tableau() {
   case $COMP_CWORD in
     1) words='plan check run replay gen selftest --help --version' ;;
     2) [ "${COMP_WORDS[1]}" = plan ] && words=whole ;;
-    3) [ "${COMP_WORDS[1]}" = run ] && words="trace burst" ;;
+    3) [ "${COMP_WORDS[1]}" = run ] && words="trace burst live" ;;
   esac
   mapfile -t COMPREPLY < <(compgen -W "$words" -- "$word")
 }

@@ -1,6 +1,7 @@
 // Calls with words and bytes in memory, and what came of each.
 mod ends;
 mod hosts;
+mod live;
 mod runs;
 mod words;
 
@@ -8,6 +9,7 @@ use core_workers::{FreeGate, Gate};
 use round_words::RoundBoard;
 use std::alloc::Global;
 use std::process::Abort;
+use std::sync::Wait;
 use std::test::Fail;
 use std::thread::Threads;
 use tab_io::{MemSink, MemSource};
@@ -25,7 +27,7 @@ struct Called {
 }
 
 // The call on these words, which spaces part, and this input.
-fn call<R: Threads + Sync, G: Gate>(
+fn call<R: Threads + Wait + Sync, G: Gate>(
     rt: &R,
     alloc: Global,
     words: &str,
@@ -36,7 +38,7 @@ fn call<R: Threads + Sync, G: Gate>(
 }
 
 // The same with room for so many bytes, where the listed reads fail.
-fn call_with<R: Threads + Sync, G: Gate>(
+fn call_with<R: Threads + Wait + Sync, G: Gate>(
     rt: &R,
     alloc: Global,
     words: &str,
@@ -74,7 +76,11 @@ fn call_with<R: Threads + Sync, G: Gate>(
 type Case<'a> = (&'a str, &'a str, u8, &'a str);
 
 // Whether each call ends and writes as its case says.
-fn try_all<R: Threads + Sync + Abort>(rt: &R, alloc: Global, cases: &[Case]) -> Result<(), Fail> {
+fn try_all<R: Threads + Wait + Sync + Abort>(
+    rt: &R,
+    alloc: Global,
+    cases: &[Case],
+) -> Result<(), Fail> {
     for (words, input, exit, text) in cases {
         let called = call(rt, alloc, words, input, &FreeGate)?;
         assert_eq!(rt; called.sink.bytes(), text.as_bytes(), "of {words}");

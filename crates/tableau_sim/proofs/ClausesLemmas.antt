@@ -8,7 +8,7 @@ use Rattle.tab_words.specs.declared.command.Command.{Command}
 use Rattle.tableau_sim.specs.declared.input.TheConstants.{INPUT_LIMIT}
 use Rattle.tableau_sim.specs.declared.status.Status.{Status}
 use Rattle.tableau_sim.specs.declared.status.Status.TheVariants as status
-use Rattle.tableau_sim.specs.Clauses.{EndsUnread, FrontIsOut, HasCause, IsFaultless, IsOut, IsToRead, IsToReadIf, LineIsOut, NoFaults, ReadTooMuch, Unread, WroteFor}
+use Rattle.tableau_sim.specs.Clauses.{EndsUnread, FrontIsOut, HasCause, IsFaultless, IsOut, IsToRead, IsToReadIf, Lacked, LineIsOut, NoFaults, ReadTooMuch, Unread, WroteFor}
 use Rattle.tableau_sim.specs.Columns.{reads, takes_memory}
 use Rattle.tableau_sim.specs.Frame.{Answers, Due, HasReadIf, IsDue, MayHaveReadIf, outcome_of}
 use Rattle.tableau_sim.specs.Frame.Due.{LacksMemory, NoCommand, Replied, SourceFailed, TooMuch}
@@ -29,22 +29,22 @@ WritesUnread R = (command : Command) (input : List ℕ) (outcome : Outcome) → 
     → R command input outcome → status_of outcome ≡ status.Ok
 
 -- what is due came whole, with its status
-pub record IsTold (R : Command → List ℕ → Outcome → Type 0) (Still : Type 0)
+pub record IsTold (R : Command → List ℕ → Outcome → Type 0) (Leaves : Due → List ℕ → Type 0)
     (words : List (List ℕ)) (source source' : SourceView) (sink sink' : SinkView)
     (told : Status) : Type 0 where
   pub input : List ℕ
   pub consumed : Consumes source.rest source'.rest input
   pub due : Due
-  pub is_due : IsDue R Still words source source' input due
+  pub is_due : IsDue R Leaves words source source' input due
   pub told_is : status_of (outcome_of due) ≡ told
   pub out : IsOut sink sink' (text_of (outcome_of due))
 
 -- where the status is no write fault, what was due is out whole: each clause on a status starts here
-told_due : (R : Command → List ℕ → Outcome → Type 0) (Still : Type 0)
+told_due : (R : Command → List ℕ → Outcome → Type 0) (Leaves : Due → List ℕ → Type 0)
     (words : List (List ℕ)) (source source' : SourceView) (sink sink' : SinkView) (told : Status)
-    → Answers R Still words source source' sink sink' told → told ≢ status.WriteFault
-    → IsTold R Still words source source' sink sink' told
-told_due R Still words source source' sink sink' told a works = elim a.written.whole [
+    → Answers R Leaves words source source' sink sink' told → told ≢ status.WriteFault
+    → IsTold R Leaves words source source' sink sink' told
+told_due R Leaves words source source' sink sink' told a works = elim a.written.whole [
   | inl came ↦ record {
     input = a.input;
     consumed = a.consumed;
@@ -73,17 +73,17 @@ of_input R refuses command input outcome h refusal names is =
     refuses command input refusal names (subst (R command input) is h)
 
 -- with `Ok` only a reply can have been due, and it is a text of the command
-wrote_of : (R : Command → List ℕ → Outcome → Type 0) (Still : Type 0) (refuses : RefusesInput R)
+wrote_of : (R : Command → List ℕ → Outcome → Type 0) (Leaves : Due → List ℕ → Type 0) (refuses : RefusesInput R)
     (words : List (List ℕ)) (source source' : SourceView) (sink sink' : SinkView)
     (command : Command) (input : List ℕ) (due : Due) → IsCommand words command
-    → Consumes source.rest source'.rest input → IsDue R Still words source source' input due
+    → Consumes source.rest source'.rest input → IsDue R Leaves words source source' input due
     → status_of (outcome_of due) ≡ status.Ok → IsOut sink sink' (text_of (outcome_of due))
     → WroteFor R command source source' sink sink'
-wrote_of R Still refuses words source source' sink sink' command input (NoCommand place) are consumed h is out = absurd cc
-wrote_of R Still refuses words source source' sink sink' command input (SourceFailed other) are consumed h is out = absurd cc
-wrote_of R Still refuses words source source' sink sink' command input (TooMuch other) are consumed h is out = absurd cc
-wrote_of R Still refuses words source source' sink sink' command input (LacksMemory other) are consumed h is out = absurd cc
-wrote_of R Still refuses words source source' sink sink' command input (Replied other outcome) are consumed h is out =
+wrote_of R Leaves refuses words source source' sink sink' command input (NoCommand place) are consumed h is out = absurd cc
+wrote_of R Leaves refuses words source source' sink sink' command input (SourceFailed other) are consumed h is out = absurd cc
+wrote_of R Leaves refuses words source source' sink sink' command input (TooMuch other) are consumed h is out = absurd cc
+wrote_of R Leaves refuses words source source' sink sink' command input (LacksMemory other) are consumed h is out = absurd cc
+wrote_of R Leaves refuses words source source' sink sink' command input (Replied other outcome) are consumed h is out =
     let same : other ≡ command = same_command words other command h.0 are in
     let replies = subst (λ c. R c input outcome) same h.2 in
     record {
@@ -96,35 +96,35 @@ wrote_of R Still refuses words source source' sink sink' command input (Replied 
     }
 
 -- the clause `wrote`
-pub wrote_told : (R : Command → List ℕ → Outcome → Type 0) (Still : Type 0) (refuses : RefusesInput R)
+pub wrote_told : (R : Command → List ℕ → Outcome → Type 0) (Leaves : Due → List ℕ → Type 0) (refuses : RefusesInput R)
     (words : List (List ℕ)) (source source' : SourceView) (sink sink' : SinkView) (told : Status)
-    → Answers R Still words source source' sink sink' told → (command : Command) → IsCommand words command
+    → Answers R Leaves words source source' sink sink' told → (command : Command) → IsCommand words command
     → told ≡ status.Ok → WroteFor R command source source' sink sink'
-wrote_told R Still refuses words source source' sink sink' told a command are is =
-    let t = told_due R Still words source source' sink sink' told a (λ failed. let e = sym is ∙ failed in absurd cc) in
-    wrote_of R Still refuses words source source' sink sink' command t.input t.due are t.consumed t.is_due (t.told_is ∙ is)
+wrote_told R Leaves refuses words source source' sink sink' told a command are is =
+    let t = told_due R Leaves words source source' sink sink' told a (λ failed. let e = sym is ∙ failed in absurd cc) in
+    wrote_of R Leaves refuses words source source' sink sink' command t.input t.due are t.consumed t.is_due (t.told_is ∙ is)
     t.out
 
 -- ---- a refusal of the input
 
 -- with a refusal of the input only a refusal of a command can have been due
-cause_of : (R : Command → List ℕ → Outcome → Type 0) (Still : Type 0)
+cause_of : (R : Command → List ℕ → Outcome → Type 0) (Leaves : Due → List ℕ → Type 0)
     (words : List (List ℕ)) (source source' : SourceView) (sink sink' : SinkView) (told : Status)
     (input : List ℕ) (due : Due) → Consumes source.rest source'.rest input
-    → IsDue R Still words source source' input due → status_of (outcome_of due) ≡ told
+    → IsDue R Leaves words source source' input due → status_of (outcome_of due) ≡ told
     → IsOut sink sink' (text_of (outcome_of due)) → IsOfInput told
     → HasCause R words source source' sink sink' told
-cause_of R Still words source source' sink sink' told input (NoCommand place) consumed h is out of =
+cause_of R Leaves words source source' sink sink' told input (NoCommand place) consumed h is out of =
     absurd (subst IsOfInput (sym is) of)
-cause_of R Still words source source' sink sink' told input (SourceFailed command) consumed h is out of =
+cause_of R Leaves words source source' sink sink' told input (SourceFailed command) consumed h is out of =
     absurd (subst IsOfInput (sym is) of)
-cause_of R Still words source source' sink sink' told input (TooMuch command) consumed h is out of =
+cause_of R Leaves words source source' sink sink' told input (TooMuch command) consumed h is out of =
     absurd (subst IsOfInput (sym is) of)
-cause_of R Still words source source' sink sink' told input (LacksMemory command) consumed h is out of =
+cause_of R Leaves words source source' sink sink' told input (LacksMemory command) consumed h is out of =
     absurd (subst IsOfInput (sym is) of)
-cause_of R Still words source source' sink sink' told input (Replied command (Writes text)) consumed h is out of =
+cause_of R Leaves words source source' sink sink' told input (Replied command (Writes text)) consumed h is out of =
     absurd (subst IsOfInput (sym is) of)
-cause_of R Still words source source' sink sink' told input (Replied command (Refuses refusal names)) consumed h
+cause_of R Leaves words source source' sink sink' told input (Replied command (Refuses refusal names)) consumed h
     is out of = record {
       command = command;
       words_are = h.0;
@@ -136,13 +136,13 @@ cause_of R Still words source source' sink sink' told input (Replied command (Re
     }
 
 -- the clause `refused`
-pub cause_told : (R : Command → List ℕ → Outcome → Type 0) (Still : Type 0)
+pub cause_told : (R : Command → List ℕ → Outcome → Type 0) (Leaves : Due → List ℕ → Type 0)
     (words : List (List ℕ)) (source source' : SourceView) (sink sink' : SinkView) (told : Status)
-    → Answers R Still words source source' sink sink' told → IsOfInput told
+    → Answers R Leaves words source source' sink sink' told → IsOfInput told
     → HasCause R words source source' sink sink' told
-cause_told R Still words source source' sink sink' told a of =
-    let t = told_due R Still words source source' sink sink' told a (λ failed. subst IsOfInput failed of) in
-    cause_of R Still words source source' sink sink' told t.input t.due t.consumed t.is_due t.told_is t.out of
+cause_told R Leaves words source source' sink sink' told a of =
+    let t = told_due R Leaves words source source' sink sink' told a (λ failed. subst IsOfInput failed of) in
+    cause_of R Leaves words source source' sink sink' told t.input t.due t.consumed t.is_due t.told_is t.out of
 
 -- ---- a faultless input
 
@@ -164,22 +164,22 @@ not_too_much true old new input given reading_is is consumed size =
 not_too_much false old new input given reading_is is consumed size = absurd cc
 
 -- over a source that works, of a faultless input a text is due, or memory was wanting
-complete_of : (R : Command → List ℕ → Outcome → Type 0) (Still : Type 0)
+complete_of : (R : Command → List ℕ → Outcome → Type 0) (Leaves : Due → List ℕ → Type 0)
     (words : List (List ℕ)) (source source' : SourceView) (command : Command)
     (input given : List ℕ) (due : Due) → IsCommand words command → IsToRead command source given
     → IsFaultless R command given → (Rose source.faults source'.faults → ⊥)
-    → Consumes source.rest source'.rest input → IsDue R Still words source source' input due
+    → Consumes source.rest source'.rest input → IsDue R Leaves words source source' input due
     → (status_of (outcome_of due) ≡ status.Ok) ⊎ (status_of (outcome_of due) ≡ status.NoMemory)
-complete_of R Still words source source' command input given (NoCommand place) are is fine works consumed h =
+complete_of R Leaves words source source' command input given (NoCommand place) are is fine works consumed h =
     absurd (no_fault words command place are h.0)
-complete_of R Still words source source' command input given (SourceFailed other) are is fine works consumed h =
+complete_of R Leaves words source source' command input given (SourceFailed other) are is fine works consumed h =
     absurd (works h.3)
-complete_of R Still words source source' command input given (TooMuch other) are is fine works consumed h =
+complete_of R Leaves words source source' command input given (TooMuch other) are is fine works consumed h =
     let same = same_command words other command h.0 are in
     let reading : reads command ≡ true = subst (λ c. reads c ≡ true) same h.1 in
     absurd (not_too_much (reads command) source source' input given reading is consumed h.2)
-complete_of R Still words source source' command input given (LacksMemory other) are is fine works consumed h = inr refl
-complete_of R Still words source source' command input given (Replied other outcome) are is fine works consumed h =
+complete_of R Leaves words source source' command input given (LacksMemory other) are is fine works consumed h = inr refl
+complete_of R Leaves words source source' command input given (Replied other outcome) are is fine works consumed h =
     let same : other ≡ command = same_command words other command h.0 are in
     let replies = subst (λ c. R c input outcome) same h.2 in
     let read = subst (λ c. HasReadIf (reads c) source' input) same h.1 in
@@ -187,14 +187,14 @@ complete_of R Still words source source' command input given (Replied other outc
     inl (faultless R command given outcome fine (subst (λ i. R command i outcome) whole replies))
 
 -- the clause `complete`
-pub complete_told : (R : Command → List ℕ → Outcome → Type 0) (Still : Type 0)
+pub complete_told : (R : Command → List ℕ → Outcome → Type 0) (Leaves : Due → List ℕ → Type 0)
     (words : List (List ℕ)) (source source' : SourceView) (sink sink' : SinkView)
-    (told : Status) → Answers R Still words source source' sink sink' told → (command : Command)
+    (told : Status) → Answers R Leaves words source source' sink sink' told → (command : Command)
     (given : List ℕ) → IsCommand words command → IsToRead command source given → IsFaultless R command given
     → NoFaults source source' sink sink' → (told ≡ status.Ok) ⊎ (told ≡ status.NoMemory)
-complete_told R Still words source source' sink sink' told a command given are is fine works = elim a.written.whole [
+complete_told R Leaves words source source' sink sink' told a command given are is fine works = elim a.written.whole [
   | inl came ↦
-      elim (complete_of R Still words source source' command a.input given a.due are is fine works.source_works
+      elim (complete_of R Leaves words source source' command a.input given a.due are is fine works.source_works
       a.consumed a.is_due) [
         | inl ok ↦ inl (came.0 ∙ ok)
         | inr lacks ↦ inr (came.0 ∙ lacks)
@@ -205,24 +205,24 @@ complete_told R Still words source source' sink sink' told a command given are i
 -- ---- a command that reads nothing
 
 -- what is due is its text, or memory was wanting, and nothing was read
-silent_of : (R : Command → List ℕ → Outcome → Type 0) (Still : Type 0) (silent : WritesUnread R)
+silent_of : (R : Command → List ℕ → Outcome → Type 0) (Leaves : Due → List ℕ → Type 0) (silent : WritesUnread R)
     (words : List (List ℕ)) (source source' : SourceView) (command : Command)
     (input : List ℕ) (due : Due) → IsCommand words command → reads command ≡ false
-    → IsDue R Still words source source' input due
+    → IsDue R Leaves words source source' input due
     → ((status_of (outcome_of due) ≡ status.Ok)
     ⊎ ((takes_memory command ≡ true) × (status_of (outcome_of due) ≡ status.NoMemory))) × (input ≡ [])
-silent_of R Still silent words source source' command input (NoCommand place) are still h =
+silent_of R Leaves silent words source source' command input (NoCommand place) are still h =
     absurd (no_fault words command place are h.0)
-silent_of R Still silent words source source' command input (SourceFailed other) are still h =
+silent_of R Leaves silent words source source' command input (SourceFailed other) are still h =
     let e = sym still ∙ subst (λ c. reads c ≡ true) (same_command words other command h.0 are) h.1 in absurd cc
-silent_of R Still silent words source source' command input (TooMuch other) are still h =
+silent_of R Leaves silent words source source' command input (TooMuch other) are still h =
     let e = sym still ∙ subst (λ c. reads c ≡ true) (same_command words other command h.0 are) h.1 in absurd cc
-silent_of R Still silent words source source' command input (LacksMemory other) are still h =
+silent_of R Leaves silent words source source' command input (LacksMemory other) are still h =
     let same : other ≡ command = same_command words other command h.0 are in (
       inr (subst (λ c. takes_memory c ≡ true) same h.1, refl),
       subst (λ b. MayHaveReadIf b input) (ap reads same ∙ still) h.2,
     )
-silent_of R Still silent words source source' command input (Replied other outcome) are still h =
+silent_of R Leaves silent words source source' command input (Replied other outcome) are still h =
     let same : other ≡ command = same_command words other command h.0 are in
     let replies = subst (λ c. R c input outcome) same h.2 in (
       inl (silent command input outcome still replies),
@@ -240,13 +240,13 @@ ends_unread true told due (inl is) (inr lacks) = inr (inr (is ∙ lacks.1))
 ends_unread true told due (inr failed) end = inr (inl failed)
 
 -- the clause `unread`
-pub silent_told : (R : Command → List ℕ → Outcome → Type 0) (Still : Type 0) (silent : WritesUnread R)
+pub silent_told : (R : Command → List ℕ → Outcome → Type 0) (Leaves : Due → List ℕ → Type 0) (silent : WritesUnread R)
     (words : List (List ℕ)) (source source' : SourceView) (sink sink' : SinkView)
-    (told : Status) → Answers R Still words source source' sink sink' told → (command : Command)
+    (told : Status) → Answers R Leaves words source source' sink sink' told → (command : Command)
     → IsCommand words command → reads command ≡ false
     → EndsUnread (takes_memory command) told × Unread source source'
-silent_told R Still silent words source source' sink sink' told a command are still =
-    let s = silent_of R Still silent words source source' command a.input a.due are still a.is_due in (
+silent_told R Leaves silent words source source' sink sink' told a command are still =
+    let s = silent_of R Leaves silent words source source' command a.input a.due are still a.is_due in (
       ends_unread (takes_memory command) told (status_of (outcome_of a.due))
           (elim a.written.whole [ inl came ↦ inl came.0 | inr failed ↦ inr failed.0 ]) s.0,
       subst (Consumes source.rest source'.rest) s.1 a.consumed,
@@ -255,120 +255,148 @@ silent_told R Still silent words source source' sink sink' told a command are st
 -- ---- the words
 
 -- `Usage` can only have been due for words that are no command
-usage_of : (R : Command → List ℕ → Outcome → Type 0) (Still : Type 0) (refuses : RefusesInput R)
+usage_of : (R : Command → List ℕ → Outcome → Type 0) (Leaves : Due → List ℕ → Type 0) (refuses : RefusesInput R)
     (words : List (List ℕ)) (source source' : SourceView) (input : List ℕ) (due : Due) (place : ℕ)
-    → IsDue R Still words source source' input due → status_of (outcome_of due) ≡ status.Usage place
+    → IsDue R Leaves words source source' input due → status_of (outcome_of due) ≡ status.Usage place
     → IsFaultAt words place × (input ≡ [])
-usage_of R Still refuses words source source' input (NoCommand other) place h is =
+usage_of R Leaves refuses words source source' input (NoCommand other) place h is =
     let same : other ≡ place = cc in (subst (IsFaultAt words) same h.0, h.1)
-usage_of R Still refuses words source source' input (SourceFailed command) place h is = absurd cc
-usage_of R Still refuses words source source' input (TooMuch command) place h is = absurd cc
-usage_of R Still refuses words source source' input (LacksMemory command) place h is = absurd cc
-usage_of R Still refuses words source source' input (Replied command (Writes text)) place h is = absurd cc
-usage_of R Still refuses words source source' input (Replied command (Refuses refusal names)) place h is =
+usage_of R Leaves refuses words source source' input (SourceFailed command) place h is = absurd cc
+usage_of R Leaves refuses words source source' input (TooMuch command) place h is = absurd cc
+usage_of R Leaves refuses words source source' input (LacksMemory command) place h is = absurd cc
+usage_of R Leaves refuses words source source' input (Replied command (Writes text)) place h is = absurd cc
+usage_of R Leaves refuses words source source' input (Replied command (Refuses refusal names)) place h is =
     absurd (subst IsOfInput is (refuses command input refusal names h.2))
 
 -- the clause `usage`
-pub usage_told : (R : Command → List ℕ → Outcome → Type 0) (Still : Type 0) (refuses : RefusesInput R)
+pub usage_told : (R : Command → List ℕ → Outcome → Type 0) (Leaves : Due → List ℕ → Type 0) (refuses : RefusesInput R)
     (words : List (List ℕ)) (source source' : SourceView) (sink sink' : SinkView)
-    (told : Status) → Answers R Still words source source' sink sink' told → (place : ℕ)
+    (told : Status) → Answers R Leaves words source source' sink sink' told → (place : ℕ)
     → told ≡ status.Usage place → IsFaultAt words place × Unread source source'
-usage_told R Still refuses words source source' sink sink' told a place is =
-    let t = told_due R Still words source source' sink sink' told a (λ failed. let e = sym is ∙ failed in absurd cc) in
-    let u = usage_of R Still refuses words source source' t.input t.due place t.is_due (t.told_is ∙ is) in
+usage_told R Leaves refuses words source source' sink sink' told a place is =
+    let t = told_due R Leaves words source source' sink sink' told a (λ failed. let e = sym is ∙ failed in absurd cc) in
+    let u = usage_of R Leaves refuses words source source' t.input t.due place t.is_due (t.told_is ∙ is) in
     (u.0, subst (Consumes source.rest source'.rest) u.1 t.consumed)
 
 -- for words that are no command nothing but `Usage` can be due
-usage_only : (R : Command → List ℕ → Outcome → Type 0) (Still : Type 0)
+usage_only : (R : Command → List ℕ → Outcome → Type 0) (Leaves : Due → List ℕ → Type 0)
     (words : List (List ℕ)) (source source' : SourceView) (input : List ℕ) (due : Due) (place : ℕ)
-    → IsFaultAt words place → IsDue R Still words source source' input due
+    → IsFaultAt words place → IsDue R Leaves words source source' input due
     → status_of (outcome_of due) ≡ status.Usage place
-usage_only R Still words source source' input (NoCommand other) place fault h =
+usage_only R Leaves words source source' input (NoCommand other) place fault h =
     ap status.Usage (same_place words other place h.0 fault)
-usage_only R Still words source source' input (SourceFailed command) place fault h =
+usage_only R Leaves words source source' input (SourceFailed command) place fault h =
     absurd (no_fault words command place h.0 fault)
-usage_only R Still words source source' input (TooMuch command) place fault h =
+usage_only R Leaves words source source' input (TooMuch command) place fault h =
     absurd (no_fault words command place h.0 fault)
-usage_only R Still words source source' input (LacksMemory command) place fault h =
+usage_only R Leaves words source source' input (LacksMemory command) place fault h =
     absurd (no_fault words command place h.0 fault)
-usage_only R Still words source source' input (Replied command outcome) place fault h =
+usage_only R Leaves words source source' input (Replied command outcome) place fault h =
     absurd (no_fault words command place h.0 fault)
 
 -- the clause `usage_due`
-pub usage_due : (R : Command → List ℕ → Outcome → Type 0) (Still : Type 0)
+pub usage_due : (R : Command → List ℕ → Outcome → Type 0) (Leaves : Due → List ℕ → Type 0)
     (words : List (List ℕ)) (source source' : SourceView) (sink sink' : SinkView)
-    (told : Status) → Answers R Still words source source' sink sink' told → (place : ℕ) → IsFaultAt words place
+    (told : Status) → Answers R Leaves words source source' sink sink' told → (place : ℕ) → IsFaultAt words place
     → (told ≡ status.Usage place) ⊎ (told ≡ status.WriteFault)
-usage_due R Still words source source' sink sink' told a place fault = elim a.written.whole [
-  | inl came ↦ inl (came.0 ∙ usage_only R Still words source source' a.input a.due place fault a.is_due)
+usage_due R Leaves words source source' sink sink' told a place fault = elim a.written.whole [
+  | inl came ↦ inl (came.0 ∙ usage_only R Leaves words source source' a.input a.due place fault a.is_due)
   | inr failed ↦ inr failed.0
 ]
 
 -- ---- the ends
 
 -- `ReadFault` can only have been due after a fault of the source
-read_fault_of : (R : Command → List ℕ → Outcome → Type 0) (Still : Type 0) (refuses : RefusesInput R)
+read_fault_of : (R : Command → List ℕ → Outcome → Type 0) (Leaves : Due → List ℕ → Type 0) (refuses : RefusesInput R)
     (words : List (List ℕ)) (source source' : SourceView) (input : List ℕ) (due : Due)
-    → IsDue R Still words source source' input due → status_of (outcome_of due) ≡ status.ReadFault
+    → IsDue R Leaves words source source' input due → status_of (outcome_of due) ≡ status.ReadFault
     → Rose source.faults source'.faults
-read_fault_of R Still refuses words source source' input (NoCommand place) h is = absurd cc
-read_fault_of R Still refuses words source source' input (SourceFailed command) h is = h.3
-read_fault_of R Still refuses words source source' input (TooMuch command) h is = absurd cc
-read_fault_of R Still refuses words source source' input (LacksMemory command) h is = absurd cc
-read_fault_of R Still refuses words source source' input (Replied command (Writes text)) h is = absurd cc
-read_fault_of R Still refuses words source source' input (Replied command (Refuses refusal names)) h is =
+read_fault_of R Leaves refuses words source source' input (NoCommand place) h is = absurd cc
+read_fault_of R Leaves refuses words source source' input (SourceFailed command) h is = h.3
+read_fault_of R Leaves refuses words source source' input (TooMuch command) h is = absurd cc
+read_fault_of R Leaves refuses words source source' input (LacksMemory command) h is = absurd cc
+read_fault_of R Leaves refuses words source source' input (Replied command (Writes text)) h is = absurd cc
+read_fault_of R Leaves refuses words source source' input (Replied command (Refuses refusal names)) h is =
     absurd (subst IsOfInput is (refuses command input refusal names h.2))
 
 -- the clause `read_fault`
-pub read_fault_told : (R : Command → List ℕ → Outcome → Type 0) (Still : Type 0) (refuses : RefusesInput R)
+pub read_fault_told : (R : Command → List ℕ → Outcome → Type 0) (Leaves : Due → List ℕ → Type 0) (refuses : RefusesInput R)
     (words : List (List ℕ)) (source source' : SourceView) (sink sink' : SinkView)
-    (told : Status) → Answers R Still words source source' sink sink' told → told ≡ status.ReadFault
+    (told : Status) → Answers R Leaves words source source' sink sink' told → told ≡ status.ReadFault
     → Rose source.faults source'.faults
-read_fault_told R Still refuses words source source' sink sink' told a is =
-    let t = told_due R Still words source source' sink sink' told a (λ failed. let e = sym is ∙ failed in absurd cc) in
-    read_fault_of R Still refuses words source source' t.input t.due t.is_due (t.told_is ∙ is)
+read_fault_told R Leaves refuses words source source' sink sink' told a is =
+    let t = told_due R Leaves words source source' sink sink' told a (λ failed. let e = sym is ∙ failed in absurd cc) in
+    read_fault_of R Leaves refuses words source source' t.input t.due t.is_due (t.told_is ∙ is)
 
 -- `TooLong` can only have been due after a byte too much
-too_long_of : (R : Command → List ℕ → Outcome → Type 0) (Still : Type 0) (refuses : RefusesInput R)
+too_long_of : (R : Command → List ℕ → Outcome → Type 0) (Leaves : Due → List ℕ → Type 0) (refuses : RefusesInput R)
     (words : List (List ℕ)) (source source' : SourceView) (input : List ℕ) (due : Due)
-    → IsDue R Still words source source' input due → status_of (outcome_of due) ≡ status.TooLong
+    → IsDue R Leaves words source source' input due → status_of (outcome_of due) ≡ status.TooLong
     → length input ≡ INPUT_LIMIT + 1
-too_long_of R Still refuses words source source' input (NoCommand place) h is = absurd cc
-too_long_of R Still refuses words source source' input (SourceFailed command) h is = absurd cc
-too_long_of R Still refuses words source source' input (TooMuch command) h is = h.2
-too_long_of R Still refuses words source source' input (LacksMemory command) h is = absurd cc
-too_long_of R Still refuses words source source' input (Replied command (Writes text)) h is = absurd cc
-too_long_of R Still refuses words source source' input (Replied command (Refuses refusal names)) h is =
+too_long_of R Leaves refuses words source source' input (NoCommand place) h is = absurd cc
+too_long_of R Leaves refuses words source source' input (SourceFailed command) h is = absurd cc
+too_long_of R Leaves refuses words source source' input (TooMuch command) h is = h.2
+too_long_of R Leaves refuses words source source' input (LacksMemory command) h is = absurd cc
+too_long_of R Leaves refuses words source source' input (Replied command (Writes text)) h is = absurd cc
+too_long_of R Leaves refuses words source source' input (Replied command (Refuses refusal names)) h is =
     absurd (subst IsOfInput is (refuses command input refusal names h.2))
 
 -- the clause `too_long`
-pub too_long_told : (R : Command → List ℕ → Outcome → Type 0) (Still : Type 0) (refuses : RefusesInput R)
+pub too_long_told : (R : Command → List ℕ → Outcome → Type 0) (Leaves : Due → List ℕ → Type 0) (refuses : RefusesInput R)
     (words : List (List ℕ)) (source source' : SourceView) (sink sink' : SinkView)
-    (told : Status) → Answers R Still words source source' sink sink' told → told ≡ status.TooLong
+    (told : Status) → Answers R Leaves words source source' sink sink' told → told ≡ status.TooLong
     → ReadTooMuch source source'
-too_long_told R Still refuses words source source' sink sink' told a is =
-    let t = told_due R Still words source source' sink sink' told a (λ failed. let e = sym is ∙ failed in absurd cc) in
-    (t.input, t.consumed, too_long_of R Still refuses words source source' t.input t.due t.is_due (t.told_is ∙ is))
+too_long_told R Leaves refuses words source source' sink sink' told a is =
+    let t = told_due R Leaves words source source' sink sink' told a (λ failed. let e = sym is ∙ failed in absurd cc) in
+    (t.input, t.consumed, too_long_of R Leaves refuses words source source' t.input t.due t.is_due (t.told_is ∙ is))
+
+-- with `NoMemory` only want of memory can have been due
+lacked_of : (R : Command → List ℕ → Outcome → Type 0) (Leaves : Due → List ℕ → Type 0) (refuses : RefusesInput R)
+    (words : List (List ℕ)) (source source' : SourceView) (input : List ℕ) (due : Due)
+    → Consumes source.rest source'.rest input → IsDue R Leaves words source source' input due
+    → status_of (outcome_of due) ≡ status.NoMemory → Lacked Leaves words source source'
+lacked_of R Leaves refuses words source source' input (NoCommand place) consumed h is = absurd cc
+lacked_of R Leaves refuses words source source' input (SourceFailed command) consumed h is = absurd cc
+lacked_of R Leaves refuses words source source' input (TooMuch command) consumed h is = absurd cc
+lacked_of R Leaves refuses words source source' input (LacksMemory command) consumed h is = record {
+  command = command;
+  words_are = h.0;
+  input = input;
+  consumed = consumed;
+  left = h.3;
+}
+lacked_of R Leaves refuses words source source' input (Replied command (Writes text)) consumed h is = absurd cc
+lacked_of R Leaves refuses words source source' input (Replied command (Refuses refusal names)) consumed h is =
+    absurd (subst IsOfInput is (refuses command input refusal names h.2))
+
+-- the clause `no_memory`
+pub lacked_told : (R : Command → List ℕ → Outcome → Type 0) (Leaves : Due → List ℕ → Type 0) (refuses : RefusesInput R)
+    (words : List (List ℕ)) (source source' : SourceView) (sink sink' : SinkView)
+    (told : Status) → Answers R Leaves words source source' sink sink' told → told ≡ status.NoMemory
+    → Lacked Leaves words source source'
+lacked_told R Leaves refuses words source source' sink sink' told a is =
+    let t = told_due R Leaves words source source' sink sink' told a (λ failed. let e = sym is ∙ failed in absurd cc) in
+    lacked_of R Leaves refuses words source source' t.input t.due t.consumed t.is_due (t.told_is ∙ is)
 
 -- `WriteFault` is never due, so it tells of the sink
-no_write_fault : (R : Command → List ℕ → Outcome → Type 0) (Still : Type 0) (refuses : RefusesInput R)
+no_write_fault : (R : Command → List ℕ → Outcome → Type 0) (Leaves : Due → List ℕ → Type 0) (refuses : RefusesInput R)
     (words : List (List ℕ)) (source source' : SourceView) (input : List ℕ) (due : Due)
-    → IsDue R Still words source source' input due → status_of (outcome_of due) ≢ status.WriteFault
-no_write_fault R Still refuses words source source' input (NoCommand place) h is = absurd cc
-no_write_fault R Still refuses words source source' input (SourceFailed command) h is = absurd cc
-no_write_fault R Still refuses words source source' input (TooMuch command) h is = absurd cc
-no_write_fault R Still refuses words source source' input (LacksMemory command) h is = absurd cc
-no_write_fault R Still refuses words source source' input (Replied command (Writes text)) h is = absurd cc
-no_write_fault R Still refuses words source source' input (Replied command (Refuses refusal names)) h is =
+    → IsDue R Leaves words source source' input due → status_of (outcome_of due) ≢ status.WriteFault
+no_write_fault R Leaves refuses words source source' input (NoCommand place) h is = absurd cc
+no_write_fault R Leaves refuses words source source' input (SourceFailed command) h is = absurd cc
+no_write_fault R Leaves refuses words source source' input (TooMuch command) h is = absurd cc
+no_write_fault R Leaves refuses words source source' input (LacksMemory command) h is = absurd cc
+no_write_fault R Leaves refuses words source source' input (Replied command (Writes text)) h is = absurd cc
+no_write_fault R Leaves refuses words source source' input (Replied command (Refuses refusal names)) h is =
     absurd (subst IsOfInput is (refuses command input refusal names h.2))
 
 -- the clause `write_fault`
-pub front_told : (R : Command → List ℕ → Outcome → Type 0) (Still : Type 0) (refuses : RefusesInput R)
+pub front_told : (R : Command → List ℕ → Outcome → Type 0) (Leaves : Due → List ℕ → Type 0) (refuses : RefusesInput R)
     (words : List (List ℕ)) (source source' : SourceView) (sink sink' : SinkView)
-    (told : Status) → Answers R Still words source source' sink sink' told → told ≡ status.WriteFault
-    → FrontIsOut R Still words source source' sink sink'
-front_told R Still refuses words source source' sink sink' told a is = elim a.written.whole [
-  | inl came ↦ absurd (no_write_fault R Still refuses words source source' a.input a.due a.is_due (sym came.0 ∙ is))
+    (told : Status) → Answers R Leaves words source source' sink sink' told → told ≡ status.WriteFault
+    → FrontIsOut R Leaves words source source' sink sink'
+front_told R Leaves refuses words source source' sink sink' told a is = elim a.written.whole [
+  | inl came ↦ absurd (no_write_fault R Leaves refuses words source source' a.input a.due a.is_due (sym came.0 ∙ is))
   | inr failed ↦ record {
     failed = failed.2;
     input = a.input;
@@ -388,11 +416,11 @@ line_from (Writes text) not_ok = absurd (not_ok refl)
 line_from (Refuses refusal names) not_ok = (names, refl)
 
 -- the clause `refusal`
-pub line_told : (R : Command → List ℕ → Outcome → Type 0) (Still : Type 0)
+pub line_told : (R : Command → List ℕ → Outcome → Type 0) (Leaves : Due → List ℕ → Type 0)
     (words : List (List ℕ)) (source source' : SourceView) (sink sink' : SinkView)
-    (told : Status) → Answers R Still words source source' sink sink' told → told ≢ status.Ok
+    (told : Status) → Answers R Leaves words source source' sink sink' told → told ≢ status.Ok
     → told ≢ status.WriteFault → LineIsOut sink sink' told
-line_told R Still words source source' sink sink' told a not_ok not_failed =
-    let t = told_due R Still words source source' sink sink' told a not_failed in
+line_told R Leaves words source source' sink sink' told a not_ok not_failed =
+    let t = told_due R Leaves words source source' sink sink' told a not_failed in
     let line = line_from (outcome_of t.due) (λ ok. not_ok (sym t.told_is ∙ ok)) in
     (line.0, subst (IsOut sink sink') (line.1 ∙ ap (line_of line.0) t.told_is) t.out)

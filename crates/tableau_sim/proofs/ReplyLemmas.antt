@@ -21,18 +21,18 @@ use Rattle.tab_words.specs.declared.command.Command.TheVariants as called
 use Rattle.tableau_sim.specs.Columns.{reads, takes_memory}
 use Rattle.tableau_sim.specs.Commands.{IsStillCommand}
 use Rattle.tableau_sim.specs.Inside.Reply.{HasInput, HasNoInput, IsOff, IsReplyTo, Makes, StopsReading, outcome_in}
-use Rattle.tableau_sim.specs.Frame.{Answers, HasReadIf, MayHaveReadIf, WritesReply}
+use Rattle.tableau_sim.specs.Frame.{Answers, Due, HasReadIf, MayHaveReadIf, WritesReply}
 use Rattle.tableau_sim.specs.Frame.Due.{LacksMemory, NoCommand, Replied, SourceFailed, TooMuch}
 use Rattle.tableau_sim.specs.Outcomes.{Outcome}
 use Rattle.tableau_sim.specs.Sections.{OfSections}
 use Rattle.tableau_sim.specs.Sections.OfSections.{BadSections, Sectioned}
 
 -- the call replies and writes, and no more: its whole answer comes from these two
-pub answers_of : (R : Command → List ℕ → Outcome → Type 0) (Still : Type 0) (words : List (List ℕ))
+pub answers_of : (R : Command → List ℕ → Outcome → Type 0) (Leaves : Due → List ℕ → Type 0) (words : List (List ℕ))
     (source source' : SourceView) (sink sink' : SinkView) (told : Status) (reply : Result Text Stop)
-    → IsReplyTo R Still words source source' reply
-    → WritesReply sink sink' (outcome_in reply) told → Answers R Still words source source' sink sink' told
-answers_of R Still words source source' sink sink' told reply is written = record {
+    → IsReplyTo R Leaves words source source' reply
+    → WritesReply sink sink' (outcome_in reply) told → Answers R Leaves words source source' sink sink' told
+answers_of R Leaves words source source' sink sink' told reply is written = record {
   input = is.input;
   consumed = is.consumed;
   later = is.later;
@@ -42,10 +42,11 @@ answers_of R Still words source source' sink sink' told reply is written = recor
 }
 
 -- words that are no command: nothing is read
-pub usage_reply : (R : Command → List ℕ → Outcome → Type 0) (Still : Type 0) (words : List (List ℕ))
-    (source : SourceView) (place : ℕ) → IsFaultAt words place → Still
-    → IsReplyTo R Still words source source (Err (stop.Refused (status.Usage place) None))
-usage_reply R Still words source place fault still = record {
+pub usage_reply : (R : Command → List ℕ → Outcome → Type 0) (Leaves : Due → List ℕ → Type 0) (words : List (List ℕ))
+    (source : SourceView) (place : ℕ) → IsFaultAt words place
+    → Leaves (NoCommand place) []
+    → IsReplyTo R Leaves words source source (Err (stop.Refused (status.Usage place) None))
+usage_reply R Leaves words source place fault still = record {
   input = [];
   consumed = Consumes-nil source.rest;
   later = omega arith;
@@ -56,13 +57,13 @@ usage_reply R Still words source place fault still = record {
 }
 
 -- a command that has read what it wants: what it makes of that is due
-pub made_reply : (R : Command → List ℕ → Outcome → Type 0) (Still : Type 0) (words : List (List ℕ))
+pub made_reply : (R : Command → List ℕ → Outcome → Type 0) (Leaves : Due → List ℕ → Type 0) (words : List (List ℕ))
     (old new : SourceView) (command : Command) (input : List ℕ) (reply : Result Text Stop)
     → IsCommand words command → Consumes old.rest new.rest input → old.faults ≤ new.faults
     → HasReadIf (reads command) new input → MayHaveReadIf (reads command) input
-    → (reply ≡ Err stop.NoMemory → (takes_memory command ≡ true) × Still)
-    → Makes (R command input) reply → IsReplyTo R Still words old new reply
-made_reply R Still words old new command input (Ok text) are consumed later read part lacks h = record {
+    → (reply ≡ Err stop.NoMemory → (takes_memory command ≡ true) × Leaves (LacksMemory command) input)
+    → Makes (R command input) reply → IsReplyTo R Leaves words old new reply
+made_reply R Leaves words old new command input (Ok text) are consumed later read part lacks h = record {
   input = input;
   consumed = consumed;
   later = later;
@@ -71,7 +72,7 @@ made_reply R Still words old new command input (Ok text) are consumed later read
   same = refl;
   writable = h.1;
 }
-made_reply R Still words old new command input (Err (stop.Refused refusal host)) are consumed later read part
+made_reply R Leaves words old new command input (Err (stop.Refused refusal host)) are consumed later read part
     lacks h = record {
       input = input;
       consumed = consumed;
@@ -81,7 +82,7 @@ made_reply R Still words old new command input (Err (stop.Refused refusal host))
       same = refl;
       writable = tt {0};
     }
-made_reply R Still words old new command input (Err stop.NoMemory) are consumed later read part lacks h = record {
+made_reply R Leaves words old new command input (Err stop.NoMemory) are consumed later read part lacks h = record {
   input = input;
   consumed = consumed;
   later = later;
@@ -92,12 +93,12 @@ made_reply R Still words old new command input (Err stop.NoMemory) are consumed 
 }
 
 -- a command that reads nothing
-pub unread_reply : (R : Command → List ℕ → Outcome → Type 0) (Still : Type 0) (words : List (List ℕ))
+pub unread_reply : (R : Command → List ℕ → Outcome → Type 0) (Leaves : Due → List ℕ → Type 0) (words : List (List ℕ))
     (source : SourceView) (command : Command) (reply : Result Text Stop) → IsCommand words command
-    → reads command ≡ false → (reply ≡ Err stop.NoMemory → (takes_memory command ≡ true) × Still)
-    → Makes (R command []) reply → IsReplyTo R Still words source source reply
-unread_reply R Still words source command reply are still lacks h =
-    made_reply R Still words source source command [] reply are (Consumes-nil source.rest) (omega arith)
+    → reads command ≡ false → (reply ≡ Err stop.NoMemory → (takes_memory command ≡ true) × Leaves (LacksMemory command) [])
+    → Makes (R command []) reply → IsReplyTo R Leaves words source source reply
+unread_reply R Leaves words source command reply are still lacks h =
+    made_reply R Leaves words source source command [] reply are (Consumes-nil source.rest) (omega arith)
     (subst (λ b. HasReadIf b source []) (sym still) refl) (subst (λ b. MayHaveReadIf b []) (sym still) refl)
     lacks h
 
@@ -119,60 +120,60 @@ reads_unless (called.Selftest seed) still no_help no_version no_gen = absurd sti
 reads_unless other still no_help no_version no_gen = refl
 
 -- a command that has read its whole input
-pub input_reply : (R : Command → List ℕ → Outcome → Type 0) (Still : Type 0) (words : List (List ℕ))
+pub input_reply : (R : Command → List ℕ → Outcome → Type 0) (Leaves : Due → List ℕ → Type 0) (words : List (List ℕ))
     (old new : SourceView) (command : Command) (input : List ℕ) (reply : Result Text Stop)
     → IsCommand words command → reads command ≡ true → HasInput old new input
-    → (reply ≡ Err stop.NoMemory → Still) → Makes (R command input) reply
-    → IsReplyTo R Still words old new reply
-input_reply R Still words old new command input reply are reading has lacks h =
-    made_reply R Still words old new command input reply are has.consumed has.later
+    → (reply ≡ Err stop.NoMemory → Leaves (LacksMemory command) input) → Makes (R command input) reply
+    → IsReplyTo R Leaves words old new reply
+input_reply R Leaves words old new command input reply are reading has lacks h =
+    made_reply R Leaves words old new command input reply are has.consumed has.later
     (subst (λ b. HasReadIf b new input) (sym reading) (has.short, has.ended))
     (subst (λ b. MayHaveReadIf b input) (sym reading) (tt {0}))
     (λ is. (reading_takes command reading, lacks is)) h
 
 -- why a command got no input is due
-stop_due : (R : Command → List ℕ → Outcome → Type 0) (Still : Type 0) (words : List (List ℕ))
+stop_due : (R : Command → List ℕ → Outcome → Type 0) (Leaves : Due → List ℕ → Type 0) (words : List (List ℕ))
     (old new : SourceView) (command : Command) (input : List ℕ) (why : Stop) → IsCommand words command
-    → reads command ≡ true → Still → Consumes old.rest new.rest input → old.faults ≤ new.faults
-    → HasNoInput old new input why → IsReplyTo R Still words old new (Err why)
-stop_due R Still words old new command input why are reading still consumed later
+    → reads command ≡ true → ((due : Due) → Leaves due input) → Consumes old.rest new.rest input → old.faults ≤ new.faults
+    → HasNoInput old new input why → IsReplyTo R Leaves words old new (Err why)
+stop_due R Leaves words old new command input why are reading still consumed later
     (HasNoInput.Failed short rose sound) = record {
       input = input;
       consumed = consumed;
       later = later;
       due = SourceFailed command;
-      is_due = (are, reading, short, rose, sound, still);
+      is_due = (are, reading, short, rose, sound, still (SourceFailed command));
       same = refl;
       writable = tt {0};
     }
-stop_due R Still words old new command input why are reading still consumed later
+stop_due R Leaves words old new command input why are reading still consumed later
     (HasNoInput.TooLong long) = record {
       input = input;
       consumed = consumed;
       later = later;
       due = TooMuch command;
-      is_due = (are, reading, long, still);
+      is_due = (are, reading, long, still (TooMuch command));
       same = refl;
       writable = tt {0};
     }
-stop_due R Still words old new command input why are reading still consumed later HasNoInput.Lacks =
+stop_due R Leaves words old new command input why are reading still consumed later HasNoInput.Lacks =
     let part = subst (λ b. MayHaveReadIf b input) (sym reading) (tt {0}) in
     record {
       input = input;
       consumed = consumed;
       later = later;
       due = LacksMemory command;
-      is_due = (are, reading_takes command reading, part, still);
+      is_due = (are, reading_takes command reading, part, still (LacksMemory command));
       same = refl;
       writable = tt {0};
     }
 
 -- a command that got no input
-pub no_input_reply : (R : Command → List ℕ → Outcome → Type 0) (Still : Type 0) (words : List (List ℕ))
+pub no_input_reply : (R : Command → List ℕ → Outcome → Type 0) (Leaves : Due → List ℕ → Type 0) (words : List (List ℕ))
     (old new : SourceView) (command : Command) (why : Stop) → IsCommand words command
-    → reads command ≡ true → Still → StopsReading old new why → IsReplyTo R Still words old new (Err why)
-no_input_reply R Still words old new command why are reading still stops =
-    stop_due R Still words old new command stops.input why are reading still stops.consumed stops.later stops.why_is
+    → reads command ≡ true → ((due : Due) (input : List ℕ) → Leaves due input) → StopsReading old new why → IsReplyTo R Leaves words old new (Err why)
+no_input_reply R Leaves words old new command why are reading still stops =
+    stop_due R Leaves words old new command stops.input why are reading (λ due. still due stops.input) stops.consumed stops.later stops.why_is
 
 -- ---- sections
 

@@ -32,37 +32,35 @@ use Rattle.tableau_sim.specs.Frame.Due.{LacksMemory, Replied}
 use Rattle.tableau_sim.specs.Inside.Reply.{HasInput, IsOff, Makes, outcome_in}
 use Rattle.tableau_sim.specs.Inside.Stops.{run_stop}
 use Rattle.tableau_sim.specs.Outcomes.{Outcome}
-use Rattle.tableau_sim.specs.Outcomes.Outcome.{Refuses}
+use Rattle.tableau_sim.specs.Outcomes.Outcome.{Refuses, Writes}
 use Rattle.tableau_sim.specs.Replay.{HasScript}
 use Rattle.tableau_sim.specs.Run.{Runs}
-use Rattle.tableau_sim.specs.Seats.{IsStillIfRefused, OnSeat}
+use Rattle.tableau_sim.specs.Seats.{LeavesRun, LeavesSeat, OnSeat}
 use Rattle.tableau_sim.specs.Selftest.{Selftests}
 use Rattle.tableau_sim.specs.Sections.{OfSections}
 use Rattle.tableau_sim.specs.Sections.OfSections.{Sectioned}
 use Rattle.tableau_sim.proofs.ReplyLemmas.{answers_of, input_reply, off_sections}
+use Rattle.tableau_sim.proofs.SeatsLemmas.{run_left}
 use Rattle.std.proofs.KnownBytes.{Consumes-nil}
 use Rattle.tableau_sim.specs.Inside.Running.{AnswersBy, HasBurstRoom}
 
 -- a reply that was written, over a seat that is as it was
-pub answered : (P : Outcome → Type 0) (old new : View) (sink sink' : SinkView) (told : Status) (reply : Result Text Stop)
-    → Makes P reply → new ≡ old → WritesReply sink sink' (outcome_in reply) told
-    → AnswersBy P old new sink sink' told
-answered P old new sink sink' told (Ok text) makes same written = record {
+pub answered : (P : Outcome → Type 0) (Q : Type 0) (old new : View) (sink sink' : SinkView) (told : Status)
+    (reply : Result Text Stop) → Makes P reply → new ≡ old → Q → WritesReply sink sink' (outcome_in reply) told
+    → AnswersBy P Q old new sink sink' told
+answered P Q old new sink sink' told (Ok text) makes same left written = record {
   outcome = outcome_in (Ok text);
-  is = inl makes.0;
-  still = tt {0};
+  is = inl (makes.0, tt {0});
   written = written;
 }
-answered P old new sink sink' told (Err (stop.Refused refusal host)) makes same written = record {
+answered P Q old new sink sink' told (Err (stop.Refused refusal host)) makes same left written = record {
   outcome = outcome_in (Err (stop.Refused refusal host));
-  is = inl makes;
-  still = same;
+  is = inl (makes, same);
   written = written;
 }
-answered P old new sink sink' told (Err stop.NoMemory) makes same written = record {
+answered P Q old new sink sink' told (Err stop.NoMemory) makes same left written = record {
   outcome = outcome_in (Err stop.NoMemory);
-  is = inr refl;
-  still = same;
+  is = inr (refl, left);
   written = written;
 }
 
@@ -100,24 +98,20 @@ room_for course rounds mode s events report kept invariant asked short room = re
 
 -- ---- the whole answer
 
--- where memory was wanting, the seat is as it was
-lacking_still : (old new : View) (outcome : Outcome) → outcome ≡ Refuses status.NoMemory []
-    → IsStillIfRefused old new outcome → new ≡ old
-lacking_still old new outcome is still = subst (IsStillIfRefused old new) is still
-
 -- what was made of two sections, and written, is the whole answer of a run
 pub run_answers : (rounds : ℕ) (mode : RunMode) (old new : View) (words : List (List ℕ))
     (source source' : SourceView) (sink sink' : SinkView) (told : Status) (input : List ℕ)
     → IsCommand words (called.Run rounds mode) → HasInput source source' input → length (sections_of input) ≡ 2
-    → AnswersBy (Runs rounds mode new (sections_of input)) old new sink sink' told
-    → Answers (OnSeat old new) (new ≡ old) words source source' sink sink' told
+    → AnswersBy (Runs rounds mode new (sections_of input)) (LeavesRun rounds mode old new (sections_of input)) old
+    new sink sink' told
+    → Answers (OnSeat old new) (LeavesSeat old new) words source source' sink sink' told
 run_answers rounds mode old new words source source' sink sink' told input are has two by = elim by.is [
   | inl made ↦ record {
     input = input;
     consumed = has.consumed;
     later = has.later;
     due = Replied (called.Run rounds mode) by.outcome;
-    is_due = (are, (has.short, has.ended), (Sectioned by.outcome two made, by.still));
+    is_due = (are, (has.short, has.ended), (Sectioned by.outcome two made.0, made.1));
     written = by.written;
   }
   | inr lacks ↦ record {
@@ -125,8 +119,8 @@ run_answers rounds mode old new words source source' sink sink' told input are h
     consumed = has.consumed;
     later = has.later;
     due = LacksMemory (called.Run rounds mode);
-    is_due = (are, refl, tt {0}, lacking_still old new by.outcome lacks by.still);
-    written = subst (λ o. WritesReply sink sink' o told) lacks by.written;
+    is_due = (are, refl, tt {0}, lacks.1);
+    written = subst (λ o. WritesReply sink sink' o told) lacks.0 by.written;
   }
 ]
 
@@ -142,25 +136,25 @@ pub off_answers : (rounds : ℕ) (mode : RunMode) (view : View) (words : List (L
     (sink sink' : SinkView) (told : Status) (input : List ℕ) (why : Stop)
     → IsCommand words (called.Run rounds mode) → HasInput source source' input → IsOff 2 input why
     → WritesReply sink sink' (outcome_in (Err why)) told
-    → Answers (OnSeat view view) (view ≡ view) words source source' sink sink' told
+    → Answers (OnSeat view view) (LeavesSeat view view) words source source' sink sink' told
 off_answers rounds mode view words source source' sink sink' told input why are has off written =
-    answers_of (OnSeat view view) (view ≡ view) words source source' sink sink' told (Err why)
-    (input_reply (OnSeat view view) (view ≡ view) words source source' (called.Run rounds mode) input (Err why) are refl
-    has (λ lacks. refl) (still_stop rounds mode view input why
+    answers_of (OnSeat view view) (LeavesSeat view view) words source source' sink sink' told (Err why)
+    (input_reply (OnSeat view view) (LeavesSeat view view) words source source' (called.Run rounds mode) input (Err why) are refl
+    has (λ lacks. run_left rounds mode view view (sections_of input) refl) (still_stop rounds mode view input why
     (off_sections 2 (Runs rounds mode view) input why off))) written
 
 -- what was made of a seed, and written, is the whole answer of a selftest, which reads nothing
 pub test_answers : (seed : ℕ) (old new : View) (words : List (List ℕ)) (source : SourceView)
     (sink sink' : SinkView) (told : Status) → IsCommand words (called.Selftest seed)
-    → AnswersBy (Selftests seed new) old new sink sink' told
-    → Answers (OnSeat old new) (new ≡ old) words source source sink sink' told
+    → AnswersBy (Selftests seed new) (new ≡ old) old new sink sink' told
+    → Answers (OnSeat old new) (LeavesSeat old new) words source source sink sink' told
 test_answers seed old new words source sink sink' told are by = elim by.is [
   | inl made ↦ record {
     input = [];
     consumed = Consumes-nil source.rest;
     later = omega arith;
     due = Replied (called.Selftest seed) by.outcome;
-    is_due = (are, refl, (made, by.still));
+    is_due = (are, refl, made);
     written = by.written;
   }
   | inr lacks ↦ record {
@@ -168,17 +162,26 @@ test_answers seed old new words source sink sink' told are by = elim by.is [
     consumed = Consumes-nil source.rest;
     later = omega arith;
     due = LacksMemory (called.Selftest seed);
-    is_due = (are, refl, refl, lacking_still old new by.outcome lacks by.still);
-    written = subst (λ o. WritesReply sink sink' o told) lacks by.written;
+    is_due = (are, refl, refl, lacks.1);
+    written = subst (λ o. WritesReply sink sink' o told) lacks.0 by.written;
   }
 ]
 
--- want of memory, over a seat that is as it was
-pub lacking : (P : Outcome → Type 0) (view : View) (sink sink' : SinkView) (told : Status)
-    → WritesReply sink sink' (Refuses status.NoMemory []) told → AnswersBy P view view sink sink' told
-lacking P view sink sink' told written = record {
+-- want of memory that leaves Q
+pub lacking : (P : Outcome → Type 0) (Q : Type 0) (old new : View) (sink sink' : SinkView) (told : Status) → Q
+    → WritesReply sink sink' (Refuses status.NoMemory []) told → AnswersBy P Q old new sink sink' told
+lacking P Q old new sink sink' told left written = record {
   outcome = Refuses status.NoMemory [];
-  is = inr refl;
-  still = refl;
+  is = inr (refl, left);
+  written = written;
+}
+
+-- an outcome that is no refusal
+pub wrote : (P : Outcome → Type 0) (Q : Type 0) (old new : View) (sink sink' : SinkView) (told : Status)
+    (text : List ℕ) → P (Writes text) → WritesReply sink sink' (Writes text) told
+    → AnswersBy P Q old new sink sink' told
+wrote P Q old new sink sink' told text made written = record {
+  outcome = Writes text;
+  is = inl (made, tt {0});
   written = written;
 }

@@ -1,22 +1,23 @@
 -- The calls with a seat: what they share with those without one, and what a run's `Ok` tells.
 use Rattle.tab_words.specs.declared.command.Usage.{Usage}
-use Rattle.std.proofs.Common.{◌≡◌, ℕ, List, Result, Ok, false, refl}
+use Rattle.std.proofs.Common.{◌≡◌, ℕ, List, Result, Ok, false, refl, inl}
 use Rattle.tab_io.specs.Views.{SourceView, SinkView}
 use Rattle.tab_words.specs.Commands.{IsCommand}
 use Rattle.tab_words.specs.declared.command.Command.{Command}
 use Rattle.tab_words.specs.declared.command.Command.TheVariants as called
 use Rattle.tab_words.specs.declared.command.RunMode.{RunMode}
+use Rattle.tab_words.specs.declared.command.RunMode.TheVariants.{Live}
 use Rattle.round_words.specs.declared.view.View.{View}
 use Rattle.tableau_sim.specs.declared.status.Status.{Status}
 use Rattle.tableau_sim.specs.declared.status.Status.TheVariants as status
 use Rattle.tableau_sim.specs.Columns.{reads}
-use Rattle.tableau_sim.specs.Commands.{AreStill, IsStillCommand, Replies}
+use Rattle.tableau_sim.specs.Commands.{AreStill, IsStillCommand, LeavesNothing, Replies}
 use Rattle.tableau_sim.specs.Frame.{Answers, Due, IsDue}
 use Rattle.tableau_sim.specs.Frame.Due.{LacksMemory, NoCommand, Replied, SourceFailed, TooMuch}
 use Rattle.tableau_sim.specs.Outcomes.{IsOfInput, Outcome, status_of}
 use Rattle.tableau_sim.specs.Outcomes.Outcome.{Refuses}
 use Rattle.tableau_sim.specs.Run.{Runs}
-use Rattle.tableau_sim.specs.Seats.{HasRun, HasTested, OnSeat}
+use Rattle.tableau_sim.specs.Seats.{HasRun, HasTested, LeavesRun, LeavesSeat, OnSeat}
 use Rattle.tableau_sim.specs.Sections.{OfSections}
 use Rattle.tableau_sim.specs.Sections.OfSections.{BadSections, Sectioned}
 use Rattle.tableau_sim.specs.Clauses.{WroteFor}
@@ -69,22 +70,35 @@ left_alone view (called.Run rounds mode) input outcome still h = absurd still
 left_alone view (called.Selftest seed) input outcome still h = absurd still
 left_alone view other input outcome still h = (h, refl)
 
+-- want of memory for a run may leave the seat as it was
+pub run_left : (rounds : ℕ) (mode : RunMode) (old new : View) (sections : List (List ℕ)) → new ≡ old
+    → LeavesRun rounds mode old new sections
+run_left rounds Live old new sections same = inl same
+run_left rounds other old new sections same = same
+
+-- and so may each that isn't a command's reply
+pub seat_left : (old new : View) (due : Due) (input : List ℕ) → new ≡ old → LeavesSeat old new due input
+seat_left old new (LacksMemory (called.Run rounds mode)) input same =
+    run_left rounds mode old new (sections_of input) same
+seat_left old new due input same = same
+
 -- so what is due without a seat is due with one
 due_with_seat : (view : View) (words : List (List ℕ)) (old new : SourceView) (input : List ℕ) (due : Due)
-    → AreStill words → IsDue Replies (Unit {0}) words old new input due
-    → IsDue (OnSeat view view) (view ≡ view) words old new input due
+    → AreStill words → IsDue Replies LeavesNothing words old new input due
+    → IsDue (OnSeat view view) (LeavesSeat view view) words old new input due
 due_with_seat view words old new input (NoCommand place) still h = (h.0, h.1, refl)
 due_with_seat view words old new input (SourceFailed command) still h = (h.0, h.1, h.2, h.3, h.4, refl)
 due_with_seat view words old new input (TooMuch command) still h = (h.0, h.1, h.2, refl)
-due_with_seat view words old new input (LacksMemory command) still h = (h.0, h.1, h.2, refl)
+due_with_seat view words old new input (LacksMemory command) still h =
+    (h.0, h.1, h.2, seat_left view view (LacksMemory command) input refl)
 due_with_seat view words old new input (Replied command outcome) still h =
     (h.0, h.1, left_alone view command input outcome (still command h.0) h.2)
 
 -- and the answer is the same
 pub answers_with_seat : (view : View) (words : List (List ℕ)) (source source' : SourceView)
     (sink sink' : SinkView) (told : Status) → AreStill words
-    → Answers Replies (Unit {0}) words source source' sink sink' told
-    → Answers (OnSeat view view) (view ≡ view) words source source' sink sink' told
+    → Answers Replies LeavesNothing words source source' sink sink' told
+    → Answers (OnSeat view view) (LeavesSeat view view) words source source' sink sink' told
 answers_with_seat view words source source' sink sink' told still a = record {
   input = a.input;
   consumed = a.consumed;

@@ -1,5 +1,5 @@
 -- What each command makes of its input and of the seat: the seat's view before the call and after it.
-use Rattle.std.specs.Prelude.{◌≡◌, ℕ, List, []}
+use Rattle.std.specs.Prelude.{◌≡◌, ◌⊎◌, ℕ, List, []}
 use Rattle.std.specs.Io.KnownBytes.{Consumes}
 use Rattle.tab_core.specs.declared.host.Host.{Host}
 use Rattle.tab_io.specs.Views.{SourceView}
@@ -9,8 +9,13 @@ use Rattle.table_form.specs.Running.Courses.{CourseView}
 use Rattle.host_gen.specs.Generated.{IsGenerated}
 use Rattle.tab_words.specs.declared.command.Command.{Command}
 use Rattle.tab_words.specs.declared.command.Command.TheVariants as command
+use Rattle.tab_words.specs.declared.command.RunMode.{RunMode}
+use Rattle.tab_words.specs.declared.command.RunMode.TheVariants.{Live}
 use Rattle.round_words.specs.declared.view.View.{View}
+use Rattle.live_run.specs.LiveRuns.{RunsSoFar}
 use Rattle.tableau_sim.specs.Commands.{Replies}
+use Rattle.tableau_sim.specs.Frame.{Due}
+use Rattle.tableau_sim.specs.Frame.Due.{LacksMemory}
 use Rattle.tableau_sim.specs.Outcomes.{Outcome}
 use Rattle.tableau_sim.specs.Outcomes.Outcome.{Refuses, Writes}
 use Rattle.tableau_sim.specs.Replay.{HasScript}
@@ -30,6 +35,25 @@ OnSeat old new (command.Run rounds mode) input outcome =
 OnSeat old new (command.Selftest seed) input outcome =
     Selftests seed new outcome × IsStillIfRefused old new outcome
 OnSeat old new other input outcome = Replies other input outcome × (new ≡ old)
+
+-- what want of memory leaves of a run of an input that began before its plans were made: the input has a host and
+-- a script, which was run so far
+pub record HasStopped (rounds : ℕ) (sections : List (List ℕ)) (view : View) : Type 0 where
+  pub host : Host
+  pub events : List Event
+  pub script : HasScript rounds sections host events
+  pub so_far : RunsSoFar rounds host events view
+
+-- memory may be wanting for a run before it begins, and for one with `live` after that too
+abbrev pub LeavesRun : ℕ → RunMode → View → View → List (List ℕ) → Type 0
+LeavesRun rounds Live old new sections = (new ≡ old) ⊎ HasStopped rounds sections new
+LeavesRun rounds mode old new sections = new ≡ old
+
+-- the seat is as it was where no command came to its reply, but for a run that stopped
+abbrev pub LeavesSeat : View → View → Due → List ℕ → Type 0
+LeavesSeat old new (LacksMemory (command.Run rounds mode)) input =
+    LeavesRun rounds mode old new (sections_of input)
+LeavesSeat old new due input = new ≡ old
 
 -- what `Ok` of `run` tells: the input has a host and a script, whose course was run as a whole
 pub record HasRun (rounds : ℕ) (source source' : SourceView) (view : View) : Type 0 where

@@ -5,4 +5,5 @@ pub(crate) mod plan;
 pub(crate) mod plan_whole;
 pub(crate) mod replay;
 pub(crate) mod run;
+pub(crate) mod run_beside;
 pub(crate) mod selftest;

@@ -2,7 +2,7 @@ ghost use Rattle.std.specs.Prelude.{◌≡◌, ◌<◌, ◌≤◌, ◌^◌, ℕ,
 ghost use Rattle.tab_words.specs.Commands.{IsCommand, texts};
 ghost use Rattle.tab_words.specs.Sections.{sections_of};
 ghost use Rattle.tableau_sim.specs.Columns.{reads};
-ghost use Rattle.tableau_sim.specs.Commands.{AreStill, IsStillCommand, Replies};
+ghost use Rattle.tableau_sim.specs.Commands.{AreStill, IsStillCommand, LeavesNothing, Replies};
 ghost use Rattle.tableau_sim.specs.Inside.Reply.{HasGoodNumbers, HasInput, IsOff, IsReplyTo, Makes, StopsReading};
 ghost use Rattle.tableau_sim.specs.declared.input.TheConstants.{INPUT_LIMIT};
 
@@ -29,7 +29,7 @@ pub(crate) fn reply_to<R: Threads + Sync, S: Source>(
     input: &mut S,
 ) -> Reply
     requires { AreStill (texts words.now) }
-    ensures { IsReplyTo Replies (Unit {0}) (texts words.now) (S.state input.old) (S.state input.new) result }
+    ensures { IsReplyTo Replies LeavesNothing (texts words.now) (S.state input.old) (S.state input.new) result }
 {
     match read_words(words) {
         Ok(command) => reply_of(rt, alloc, command, input),
@@ -47,7 +47,7 @@ fn reply_of<R: Threads + Sync, S: Source>(
     requires good { HasGoodNumbers command }
     requires still { IsStillCommand command }
     ensures { (words : List (List ℕ)) → IsCommand words command
-        → IsReplyTo Replies (Unit {0}) words (S.state input.old) (S.state input.new) result }
+        → IsReplyTo Replies LeavesNothing words (S.state input.old) (S.state input.new) result }
 {
     match command {
         Command::Help => Ok(Text::Help),

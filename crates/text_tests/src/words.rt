@@ -163,6 +163,13 @@ fn reads_commands_and_places_faults(rt: HostRuntime) -> Result<(), Fail> {
             }),
         ),
         (
+            "run 10 live",
+            Ok(Command::Run {
+                rounds: 10,
+                mode: RunMode::Live,
+            }),
+        ),
+        (
             "gen 0 1 100",
             Ok(Command::Gen {
                 seed: 0,
@@ -207,6 +214,8 @@ fn reads_commands_and_places_faults(rt: HostRuntime) -> Result<(), Fail> {
         ("run 1 traces", fault(2)),
         ("run 1 trace x", fault(3)),
         ("run 1 burst trace", fault(3)),
+        ("run 1 live trace", fault(3)),
+        ("run live", fault(1)),
         ("gen 1 33 1", fault(2)),
         ("gen 1 1 101", fault(3)),
         ("gen 1 1 1 1", fault(4)),

@@ -7,6 +7,7 @@ use host_doc::read_host;
 use plan_book::make_book;
 use script_doc::{Step, read_script};
 use std::alloc::Global;
+use std::sync::Wait;
 use std::test::Fail;
 use std::thread::Threads;
 use step_machine::World;
@@ -73,7 +74,7 @@ fn input_of(
 
 // Whether a replay of the run to its end is done, has a line for each step that has one, and ends
 // with this line.
-fn ends_whole<R: Threads + Sync>(
+fn ends_whole<R: Threads + Wait + Sync>(
     rt: &R,
     alloc: Global,
     host: &str,

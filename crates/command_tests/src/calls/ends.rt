@@ -5,6 +5,7 @@ use super::{ROOM, call_with};
 use core_workers::FreeGate;
 use std::alloc::Global;
 use std::process::Abort;
+use std::sync::Wait;
 use std::test::Fail;
 use std::thread::Threads;
 
@@ -74,7 +75,7 @@ fn reads_that_fail(rt: HostRuntime) -> Result<(), Fail> {
 }
 
 // Whether the text is cut where the room ends, for every room up to its length.
-fn try_rooms<R: Threads + Sync + Abort>(
+fn try_rooms<R: Threads + Wait + Sync + Abort>(
     rt: &R,
     alloc: Global,
     words: &str,

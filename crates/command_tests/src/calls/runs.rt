@@ -28,7 +28,7 @@ done
 ";
 
 // One vCPU of half a core.
-const HALF: &str = "cores = 1
+pub(super) const HALF: &str = "cores = 1
 [[vcpu]]
 name = \"a\"
 share_ppm = 500000
@@ -81,9 +81,20 @@ capped = true
 0 burst a 60000
 ";
 
-const THREE_CHANGES: &str = "20000 change set a 250000 102702600
+pub(super) const THREE_CHANGES: &str = "20000 change set a 250000 102702600
 40000 change set a 1000 0
 60000 change set a 1000000 0
+";
+
+pub(super) const THREE_REPORT: &str = "run 2 rounds 1 cores 3 events
+change 0 at 20000: planned
+change 1 at 40000: no period for a
+change 2 at 60000: planned
+round 0 plan 0
+round 1 plan 2
+vcpu a offered 153900 slots 153900 shared 51300 gap 51300
+core 0 slots 153900 shared 51300 idle 0
+done
 ";
 
 #[test]
@@ -96,21 +107,7 @@ fn runs_and_refusals(rt: HostRuntime) -> Result<(), Fail> {
     let cut = format!(in rt.alloc(); "{HALF}%%\n5 wake")?;
     let cases = [
         ("run 3", split.as_str(), 0, SPLIT_REPORT),
-        (
-            "run 2",
-            three.as_str(),
-            0,
-            "run 2 rounds 1 cores 3 events
-change 0 at 20000: planned
-change 1 at 40000: no period for a
-change 2 at 60000: planned
-round 0 plan 0
-round 1 plan 2
-vcpu a offered 153900 slots 153900 shared 51300 gap 51300
-core 0 slots 153900 shared 51300 idle 0
-done
-",
-        ),
+        ("run 2", three.as_str(), 0, THREE_REPORT),
         (
             "run 1",
             CAPPED,

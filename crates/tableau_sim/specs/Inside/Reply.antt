@@ -66,13 +66,13 @@ CanBeWritten (Ok text) = IsWritable text
 CanBeWritten (Err why) = Unit {0}
 
 -- what was read, and that the reply is due after it
-pub record IsReplyTo (R : Command → List ℕ → Outcome → Type 0) (Still : Type 0) (words : List (List ℕ))
-    (old new : SourceView) (reply : Result Text Stop) : Type 0 where
+pub record IsReplyTo (R : Command → List ℕ → Outcome → Type 0) (Leaves : Due → List ℕ → Type 0)
+    (words : List (List ℕ)) (old new : SourceView) (reply : Result Text Stop) : Type 0 where
   pub input : List ℕ
   pub consumed : Consumes old.rest new.rest input
   pub later : old.faults ≤ new.faults
   pub due : Due
-  pub is_due : IsDue R Still words old new input due
+  pub is_due : IsDue R Leaves words old new input due
   pub same : outcome_of due ≡ outcome_in reply
   pub writable : CanBeWritten reply
 

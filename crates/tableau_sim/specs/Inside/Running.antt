@@ -20,11 +20,12 @@ use Rattle.tableau_sim.specs.Outcomes.{Outcome}
 use Rattle.tableau_sim.specs.Outcomes.Outcome.{Refuses}
 use Rattle.tableau_sim.specs.Seats.{IsStillIfRefused}
 
--- an outcome of which P holds, or want of memory, was written, and the seat's view was `old` before
-pub record AnswersBy (P : Outcome → Type 0) (old new : View) (sink sink' : SinkView) (told : Status) : Type 0 where
+-- an outcome of which P holds was written, and the seat's view is as before, which was `old`, if that is a refusal;
+-- or want of memory was, which leaves Q
+pub record AnswersBy (P : Outcome → Type 0) (Q : Type 0) (old new : View) (sink sink' : SinkView)
+    (told : Status) : Type 0 where
   pub outcome : Outcome
-  pub is : P outcome ⊎ (outcome ≡ Refuses status.NoMemory [])
-  pub still : IsStillIfRefused old new outcome
+  pub is : (P outcome × IsStillIfRefused old new outcome) ⊎ ((outcome ≡ Refuses status.NoMemory []) × Q)
   pub written : WritesReply sink sink' outcome told
 
 -- the host is the seed's, of 8 cores and 64 vCPUs, and the book is that of it without an event

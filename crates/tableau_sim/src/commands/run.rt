@@ -22,9 +22,10 @@ ghost use Rattle.tableau_sim.specs.Inside.Running.{AnswersBy, HasBurstRoom, IsPr
 ghost use Rattle.tableau_sim.specs.Outcomes.Outcome.{Writes};
 ghost use Rattle.tableau_sim.specs.Replay.{HasScript};
 ghost use Rattle.tableau_sim.specs.Run.{Runs, burst_part};
-ghost use Rattle.tableau_sim.specs.Seats.{OnSeat};
+ghost use Rattle.tableau_sim.specs.Seats.{LeavesRun, LeavesSeat, OnSeat};
 
 use crate::call::Done;
+use crate::commands::run_beside::run_beside;
 use crate::input::{cut, read_input};
 use crate::output::{settle, write_reply};
 use crate::reply::Stop;
@@ -37,6 +38,7 @@ use plan_book::{Outcome, PlanBook, make_book};
 use round_words::{RoundBoard, RoundSeat};
 use script_doc::Script;
 use std::alloc::Global;
+use std::sync::Wait;
 use std::thread::Threads;
 use stint_limit::stint_bound;
 use tab_core::{Host, NoMemory};
@@ -45,7 +47,7 @@ use tab_words::{RunMode, Sections};
 use table_form::Course;
 
 // Answers `run`: reads its input, runs the host's cores on a board that isn't started, and writes the text.
-pub(crate) fn run<R: Threads + Sync, S: Source, K: Sink, G: Gate>(
+pub(crate) fn run<R: Threads + Wait + Sync, S: Source, K: Sink, G: Gate>(
     rt: &R,
     alloc: Global,
     rounds: u32,
@@ -62,7 +64,7 @@ pub(crate) fn run<R: Threads + Sync, S: Source, K: Sink, G: Gate>(
     requires opening { view_of seat ≡ opening }
     ensures board { IsSeatOf board.now result.seat }
     ensures answers { (words : List (List ℕ)) → IsCommand words (called.Run rounds mode)
-        → Answers (OnSeat (view_of seat) (view_of result.seat)) (view_of result.seat ≡ view_of seat) words
+        → Answers (OnSeat (view_of seat) (view_of result.seat)) (LeavesSeat (view_of seat) (view_of result.seat)) words
         (S.state input.old) (S.state input.new) (K.state output.old) (K.state output.new) result.status }
 {
     let bytes = match read_input(alloc, input) {
@@ -86,7 +88,7 @@ pub(crate) fn run<R: Threads + Sync, S: Source, K: Sink, G: Gate>(
 }
 
 // Answers `run` for its two sections, on a board that isn't started.
-fn run_sections<R: Threads + Sync, K: Sink, G: Gate>(
+fn run_sections<R: Threads + Wait + Sync, K: Sink, G: Gate>(
     rt: &R,
     alloc: Global,
     rounds: u32,
@@ -105,12 +107,16 @@ fn run_sections<R: Threads + Sync, K: Sink, G: Gate>(
     requires opening { view_of seat ≡ opening }
     ensures board { IsSeatOf board.now result.seat }
     ensures answers { AnswersBy (Runs rounds mode (view_of result.seat) sections.now)
+        (LeavesRun rounds mode (view_of seat) (view_of result.seat) sections.now)
         (view_of seat) (view_of result.seat) (K.state output.old) (K.state output.new) result.status }
 {
     match script_of(alloc, rounds, sections) {
-        Ok((host, script)) => run_script(
-            rt, alloc, rounds, mode, host, script, output, board, seat, gate,
-        ),
+        Ok((host, script)) => match mode {
+            RunMode::Live => run_beside(rt, alloc, rounds, host, script, output, board, seat, gate),
+            mode => run_script(
+                rt, alloc, rounds, mode, host, script, output, board, seat, gate,
+            ),
+        },
         Err(stop) => Done {
             status: write_reply(output, Err(stop)),
             seat,
@@ -185,7 +191,7 @@ fn burst_room(
     BurstReport::room(alloc, rounds, stints as u32, events as u32)
 }
 
-// Answers `run` for a host and a script.
+// Answers `run` for a host and a script, whose changes are planned before the cores start.
 fn run_script<R: Threads + Sync, K: Sink, G: Gate>(
     rt: &R,
     alloc: Global,
@@ -207,6 +213,7 @@ fn run_script<R: Threads + Sync, K: Sink, G: Gate>(
     ensures board { IsSeatOf board.now result.seat }
     ensures answers { (sections : List (List ℕ)) → HasScript rounds sections host script
         → AnswersBy (Runs rounds mode (view_of result.seat) sections)
+        (LeavesRun rounds mode (view_of seat) (view_of result.seat) sections)
         (view_of seat) (view_of result.seat) (K.state output.old) (K.state output.new) result.status }
 {
     let (run, mut bursts) = match prepare(rt, alloc, rounds, mode, host, script) {
@@ -253,7 +260,7 @@ fn tell_bursts(
         → AreBurstAnswers course.now rounds s script.now bursts.new.answers }
 {
     match mode {
-        RunMode::Report | RunMode::Trace => {}
+        RunMode::Report | RunMode::Trace | RunMode::Live => {}
         RunMode::Burst => bursts.fill(course, rounds, script, crew),
     }
 }
@@ -295,7 +302,7 @@ fn put_ran<K: Sink>(
         ran.now.report) result }
 {
     match mode {
-        RunMode::Report | RunMode::Trace => {
+        RunMode::Report | RunMode::Trace | RunMode::Live => {
             write_run(sink, mode, &run.host, &run.changes, rounds, ran)
         }
         RunMode::Burst => {

@@ -11,7 +11,7 @@ ghost use Rattle.course_run.specs.Runs.{CanBeTold, kept_stints};
 ghost use Rattle.tableau_sim.specs.Frame.{Answers, WritesReply};
 ghost use Rattle.tableau_sim.specs.Inside.Running.{AnswersBy, IsTestHost};
 ghost use Rattle.tableau_sim.specs.Outcomes.Outcome.{Writes};
-ghost use Rattle.tableau_sim.specs.Seats.{OnSeat};
+ghost use Rattle.tableau_sim.specs.Seats.{LeavesSeat, OnSeat};
 ghost use Rattle.tableau_sim.specs.Selftest.{Selftests, selftest_line};
 
 use crate::call::Done;
@@ -45,7 +45,7 @@ pub(crate) fn selftest<R: Threads + Sync, K: Sink, G: Gate>(
     requires opening { view_of seat ≡ opening }
     ensures board { IsSeatOf board.now result.seat }
     ensures answers { (words : List (List ℕ)) (source : SourceView) → IsCommand words (called.Selftest seed)
-        → Answers (OnSeat (view_of seat) (view_of result.seat)) (view_of result.seat ≡ view_of seat) words
+        → Answers (OnSeat (view_of seat) (view_of result.seat)) (LeavesSeat (view_of seat) (view_of result.seat)) words
         source source (K.state output.old) (K.state output.new) result.status }
 {
     run_test(rt, alloc, seed, output, board, seat, gate)
@@ -64,8 +64,8 @@ fn run_test<R: Threads + Sync, K: Sink, G: Gate>(
     requires board { IsSeatOf board.now seat }
     requires opening { view_of seat ≡ opening }
     ensures board { IsSeatOf board.now result.seat }
-    ensures answers { AnswersBy (Selftests seed (view_of result.seat)) (view_of seat) (view_of result.seat)
-        (K.state output.old) (K.state output.new) result.status }
+    ensures answers { AnswersBy (Selftests seed (view_of result.seat)) (view_of result.seat ≡ view_of seat)
+        (view_of seat) (view_of result.seat) (K.state output.old) (K.state output.new) result.status }
 {
     let Ok((host, book)) = test_host(rt, alloc, seed) else {
         return Done {

@@ -5,17 +5,18 @@ use Rattle.tab_words.specs.declared.command.Command.TheVariants as called
 use Rattle.tableau_sim.specs.Inside.Reply.{IsOff}
 use Rattle.tableau_sim.specs.Inside.Running.{AnswersBy}
 use Rattle.tableau_sim.specs.Run.{Runs}
-use Rattle.tableau_sim.specs.Seats.{OnSeat}
+use Rattle.tableau_sim.specs.Seats.{LeavesRun, LeavesSeat, OnSeat}
 use Rattle.tableau_sim.proofs.ReplyLemmas.{answers_of, no_input_reply}
 use Rattle.tableau_sim.proofs.RunLemmas.{off_answers, run_answers}
+use Rattle.tableau_sim.proofs.SeatsLemmas.{seat_left}
 use Rattle.tableau_sim.proofs.commands.run.run.Goals as goal
 
 pub returns-in-Err-clause-answers : goal.returns-in-Err-clause-answers
 returns-in-Err-clause-answers g c = λ words are.
     let view = c.args.seat.view in
-    answers_of (OnSeat view view) (view ≡ view) words _ _ _ _ c.write_reply.result (Err c.in-Err.stop)
-    (no_input_reply (OnSeat view view) (view ≡ view) words _ _ (called.Run c.args.rounds c.args.mode) c.in-Err.stop
-    are refl refl c.in-Err.ensures.stop) c.write_reply.ensures
+    answers_of (OnSeat view view) (LeavesSeat view view) words _ _ _ _ c.write_reply.result (Err c.in-Err.stop)
+    (no_input_reply (OnSeat view view) (LeavesSeat view view) words _ _ (called.Run c.args.rounds c.args.mode) c.in-Err.stop
+    are refl (λ due part. seat_left view view due part refl) c.in-Err.ensures.stop) c.write_reply.ensures
 
 pub run_sections-requires-clause-short : goal.run_sections-requires-clause-short
 run_sections-requires-clause-short g c _ _ i =
@@ -31,7 +32,7 @@ returns-in-Ok-cut-clause-answers g c = λ words are.
     sym (ap (λ (bytes : List ℕ). length (sections_of bytes)) c.deref.ensures.value) ∙ c.in-Ok-cut.ensures.wanted in
     run_answers c.args.rounds c.args.mode old new words _ _ _ _ c.run_sections.result.status c.in-Ok.bytes.items are
     c.in-Ok.ensures.ok two
-    (subst (λ (s : List (List ℕ)). AnswersBy (Runs c.args.rounds c.args.mode new s) old new
+    (subst (λ (s : List (List ℕ)). AnswersBy (Runs c.args.rounds c.args.mode new s) (LeavesRun c.args.rounds c.args.mode old new s) old new
     (g.K.Sink.state c.args.output.now) (g.K.Sink.state c.run_sections.new.output) c.run_sections.result.status)
     sections c.run_sections.ensures.answers)
 

@@ -21,12 +21,14 @@ use Rattle.tableau_sim.specs.Replay.{HasScript}
 use Rattle.tableau_sim.specs.Run.{Runs, burst_part, text_of_run}
 use Rattle.tableau_sim.specs.declared.reply.Stop.{Stop}
 use Rattle.tableau_sim.proofs.RunLemmas.{answered, kept_run, run_stops}
+use Rattle.tableau_sim.proofs.SeatsLemmas.{run_left}
 use Rattle.tableau_sim.proofs.commands.run.run_script.Goals as goal
 
 pub returns-in-Err-clause-answers : goal.returns-in-Err-clause-answers
 returns-in-Err-clause-answers g c = λ sections script.
-    answered (Runs c.args.rounds c.args.mode c.args.seat.view sections) _ _ _ _ _ (Err c.in-Err.stop)
-    (c.in-Err.ensures.stop c.args.seat.view sections script) refl c.write_reply.ensures
+    answered (Runs c.args.rounds c.args.mode c.args.seat.view sections) _ _ _ _ _ _ (Err c.in-Err.stop)
+    (c.in-Err.ensures.stop c.args.seat.view sections script) refl
+    (run_left c.args.rounds c.args.mode _ _ sections refl) c.write_reply.ensures
 
 pub tell_bursts-requires-clause-events : goal.tell_bursts-requires-clause-events
 tell_bursts-requires-clause-events g c =
@@ -105,19 +107,21 @@ returns-in-Ok-run_course-clause-answers g c = λ sections given.
     record {
       outcome = Writes (burst_part c.args.mode run.host run.script answers
           ++ text_of_run c.args.rounds c.args.mode run.host run.script book view told.report);
-      is = inl (Runs.Ran run.host run.script book told.report answers script p.book (record {
-        course_is = of;
-        course_kept = ran.course_kept;
-        started = ran.started;
-        holds = ran.holds;
-        promises = ran.promises;
-        waits = waits run.host run.script book.course c.args.rounds (state_of book.course view) of
-            ran.promises.invariant ran.promises.short_gaps;
-        complete = ran.complete;
-      }) (λ bound long.
-          let most = short long.asked bound long.is in
-          omega (arith, most, long.beyond)) ran.report bursts);
-      still = tt {0};
+      is = inl (
+        Runs.Ran run.host run.script book told.report answers script p.book (record {
+          course_is = of;
+          course_kept = ran.course_kept;
+          started = ran.started;
+          holds = ran.holds;
+          promises = ran.promises;
+          waits = waits run.host run.script book.course c.args.rounds (state_of book.course view) of
+              ran.promises.invariant ran.promises.short_gaps;
+          complete = ran.complete;
+        }) (λ bound long.
+            let most = short long.asked bound long.is in
+            omega (arith, most, long.beyond)) ran.report bursts,
+        tt {0},
+      );
       written = subst (λ (t : List ℕ). WritesReply (g.K.Sink.state c.args.output.now) (g.K.Sink.state c.write_ran.new.output)
           (Writes (burst_part c.args.mode run.host run.script answers ++ t)) c.write_ran.result)
           text c.write_ran.ensures;
@@ -137,5 +141,6 @@ returns-clause-answers g c = λ sections given.
     subst (λ (why : Stop). Makes (Runs c.args.rounds c.args.mode c.in-Err-run_course.seat.view sections) (Err why)) (sym c.stop_of_run.ensures)
     (run_stops c.args.rounds c.args.mode c.in-Err-run_course.seat.view sections run.host run.script book
     c.in-Err-run_course.fault script p.book long) in
-    answered (Runs c.args.rounds c.args.mode c.in-Err-run_course.seat.view sections) _ _ _ _ _ (Err c.stop_of_run.result) stops
-    (c.in-Err-run_course.ensures.still ∙ sym c.requires.opening) c.write_reply-in-Err-run_course.ensures
+    let same = c.in-Err-run_course.ensures.still ∙ sym c.requires.opening in
+    answered (Runs c.args.rounds c.args.mode c.in-Err-run_course.seat.view sections) _ _ _ _ _ _ (Err c.stop_of_run.result) stops
+    same (run_left c.args.rounds c.args.mode _ _ sections same) c.write_reply-in-Err-run_course.ensures

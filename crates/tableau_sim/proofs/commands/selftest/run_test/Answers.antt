@@ -32,17 +32,19 @@ returns-in-Ok-run_course-clause-answers g c =
     tells_of_state book.course 4 Report view told host [] ran in
     record {
       outcome = Writes (selftest_line c.args.seed ++ text_of_run 4 Report host [] book view told.report);
-      is = inl (Selftests.Tested host book told.report c.in-Ok.ensures.generated c.in-Ok.ensures.is (record {
-        course_is = of;
-        course_kept = ran.course_kept;
-        started = ran.started;
-        holds = ran.holds;
-        promises = ran.promises;
-        waits = waits host [] book.course 4 (state_of book.course view) of ran.promises.invariant
-            ran.promises.short_gaps;
-        complete = ran.complete;
-      }) ran.report);
-      still = tt {0};
+      is = inl (
+        Selftests.Tested host book told.report c.in-Ok.ensures.generated c.in-Ok.ensures.is (record {
+          course_is = of;
+          course_kept = ran.course_kept;
+          started = ran.started;
+          holds = ran.holds;
+          promises = ran.promises;
+          waits = waits host [] book.course 4 (state_of book.course view) of ran.promises.invariant
+              ran.promises.short_gaps;
+          complete = ran.complete;
+        }) ran.report,
+        tt {0},
+      );
       written = subst (λ (t : List ℕ). WritesReply (g.K.Sink.state c.args.output.now) (g.K.Sink.state c.write_test.new.output) (Writes (selftest_line c.args.seed ++ t)) c.write_test.result)
           text c.write_test.ensures;
     }

@@ -1,0 +1,2 @@
+pub mod Readies
+pub mod Telling

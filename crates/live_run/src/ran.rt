@@ -1,0 +1,144 @@
+ghost use Rattle.std.specs.Prelude.{◌≡◌, ◌≤◌, IfErr, IfOk, length};
+ghost use Rattle.tab_core.specs.declared.TheConstants.{MAX_ROUNDS};
+ghost use Rattle.script_doc.specs.Script.{AreInRun, AreWithin};
+ghost use Rattle.round_words.specs.Seats.{view_of, IsSeatOf};
+ghost use Rattle.round_words.specs.Views.{opening};
+ghost use Rattle.live_run.specs.Inside.Readies.{HasRoomToTell, IsReady};
+ghost use Rattle.live_run.specs.LiveRuns.{IsRunOf, IsUnplanned, LeavesView};
+
+use crate::telling::tell;
+use core_workers::Gate;
+use course_run::changes_of;
+use live_plan::{LiveBook, LiveCrew, run_live};
+use plan_book::{BookFault, Outcome, PlanBook, make_book};
+use plan_make::PlanFault;
+use round_words::{RoundBoard, RoundSeat};
+use script_doc::Script;
+use std::alloc::{AllocError, Global};
+use std::marker::Model;
+use std::sync::Wait;
+use std::thread::Threads;
+use tab_core::{Host, NoMemory};
+use trace_report::Report;
+
+/// A run that has been made: the script's book, what became of its changes, and the run's report.
+#[derive(Debug, Drop)]
+pub struct Ran {
+    pub(crate) book: PlanBook,
+    pub(crate) changes: Vec<(u32, Outcome)>,
+    pub(crate) report: Report,
+}
+
+impl Model for Ran {
+    ghost use Rattle.live_run.specs.LiveRuns.{RanView, ran_view};
+
+    ghost Value = { RanView };
+
+    ghost view = { λ r. ran_view r.book r.changes.items r.report };
+}
+
+/// Why there is no report of a run.
+#[derive(Debug, Drop)]
+pub enum LiveFault {
+    /// The host has no plan, or memory ran out before the run began.
+    NotBegun(BookFault),
+    /// Memory ran out once the cores had started.
+    Stopped,
+}
+
+/// Runs a script for a host for so many rounds, by threads, on a board that isn't started: the cores start with
+/// the host's plan, and the plans of the changes are made beside them.
+///
+/// The script is one for the host's vCPUs, with all its events in the run. `NotBegun` has the fault that
+/// `make_book` has of the host alone, or want of memory, and leaves the seat as it was. From the start on memory
+/// may run out for a change or for what is told of the run: with `Stopped` the view reads as a run so far, which
+/// needn't be whole. Without a fault it reads as a whole run, and the report is the one of that run. Both hold
+/// by the course that the script makes of the host, whatever the threads did.
+///
+/// It may wait for the threads that it has started, and at last for what is made of a change.
+pub fn run_script<R: Threads + Wait + Sync, G: Gate>(
+    rt: &R,
+    alloc: Global,
+    host: &Host,
+    script: &Script,
+    rounds: u32,
+    board: &RoundBoard,
+    mut seat: RoundSeat,
+    gate: &G,
+) -> Result<(RoundSeat, Ran), (RoundSeat, LiveFault)>
+    requires within { AreWithin (length host.now.vcpus) script.now }
+    requires in_run { AreInRun rounds script.now }
+    requires some { 1 ≤ rounds }
+    requires few { rounds ≤ MAX_ROUNDS }
+    requires board { IsSeatOf board.now seat }
+    requires opening { view_of seat ≡ opening }
+    ensures board { IfOk result (λ r. IsSeatOf board.now r.0) }
+    ensures ran { IfOk result (λ r. IsRunOf rounds host.now script.now (view_of r.0) r.1) }
+    ensures board_left { IfErr result (λ r. IsSeatOf board.now r.0) }
+    ensures left { IfErr result (λ r. LeavesView rounds host.now script.now r.1 (view_of r.0)) }
+{
+    let (live, crew) = match ready(rt, alloc, host, script, rounds) {
+        Ok(taken) => taken,
+        Err(fault) => return Err((seat, LiveFault::NotBegun(fault))),
+    };
+    let outline = live.outline();
+    board.start(&mut seat, outline.lag(), outline.cores(), outline.count());
+    let (seat, crew, stopped) = run_live(rt, alloc, board, seat, crew, &live, gate);
+    if stopped.is_some() {
+        return Err((seat, LiveFault::Stopped));
+    }
+    let Ok((book, changes, mut report)) = room_to_tell(rt, alloc, host, script, rounds) else {
+        return Err((seat, LiveFault::Stopped));
+    };
+    seat.shown();
+    let course = book.course();
+    tell(course, course.cores(), &crew, rounds, &mut report);
+    let ran = Ran {
+        book,
+        changes,
+        report,
+    };
+    Ok((seat, ran))
+}
+
+// What a run begins with: the live book, and the actors.
+fn ready<R: Threads + Sync>(
+    rt: &R,
+    alloc: Global,
+    host: &Host,
+    script: &Script,
+    rounds: u32,
+) -> Result<(LiveBook, LiveCrew), BookFault>
+    requires within { AreWithin (length host.now.vcpus) script.now }
+    requires in_run { AreInRun rounds script.now }
+    requires some { 1 ≤ rounds }
+    requires few { rounds ≤ MAX_ROUNDS }
+    ensures ready { IfOk result (λ r. IsReady rounds host.now script.now r.0 r.1) }
+    ensures cause { IfErr result (IsUnplanned host.now) }
+{
+    let book = LiveBook::make(rt, alloc, host, script)?;
+    let Ok(crew) = LiveCrew::make(rt, alloc, &book, rounds) else {
+        return Err(PlanFault::NoMemory);
+    };
+    Ok((book, crew))
+}
+
+// The script's book, what became of its changes, and room for the report of a run. The host has a plan, so that
+// only memory can be wanting.
+fn room_to_tell<R: Threads + Sync>(
+    rt: &R,
+    alloc: Global,
+    host: &Host,
+    script: &Script,
+    rounds: u32,
+) -> Result<(PlanBook, Vec<(u32, Outcome)>, Report), NoMemory>
+    requires within { AreWithin (length host.now.vcpus) script.now }
+    ensures { IfOk result (λ r. HasRoomToTell rounds host.now script.now r.0 r.1.items r.2) }
+{
+    let Ok(book) = make_book(rt, alloc, host, script) else {
+        return Err(AllocError);
+    };
+    let changes = changes_of(alloc, script.events(), book.outcomes())?;
+    let report = Report::room(alloc, book.course(), rounds)?;
+    Ok((book, changes, report))
+}

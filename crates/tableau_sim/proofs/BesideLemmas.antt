@@ -1,0 +1,86 @@
+-- A run whose changes are planned beside it: what is written of it, and what it leaves.
+use Rattle.std.proofs.Common.{◌≡◌, ℕ, List, [], length, Err, sym, ap, ◌∙◌, subst, inl, inr}
+use Rattle.std.proofs.lemmas.List.{length-map}
+use Rattle.tab_core.specs.declared.host.Host.{Host}
+use Rattle.tab_io.specs.Views.{SinkView}
+use Rattle.tab_words.specs.declared.command.RunMode.TheVariants.{Live}
+use Rattle.script_doc.specs.declared.event.Event.{Event}
+use Rattle.table_form.specs.Running.Promises.{KeepsPromises}
+use Rattle.plan_book.specs.declared.outcome.Outcome.{Outcome as PlanOutcome}
+use Rattle.plan_book.proofs.WaitsLemmas.{waits}
+use Rattle.round_words.specs.declared.view.View.{View}
+use Rattle.round_words.specs.Views.{opening}
+use Rattle.board_state.specs.Readings.{state_of}
+use Rattle.trace_report.specs.ReportText.{report_text}
+use Rattle.trace_report.specs.RunReports.{core_ticks}
+use Rattle.live_run.specs.declared.ran.LiveFault.{LiveFault}
+use Rattle.live_run.specs.declared.ran.LiveFault.TheVariants.{NotBegun, Stopped}
+use Rattle.live_run.specs.LiveRuns.{CanBeTold, IsRunOf, IsUnplanned, LeavesView, RanView}
+use Rattle.tableau_sim.specs.declared.status.Status.{Status}
+use Rattle.tableau_sim.specs.Frame.{WritesReply}
+use Rattle.tableau_sim.specs.Inside.Reply.{outcome_in}
+use Rattle.tableau_sim.specs.Inside.Running.{AnswersBy}
+use Rattle.tableau_sim.specs.Inside.Stops.{live_stop, plan_stop}
+use Rattle.tableau_sim.specs.Outcomes.Outcome.{Writes}
+use Rattle.tableau_sim.specs.Replay.{HasScript}
+use Rattle.tableau_sim.specs.Run.{Runs, RunsWhole}
+use Rattle.tableau_sim.specs.Seats.{LeavesRun}
+use Rattle.tableau_sim.proofs.RunLemmas.{answered, lacking}
+use Rattle.tableau_sim.proofs.StopsLemmas.{plan_stopped}
+
+module _ (rounds : ℕ) (host : Host) (events : List Event) (view : View) (ran : RanView) (is : IsRunOf rounds host events view ran) where
+  promises : KeepsPromises ran.book.course rounds (state_of ran.book.course view)
+  promises = is.so_far.promises ran.book.course is.course_kept is.book.course
+
+  -- it can be written
+  pub told_live : CanBeTold host ran
+  told_live = record {
+    each_vcpu = is.report.is.each_vcpu ∙ sym is.vcpus;
+    each_core = ap length is.report.is.cores ∙ (length-map is.report.accounts core_ticks
+        ∙ (is.report.are.size ∙ (promises.invariant.size ∙ is.book.course.cores)));
+  }
+
+  -- it is a whole run
+  whole_live : RunsWhole rounds host events ran.book.course view
+  whole_live =
+      let of = is.book.course in
+      let begun = is.so_far.started in record {
+        course_is = of;
+        course_kept = is.course_kept;
+        started = record {
+          started = begun.started;
+          lag_is = begun.lag_is ∙ sym of.lag;
+          cores_are = begun.cores_are ∙ sym of.cores;
+          events_are = begun.events_are ∙ (sym (length-map events (λ (event : Event). event.tick)) ∙ sym (ap length of.ticks));
+        };
+        holds = is.so_far.holds;
+        promises = promises;
+        waits = waits host events ran.book.course rounds (state_of ran.book.course view) of promises.invariant promises.short_gaps;
+        complete = is.complete;
+      }
+
+  -- and its report is what `run` with `live` writes
+  pub ran_live : (sections : List (List ℕ)) → HasScript rounds sections host events → Runs rounds Live view sections
+      (Writes (report_text host ran.changes (length ran.book.course.ticks) rounds ran.report))
+  ran_live sections script =
+      subst (λ (changes : List (ℕ × PlanOutcome)). Runs rounds Live view sections
+      (Writes (report_text host changes (length ran.book.course.ticks) rounds ran.report))) (sym is.changes)
+      (Runs.Ran host events ran.book ran.report [] script is.book whole_live
+      (λ bound long. (let asked = long.asked in absurd cc)) is.report (λ asked. absurd cc))
+
+-- without a report it didn't begin, or it stopped
+pub left_live : (rounds : ℕ) (old new : View) (sections : List (List ℕ)) (host : Host) (events : List Event)
+    (fault : LiveFault) (sink sink' : SinkView) (told : Status) → HasScript rounds sections host events → old ≡ opening
+    → LeavesView rounds host events fault new → WritesReply sink sink' (outcome_in (Err (live_stop fault host))) told
+    → AnswersBy (Runs rounds Live new sections) (LeavesRun rounds Live old new sections) old new sink sink' told
+left_live rounds old new sections host events (NotBegun fault) sink sink' told script first left written =
+    let same : new ≡ old = left.0 ∙ sym first in
+    answered (Runs rounds Live new sections) (LeavesRun rounds Live old new sections) old new sink sink' told
+    (Err (plan_stop fault host))
+    (plan_stopped (Runs rounds Live new sections) host fault
+    (λ vcpu e. Runs.NoPeriod host events vcpu script (subst (IsUnplanned host) e left.1))
+    (λ vcpu rest over e. Runs.NoRoom host events vcpu rest over script (subst (IsUnplanned host) e left.1)))
+    same (inl same) written
+left_live rounds old new sections host events Stopped sink sink' told script first left written =
+    lacking (Runs rounds Live new sections) (LeavesRun rounds Live old new sections) old new sink sink' told
+    (inr (record { host = host; events = events; script = script; so_far = left })) written
