@@ -23,6 +23,7 @@ install: all
 	install -m 755 $(program) "$(to)/bin/tableau"
 	install -m 755 $(tools) "$(to)/bin/tableau-tools"
 	install -m 644 docs/tableau.1 "$(to)/share/man/man1/tableau.1"
+	install -m 644 docs/tableau-tools.1 "$(to)/share/man/man1/tableau-tools.1"
 	install -m 644 docs/tableau-host.5 "$(to)/share/man/man5/tableau-host.5"
 	install -m 644 completions/tableau.bash "$(to)/share/bash-completion/completions/tableau"
 	install -m 644 completions/_tableau "$(to)/share/zsh/site-functions/_tableau"
@@ -33,7 +34,8 @@ install: all
 	.ci/record $(program) > "$(to)/share/doc/tableau/BUILD"
 
 uninstall:
-	rm -f "$(to)/bin/tableau" "$(to)/bin/tableau-tools" "$(to)/share/man/man1/tableau.1" "$(to)/share/man/man5/tableau-host.5"
+	rm -f "$(to)/bin/tableau" "$(to)/bin/tableau-tools" "$(to)/share/man/man5/tableau-host.5"
+	rm -f "$(to)/share/man/man1/tableau.1" "$(to)/share/man/man1/tableau-tools.1"
 	rm -f "$(to)/share/bash-completion/completions/tableau" "$(to)/share/zsh/site-functions/_tableau"
 	rm -f "$(to)/share/fish/vendor_completions.d/tableau.fish"
 	rm -rf "$(to)/share/doc/tableau"

@@ -1,16 +1,22 @@
-use clap::{Arg, Command, value_parser};
+use clap::{Arg, ArgAction, Command, value_parser};
 use std::alloc::{AllocError, Global};
 use tab_core::{MAX_TICK_NS, MIN_TICK_NS};
 
 /// The words of the program.
 pub(crate) fn command<'a>(alloc: Global) -> Result<Command<'a>, AllocError> {
     let export = export_command(alloc)?;
+    let table = table_command(alloc)?;
+    let diff = diff_command(alloc)?;
+    let sections = sections_command(alloc)?;
     Command::new(alloc, "tableau-tools")
         .version("0.1.0")
         .about("Shows what tableau wrote: plans, replays and traces")
         .subcommand_required(true)
         .arg_required_else_help(true)
-        .subcommand(export)
+        .subcommand(export)?
+        .subcommand(table)?
+        .subcommand(diff)?
+        .subcommand(sections)
 }
 
 // The words of `export`.
@@ -24,6 +30,41 @@ fn export_command<'a>(alloc: Global) -> Result<Command<'a>, AllocError> {
         .arg(format)?
         .arg(file_arg(alloc))?
         .arg(tick_arg(alloc))
+}
+
+// The words of `table`.
+fn table_command<'a>(alloc: Global) -> Result<Command<'a>, AllocError> {
+    Command::new(alloc, "table")
+        .about("Writes the shares, waits and loads of a plan, beside what its host asks for")
+        .arg(file_arg(alloc))?
+        .arg(tick_arg(alloc))
+}
+
+// The words of `diff`.
+fn diff_command<'a>(alloc: Global) -> Result<Command<'a>, AllocError> {
+    let old = Arg::new(alloc, "OLD").required(true).help("A plan text");
+    let new = Arg::new(alloc, "NEW")
+        .required(true)
+        .help("Another plan text");
+    Command::new(alloc, "diff")
+        .about(
+            "Writes what differs between two plans; ends with 1 where they differ, 3 for a fault",
+        )
+        .arg(old)?
+        .arg(new)?
+        .arg(tick_arg(alloc))
+}
+
+// The words of `sections`.
+fn sections_command<'a>(alloc: Global) -> Result<Command<'a>, AllocError> {
+    let files = Arg::new(alloc, "FILE")
+        .required(true)
+        .action(ArgAction::Append)
+        .num_args(1..)
+        .help("The files of the sections, in their order");
+    Command::new(alloc, "sections")
+        .about("Writes files as the sections of one text, with a line %% between each two")
+        .arg(files)
 }
 
 // The file to read.

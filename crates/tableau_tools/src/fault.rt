@@ -1,3 +1,4 @@
+use host_doc::HostFault;
 use std::alloc::{AllocError, AllocFailed};
 use tab_io::WriteFault;
 use thiserror::Error;
@@ -8,6 +9,16 @@ use view_doc::ReadView;
 pub(crate) enum Fault {
     #[error("line {line} isn't of a plan, a replay or a trace, or may not stand there")]
     BadLine { line: u32 },
+    #[error("line {line} of the plan isn't of a plan text, or may not stand there")]
+    BadPlanLine { line: u32 },
+    #[error("the {0}")]
+    BadHost(HostFault),
+    #[error("the text is no plan")]
+    NoPlan,
+    #[error("{count} sections, and not a plan, or a host and its plan, with a line %% between them")]
+    BadSections { count: u32 },
+    #[error("line {line} of file {file} is %%, which parts sections")]
+    HasSeparator { file: u32, line: u32 },
     #[error("the input is longer than 67108864 bytes")]
     TooLong,
     #[error("the input can't be read")]

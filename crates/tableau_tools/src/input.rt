@@ -13,20 +13,22 @@ pub(crate) const LIMIT: usize = 67_108_864;
 
 /// What the file that the words name shows, or standard input where they name none.
 pub(crate) fn view_of(rt: &HostRuntime, matches: &ArgMatches<'_>) -> Result<View, Fault> {
-    match matches.get_str("FILE") {
-        Some(path) => match fs::open(rt, path) {
-            Ok(file) => view_from(rt, file),
-            Err(_) => Err(Fault::NoFile),
-        },
-        None => view_from(rt, rt.reader()),
-    }
-}
-
-// What the text of a reader shows.
-fn view_from<R: Read + Drop>(rt: &HostRuntime, reader: R) -> Result<View, Fault> {
-    let bytes = bytes_of(rt, reader)?;
+    let bytes = input_of(rt, matches.get_str("FILE"))?;
     let view = read_view(rt.alloc(), &bytes)?;
     Ok(view)
+}
+
+/// All bytes of the file of this path, or of standard input where there is none.
+pub(crate) fn input_of(rt: &HostRuntime, path: Option<&str>) -> Result<Vec<u8>, Fault>
+    ensures { IfOk result (λ bytes. length bytes.items ≤ LIMIT) }
+{
+    match path {
+        Some(path) => match fs::open(rt, path) {
+            Ok(file) => bytes_of(rt, file),
+            Err(_) => Err(Fault::NoFile),
+        },
+        None => bytes_of(rt, rt.reader()),
+    }
 }
 
 // All bytes of a reader, of which there are few enough.

@@ -1,13 +1,17 @@
 //! The program `tableau-tools`: it shows what `tableau` wrote.
 //!
 //! Each command has a file. What it reads is a text, and what it writes is a definition's text of the
-//! view that was read: `view_doc` has the reader, `view_export` the texts.
+//! view that was read: `view_doc` has the reader, `view_export` and `view_table` the texts.
 #![tactic(auto)]
 
 mod command;
+mod diff;
 mod export;
 mod fault;
 mod input;
+mod plan;
+mod sections;
+mod table;
 
 use clap::{ArgMatches, Error};
 use fault::Fault;
@@ -17,18 +21,24 @@ use std::process::ExitCode;
 // The status of a text that is refused, and of a fault.
 const REFUSED: u8 = 1;
 
+// The status of a fault of `diff`, whose 1 says that the plans differ.
+const DIFF_REFUSED: u8 = 3;
+
 fn main(rt: HostRuntime) -> ExitCode {
     match run(&rt) {
         Ok(status) => ExitCode::from(status),
-        Err(fault) => {
-            // (where the line can't be written, the status says it)
-            let _ = eprintln!(rt; "tableau-tools: {fault}");
-            ExitCode::from(REFUSED)
-        }
+        Err(fault) => ExitCode::from(refusal(&rt, fault, REFUSED)),
     }
 }
 
-// Does what the words say. The status is 0, or 2 where they are no command.
+// Says why a command doesn't end well, and gives the status.
+fn refusal(rt: &HostRuntime, fault: Fault, status: u8) -> u8 {
+    // (where the line can't be written, the status says it)
+    let _ = eprintln!(rt; "tableau-tools: {fault}");
+    status
+}
+
+// Does what the words say. The status is 0 or the command's, or 2 where they are no command.
 fn run(rt: &HostRuntime) -> Result<u8, Fault> {
     let Ok(all) = env::args(rt) else {
         return Err(Fault::NoText);
@@ -41,10 +51,7 @@ fn run(rt: &HostRuntime) -> Result<u8, Fault> {
         return Err(Fault::NoMemory);
     };
     match command.try_get_matches_from(words.as_slice()) {
-        Ok(matches) => {
-            dispatch(rt, &matches)?;
-            Ok(0)
-        }
+        Ok(matches) => dispatch(rt, &matches),
         Err(error) => Ok(told(rt, &error)),
     }
 }
@@ -55,10 +62,17 @@ fn told(rt: &HostRuntime, error: &Error) -> u8 {
     if error.exit_code() == 0 { 0 } else { 2 }
 }
 
-// Does the command that was met.
-fn dispatch(rt: &HostRuntime, matches: &ArgMatches<'_>) -> Result<(), Fault> {
+// Does the command that was met, and gives its status.
+fn dispatch(rt: &HostRuntime, matches: &ArgMatches<'_>) -> Result<u8, Fault> {
     match matches.subcommand() {
-        Some(("export", matches)) => export::export(rt, matches),
-        _ => Ok(()),
+        Some(("export", matches)) => export::export(rt, matches)?,
+        Some(("table", matches)) => table::table(rt, matches)?,
+        Some(("sections", matches)) => sections::sections(rt, matches)?,
+        Some(("diff", matches)) => match diff::diff(rt, matches) {
+            Ok(differ) => return Ok(u8::from(differ)),
+            Err(fault) => return Ok(refusal(rt, fault, DIFF_REFUSED)),
+        },
+        _ => {}
     }
+    Ok(0)
 }

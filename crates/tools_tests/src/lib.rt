@@ -7,4 +7,6 @@ mod exports;
 #[cfg(test)]
 mod samples;
 #[cfg(test)]
+mod tables;
+#[cfg(test)]
 mod views;

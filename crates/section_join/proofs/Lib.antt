@@ -1,0 +1,3 @@
+pub mod RowLemmas
+pub mod SectionLemmas
+pub mod TurnLemmas

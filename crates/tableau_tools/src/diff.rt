@@ -1,0 +1,54 @@
+ghost use Rattle.std.specs.Prelude.{◌≤◌, length};
+ghost use Rattle.tab_core.specs.declared.TheConstants.{MAX_VCPUS};
+
+use crate::fault::Fault;
+use crate::input::input_of;
+use crate::plan::plan_of;
+use clap::ArgMatches;
+use std::io;
+use std::io::BufWriter;
+use tab_core::TICK_NS;
+use tab_io::{MemSink, Put, Sink, StdSink, write_all};
+use view_doc::View;
+use view_table::{figures_of, write_diff};
+
+// More bytes than what differs between two plans takes.
+const ROOM: usize = 1_048_576;
+
+/// Does `diff`: it writes what differs between two plans, and says whether anything does.
+pub(crate) fn diff(rt: &HostRuntime, matches: &ArgMatches<'_>) -> Result<bool, Fault> {
+    let old_bytes = input_of(rt, matches.get_str("OLD"))?;
+    let old = plan_of(rt.alloc(), &old_bytes)?;
+    let new_bytes = input_of(rt, matches.get_str("NEW"))?;
+    let new = plan_of(rt.alloc(), &new_bytes)?;
+    let tick_ns = matches.get_one::<u32>("tick").unwrap_or(TICK_NS);
+    put_differences(rt, &old, &new, tick_ns)
+}
+
+// Writes what differs, and says whether anything does.
+fn put_differences(rt: &HostRuntime, old: &View, new: &View, tick_ns: u32) -> Result<bool, Fault>
+    requires old { length old.now.tasks.items ≤ MAX_VCPUS }
+    requires new { length new.now.tasks.items ≤ MAX_VCPUS }
+{
+    let old_figures = figures_of(rt.alloc(), old)?;
+    let new_figures = figures_of(rt.alloc(), new)?;
+    let Ok(mut text) = MemSink::with_room(rt.alloc(), ROOM) else {
+        return Err(Fault::NoMemory);
+    };
+    write_diff(&mut text, old, &old_figures, new, &new_figures, tick_ns)?;
+    put_text(rt, text.bytes())?;
+    Ok(!text.bytes().is_empty())
+}
+
+// Writes a text to standard output.
+fn put_text(rt: &HostRuntime, text: &[u8]) -> Result<(), Fault> {
+    let Ok(writer) = BufWriter::new(rt.alloc(), io::writer(rt)) else {
+        return Err(Fault::NoMemory);
+    };
+    let mut sink = StdSink::of(writer);
+    write_all(&mut sink, text)?;
+    match sink.finish() {
+        Put::Took(_) => Ok(()),
+        Put::Failed => Err(Fault::WriteFault),
+    }
+}

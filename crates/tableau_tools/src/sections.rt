@@ -1,0 +1,63 @@
+ghost use Rattle.std.specs.Prelude.{◌<◌, ◌^◌, length};
+
+use crate::fault::Fault;
+use crate::input::input_of;
+use clap::ArgMatches;
+use section_join::{first_cut, lacks_feed, returns_in, write_mended, write_separator};
+use std::io;
+use std::io::BufWriter;
+use tab_io::{Put, Sink, StdSink, WriteFault};
+
+/// Does `sections`: it writes files as the sections of one text, and tells what it mended.
+pub(crate) fn sections(rt: &HostRuntime, matches: &ArgMatches<'_>) -> Result<(), Fault> {
+    let mut texts = Vec::new(rt.alloc());
+    let mut number = 0u32;
+    let Some(paths) = matches.get_strs("FILE") else {
+        return Ok(());
+    };
+    for path in paths {
+        number = number.saturating_add(1);
+        let text = input_of(rt, Some(*path))?;
+        if let Some(line) = first_cut(&text) {
+            return Err(Fault::HasSeparator { file: number, line });
+        }
+        tell_mended(rt, path, &text);
+        texts.push(text)?;
+    }
+    let Ok(writer) = BufWriter::new(rt.alloc(), io::writer(rt)) else {
+        return Err(Fault::NoMemory);
+    };
+    let mut sink = StdSink::of(writer);
+    put_texts(&mut sink, texts.as_slice())?;
+    match sink.finish() {
+        Put::Took(_) => Ok(()),
+        Put::Failed => Err(Fault::WriteFault),
+    }
+}
+
+// Tells on standard error what is mended in a file.
+fn tell_mended(rt: &HostRuntime, path: &str, text: &[u8])
+    requires { length text.now < 2 ^ 31 }
+{
+    let returns = returns_in(text);
+    if returns > 0 {
+        // (where a line can't be written, what is written stays as it is)
+        let _ = eprintln!(rt;
+            "tableau-tools: {path}: lines that ended in a carriage return: {returns}"
+        );
+    }
+    if lacks_feed(text) {
+        let _ = eprintln!(rt; "tableau-tools: {path}: the last line had no line feed");
+    }
+}
+
+// Writes the texts with mended ends and a separator between each two.
+fn put_texts<K: Sink>(sink: &mut K, texts: &[Vec<u8>]) -> Result<(), WriteFault> {
+    for (number, text) in texts.iter().enumerate() {
+        if number > 0 {
+            write_separator(sink)?;
+        }
+        write_mended(sink, text)?;
+    }
+    Ok(())
+}

@@ -1,0 +1,31 @@
+-- The column of names.
+use Rattle.std.proofs.Common.{◌≡◌, ℕ, ◌+◌, ◌∙◌, ap, sym, max, List, length, refl, add-one, Option, Some, ◌++◌}
+use Rattle.vcpu_names.specs.Names.{name_at}
+use Rattle.view_table.specs.Table.{core_words, row_cells, row_of, vcpu_row, width_below}
+use Rattle.view_table.specs.Waits.{wait_of}
+use Rattle.std.specs.List.{slice_get}
+use Rattle.tab_core.specs.declared.vcpu.Vcpu.{Vcpu}
+use Rattle.view_doc.specs.declared.view.Stretch.{Stretch}
+use Rattle.view_doc.specs.declared.view.Task.{Task}
+
+-- its width before the first name
+pub width_below-zero : (names : List (List ℕ)) → width_below names 0 ≡ 4
+unfolding width_below
+width_below-zero names = refl
+
+-- and with one more
+pub width_below-more : (names : List (List ℕ)) (v : ℕ)
+    → width_below names (v + 1) ≡ max (width_below names v) (length (name_at names v))
+unfolding width_below
+width_below-more names v = ap (width_below names) (add-one v)
+
+-- the row of a vCPU that has a line
+pub row_at : (host : Option (List Vcpu)) (tick width : ℕ) (names : List (List ℕ)) (tasks : List Task)
+    (slots : List Stretch) (cores v : ℕ) (t : Task) (name : List ℕ) (wait : ℕ)
+    → slice_get tasks v ≡ Some t → name ≡ name_at names v → wait ≡ wait_of slots v
+    → vcpu_row host tick width names tasks slots cores v
+    ≡ row_cells host tick width name t wait ++ core_words slots cores v
+row_at host tick width names tasks slots cores v t name wait has named waits =
+    ap (row_of host tick width names slots cores v) has
+    ∙ (ap (λ n. row_cells host tick width n t (wait_of slots v) ++ core_words slots cores v) (sym named)
+    ∙ ap (λ w. row_cells host tick width name t w ++ core_words slots cores v) (sym waits))

@@ -1,0 +1,35 @@
+-- The cells of a table: texts and numbers in columns of a width, which longer ones overrun.
+use Rattle.std.specs.Prelude.{ℕ, ◌-◌, ◌/◌, ◌%◌, ◌++◌, List, codes, decimal, length}
+use Rattle.tab_words.specs.Texts.{texts_below}
+
+-- so many spaces
+unfoldable pub spaces : ℕ → List ℕ
+spaces n = texts_below (λ _. codes " ") n
+
+-- a text at the left of its column, and at the right
+unfoldable pub left : ℕ → List ℕ → List ℕ
+left width text = text ++ spaces (width - length text)
+
+unfoldable pub right : ℕ → List ℕ → List ℕ
+right width text = spaces (width - length text) ++ text
+
+-- a whole number, at the right
+unfoldable pub count_cell : ℕ → ℕ → List ℕ
+count_cell width n = right width (decimal n)
+
+-- a number below 1000 as three digits behind a point, and one below 10000 as four
+unfoldable pub three_behind : ℕ → List ℕ
+three_behind n = codes "." ++ (decimal (n / 100) ++ (decimal (n / 10 % 10) ++ decimal (n % 10)))
+
+unfoldable pub four_behind : ℕ → List ℕ
+four_behind n = codes "." ++ (decimal (n / 1000) ++ (decimal (n / 100 % 10)
+    ++ (decimal (n / 10 % 10) ++ decimal (n % 10))))
+
+-- parts per million as percent with four digits behind the point, which is exact; the width is that of
+-- what stands before it
+unfoldable pub percent_cell : ℕ → ℕ → List ℕ
+percent_cell width ppm = count_cell width (ppm / 10000) ++ four_behind (ppm % 10000)
+
+-- nanoseconds as milliseconds with three digits behind the point, rounded down
+unfoldable pub millis_cell : ℕ → ℕ → List ℕ
+millis_cell width ns = count_cell width (ns / 1000000) ++ three_behind (ns / 1000 % 1000)

@@ -1,0 +1,13 @@
+-- What the cells that the writers name write.
+use Rattle.std.specs.Prelude.{ℕ, List}
+use Rattle.view_table.specs.Cells.{count_cell, left, millis_cell, percent_cell, right}
+use Rattle.view_table.specs.declared.cells.Cell.{Cell}
+use Rattle.view_table.specs.declared.cells.Cell.TheVariants.{Text, Left, Right, Count, Percent, Millis}
+
+abbrev pub cell_text : Cell → List ℕ
+cell_text (Text text) = text.now
+cell_text (Left width text) = left width text.now
+cell_text (Right width text) = right width text.now
+cell_text (Count width n) = count_cell width n
+cell_text (Percent width ppm) = percent_cell width ppm
+cell_text (Millis width ns) = millis_cell width ns

@@ -1,0 +1,129 @@
+-- The tables of a plan: a row for each of its vCPUs, and one for each of its cores.
+use Rattle.std.specs.Prelude.{ℕ, zero, suc, ◌*◌, ◌-◌, ◌/◌, ◌++◌, ◌==◌, ◌&&◌, nat_lt, nat_le, Bool, true, false, if◌then◌else◌, max, List, [], ◌∷◌, codes, decimal, length, Option, Some, None, slice_get}
+use Rattle.std.specs.Str.{bytes_eq}
+use Rattle.tab_core.specs.declared.TheConstants.{ROUND, WHOLE_PPM}
+use Rattle.tab_core.specs.declared.reservation.Reservation.{Reservation}
+use Rattle.tab_core.specs.declared.vcpu.Vcpu.{Vcpu}
+use Rattle.tab_words.specs.Texts.{texts_below}
+use Rattle.vcpu_names.specs.Names.{name_at}
+use Rattle.view_doc.specs.declared.view.Stretch.{Stretch}
+use Rattle.view_doc.specs.declared.view.Task.{Task}
+use Rattle.view_doc.specs.declared.view.View.{View}
+use Rattle.view_table.specs.Cells.{count_cell, left, millis_cell, percent_cell, right}
+use Rattle.view_table.specs.Loads.{load_of, stands_on}
+use Rattle.view_table.specs.Waits.{wait_of}
+
+-- ---- numbers
+
+-- a cost in each period as parts per million of a core, rounded down; 0 where the period is 0
+abbrev pub share_of : Task → ℕ
+share_of t = if t.period == 0 then 0 else t.cost * WHOLE_PPM / t.period
+
+-- ticks as parts per million of a round, rounded down
+abbrev pub of_round : ℕ → ℕ
+of_round ticks = ticks * WHOLE_PPM / ROUND
+
+-- what a host's vCPU of this name has reserved, if one of this name is admitted
+abbrev pub asked_of : List Vcpu → List ℕ → Option Reservation
+asked_of [] name = None
+asked_of (vcpu ∷ vcpus) name = if bytes_eq vcpu.name name then vcpu.reservation else asked_of vcpus name
+
+-- the share and the wait are as was promised; a wait of two rounds is without an end
+abbrev pub is_kept : ℕ → Reservation → ℕ → ℕ → Bool
+is_kept tick r share wait = nat_le r.share_ppm share
+    && (nat_lt wait (2 * ROUND) && nat_le (wait * tick) r.latency_ns)
+
+-- the width of the column of names, which has four bytes at least
+unfoldable pub width_below : List (List ℕ) → ℕ → ℕ
+width_below names zero = 4
+width_below names (suc v) = max (width_below names v) (length (name_at names v))
+
+-- ---- cells
+
+-- a wait, which has no end where it takes two rounds
+abbrev pub wait_cell : ℕ → ℕ → List ℕ
+wait_cell tick wait = if nat_lt wait (2 * ROUND) then millis_cell 7 (wait * tick) else right 11 (codes "endless")
+
+abbrev pub yes_or_no : Bool → List ℕ
+yes_or_no true = codes "yes"
+yes_or_no false = codes "no"
+
+-- the share that was asked for, or a dash
+abbrev pub asked_cell : Option Reservation → List ℕ
+asked_cell None = right 10 (codes "-")
+asked_cell (Some r) = percent_cell 5 r.share_ppm
+
+-- the latency that was promised, or a dash
+abbrev pub promised_cell : Option Reservation → List ℕ
+promised_cell None = right 13 (codes "-")
+promised_cell (Some r) = millis_cell 9 r.latency_ns
+
+-- whether all was kept, or a dash
+abbrev pub kept_cell : ℕ → Option Reservation → ℕ → ℕ → List ℕ
+kept_cell tick None share wait = right 6 (codes "-")
+kept_cell tick (Some r) share wait = right 6 (yes_or_no (is_kept tick r share wait))
+
+-- a core where the vCPU has a slot
+abbrev pub core_word : List Stretch → ℕ → ℕ → List ℕ
+core_word slots v core = if stands_on slots v core then codes " " ++ decimal core else []
+
+-- the cores where the vCPU has slots, which end its row
+abbrev pub core_words : List Stretch → ℕ → ℕ → List ℕ
+core_words slots cores v = codes " " ++ (texts_below (core_word slots v) cores ++ codes "\n")
+
+-- ---- rows
+
+-- the first row, which names the columns; what was asked for stands where there is a host
+abbrev pub head_text : Option (List Vcpu) → List ℕ
+head_text None = codes "   share %  period ms    wait ms  cores\n"
+head_text (Some vcpus) =
+    codes "   asked %   given %  period ms    wait ms  promised ms  kept  cores\n"
+
+-- the cells of a vCPU's row, with its longest wait
+unfoldable pub plain_cells : ℕ → ℕ → List ℕ → Task → ℕ → List ℕ
+plain_cells tick width name t wait = left width name ++ (percent_cell 5 (share_of t)
+    ++ (millis_cell 7 (t.period * tick) ++ wait_cell tick wait))
+
+-- the same beside what was asked for
+unfoldable pub asked_cells : ℕ → ℕ → List ℕ → Task → ℕ → Option Reservation → List ℕ
+asked_cells tick width name t wait r = left width name ++ (asked_cell r ++ (percent_cell 5 (share_of t)
+    ++ (millis_cell 7 (t.period * tick) ++ (wait_cell tick wait
+    ++ (promised_cell r ++ kept_cell tick r (share_of t) wait)))))
+
+abbrev pub row_cells : Option (List Vcpu) → ℕ → ℕ → List ℕ → Task → ℕ → List ℕ
+row_cells None tick width name t wait = plain_cells tick width name t wait
+row_cells (Some vcpus) tick width name t wait = asked_cells tick width name t wait (asked_of vcpus name)
+
+-- the row of the vCPU of a number, if it has a line in the plan
+abbrev pub row_of : Option (List Vcpu) → ℕ → ℕ → List (List ℕ) → List Stretch → ℕ → ℕ → Option Task → List ℕ
+row_of host tick width names slots cores v None = []
+row_of host tick width names slots cores v (Some t) =
+    row_cells host tick width (name_at names v) t (wait_of slots v) ++ core_words slots cores v
+
+abbrev pub vcpu_row : Option (List Vcpu) → ℕ → ℕ → List (List ℕ) → List Task → List Stretch → ℕ → ℕ → List ℕ
+vcpu_row host tick width names tasks slots cores v =
+    row_of host tick width names slots cores v (slice_get tasks v)
+
+-- the row of a core: its load and what is left, of a round
+unfoldable pub core_cells : ℕ → ℕ → List ℕ
+core_cells core load = count_cell 4 core ++ (percent_cell 5 (of_round load)
+    ++ (percent_cell 7 (of_round (ROUND - load)) ++ codes "\n"))
+
+abbrev pub core_row : List Stretch → ℕ → List ℕ
+core_row slots core = core_cells core (load_of slots core)
+
+abbrev pub core_head : List ℕ
+core_head = codes "\ncore    load %  headroom %\n"
+
+-- ---- the text
+
+-- the text of these vCPUs and cores
+abbrev pub table_of : Option (List Vcpu) → ℕ → ℕ → List (List ℕ) → List Task → List Stretch → ℕ → List ℕ
+table_of host tick width names tasks slots cores = left width (codes "vcpu") ++ (head_text host
+    ++ (texts_below (vcpu_row host tick width names tasks slots cores) (length tasks)
+    ++ (core_head ++ texts_below (core_row slots) cores)))
+
+-- the tables of a plan, beside what the vCPUs of a host have reserved where these are known
+abbrev pub table_text : Option (List Vcpu) → ℕ → View → List ℕ
+table_text host tick view = table_of host tick (width_below view.names.items (length view.tasks.items))
+    view.names.items view.tasks.items view.slots.items view.cores

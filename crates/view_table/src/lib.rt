@@ -1,0 +1,17 @@
+//! The tables of a plan, and what differs between two plans.
+//!
+//! `figures_of` works out the longest waits, which are `wait_of` of `specs/Waits.antt`, and the cores of
+//! each vCPU. Each text is a definition of `specs/`, and what is written is that text.
+#![tactic(auto)]
+
+mod cells;
+mod diff;
+mod figures;
+mod laws;
+mod rows;
+mod table;
+
+pub use diff::write_diff;
+pub use figures::{Figures, figures_of};
+pub use laws::a_shown_wait_is_the_longest;
+pub use table::write_table;

@@ -1,0 +1,171 @@
+ghost use Rattle.std.specs.Prelude.{◌≡◌, ◌*◌, ◌-◌};
+ghost use Rattle.tab_core.specs.declared.TheConstants.{ROUND};
+ghost use Rattle.view_table.specs.Cells.{count_cell, millis_cell};
+ghost use Rattle.view_table.specs.Inside.CellTexts.{cell_text};
+ghost use Rattle.view_table.specs.Loads.{is_slot, load_of, ticks_on};
+ghost use Rattle.view_table.specs.Table.{asked_cell, asked_of, is_kept, kept_cell, of_round, promised_cell, share_of, wait_cell, yes_or_no, width_below};
+ghost use Rattle.vcpu_names.specs.Names.{name_at};
+
+use crate::cells::Cell;
+use tab_core::{Name, ROUND, Reservation, Vcpu, WHOLE_PPM};
+use view_doc::{Stretch, Task, Use};
+
+// A cost in each period as parts per million of a core.
+pub(crate) fn share_of(task: &Task) -> u64
+    ensures { result ≡ share_of task.now }
+{
+    if task.period == 0 {
+        0
+    } else {
+        u64::from(task.cost) * u64::from(WHOLE_PPM) / u64::from(task.period)
+    }
+}
+
+// Ticks as parts per million of a round.
+pub(crate) fn of_round(ticks: u32) -> u64
+    ensures { result ≡ of_round ticks }
+{
+    u64::from(ticks) * u64::from(WHOLE_PPM) / u64::from(ROUND)
+}
+
+// What a load leaves of a round, likewise.
+pub(crate) fn rest_of_round(load: u32) -> u64
+    ensures { result ≡ of_round (ROUND - load) }
+{
+    of_round(ROUND.saturating_sub(load))
+}
+
+// What the host's vCPU of this name has reserved.
+pub(crate) fn asked_of(vcpus: &[Vcpu], name: &[u8]) -> Option<Reservation>
+    ensures { result ≡ asked_of vcpus.now name.now }
+{
+    for vcpu in vcpus {
+        if vcpu.name.bytes() == name {
+            return vcpu.reservation;
+        }
+    }
+    None
+}
+
+// The load of a core.
+pub(crate) fn load_of(slots: &[Stretch], core: u32) -> u32
+    ensures { result ≡ load_of slots.now core }
+{
+    let mut load = 0u32;
+    for slot in slots {
+        load = load.saturating_add(ticks_on(slot, core)).min(ROUND);
+    }
+    load
+}
+
+// The ticks of a segment that are a slot on this core.
+fn ticks_on(slot: &Stretch, core: u32) -> u32
+    ensures { result ≡ ticks_on core slot.now }
+{
+    if slot.core.0 == core && is_slot(&slot.by) {
+        slot.end.saturating_sub(slot.from)
+    } else {
+        0
+    }
+}
+
+fn is_slot(by: &Use) -> bool
+    ensures { result ≡ is_slot by.now }
+{
+    matches!(by, Use::Slot(_))
+}
+
+// The width of the column of the first names.
+pub(crate) fn width_of(names: &[Name], count: usize) -> usize
+    ensures { result ≡ width_below names.now count }
+{
+    let mut width = 4;
+    for vcpu in 0..count {
+        width = width.max(name_at(names, vcpu).len());
+    }
+    width
+}
+
+// The name of a number, or nothing where there is none.
+pub(crate) fn name_at(names: &[Name], vcpu: usize) -> &[u8]
+    ensures { result.now ≡ name_at names.now vcpu }
+{
+    match names.get(vcpu) {
+        Some(name) => name.bytes(),
+        None => &[],
+    }
+}
+
+// The number of a core.
+pub(crate) fn core_cell(core: u32) -> Cell<'static>
+    ensures { cell_text result ≡ count_cell 4 core }
+{
+    Cell::Count(4, u64::from(core))
+}
+
+// A period.
+pub(crate) fn period_cell(tick_ns: u32, task: &Task) -> Cell<'static>
+    ensures { cell_text result ≡ millis_cell 7 (task.now.period * tick_ns) }
+{
+    Cell::Millis(7, u64::from(task.period) * u64::from(tick_ns))
+}
+
+// A wait.
+pub(crate) fn wait_cell(tick_ns: u32, wait: u32) -> Cell<'static>
+    ensures { cell_text result ≡ wait_cell tick_ns wait }
+{
+    if wait < 2 * ROUND {
+        Cell::Millis(7, u64::from(wait) * u64::from(tick_ns))
+    } else {
+        Cell::Right(11, b"endless")
+    }
+}
+
+// The share that was asked for.
+pub(crate) fn asked_cell(asked: &Option<Reservation>) -> Cell<'static>
+    ensures { cell_text result ≡ asked_cell asked.now }
+{
+    match asked {
+        Some(r) => Cell::Percent(5, u64::from(r.share_ppm)),
+        None => Cell::Right(10, b"-"),
+    }
+}
+
+// The latency that was promised.
+pub(crate) fn promised_cell(asked: &Option<Reservation>) -> Cell<'static>
+    ensures { cell_text result ≡ promised_cell asked.now }
+{
+    match asked {
+        Some(r) => Cell::Millis(9, r.latency_ns),
+        None => Cell::Right(13, b"-"),
+    }
+}
+
+// Whether all was kept.
+pub(crate) fn kept_cell(
+    tick_ns: u32,
+    asked: &Option<Reservation>,
+    share: u64,
+    wait: u32,
+) -> Cell<'static>
+    ensures { cell_text result ≡ kept_cell tick_ns asked.now share wait }
+{
+    match asked {
+        Some(r) => Cell::Right(6, yes_or_no(is_kept(tick_ns, r, share, wait))),
+        None => Cell::Right(6, b"-"),
+    }
+}
+
+fn yes_or_no(truth: bool) -> &'static [u8]
+    ensures { result.now ≡ yes_or_no truth }
+{
+    if truth { b"yes" } else { b"no" }
+}
+
+fn is_kept(tick_ns: u32, r: &Reservation, share: u64, wait: u32) -> bool
+    ensures { result ≡ is_kept tick_ns r.now share wait }
+{
+    u64::from(r.share_ppm) <= share
+        && wait < 2 * ROUND
+        && u64::from(wait) * u64::from(tick_ns) <= r.latency_ns
+}

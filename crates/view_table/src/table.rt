@@ -1,0 +1,287 @@
+ghost use Rattle.std.specs.Prelude.{◌≡◌, ◌<◌, ◌≤◌, length, option_copied};
+ghost use Rattle.tab_core.specs.declared.TheConstants.{MAX_CORES};
+ghost use Rattle.tab_io.specs.Sinks.{Writes};
+ghost use Rattle.tab_words.specs.Texts.{texts_below};
+ghost use Rattle.view_table.specs.Figures.{AreFigures};
+ghost use Rattle.view_table.specs.Table.{asked_cells, core_cells, core_head, core_row, core_word, core_words, head_text, plain_cells, row_cells, table_of, table_text, vcpu_row};
+
+use crate::cells::{Cell, put_cells, put_left};
+use crate::figures::Figures;
+use crate::rows::{
+    asked_cell, asked_of, core_cell, kept_cell, load_of, name_at, of_round, period_cell,
+    promised_cell, rest_of_round, share_of, wait_cell, width_of,
+};
+use tab_core::{MAX_CORES, Reservation, Vcpu};
+use tab_io::{Sink, WriteFault, write_all};
+use tab_words::put_numbered;
+use view_doc::{Stretch, Task, View};
+
+/// Writes the tables of a plan, whose figures these are, for a tick of so many nanoseconds.
+///
+/// A row for each `vcpu` line has the share in percent of a core, the period, the longest wait, and the
+/// cores where it has slots. Beside a host it has what the host's vCPU of this name has reserved too, and
+/// whether the plan keeps it, or dashes where no such vCPU is admitted. A row for each core has its load
+/// and what is left of a round. Times are in milliseconds, with three digits.
+///
+/// A fault leaves a front of the text in the sink. Nothing is settled, and nothing is allocated.
+pub fn write_table<K: Sink>(
+    sink: &mut K,
+    host: Option<&[Vcpu]>,
+    view: &View,
+    figures: &Figures,
+    tick_ns: u32,
+) -> Result<(), WriteFault>
+    requires figures { AreFigures view.now figures.now }
+    requires few { view.now.cores ≤ MAX_CORES }
+    ensures { Writes (K.state sink.old) (K.state sink.new)
+        (table_text (option_copied host.entry) tick_ns view.now) result }
+{
+    let width = width_of(&view.names, view.tasks.len());
+    put_table(sink, host, view, figures, tick_ns, width)
+}
+
+// Writes the tables, with names in a column of this width.
+fn put_table<K: Sink>(
+    sink: &mut K,
+    host: Option<&[Vcpu]>,
+    view: &View,
+    figures: &Figures,
+    tick_ns: u32,
+    width: usize,
+) -> Result<(), WriteFault>
+    requires figures { AreFigures view.now figures.now }
+    requires few { view.now.cores ≤ MAX_CORES }
+    ensures { Writes (K.state sink.old) (K.state sink.new)
+        (table_of (option_copied host.entry) tick_ns width view.now.names.items view.now.tasks.items
+        view.now.slots.items view.now.cores) result }
+{
+    put_left(sink, width, b"vcpu")?;
+    put_head(sink, &host)?;
+    put_vcpus(sink, host, view, figures, tick_ns, width)?;
+    put_core_head(sink)?;
+    put_cores(sink, view)
+}
+
+// Writes the names of the columns behind the first.
+fn put_head<K: Sink>(sink: &mut K, host: &Option<&[Vcpu]>) -> Result<(), WriteFault>
+    ensures { Writes (K.state sink.old) (K.state sink.new) (head_text (option_copied host.now)) result }
+{
+    match host {
+        None => write_all(sink, b"   share %  period ms    wait ms  cores\n"),
+        Some(_) => write_all(
+            sink,
+            b"   asked %   given %  period ms    wait ms  promised ms  kept  cores\n",
+        ),
+    }
+}
+
+fn put_core_head<K: Sink>(sink: &mut K) -> Result<(), WriteFault>
+    ensures { Writes (K.state sink.old) (K.state sink.new) core_head result }
+{
+    write_all(sink, b"\ncore    load %  headroom %\n")
+}
+
+// Writes the row of each vCPU.
+fn put_vcpus<K: Sink>(
+    sink: &mut K,
+    host: Option<&[Vcpu]>,
+    view: &View,
+    figures: &Figures,
+    tick_ns: u32,
+    width: usize,
+) -> Result<(), WriteFault>
+    requires figures { AreFigures view.now figures.now }
+    requires few { view.now.cores ≤ MAX_CORES }
+    ensures { Writes (K.state sink.old) (K.state sink.new)
+        (texts_below (vcpu_row (option_copied host.entry) tick_ns width view.now.names.items
+        view.now.tasks.items view.now.slots.items view.now.cores) (length view.now.tasks.items)) result }
+{
+    for vcpu in 0..view.tasks.len() {
+        put_vcpu(sink, host, view, figures, tick_ns, width, vcpu)?;
+    }
+    Ok(())
+}
+
+// Writes the row of the vCPU of this number.
+fn put_vcpu<K: Sink>(
+    sink: &mut K,
+    host: Option<&[Vcpu]>,
+    view: &View,
+    figures: &Figures,
+    tick_ns: u32,
+    width: usize,
+    vcpu: usize,
+) -> Result<(), WriteFault>
+    requires figures { AreFigures view.now figures.now }
+    requires few { view.now.cores ≤ MAX_CORES }
+    requires low { vcpu < length view.now.tasks.items }
+    ensures { Writes (K.state sink.old) (K.state sink.new)
+        (vcpu_row (option_copied host.entry) tick_ns width view.now.names.items view.now.tasks.items
+        view.now.slots.items view.now.cores vcpu) result }
+{
+    let name = name_at(&view.names, vcpu);
+    let wait = figures.waits[vcpu];
+    put_row(sink, host, tick_ns, width, name, &view.tasks[vcpu], wait)?;
+    put_core_words(sink, view, figures, vcpu)
+}
+
+// Writes the cells of a row up to the cores.
+fn put_row<K: Sink>(
+    sink: &mut K,
+    host: Option<&[Vcpu]>,
+    tick_ns: u32,
+    width: usize,
+    name: &[u8],
+    task: &Task,
+    wait: u32,
+) -> Result<(), WriteFault>
+    ensures { Writes (K.state sink.old) (K.state sink.new)
+        (row_cells (option_copied host.entry) tick_ns width name.now task.now wait) result }
+{
+    match host {
+        None => put_plain(sink, tick_ns, width, name, task, wait),
+        Some(vcpus) => {
+            let asked = asked_of(vcpus, name);
+            put_asked(sink, tick_ns, width, name, task, wait, &asked)
+        }
+    }
+}
+
+fn put_plain<K: Sink>(
+    sink: &mut K,
+    tick_ns: u32,
+    width: usize,
+    name: &[u8],
+    task: &Task,
+    wait: u32,
+) -> Result<(), WriteFault>
+    ensures { Writes (K.state sink.old) (K.state sink.new)
+        (plain_cells tick_ns width name.now task.now wait) result }
+{
+    let share = share_of(task);
+    put_cells(
+        sink,
+        &[
+            Cell::Left(width, name),
+            Cell::Percent(5, share),
+            period_cell(tick_ns, task),
+            wait_cell(tick_ns, wait),
+        ],
+    )
+}
+
+fn put_asked<K: Sink>(
+    sink: &mut K,
+    tick_ns: u32,
+    width: usize,
+    name: &[u8],
+    task: &Task,
+    wait: u32,
+    asked: &Option<Reservation>,
+) -> Result<(), WriteFault>
+    ensures { Writes (K.state sink.old) (K.state sink.new)
+        (asked_cells tick_ns width name.now task.now wait asked.now) result }
+{
+    let share = share_of(task);
+    put_cells(
+        sink,
+        &[
+            Cell::Left(width, name),
+            asked_cell(asked),
+            Cell::Percent(5, share),
+            period_cell(tick_ns, task),
+            wait_cell(tick_ns, wait),
+            promised_cell(asked),
+            kept_cell(tick_ns, asked, share, wait),
+        ],
+    )
+}
+
+// Writes the cores where the vCPU has slots, and ends its row.
+fn put_core_words<K: Sink>(
+    sink: &mut K,
+    view: &View,
+    figures: &Figures,
+    vcpu: usize,
+) -> Result<(), WriteFault>
+    requires figures { AreFigures view.now figures.now }
+    requires few { view.now.cores ≤ MAX_CORES }
+    requires low { vcpu < length view.now.tasks.items }
+    ensures { Writes (K.state sink.old) (K.state sink.new)
+        (core_words view.now.slots.items view.now.cores vcpu) result }
+{
+    write_all(sink, b" ")?;
+    put_stands(sink, view, figures, vcpu)?;
+    write_all(sink, b"\n")
+}
+
+fn put_stands<K: Sink>(
+    sink: &mut K,
+    view: &View,
+    figures: &Figures,
+    vcpu: usize,
+) -> Result<(), WriteFault>
+    requires figures { AreFigures view.now figures.now }
+    requires few { view.now.cores ≤ MAX_CORES }
+    requires low { vcpu < length view.now.tasks.items }
+    ensures { Writes (K.state sink.old) (K.state sink.new)
+        (texts_below (core_word view.now.slots.items vcpu) view.now.cores) result }
+{
+    for core in 0..view.cores {
+        put_stand(sink, view, figures, vcpu, core)?;
+    }
+    Ok(())
+}
+
+// Writes the core if the vCPU has a slot there.
+fn put_stand<K: Sink>(
+    sink: &mut K,
+    view: &View,
+    figures: &Figures,
+    vcpu: usize,
+    core: u32,
+) -> Result<(), WriteFault>
+    requires figures { AreFigures view.now figures.now }
+    requires few { core < MAX_CORES }
+    requires low { vcpu < length view.now.tasks.items }
+    ensures { Writes (K.state sink.old) (K.state sink.new)
+        (core_word view.now.slots.items vcpu core) result }
+{
+    if figures.stands[vcpu * MAX_CORES as usize + core as usize] {
+        put_numbered(sink, b" ", core, b"")
+    } else {
+        Ok(())
+    }
+}
+
+// Writes the row of each core.
+fn put_cores<K: Sink>(sink: &mut K, view: &View) -> Result<(), WriteFault>
+    ensures { Writes (K.state sink.old) (K.state sink.new)
+        (texts_below (core_row view.now.slots.items) view.now.cores) result }
+{
+    for core in 0..view.cores {
+        put_core(sink, &view.slots, core)?;
+    }
+    Ok(())
+}
+
+fn put_core<K: Sink>(sink: &mut K, slots: &[Stretch], core: u32) -> Result<(), WriteFault>
+    ensures { Writes (K.state sink.old) (K.state sink.new) (core_row slots.now core) result }
+{
+    let load = load_of(slots, core);
+    put_core_cells(sink, core, load)
+}
+
+fn put_core_cells<K: Sink>(sink: &mut K, core: u32, load: u32) -> Result<(), WriteFault>
+    ensures { Writes (K.state sink.old) (K.state sink.new) (core_cells core load) result }
+{
+    put_cells(
+        sink,
+        &[
+            core_cell(core),
+            Cell::Percent(5, of_round(load)),
+            Cell::Percent(7, rest_of_round(load)),
+            Cell::Text(b"\n"),
+        ],
+    )
+}
