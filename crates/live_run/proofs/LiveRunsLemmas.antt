@@ -1,12 +1,11 @@
 -- A live run: how it begins, and what its actors tell of the state as which its view reads.
-use Rattle.std.proofs.Common.{◌≡◌, false, true, ℕ, zero, suc, ◌+◌, ◌*◌, ◌<◌, ◌≤◌, List, [], ◌∷◌, ◌++◌, length, Option, None, Some, Result, Err, refl, sym, ap, ◌∙◌, subst, arith}
-use Rattle.std.specs.Prelude.{IfNone, is_some, map, slice_get, slice_index, take}
+use Rattle.std.proofs.Common.{◌≡◌, false, ℕ, suc, ◌+◌, ◌*◌, ◌<◌, ◌≤◌, List, [], ◌∷◌, ◌++◌, length, Option, None, Some, refl, sym, ap, ◌∙◌, subst, arith}
+use Rattle.std.specs.Prelude.{IfNone, is_some, slice_get, slice_index, take}
 use Rattle.std.proofs.Math.Seq.{take-suc}
 use Rattle.std.proofs.lemmas.List.{length-map}
 use Rattle.std.proofs.lemmas.Option.{get_or_from_slice_get, slice_get_within}
 use Rattle.tab_core.specs.declared.TheConstants.{MAX_ROUNDS, ROUND}
 use Rattle.tab_core.specs.declared.host.Host.{Host}
-use Rattle.tab_core.specs.declared.over.Over.{Over}
 use Rattle.tab_core.specs.declared.stint.Stint.{Stint}
 use Rattle.script_doc.specs.Script.{AreInRun}
 use Rattle.script_doc.specs.declared.event.Event.{Event}
@@ -14,11 +13,10 @@ use Rattle.table_form.specs.Running.Courses.{CourseView, FitsRounds, IsCourse}
 use Rattle.table_form.specs.Running.Outlines.{OutlineView}
 use Rattle.table_form.specs.Running.Invariant.{IsComplete, StateInvariant}
 use Rattle.table_form.specs.Running.Promises.{KeepsPromises}
-use Rattle.table_form.specs.Running.State.{State}
 use Rattle.plan_book.proofs.CourseOfBook.{fits_rounds}
 use Rattle.round_words.specs.declared.view.View.{View}
 use Rattle.round_words.specs.Shown.{ViewInvariant}
-use Rattle.round_words.specs.Views.{IsStarted, controller, holds, just_started, part}
+use Rattle.round_words.specs.Views.{IsStarted, holds, just_started, part}
 use Rattle.dispatch_core.specs.Accounts.{IsAccountOf}
 use Rattle.dispatch_core.specs.declared.account.CoreAccount.{CoreAccount}
 use Rattle.board_state.proofs.FinishedLemmas.{counts_used}

@@ -2,7 +2,6 @@
 -- Source: the rules of this project.
 use Rattle.std.specs.Prelude.{◌≡◌, ℕ, List, length}
 use Rattle.tab_core.specs.declared.host.Host.{Host}
-use Rattle.tab_core.specs.declared.over.Over.{Over}
 use Rattle.script_doc.specs.declared.event.Event.{Event}
 use Rattle.table_form.specs.Running.Courses.{CourseView, IsCourse}
 use Rattle.table_form.specs.Running.Invariant.{IsComplete}

@@ -1,5 +1,5 @@
 -- What a live run begins with, and what it is told with.
-use Rattle.std.specs.Prelude.{◌≡◌, ℕ, List, None, length}
+use Rattle.std.specs.Prelude.{◌≡◌, ℕ, List, length}
 use Rattle.tab_core.specs.declared.host.Host.{Host}
 use Rattle.script_doc.specs.declared.event.Event.{Event}
 use Rattle.plan_book.specs.Books.{BookView, IsBookOf}

@@ -1,5 +1,5 @@
 -- What the actors of a live run tell of it.
-use Rattle.std.specs.Prelude.{◌≡◌, ℕ, ◌*◌, ◌≤◌, All, List, [], Option, None, Some, length, map, slice_get}
+use Rattle.std.specs.Prelude.{◌≡◌, ℕ, ◌*◌, ◌≤◌, List, [], Option, None, Some, length, map, slice_get}
 use Rattle.tab_core.specs.declared.TheConstants.{MAX_ROUNDS, ROUND}
 use Rattle.table_form.specs.Running.Courses.{CourseView}
 use Rattle.dispatch_core.specs.Accounts.{IsWithin}

@@ -1,7 +1,7 @@
-use Rattle.std.proofs.Common.{◌≡◌, ℕ, List, Some, length, sym, ap, ◌∙◌, subst, arith}
+use Rattle.std.proofs.Common.{◌≡◌, ℕ, length, sym, ap, ◌∙◌, subst}
 use Rattle.table_form.specs.Running.Courses.{CourseView, IsCourse}
 use Rattle.table_form.specs.Running.Outlines.{OutlineView}
-use Rattle.table_form.specs.Running.Invariant.{IsComplete, StateInvariant}
+use Rattle.table_form.specs.Running.Invariant.{IsComplete}
 use Rattle.table_form.specs.Running.Promises.{KeepsPromises}
 use Rattle.plan_book.specs.Courses.{IsCourseOf}
 use Rattle.round_words.specs.declared.view.View.{View}
@@ -9,10 +9,8 @@ use Rattle.round_words.specs.Seats.{view_of}
 use Rattle.board_state.specs.Readings.{state_of}
 use Rattle.trace_report.specs.RunReports.{IsReportOf}
 use Rattle.live_plan.proofs.CoursesLemmas.{live_course}
-use Rattle.live_plan.specs.Actors.{LiveActorView}
 use Rattle.live_plan.specs.Courses.{IsLiveCourse}
-use Rattle.live_plan.specs.Crews.{actor_of}
-use Rattle.live_run.specs.Inside.Telling.{AreTold, accounts_of, first_used}
+use Rattle.live_run.specs.Inside.Telling.{accounts_of, first_used}
 use Rattle.live_run.proofs.LiveRunsLemmas.{are_told, fresh_live, of_none, report_of, runs_so_far}
 use Rattle.live_run.proofs.ran.run_script.Goals as goal
 
