@@ -4,6 +4,7 @@ use tab_core::{MAX_TICK_NS, MIN_TICK_NS};
 
 /// The words of the program.
 pub(crate) fn command<'a>(alloc: Global) -> Result<Command<'a>, AllocError> {
+    let chart = chart_command(alloc)?;
     let export = export_command(alloc)?;
     let table = table_command(alloc)?;
     let diff = diff_command(alloc)?;
@@ -13,10 +14,56 @@ pub(crate) fn command<'a>(alloc: Global) -> Result<Command<'a>, AllocError> {
         .about("Shows what tableau wrote: plans, replays and traces")
         .subcommand_required(true)
         .arg_required_else_help(true)
-        .subcommand(export)?
         .subcommand(table)?
+        .subcommand(chart)?
         .subcommand(diff)?
+        .subcommand(export)?
         .subcommand(sections)
+}
+
+// The words of `chart`.
+fn chart_command<'a>(alloc: Global) -> Result<Command<'a>, AllocError> {
+    let cores = Arg::new(alloc, "cores")
+        .long("cores")
+        .value_name("FIRST-LAST")
+        .help("The cores to draw; without it, all");
+    Command::new(alloc, "chart")
+        .about("Draws a plan, replay or trace as a picture, in SVG")
+        .arg(file_arg(alloc))?
+        .arg(cores)?
+        .arg(number_arg(
+            alloc,
+            "from",
+            "TICK",
+            "The first tick to draw; without it, 0",
+        ))?
+        .arg(number_arg(
+            alloc,
+            "to",
+            "TICK",
+            "The tick that ends what is drawn; without it, the end of the last round",
+        ))?
+        .arg(width_arg(alloc))?
+        .arg(tick_arg(alloc))
+}
+
+// A number.
+fn number_arg<'a>(alloc: Global, name: &'a str, value: &'a str, help: &'a str) -> Arg<'a> {
+    Arg::new(alloc, name)
+        .long(name)
+        .value_name(value)
+        .value_parser(value_parser!(u32))
+        .help(help)
+}
+
+// How wide a picture is.
+fn width_arg<'a>(alloc: Global) -> Arg<'a> {
+    Arg::new(alloc, "width")
+        .long("width")
+        .value_name("PX")
+        .value_parser(value_parser!(u32).range(200..=8000))
+        .default_value("1160")
+        .help("Pixels of a picture's width")
 }
 
 // The words of `export`.

@@ -2,6 +2,7 @@ use host_doc::HostFault;
 use std::alloc::{AllocError, AllocFailed};
 use tab_io::WriteFault;
 use thiserror::Error;
+use view_chart::ChartFault;
 use view_doc::ReadView;
 
 // Why a command doesn't end well.
@@ -27,6 +28,12 @@ pub(crate) enum Fault {
     NoFile,
     #[error("a word of the command isn't text")]
     NoText,
+    #[error("the cores aren't of the form FIRST-LAST")]
+    BadCores,
+    #[error("no tick or no core is to be drawn")]
+    Nothing,
+    #[error("there are more cores or vCPUs than 32 or 256")]
+    TooMany,
     #[error("want of memory")]
     NoMemory,
     #[error("the output failed")]
@@ -56,6 +63,16 @@ impl From<ReadView> for Fault {
         match fault {
             ReadView::BadLine { line } => Fault::BadLine { line },
             ReadView::NoMemory => Fault::NoMemory,
+        }
+    }
+}
+
+impl From<ChartFault> for Fault {
+    fn from(fault: ChartFault) -> Fault {
+        match fault {
+            ChartFault::Nothing => Fault::Nothing,
+            ChartFault::Write => Fault::WriteFault,
+            ChartFault::NoMemory => Fault::NoMemory,
         }
     }
 }

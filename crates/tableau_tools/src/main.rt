@@ -1,9 +1,10 @@
 //! The program `tableau-tools`: it shows what `tableau` wrote.
 //!
 //! Each command has a file. What it reads is a text, and what it writes is a definition's text of the
-//! view that was read: `view_doc` has the reader, `view_export` and `view_table` the texts.
+//! view that was read: `view_doc` has the reader, `view_table`, `view_chart` and `view_export` the texts.
 #![tactic(auto)]
 
+mod chart;
 mod command;
 mod diff;
 mod export;
@@ -65,6 +66,7 @@ fn told(rt: &HostRuntime, error: &Error) -> u8 {
 // Does the command that was met, and gives its status.
 fn dispatch(rt: &HostRuntime, matches: &ArgMatches<'_>) -> Result<u8, Fault> {
     match matches.subcommand() {
+        Some(("chart", matches)) => chart::chart(rt, matches)?,
         Some(("export", matches)) => export::export(rt, matches)?,
         Some(("table", matches)) => table::table(rt, matches)?,
         Some(("sections", matches)) => sections::sections(rt, matches)?,

@@ -1,0 +1,3 @@
+pub mod ColourLemmas
+pub mod ColumnLemmas
+pub mod Sizes

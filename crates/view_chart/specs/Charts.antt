@@ -1,0 +1,122 @@
+-- A view as a picture, in SVG: a lane for each core, a box for each slot or stint.
+-- Source: Scalable Vector Graphics (SVG) 1.1, W3C Recommendation.
+use Rattle.std.specs.Prelude.{ℕ, zero, suc, ◌+◌, ◌-◌, ◌*◌, ◌/◌, ◌==◌, ◌||◌, ◌++◌, nat_le, nat_lt, Bool, true, false, List, [], ◌∷◌, codes, decimal, if◌then◌else◌, length, min, slice_index_or}
+use Rattle.std.specs.List.{sum_by}
+use Rattle.tab_core.specs.declared.TheConstants.{ROUND}
+use Rattle.tab_words.specs.Texts.{texts_below}
+use Rattle.view_chart.specs.Axes.{axis_text}
+use Rattle.view_chart.specs.Colours.{colours_of}
+use Rattle.view_chart.specs.Columns.{columns_text}
+use Rattle.view_chart.specs.Frames.{foot_of, height_of, pitch_of, top_of, x_at}
+use Rattle.view_chart.specs.Heads.{head_text}
+use Rattle.view_chart.specs.Lanes.{bars_text, ground_box, label_text}
+use Rattle.view_chart.specs.Legends.{end_of, legend_text}
+use Rattle.view_chart.specs.Marks.{per_mille, tenths_ms}
+use Rattle.view_chart.specs.Shown.{cores_in, frame_of, held_in, lane_bars, lanes_of, shown_in}
+use Rattle.view_chart.specs.declared.frame.Bar.{Bar}
+use Rattle.view_chart.specs.declared.frame.ChartOptions.{ChartOptions}
+use Rattle.view_chart.specs.declared.frame.Frame.{Frame}
+use Rattle.view_chart.specs.declared.head.Head.{Head}
+use Rattle.view_doc.specs.declared.view.Stretch.{Stretch}
+use Rattle.view_doc.specs.declared.view.Task.{Task}
+use Rattle.view_doc.specs.declared.view.View.{View}
+
+-- ---- rounds
+
+-- the rounds that are shown, where these are 24 at most: the first, and how many there are
+abbrev pub first_round : Frame → ℕ
+first_round f = f.from / ROUND
+
+abbrev pub rounds_shown : Frame → ℕ
+rounds_shown f = (f.to - 1) / ROUND + 1 - f.from / ROUND
+
+-- a line where a round begins, or where what is shown begins, and the round's number
+unfoldable pub round_text : ℕ → ℕ → ℕ → List ℕ
+round_text x foot r = codes "<path class=\"round\" d=\"M" ++ (decimal x ++ (codes " 7000V" ++ (decimal foot
+    ++ (codes "\"/><text x=\"" ++ (decimal (x + 500)
+    ++ (codes "\" y=\"7600\" font-size=\"1000\" class=\"label\">round " ++ (decimal r ++ codes "</text>\n")))))))
+
+abbrev pub begin_of : Frame → ℕ → ℕ
+begin_of f r = min f.to (r * ROUND)
+
+abbrev pub round_at : Frame → ℕ → ℕ → List ℕ
+round_at f foot k = round_text (x_at f (begin_of f (first_round f + k))) foot (first_round f + k)
+
+abbrev pub rounds_text : Frame → Bool → ℕ → List ℕ
+rounds_text f false foot = []
+rounds_text f true foot =
+    if nat_lt 24 (rounds_shown f) then [] else texts_below (round_at f foot) (rounds_shown f)
+
+-- ---- lanes
+
+-- the bars of a lane: each as a box, or as columns where there are more than 342
+unfoldable pub lane_body : Frame → ℕ → ℕ → List (List ℕ) → List Task → List ℕ → List Bar → List ℕ
+lane_body f y high names tasks colours bars =
+    if nat_lt 342 (length bars) then columns_text f y high names tasks colours bars
+    else bars_text f y high names tasks colours bars
+
+-- the lane of a core, of which so much is somebody's
+abbrev pub lane_of : Frame → ℕ → ℕ → ℕ → ℕ → List (List ℕ) → List Task → List ℕ → List Bar → List ℕ
+lane_of f core y high share names tasks colours bars = label_text core y high share
+    ++ (lane_body f y high names tasks colours bars ++ codes "</g>\n")
+
+abbrev pub lane_text : Frame → ℕ → ℕ → ℕ → List (List ℕ) → List Task → List ℕ → List Bar → List ℕ
+lane_text f core y high names tasks colours bars =
+    lane_of f core y high (per_mille (held_in f bars) (f.to - f.from)) names tasks colours bars
+
+-- the lane of a number, of which the first is this core's
+abbrev pub lane_at : Frame → ℕ → List (List ℕ) → List Task → List ℕ → List (List Bar) → ℕ → List ℕ
+lane_at f first names tasks colours lanes i = lane_text f (first + i) (top_of (length lanes) i)
+    (height_of (length lanes)) names tasks colours (slice_index_or lanes i [])
+
+-- the grounds of the lanes
+abbrev pub grounds_text : ℕ → List ℕ
+grounds_text n = codes "<path class=\"lane\" d=\""
+    ++ (texts_below (ground_box (height_of n) (pitch_of n)) n ++ codes "\"/>\n")
+
+-- ---- the picture
+
+-- how much of the lanes is somebody's
+abbrev pub share_in : Frame → List (List Bar) → ℕ
+share_in f lanes = per_mille (sum_by (held_in f) lanes) (length lanes * (f.to - f.from))
+
+-- how tall a picture of so many lanes and vCPUs is
+abbrev pub tall_of : ℕ → ℕ → ℕ
+tall_of lanes vcpus = end_of (foot_of lanes) vcpus + 1000
+
+-- what the head says
+unfoldable pub head_of : Frame → Bool → ℕ → ℕ → List (List Bar) → Head
+head_of f is_run cores vcpus lanes = record {
+  is_run = is_run;
+  cores = cores;
+  vcpus = vcpus;
+  from = f.from;
+  to = f.to;
+  lasting = tenths_ms f.tick (f.to - f.from);
+  share = share_in f lanes;
+}
+
+-- the picture of these lanes
+unfoldable pub chart_of : Frame → ℕ → ℕ → Bool → ℕ → List (List ℕ) → List Task → List ℕ → List (List Bar) → List ℕ
+chart_of f width first is_run cores names tasks colours lanes =
+    head_text width (tall_of (length lanes) (length names)) (head_of f is_run cores (length names) lanes)
+    ++ (grounds_text (length lanes)
+    ++ (axis_text f (foot_of (length lanes))
+    ++ (texts_below (lane_at f first names tasks colours lanes) (length lanes)
+    ++ (rounds_text f is_run (foot_of (length lanes))
+    ++ (legend_text f.tick (foot_of (length lanes)) names tasks colours ++ codes "</svg>\n")))))
+
+-- the lanes of a view, as many as are asked for
+abbrev pub lanes_below : Frame → List Stretch → ℕ → ℕ → List (List Bar)
+lanes_below f stretches first zero = []
+lanes_below f stretches first (suc n) = lanes_below f stretches first n ++ lane_bars f stretches (first + n) ∷ []
+
+abbrev pub chart_lanes : View → ChartOptions → List (List Bar)
+chart_lanes view options =
+    lanes_below (frame_of view options) (shown_in view) options.first (lanes_of view options)
+
+-- the picture of a view
+abbrev pub chart_text : ChartOptions → View → List ℕ
+chart_text options view = chart_of (frame_of view options) options.width options.first view.is_run (cores_in view)
+    view.names.items view.tasks.items
+    (colours_of (shown_in view) view.tasks.items (length view.names.items)) (chart_lanes view options)

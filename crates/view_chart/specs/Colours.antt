@@ -1,0 +1,68 @@
+-- The colours of the vCPUs: the number, where there are twelve or fewer; else in rising number the least that
+-- no lower vCPU on a shared core has, or the number modulo 12 where all are taken.
+use Rattle.std.specs.Prelude.{ℕ, zero, suc, ◌%◌, ◌==◌, ◌&&◌, ◌||◌, nat_le, Bool, true, false, List, [], ◌∷◌, ◌++◌, if◌then◌else◌, slice_get, slice_index, Option, Some, None}
+use Rattle.std.specs.List.{list_any}
+use Rattle.tab_core.specs.declared.TheConstants.{MAX_CORES}
+use Rattle.view_doc.specs.declared.view.Stretch.{Stretch}
+use Rattle.view_doc.specs.declared.view.Task.{Task}
+use Rattle.view_doc.specs.declared.view.Use.{Use}
+use Rattle.view_doc.specs.declared.view.Use.TheVariants.{Idle, Slot, Shared}
+
+-- one of the numbers below n passes the test
+abbrev pub any_below : (ℕ → Bool) → ℕ → Bool
+any_below test zero = false
+any_below test (suc n) = any_below test n || test n
+
+-- the vCPU has it
+abbrev pub has_it : Use → ℕ → Bool
+has_it Idle v = false
+has_it (Slot owner) v = owner == v
+has_it (Shared owner) v = owner == v
+
+-- the vCPU's home is the core
+abbrev pub is_home : Option Task → ℕ → Bool
+is_home None core = false
+is_home (Some task) core = task.home == core
+
+-- the vCPU has a stretch on the core
+abbrev pub runs_on : List Stretch → ℕ → ℕ → Bool
+runs_on stretches core v = list_any (λ s. (s.core == core) && has_it s.by v) stretches
+
+-- the vCPU stands on the core: it has a stretch there, or its home
+abbrev pub stands_on : List Stretch → List Task → ℕ → ℕ → Bool
+stands_on stretches tasks core v = runs_on stretches core v || is_home (slice_get tasks v) core
+
+-- two stand on one core, of those below a number
+abbrev pub meets_below : (ℕ → ℕ → Bool) → ℕ → ℕ → ℕ → Bool
+meets_below on u v cores = any_below (λ core. on core u && on core v) cores
+
+abbrev pub meets : (ℕ → ℕ → Bool) → ℕ → ℕ → Bool
+meets on u v = meets_below on u v MAX_CORES
+
+-- one that a vCPU meets has the colour, of those below a number
+abbrev pub taken_below : (ℕ → ℕ → Bool) → List ℕ → ℕ → ℕ → ℕ → Bool
+taken_below on colours v k n = any_below (λ u. (slice_index colours u == k) && meets on u v) n
+
+-- a lower one has it
+abbrev pub is_taken : (ℕ → ℕ → Bool) → List ℕ → ℕ → ℕ → Bool
+is_taken on colours v k = taken_below on colours v k v
+
+-- the first of so many colours from one on that isn't taken, or another
+abbrev pub first_free : (ℕ → Bool) → ℕ → ℕ → ℕ → ℕ
+first_free taken other k zero = other
+first_free taken other k (suc n) = if taken k then first_free taken other (suc k) n else k
+
+-- the colour of a vCPU, behind those of the lower ones
+abbrev pub next_colour : (ℕ → ℕ → Bool) → ℕ → List ℕ → ℕ → ℕ
+next_colour on vcpus colours v =
+    if nat_le vcpus 12 then v else first_free (is_taken on colours v) (v % 12) 0 12
+
+-- the colours of those below a number, of so many
+abbrev pub colours_below : (ℕ → ℕ → Bool) → ℕ → ℕ → List ℕ
+colours_below on vcpus zero = []
+colours_below on vcpus (suc v) =
+    colours_below on vcpus v ++ next_colour on vcpus (colours_below on vcpus v) v ∷ []
+
+-- the colours of all
+abbrev pub colours_of : List Stretch → List Task → ℕ → List ℕ
+colours_of stretches tasks vcpus = colours_below (stands_on stretches tasks) vcpus vcpus

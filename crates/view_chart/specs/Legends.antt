@@ -1,0 +1,63 @@
+-- The list of the vCPUs below the lanes: four in a row, by number.
+use Rattle.std.specs.Prelude.{ℕ, ◌+◌, ◌-◌, ◌*◌, ◌/◌, ◌%◌, ◌++◌, List, [], codes, decimal, length, slice_index, slice_get, Option, Some, None, min}
+use Rattle.tab_words.specs.Texts.{texts_below}
+use Rattle.vcpu_names.specs.Names.{name_at}
+use Rattle.view_chart.specs.Marks.{per_mille, short_dots, short_front, tenths_ms}
+use Rattle.view_doc.specs.declared.view.Task.{Task}
+
+-- where the column of a vCPU begins, and its row's line
+abbrev pub column_of : ℕ → ℕ
+column_of v = 4000 + v % 4 * 27000
+
+abbrev pub row_of : ℕ → ℕ → ℕ
+row_of foot v = foot + 4200 + v / 4 * 1400
+
+-- the first row
+unfoldable pub legend_head : ℕ → ℕ → ℕ → ℕ → List ℕ
+legend_head x share period y = codes "<text x=\"" ++ (decimal x ++ (codes "\" y=\"" ++ (decimal y
+    ++ (codes "\" font-size=\"1000\" class=\"label\">vCPU</text>\n<g font-size=\"900\" class=\"dim\" text-anchor=\"end\"><text x=\""
+    ++ (decimal share ++ (codes "\" y=\"" ++ (decimal y ++ (codes "\">share</text><text x=\"" ++ (decimal period
+    ++ (codes "\" y=\"" ++ (decimal y ++ codes "\">period</text></g>\n")))))))))))
+
+abbrev pub head_at : ℕ → ℕ → List ℕ
+head_at foot v = legend_head (column_of v) (column_of v + 19000) (column_of v + 25000) (foot + 2500)
+
+-- a vCPU's colour and name
+unfoldable pub swatch : ℕ → ℕ → ℕ → List ℕ
+swatch colour x y = codes "<path class=\"c" ++ (decimal colour ++ (codes "\" d=\"M" ++ (decimal x ++ (codes " " ++ (decimal y
+    ++ codes "h1000v900h-1000z\"/>")))))
+
+unfoldable pub legend_name : ℕ → ℕ → List ℕ → List ℕ → List ℕ
+legend_name x y front dots = codes "<text x=\"" ++ (decimal x ++ (codes "\" y=\"" ++ (decimal y
+    ++ (codes "\" font-size=\"900\" class=\"name\">" ++ (front ++ (dots ++ codes "</text>\n"))))))
+
+-- what it has, in tenths of a percent and of a millisecond
+unfoldable pub legend_task : ℕ → ℕ → ℕ → ℕ → ℕ → List ℕ
+legend_task x far y part period = codes "<g font-size=\"900\" class=\"dim\" text-anchor=\"end\"><text x=\""
+    ++ (decimal x ++ (codes "\" y=\"" ++ (decimal y ++ (codes "\">" ++ (decimal (part / 10) ++ (codes "."
+    ++ (decimal (part % 10) ++ (codes " %</text><text x=\"" ++ (decimal far ++ (codes "\" y=\"" ++ (decimal y
+    ++ (codes "\">" ++ (decimal (period / 10) ++ (codes "." ++ (decimal (period % 10)
+    ++ codes " ms</text></g>\n")))))))))))))))
+
+abbrev pub task_cells : ℕ → ℕ → ℕ → Task → List ℕ
+task_cells tick x y t = legend_task (x + 19000) (x + 25000) y (per_mille t.cost t.period) (tenths_ms tick t.period)
+
+abbrev pub task_entry : ℕ → ℕ → ℕ → Option Task → List ℕ
+task_entry tick x y None = []
+task_entry tick x y (Some t) = task_cells tick x y t
+
+abbrev pub entry_at : ℕ → ℕ → ℕ → ℕ → List ℕ → Option Task → List ℕ
+entry_at tick x y colour name task = swatch colour x (y - 850)
+    ++ (legend_name (x + 1300) y (short_front name) (short_dots name) ++ task_entry tick x y task)
+
+abbrev pub legend_entry : ℕ → ℕ → List (List ℕ) → List Task → List ℕ → ℕ → List ℕ
+legend_entry tick foot names tasks colours v = entry_at tick (column_of v) (row_of foot v) (slice_index colours v)
+    (name_at names v) (slice_get tasks v)
+
+abbrev pub legend_text : ℕ → ℕ → List (List ℕ) → List Task → List ℕ → List ℕ
+legend_text tick foot names tasks colours = texts_below (head_at foot) (min (length names) 4)
+    ++ texts_below (legend_entry tick foot names tasks colours) (length names)
+
+-- where it ends: below its last row
+abbrev pub end_of : ℕ → ℕ → ℕ
+end_of foot vcpus = foot + 4200 + (vcpus + 3) / 4 * 1400

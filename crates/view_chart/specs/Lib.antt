@@ -1,0 +1,11 @@
+pub mod Axes
+pub mod Charts
+pub mod Colours
+pub mod Columns
+pub mod Frames
+pub mod Heads
+pub mod Inside
+pub mod Lanes
+pub mod Legends
+pub mod Marks
+pub mod Shown

@@ -1,0 +1,25 @@
+-- The texts of boxes and paths, and the numbers in texts.
+use Rattle.std.specs.Prelude.{ℕ, ◌*◌, ◌/◌, ◌==◌, ◌++◌, nat_le, List, [], codes, decimal, if◌then◌else◌, length, take}
+
+-- tenths of a millisecond of so many ticks, and tenths of a percent of a whole
+abbrev pub tenths_ms : ℕ → ℕ → ℕ
+tenths_ms tick t = t * tick / 100000
+
+abbrev pub per_mille : ℕ → ℕ → ℕ
+per_mille part whole = part * 1000 / whole
+
+-- more than one
+abbrev pub plural : ℕ → List ℕ
+plural n = if n == 1 then [] else codes "s"
+
+-- a path round a box
+unfoldable pub box_path : ℕ → ℕ → ℕ → ℕ → List ℕ
+box_path x0 y0 x1 y1 = codes "M" ++ (decimal x0 ++ (codes " " ++ (decimal y0 ++ (codes "H" ++ (decimal x1
+    ++ (codes "V" ++ (decimal y1 ++ (codes "H" ++ (decimal x0 ++ codes "z")))))))))
+
+-- at most 15 letters of a name: all of them, or the first and two dots
+abbrev pub short_front : List ℕ → List ℕ
+short_front name = if nat_le (length name) 15 then name else take 13 name
+
+abbrev pub short_dots : List ℕ → List ℕ
+short_dots name = if nat_le (length name) 15 then [] else codes ".."

@@ -1,0 +1,76 @@
+-- What of a view is drawn: its cores, its stretches, and the ticks up to which it goes.
+use Rattle.std.specs.Prelude.{ℕ, ◌+◌, ◌-◌, ◌*◌, ◌/◌, ◌^◌, ◌==◌, ◌&&◌, ◌||◌, nat_le, nat_lt, Bool, true, false, List, [], ◌∷◌, if◌then◌else◌, flat_map, max, min, Option, Some, None}
+use Rattle.std.specs.List.{sum_by}
+use Rattle.tab_core.specs.declared.TheConstants.{ROUND}
+use Rattle.view_chart.specs.declared.frame.Bar.{Bar}
+use Rattle.view_chart.specs.declared.frame.ChartOptions.{ChartOptions}
+use Rattle.view_chart.specs.declared.frame.Frame.{Frame}
+use Rattle.view_doc.specs.declared.view.Stretch.{Stretch}
+use Rattle.view_doc.specs.declared.view.Use.{Use}
+use Rattle.view_doc.specs.declared.view.Use.TheVariants.{Idle, Slot, Shared}
+use Rattle.view_doc.specs.declared.view.View.{View}
+
+-- the stints of a run, else the slots of a plan
+abbrev pub shown_in : View → List Stretch
+shown_in view = if view.is_run then view.stints.items else view.slots.items
+
+-- how many cores the stretches reach: one more than the greatest number, and 0 where there is none
+abbrev pub reach_of : List Stretch → ℕ
+reach_of [] = 0
+reach_of (s ∷ ss) = max (s.core + 1) (reach_of ss)
+
+-- the count of the cores: that of the plan's, or more where the run has more
+abbrev pub cores_in : View → ℕ
+cores_in view = max view.cores (reach_of (shown_in view))
+
+-- where the last stretch ends
+abbrev pub last_end : List Stretch → ℕ
+last_end [] = 0
+last_end (s ∷ ss) = max s.end (last_end ss)
+
+-- where the last round ends that the stretches reach, and the first one at least; ticks are below 2^32
+abbrev pub whole_of : List Stretch → ℕ
+whole_of stretches = min (max 1 ((last_end stretches + (ROUND - 1)) / ROUND) * ROUND) (2 ^ 32 - 1)
+
+-- the tick that ends what is shown: the end of the last round, or an earlier one that was asked for
+abbrev pub end_at : Option ℕ → ℕ → ℕ
+end_at None whole = whole
+end_at (Some tick) whole = min tick whole
+
+-- the ticks that are shown
+abbrev pub frame_of : View → ChartOptions → Frame
+frame_of view options = record {
+  from = options.from;
+  to = end_at options.to (whole_of (shown_in view));
+  tick = options.tick_ns;
+}
+
+-- how many lanes there are: the cores that were asked for, of those that there are
+abbrev pub lanes_of : View → ChartOptions → ℕ
+lanes_of view options = min (options.last + 1) (cores_in view) - options.first
+
+-- the ticks of a stretch that are shown, if a vCPU has them
+abbrev pub held_bars : Frame → Stretch → Use → List Bar
+held_bars f s Idle = []
+held_bars f s (Slot v) =
+    (record { from = max s.from f.from; end = min s.end f.to; vcpu = v; shared = false }) ∷ []
+held_bars f s (Shared v) =
+    (record { from = max s.from f.from; end = min s.end f.to; vcpu = v; shared = true }) ∷ []
+
+-- the bar of a stretch on a core's lane, if it has ticks there
+abbrev pub bars_in : Frame → ℕ → Stretch → List Bar
+bars_in f core s =
+    if (s.core == core) && (nat_lt s.from f.to && nat_lt f.from s.end) then held_bars f s s.by else []
+
+-- the bars of a core's lane, in the order of the text
+abbrev pub lane_bars : Frame → List Stretch → ℕ → List Bar
+lane_bars f stretches core = flat_map (bars_in f core) stretches
+
+-- nothing is shown: no tick, or no core
+abbrev pub shows_nothing : ChartOptions → View → Bool
+shows_nothing options view =
+    nat_le (frame_of view options).to (frame_of view options).from || (lanes_of view options == 0)
+
+-- how many ticks of a lane are somebody's: at most all
+abbrev pub held_in : Frame → List Bar → ℕ
+held_in f bars = min (f.to - f.from) (sum_by (λ bar. bar.end - bar.from) bars)

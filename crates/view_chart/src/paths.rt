@@ -1,0 +1,110 @@
+ghost use Rattle.std.specs.Prelude.{◌≡◌, ◌<◌, ◌≤◌, ◌^◌, length, slice_get};
+ghost use Rattle.tab_io.specs.Sinks.{Writes};
+ghost use Rattle.vcpu_names.specs.Names.{name_at as name_of};
+ghost use Rattle.view_chart.specs.Lanes.{note_of, path_begin, path_end, task_note};
+
+use crate::marks::tenths_ms;
+use tab_core::Name;
+use tab_io::{Sink, WriteFault, write_all};
+use tab_words::{TextPiece, put_pieces};
+use view_doc::Task;
+
+// The name of the vCPU of this number, or nothing where there is none.
+pub(crate) fn name_at(names: &[Name], vcpu: usize) -> &[u8]
+    ensures value { result.now ≡ name_of names.now vcpu }
+    ensures short { length result.now ≤ 32 }
+{
+    match names.get(vcpu) {
+        Some(name) => name.bytes(),
+        None => &[],
+    }
+}
+
+// Writes where the path of a vCPU begins.
+#[tactic(auto, unfolding(crate::specs::Lanes::path_begin))]
+pub(crate) fn put_path_begin<K: Sink>(
+    sink: &mut K,
+    colour: u32,
+    class: &[u8],
+) -> Result<(), WriteFault>
+    ensures { Writes (K.state sink.old) (K.state sink.new) (path_begin colour class.now) result }
+{
+    put_pieces(
+        sink,
+        &[
+            TextPiece::Text(b"<path class=\"c"),
+            TextPiece::Number(colour),
+            TextPiece::Text(class),
+            TextPiece::Text(b"\" d=\""),
+        ],
+    )
+}
+
+// Writes how it ends.
+pub(crate) fn put_path_end<K: Sink>(
+    sink: &mut K,
+    tick: u16,
+    name: &[u8],
+    tasks: &[Task],
+    v: usize,
+    word: &[u8],
+) -> Result<(), WriteFault>
+    ensures { Writes (K.state sink.old) (K.state sink.new)
+        (path_end (note_of tick name.now (slice_get tasks.now v)) word.now) result }
+{
+    write_all(sink, b"\"><title>")?;
+    put_note(sink, tick, name, tasks, v)?;
+    write_all(sink, word)?;
+    write_all(sink, b"</title></path>\n")
+}
+
+// Writes what is told of a vCPU.
+fn put_note<K: Sink>(
+    sink: &mut K,
+    tick: u16,
+    name: &[u8],
+    tasks: &[Task],
+    v: usize,
+) -> Result<(), WriteFault>
+    ensures { Writes (K.state sink.old) (K.state sink.new) (note_of tick name.now (slice_get tasks.now v)) result }
+{
+    match tasks.get(v) {
+        Some(task) => put_task_note(
+            sink,
+            name,
+            task.home.0,
+            tenths_ms(tick, task.cost),
+            tenths_ms(tick, task.period),
+        ),
+        None => write_all(sink, name),
+    }
+}
+
+#[tactic(auto, unfolding(crate::specs::Lanes::task_note))]
+fn put_task_note<K: Sink>(
+    sink: &mut K,
+    name: &[u8],
+    home: u32,
+    cost: u64,
+    period: u64,
+) -> Result<(), WriteFault>
+    ensures { Writes (K.state sink.old) (K.state sink.new) (task_note name.now home cost period) result }
+{
+    put_pieces(
+        sink,
+        &[
+            TextPiece::Text(name),
+            TextPiece::Text(b": home core "),
+            TextPiece::Number(home),
+            TextPiece::Text(b", "),
+            TextPiece::Wide(cost / 10),
+            TextPiece::Text(b"."),
+            TextPiece::Wide(cost % 10),
+            TextPiece::Text(b" ms in each "),
+            TextPiece::Wide(period / 10),
+            TextPiece::Text(b"."),
+            TextPiece::Wide(period % 10),
+            TextPiece::Text(b" ms"),
+        ],
+    )
+}

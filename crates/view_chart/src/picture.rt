@@ -1,0 +1,270 @@
+ghost use Rattle.std.specs.Prelude.{◌≡◌, ◌<◌, ◌≤◌, ◌+◌, ◌^◌, length};
+ghost use Rattle.tab_core.specs.declared.TheConstants.{MAX_CORES, MAX_VCPUS};
+ghost use Rattle.tab_io.specs.Sinks.{Writes};
+ghost use Rattle.tab_words.specs.Texts.{texts_below};
+ghost use Rattle.view_chart.specs.Charts.{chart_of, grounds_text, head_of, lane_at, lane_body, lane_of, lane_text, tall_of};
+ghost use Rattle.view_chart.specs.Frames.{height_of, pitch_of};
+ghost use Rattle.view_chart.specs.Heads.{head_text};
+ghost use Rattle.view_chart.specs.Lanes.{ground_box};
+
+use crate::axis::put_axis;
+use crate::columns::put_columns;
+use crate::frame::{Bar, Frame};
+use crate::head::{Head, put_head};
+use crate::lane::{put_bars, put_label};
+use crate::lanes::{Lane, held_in, share_in};
+use crate::legend::put_legend;
+use crate::marks::{per_mille, put_box, tenths_ms};
+use crate::places::{foot_of, height_of, pitch_of, span_of, top_of};
+use crate::rounds::put_rounds;
+use tab_core::{Name, ROUND};
+use tab_io::{Sink, WriteFault, write_all};
+use view_doc::Task;
+
+// Writes the picture of these lanes, of which the first is a core's.
+pub(crate) fn put_picture<K: Sink>(
+    sink: &mut K,
+    frame: &Frame,
+    width: u32,
+    first: u32,
+    is_run: bool,
+    cores: u32,
+    names: &[Name],
+    tasks: &[Task],
+    colours: &[u32],
+    lanes: &[Lane],
+) -> Result<(), WriteFault>
+    requires lanes { length lanes.now ≤ MAX_CORES }
+    requires few { length names.now ≤ MAX_VCPUS }
+    requires coloured { length names.now ≤ length colours.now }
+    ensures { Writes (K.state sink.old) (K.state sink.new)
+        (chart_of frame.now width first is_run cores names.now tasks.now colours.now lanes.now) result }
+{
+    put_chart_head(sink, frame, width, is_run, cores, names, lanes)?;
+    put_grounds(sink, lanes.len() as u32)?;
+    put_axis(sink, frame, lanes.len() as u32)?;
+    put_lanes(sink, frame, first, names, tasks, colours, lanes)?;
+    put_rounds(sink, frame, is_run, lanes.len() as u32)?;
+    put_legend(sink, frame.tick, lanes.len() as u32, names, tasks, colours)?;
+    write_all(sink, b"</svg>\n")
+}
+
+// Writes the head.
+fn put_chart_head<K: Sink>(
+    sink: &mut K,
+    frame: &Frame,
+    width: u32,
+    is_run: bool,
+    cores: u32,
+    names: &[Name],
+    lanes: &[Lane],
+) -> Result<(), WriteFault>
+    requires lanes { length lanes.now ≤ MAX_CORES }
+    requires few { length names.now ≤ MAX_VCPUS }
+    ensures { Writes (K.state sink.old) (K.state sink.new)
+        (head_text width (tall_of (length lanes.now) (length names.now))
+        (head_of frame.now is_run cores (length names.now) lanes.now)) result }
+{
+    let head = head_of(frame, is_run, cores, names.len() as u64, lanes);
+    put_head(sink, width, tall_of(lanes.len() as u32, names.len()), &head)
+}
+
+// What the head says.
+#[tactic(auto, unfolding(crate::specs::Charts::head_of))]
+fn head_of(frame: &Frame, is_run: bool, cores: u32, vcpus: u64, lanes: &[Lane]) -> Head
+    requires { length lanes.now ≤ MAX_CORES }
+    ensures { result ≡ head_of frame.now is_run cores vcpus lanes.now }
+{
+    Head {
+        is_run,
+        cores,
+        vcpus,
+        from: frame.from,
+        to: frame.to,
+        lasting: tenths_ms(frame.tick, span_of(frame)),
+        share: share_in(frame, lanes),
+    }
+}
+
+// How tall a picture of so many lanes and vCPUs is.
+fn tall_of(lanes: u32, vcpus: usize) -> u32
+    requires lanes { lanes ≤ MAX_CORES }
+    requires vcpus { vcpus ≤ MAX_VCPUS }
+    ensures { result ≡ tall_of lanes vcpus }
+{
+    foot_of(lanes) + 4200 + ((vcpus + 3) / 4) as u32 * 1400 + 1000
+}
+
+// Writes the grounds of so many lanes.
+fn put_grounds<K: Sink>(sink: &mut K, lanes: u32) -> Result<(), WriteFault>
+    requires { lanes ≤ MAX_CORES }
+    ensures { Writes (K.state sink.old) (K.state sink.new) (grounds_text lanes) result }
+{
+    write_all(sink, b"<path class=\"lane\" d=\"")?;
+    put_ground_boxes(sink, lanes)?;
+    write_all(sink, b"\"/>\n")
+}
+
+fn put_ground_boxes<K: Sink>(sink: &mut K, lanes: u32) -> Result<(), WriteFault>
+    requires { lanes ≤ MAX_CORES }
+    ensures { Writes (K.state sink.old) (K.state sink.new)
+        (texts_below (ground_box (height_of lanes) (pitch_of lanes)) lanes) result }
+{
+    put_boxes(sink, height_of(lanes), pitch_of(lanes), lanes)
+}
+
+fn put_boxes<K: Sink>(sink: &mut K, high: u32, pitch: u32, lanes: u32) -> Result<(), WriteFault>
+    requires few { lanes ≤ MAX_CORES }
+    requires high { high ≤ 4000 }
+    requires pitch { pitch ≤ 4800 }
+    ensures { Writes (K.state sink.old) (K.state sink.new) (texts_below (ground_box high pitch) lanes) result }
+{
+    for i in 0..lanes {
+        put_ground(sink, high, pitch, i)?;
+    }
+    Ok(())
+}
+
+#[tactic(auto, using(crate::proofs::Sizes::lane_offset))]
+fn put_ground<K: Sink>(sink: &mut K, high: u32, pitch: u32, i: u32) -> Result<(), WriteFault>
+    requires few { i ≤ MAX_CORES }
+    requires high { high ≤ 4000 }
+    requires pitch { pitch ≤ 4800 }
+    ensures { Writes (K.state sink.old) (K.state sink.new) (ground_box high pitch i) result }
+{
+    let y = 9800 + i * pitch;
+    put_box(
+        sink,
+        9400,
+        u64::from(y),
+        9400 + u64::from(ROUND),
+        u64::from(y + high),
+    )
+}
+
+// Writes the lanes.
+fn put_lanes<K: Sink>(
+    sink: &mut K,
+    frame: &Frame,
+    first: u32,
+    names: &[Name],
+    tasks: &[Task],
+    colours: &[u32],
+    lanes: &[Lane],
+) -> Result<(), WriteFault>
+    requires lanes { length lanes.now ≤ MAX_CORES }
+    requires coloured { length names.now ≤ length colours.now }
+    ensures { Writes (K.state sink.old) (K.state sink.new)
+        (texts_below (lane_at frame.now first names.now tasks.now colours.now lanes.now) (length lanes.now))
+        result }
+{
+    for i in 0..lanes.len() {
+        put_lane_at(sink, frame, first, names, tasks, colours, lanes, i)?;
+    }
+    Ok(())
+}
+
+// Writes the lane of a number.
+fn put_lane_at<K: Sink>(
+    sink: &mut K,
+    frame: &Frame,
+    first: u32,
+    names: &[Name],
+    tasks: &[Task],
+    colours: &[u32],
+    lanes: &[Lane],
+    i: usize,
+) -> Result<(), WriteFault>
+    requires lanes { length lanes.now ≤ MAX_CORES }
+    requires there { i < length lanes.now }
+    requires coloured { length names.now ≤ length colours.now }
+    ensures { Writes (K.state sink.old) (K.state sink.new)
+        (lane_at frame.now first names.now tasks.now colours.now lanes.now i) result }
+{
+    let count = lanes.len() as u32;
+    let core = u64::from(first) + i as u64;
+    let y = top_of(count, i as u32);
+    put_lane(
+        sink,
+        frame,
+        core,
+        y,
+        height_of(count),
+        names,
+        tasks,
+        colours,
+        lanes[i].bars(),
+    )
+}
+
+// Writes the lane of a core.
+fn put_lane<K: Sink>(
+    sink: &mut K,
+    frame: &Frame,
+    core: u64,
+    y: u32,
+    high: u32,
+    names: &[Name],
+    tasks: &[Task],
+    colours: &[u32],
+    bars: &[Bar],
+) -> Result<(), WriteFault>
+    requires coloured { length names.now ≤ length colours.now }
+    requires low { y < 2 ^ 31 }
+    requires high { high ≤ 4000 }
+    ensures { Writes (K.state sink.old) (K.state sink.new)
+        (lane_text frame.now core y high names.now tasks.now colours.now bars.now) result }
+{
+    let share = per_mille(held_in(frame, bars), u64::from(span_of(frame)));
+    put_lane_of(
+        sink, frame, core, y, high, share, names, tasks, colours, bars,
+    )
+}
+
+fn put_lane_of<K: Sink>(
+    sink: &mut K,
+    frame: &Frame,
+    core: u64,
+    y: u32,
+    high: u32,
+    share: u64,
+    names: &[Name],
+    tasks: &[Task],
+    colours: &[u32],
+    bars: &[Bar],
+) -> Result<(), WriteFault>
+    requires coloured { length names.now ≤ length colours.now }
+    requires low { y < 2 ^ 31 }
+    requires high { high ≤ 4000 }
+    ensures { Writes (K.state sink.old) (K.state sink.new)
+        (lane_of frame.now core y high share names.now tasks.now colours.now bars.now) result }
+{
+    put_label(sink, core, y, high, share)?;
+    put_body(sink, frame, y, high, names, tasks, colours, bars)?;
+    write_all(sink, b"</g>\n")
+}
+
+// Writes the bars of a lane: each as a box, or as columns where they are many.
+#[tactic(auto, unfolding(crate::specs::Charts::lane_body))]
+fn put_body<K: Sink>(
+    sink: &mut K,
+    frame: &Frame,
+    y: u32,
+    high: u32,
+    names: &[Name],
+    tasks: &[Task],
+    colours: &[u32],
+    bars: &[Bar],
+) -> Result<(), WriteFault>
+    requires coloured { length names.now ≤ length colours.now }
+    requires low { y < 2 ^ 31 }
+    requires high { high ≤ 4000 }
+    ensures { Writes (K.state sink.old) (K.state sink.new)
+        (lane_body frame.now y high names.now tasks.now colours.now bars.now) result }
+{
+    if bars.len() > 342 {
+        put_columns(sink, frame, y, high, names, tasks, colours, bars)
+    } else {
+        put_bars(sink, frame, y, high, names, tasks, colours, bars)
+    }
+}
