@@ -1,0 +1,75 @@
+//! Runs of a scene by threads, and what they show.
+ghost use Rattle.table_form.specs.Running.Courses.{FitsRounds};
+
+use crate::hosts::Scene;
+use burst_bound::{BurstAnswer, BurstReport};
+use core_workers::{Crew, Gate};
+use course_run::{TRACE_LIMIT, run_course};
+use round_words::RoundBoard;
+use std::alloc::Global;
+use std::test::Fail;
+use std::thread::{Threads, yield_now};
+use stint_limit::stint_bound;
+use tab_core::{CoreNo, NoMemory, Stint};
+use tab_words::RunMode;
+
+// What a run shows: the used count of each round, the stints of each core, and what is told of each burst.
+#[derive(Drop)]
+pub(crate) struct Shown {
+    pub(crate) used: Vec<u32>,
+    pub(crate) stints: Vec<Vec<Stint>>,
+    pub(crate) answers: Vec<BurstAnswer>,
+}
+
+fn shown_of(alloc: Global, crew: &Crew<'_>, answers: &[BurstAnswer]) -> Result<Shown, NoMemory> {
+    let mut stints = Vec::new(alloc);
+    let mut used = Vec::new(alloc);
+    for core in 0..crew.course().cores() {
+        let state = crew.actor(CoreNo(core));
+        stints.push(Vec::from_slice(alloc, state.stints())?)?;
+        used = Vec::from_slice(alloc, state.used())?;
+    }
+    Ok(Shown {
+        used,
+        stints,
+        answers: Vec::from_slice(alloc, answers)?,
+    })
+}
+
+// A run of a scene, whose bursts are told.
+pub(crate) fn run_scene<R: Threads + Sync, G: Gate>(
+    rt: &R,
+    alloc: Global,
+    scene: &Scene,
+    gate: &G,
+) -> Result<Shown, Fail> {
+    let rounds = scene.rounds;
+    let course = scene.book.course();
+    let stints = stint_bound(course, rounds).min(TRACE_LIMIT);
+    let events = scene.script.events().len();
+    let mut report = BurstReport::room(alloc, rounds, stints as u32, events as u32)?;
+    let (board, seat) = RoundBoard::make(alloc)?;
+    let mode = RunMode::Burst;
+    match run_course(rt, alloc, course, rounds, mode, &board, seat, gate) {
+        Ok((_, ran)) => {
+            report.fill(course, rounds, &scene.script, ran.crew());
+            Ok(shown_of(alloc, ran.crew(), report.answers())?)
+        }
+        Err(_) => Err(Fail::from("no run")),
+    }
+}
+
+// Lets other threads go first at some steps, which the pattern picks.
+#[derive(Drop)]
+pub(crate) struct Stumbling {
+    pub(crate) pattern: u64,
+}
+
+impl Gate for Stumbling {
+    fn pass(&self, actor: u32, step: u64) {
+        let place = step.wrapping_mul(7).wrapping_add(u64::from(actor)) % 64;
+        if (self.pattern >> place) & 1 == 1 {
+            yield_now();
+        }
+    }
+}
