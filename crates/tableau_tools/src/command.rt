@@ -81,8 +81,15 @@ fn export_command<'a>(alloc: Global) -> Result<Command<'a>, AllocError> {
 
 // The words of `table`.
 fn table_command<'a>(alloc: Global) -> Result<Command<'a>, AllocError> {
+    let by = Arg::new(alloc, "by")
+        .long("by")
+        .value_name("ROWS")
+        .value_parser(["vcpu", "vm"].as_slice())
+        .default_value("vcpu")
+        .help("A row for each vCPU, or for each VM: its name's part before the last dot");
     Command::new(alloc, "table")
         .about("Writes the shares, waits and loads of a plan, beside what its host asks for")
+        .arg(by)?
         .arg(file_arg(alloc))?
         .arg(tick_arg(alloc))
 }

@@ -11,16 +11,17 @@ use tab_core::{TICK_NS, Vcpu};
 use tab_io::{Put, Sink, StdSink};
 use tab_words::cut_sections;
 use view_doc::View;
-use view_table::{figures_of, write_table};
+use view_table::{figures_of, write_table, write_vm_table};
 
 /// Does `table`: it reads a plan, or a host and its plan, and writes their tables.
 pub(crate) fn table(rt: &HostRuntime, matches: &ArgMatches<'_>) -> Result<(), Fault> {
+    let by = matches.get_str("by");
     let bytes = input_of(rt, matches.get_str("FILE"))?;
     let sections = cut_sections(&bytes);
     if sections.count() == 2 {
         let host = host_of(rt.alloc(), sections.part(0))?;
         let view = plan_of(rt.alloc(), sections.part(1))?;
-        return put_tables(rt, Some(host.vcpus.items()), &view, host.tick_ns);
+        return put_tables(rt, by, Some(host.vcpus.items()), &view, host.tick_ns);
     }
     if sections.count() != 1 {
         return Err(Fault::BadSections {
@@ -29,12 +30,13 @@ pub(crate) fn table(rt: &HostRuntime, matches: &ArgMatches<'_>) -> Result<(), Fa
     }
     let view = plan_of(rt.alloc(), sections.part(0))?;
     let tick_ns = matches.get_one::<u32>("tick").unwrap_or(TICK_NS);
-    put_tables(rt, None, &view, tick_ns)
+    put_tables(rt, by, None, &view, tick_ns)
 }
 
-// Writes the tables to standard output.
+// Writes the tables to standard output, with a row for each vCPU or for each VM.
 fn put_tables(
     rt: &HostRuntime,
+    by: Option<&str>,
     host: Option<&[Vcpu]>,
     view: &View,
     tick_ns: u32,
@@ -47,7 +49,10 @@ fn put_tables(
         return Err(Fault::NoMemory);
     };
     let mut sink = StdSink::of(writer);
-    write_table(&mut sink, host, view, &figures, tick_ns)?;
+    match by {
+        Some("vm") => write_vm_table(&mut sink, host, view, &figures, tick_ns)?,
+        _ => write_table(&mut sink, host, view, &figures, tick_ns)?,
+    }
     match sink.finish() {
         Put::Took(_) => Ok(()),
         Put::Failed => Err(Fault::WriteFault),

@@ -1,8 +1,9 @@
 -- The column of names.
-use Rattle.std.proofs.Common.{◌≡◌, ℕ, ◌+◌, ◌∙◌, ap, sym, max, List, length, refl, add-one, Option, Some, ◌++◌}
+use Rattle.std.proofs.Common.{◌*◌, ◌/◌, ◌<◌, ◌^◌, arith, ◌≡◌, ℕ, ◌+◌, ◌∙◌, ap, sym, max, List, length, refl, add-one, Option, Some, ◌++◌}
 use Rattle.vcpu_names.specs.Names.{name_at}
 use Rattle.view_table.specs.Table.{core_words, row_cells, row_of, vcpu_row, width_below}
 use Rattle.view_table.specs.Waits.{wait_of}
+use Rattle.std.proofs.Math.Nat.{div-le_self}
 use Rattle.std.specs.List.{slice_get}
 use Rattle.tab_core.specs.declared.vcpu.Vcpu.{Vcpu}
 use Rattle.view_doc.specs.declared.view.Stretch.{Stretch}
@@ -29,3 +30,7 @@ row_at host tick width names tasks slots cores v t name wait has named waits =
     ap (row_of host tick width names slots cores v) has
     ∙ (ap (λ n. row_cells host tick width n t (wait_of slots v) ++ core_words slots cores v) (sym named)
     ∙ ap (λ w. row_cells host tick width name t w ++ core_words slots cores v) (sym waits))
+
+-- shares are sums of few bits
+pub small_share : (cost period : ℕ) → cost < 2 ^ 32 → cost * 1000000 / period < 2 ^ 52
+small_share cost period low = omega (arith, div-le_self (cost * 1000000) period)

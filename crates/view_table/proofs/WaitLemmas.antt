@@ -1,5 +1,5 @@
--- How the longest wait goes on from tick to tick.
-use Rattle.std.proofs.Common.{◌≡◌, ℕ, zero, suc, ◌+◌, ◌∙◌, ap, sym, max, Bool, cond, true, false, refl, add-one, ◌⊎◌, inl, inr}
+-- How the longest wait goes on from tick to tick, and over ticks in a row that are alike.
+use Rattle.std.proofs.Common.{◌≡◌, ℕ, zero, suc, ◌+◌, ◌<◌, ◌≤◌, ◌∙◌, ap, sym, max, Bool, true, false, refl, arith, add-one}
 use Rattle.view_table.specs.Waits.{longest, waited}
 
 -- a tick with a slot ends the wait
@@ -27,27 +27,29 @@ pub longest-zero : (served : ℕ → Bool) → longest served 0 ≡ 0
 unfolding longest
 longest-zero served = refl
 
--- two ways to say which ticks have a slot
-pub waited-same : (f g : ℕ → Bool) → ((x : ℕ) → f x ≡ g x) → (n : ℕ) → waited f n ≡ waited g n
-unfolding waited
-waited-same f g same zero = refl
-waited-same f g same (suc n) =
-    ap (λ b. cond b 0 (suc (waited f n))) (same n) ∙ ap (λ w. cond (g n) 0 (suc w)) (waited-same f g same n)
+-- ticks without a slot behind one that has a slot
+pub waited_over : (served : ℕ → Bool) (a k : ℕ) → waited served a ≡ 0
+    → ((x : ℕ) → a ≤ x → x < a + k → served x ≡ false)
+    → (waited served (a + k) ≡ k) × (longest served (a + k) ≡ max (longest served a) k)
+waited_over served a zero met none =
+    let place : a + 0 ≡ a = omega arith in
+    (rw place met, omega (arith, ap (longest served) place))
+waited_over served a (suc k) met none =
+    let before = waited_over served a k met (λ x low high. none x low (omega (arith, high))) in
+    let now = waited-more served (a + k) (none (a + k) (omega arith) (omega arith)) in
+    let most = longest-more served (a + k) in
+    let place : a + suc k ≡ a + k + 1 = omega arith in
+    (rw place (omega (arith, now, before.0)), rw place (omega (arith, most, now, before.0, before.1)))
 
-pub longest-same : (f g : ℕ → Bool) → ((x : ℕ) → f x ≡ g x) → (n : ℕ) → longest f n ≡ longest g n
-unfolding longest
-longest-same f g same zero = refl
-longest-same f g same (suc n) =
-    ap (λ w. max w (waited f (suc n))) (longest-same f g same n)
-    ∙ ap (λ w. max (longest g n) w) (waited-same f g same (suc n))
-
--- one more tick, as a loop counts
-pub wait_step : (served : ℕ → Bool) (x run wait next : ℕ) → run ≡ waited served x → wait ≡ longest served x
-    → ((served x ≡ true) × (next ≡ 0)) ⊎ ((served x ≡ false) × (next ≡ run + 1))
-    → (next ≡ waited served (x + 1)) × (max wait next ≡ longest served (x + 1))
-wait_step served x run wait next is_run is_wait (inl h) =
-    let now : next ≡ waited served (x + 1) = h.1 ∙ sym (waited-served served x h.0) in
-    (now, ap (λ w. max w next) is_wait ∙ ap (max (longest served x)) now ∙ sym (longest-more served x))
-wait_step served x run wait next is_run is_wait (inr h) =
-    let now : next ≡ waited served (x + 1) = h.1 ∙ ap (λ n. n + 1) is_run ∙ sym (waited-more served x h.0) in
-    (now, ap (λ w. max w next) is_wait ∙ ap (max (longest served x)) now ∙ sym (longest-more served x))
+-- ticks with a slot
+pub served_over : (served : ℕ → Bool) (a k : ℕ) → ((x : ℕ) → a ≤ x → x < a + k → served x ≡ true)
+    → (0 < k → waited served (a + k) ≡ 0) × (longest served (a + k) ≡ longest served a)
+served_over served a zero all =
+    let place : a + 0 ≡ a = omega arith in
+    (λ none. absurd (omega (arith, none)), rw place refl)
+served_over served a (suc k) all =
+    let before = served_over served a k (λ x low high. all x low (omega (arith, high))) in
+    let now = waited-served served (a + k) (all (a + k) (omega arith) (omega arith)) in
+    let most = longest-more served (a + k) in
+    let place : a + suc k ≡ a + k + 1 = omega arith in
+    (λ some. rw place now, rw place (omega (arith, most, now, before.1)))

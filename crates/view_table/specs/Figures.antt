@@ -1,18 +1,11 @@
 -- What is worked out of a plan before its tables are written.
 use Rattle.std.specs.Prelude.{◌≡◌, ℕ, ◌+◌, ◌*◌, ◌<◌, Bool, false, List, length, slice_index, slice_index_or}
-use Rattle.std.specs.List.{list_any}
-use Rattle.tab_core.specs.declared.TheConstants.{MAX_CORES, ROUND}
+use Rattle.tab_core.specs.declared.TheConstants.{MAX_CORES}
 use Rattle.view_doc.specs.declared.view.Stretch.{Stretch}
 use Rattle.view_doc.specs.declared.view.View.{View}
 use Rattle.view_table.specs.Loads.{stands_on}
-use Rattle.view_table.specs.Waits.{serves, wait_of}
+use Rattle.view_table.specs.Waits.{wait_of}
 use Rattle.view_table.specs.declared.figures.Figures.{Figures}
-
--- a row for each vCPU below the count, which says of each place whether the vCPU has it
-pub record AreServedPlaces (slots : List Stretch) (count : ℕ) (grid : List Bool) : Type 0 where
-  pub size : length grid ≡ count * ROUND
-  pub cells : (v x : ℕ) → v < count → x < ROUND
-      → slice_index_or grid (v * ROUND + x) false ≡ list_any (serves v x) slots
 
 -- a row for each vCPU below the count, which says of each core whether the vCPU has a slot there
 pub record AreStands (slots : List Stretch) (count : ℕ) (grid : List Bool) : Type 0 where

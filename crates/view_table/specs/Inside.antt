@@ -1,2 +1,3 @@
 -- What the writers keep on their way, private to this crate.
 pub mod CellTexts
+pub mod Walks

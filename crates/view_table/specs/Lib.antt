@@ -1,6 +1,7 @@
 pub mod Cells
 pub mod Diff
 pub mod Figures
+pub mod Groups
 pub mod Inside
 pub mod Loads
 pub mod Table

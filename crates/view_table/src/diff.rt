@@ -141,7 +141,8 @@ fn put_old_vcpu<K: Sink>(
     )
 }
 
-fn figure_of(view: &View, figures: &Figures, vcpu: usize) -> u32
+// The longest wait of a vCPU.
+pub(crate) fn figure_of(view: &View, figures: &Figures, vcpu: usize) -> u32
     requires figures { AreFigures view.now figures.now }
     requires low { vcpu < length view.now.tasks.items }
     ensures { result ≡ wait_of view.now.slots.items vcpu }

@@ -7,11 +7,14 @@
 mod cells;
 mod diff;
 mod figures;
+mod groups;
 mod laws;
 mod rows;
 mod table;
+mod waits;
 
 pub use diff::write_diff;
 pub use figures::{Figures, figures_of};
+pub use groups::write_vm_table;
 pub use laws::a_shown_wait_is_the_longest;
 pub use table::write_table;

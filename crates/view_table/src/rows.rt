@@ -1,4 +1,4 @@
-ghost use Rattle.std.specs.Prelude.{◌≡◌, ◌*◌, ◌-◌};
+ghost use Rattle.std.specs.Prelude.{◌<◌, ◌^◌, ◌≡◌, ◌*◌, ◌-◌};
 ghost use Rattle.tab_core.specs.declared.TheConstants.{ROUND};
 ghost use Rattle.view_table.specs.Cells.{count_cell, millis_cell};
 ghost use Rattle.view_table.specs.Inside.CellTexts.{cell_text};
@@ -11,8 +11,10 @@ use tab_core::{Name, ROUND, Reservation, Vcpu, WHOLE_PPM};
 use view_doc::{Stretch, Task, Use};
 
 // A cost in each period as parts per million of a core.
+#[tactic(auto, using(crate::proofs::TableLemmas::small_share))]
 pub(crate) fn share_of(task: &Task) -> u64
-    ensures { result ≡ share_of task.now }
+    ensures value { result ≡ share_of task.now }
+    ensures small { result < 2 ^ 52 }
 {
     if task.period == 0 {
         0

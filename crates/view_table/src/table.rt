@@ -75,7 +75,7 @@ fn put_head<K: Sink>(sink: &mut K, host: &Option<&[Vcpu]>) -> Result<(), WriteFa
     }
 }
 
-fn put_core_head<K: Sink>(sink: &mut K) -> Result<(), WriteFault>
+pub(crate) fn put_core_head<K: Sink>(sink: &mut K) -> Result<(), WriteFault>
     ensures { Writes (K.state sink.old) (K.state sink.new) core_head result }
 {
     write_all(sink, b"\ncore    load %  headroom %\n")
@@ -255,7 +255,7 @@ fn put_stand<K: Sink>(
 }
 
 // Writes the row of each core.
-fn put_cores<K: Sink>(sink: &mut K, view: &View) -> Result<(), WriteFault>
+pub(crate) fn put_cores<K: Sink>(sink: &mut K, view: &View) -> Result<(), WriteFault>
     ensures { Writes (K.state sink.old) (K.state sink.new)
         (texts_below (core_row view.now.slots.items) view.now.cores) result }
 {

@@ -1,0 +1,136 @@
+-- The vCPUs of a plan by virtual machine: the VM of a vCPU is its name's part before the last dot.
+use Rattle.std.specs.Prelude.{ℕ, zero, suc, ◌+◌, ◌==◌, ◌&&◌, ◌||◌, nat_lt, Bool, false, if◌then◌else◌, max, min, List, [], ◌++◌, codes, decimal, length, Option, Some, None, slice_get, slice_index, take}
+use Rattle.std.specs.Str.{bytes_eq}
+use Rattle.tab_core.specs.declared.reservation.Reservation.{Reservation}
+use Rattle.tab_core.specs.declared.vcpu.Vcpu.{Vcpu}
+use Rattle.tab_words.specs.Texts.{texts_below}
+use Rattle.vcpu_names.specs.Names.{name_at}
+use Rattle.view_doc.specs.declared.view.Stretch.{Stretch}
+use Rattle.view_doc.specs.declared.view.Task.{Task}
+use Rattle.view_doc.specs.declared.view.View.{View}
+use Rattle.view_table.specs.Cells.{count_cell, left, millis_cell, percent_cell, right}
+use Rattle.view_table.specs.Loads.{stands_on}
+use Rattle.view_table.specs.Table.{asked_of, core_head, core_row, share_of, wait_cell, width_below}
+use Rattle.view_table.specs.Waits.{wait_of}
+
+-- where the VM's part of a name ends, by so many of its bytes: at the last dot behind the first byte,
+-- or at the name's end where there is none
+unfoldable pub vm_end : List ℕ → ℕ → ℕ
+vm_end name zero = length name
+vm_end name (suc k) = if (slice_index name k == 46) && nat_lt 0 k then k else vm_end name k
+
+abbrev pub vm_of : List ℕ → List ℕ
+vm_of name = take (vm_end name (length name)) name
+
+-- the vCPU of a number is of this VM
+abbrev pub is_of : List (List ℕ) → List ℕ → ℕ → Bool
+is_of names vm v = bytes_eq (vm_of (name_at names v)) vm
+
+-- some vCPU below n passes
+unfoldable pub any_below : (ℕ → Bool) → ℕ → Bool
+any_below test zero = false
+any_below test (suc v) = any_below test v || test v
+
+-- the sum, and the greatest, of the vCPUs below n that are of the VM
+unfoldable pub sum_in : (ℕ → ℕ) → List (List ℕ) → List ℕ → ℕ → ℕ
+sum_in figure names vm zero = 0
+sum_in figure names vm (suc v) = sum_in figure names vm v + (if is_of names vm v then figure v else 0)
+
+unfoldable pub most_in : (ℕ → ℕ) → List (List ℕ) → List ℕ → ℕ → ℕ
+most_in figure names vm zero = 0
+most_in figure names vm (suc v) = max (most_in figure names vm v) (if is_of names vm v then figure v else 0)
+
+-- the share of a vCPU of a number
+abbrev pub share_in : Option Task → ℕ
+share_in None = 0
+share_in (Some t) = share_of t
+
+-- a core where some vCPU of the VM has a slot
+abbrev pub vm_stands : List (List ℕ) → List ℕ → List Stretch → ℕ → ℕ → Bool
+vm_stands names vm slots core v = stands_on slots v core && is_of names vm v
+
+abbrev pub vm_core : List (List ℕ) → List ℕ → List Stretch → ℕ → ℕ → List ℕ
+vm_core names vm slots count core =
+    if any_below (vm_stands names vm slots core) count then codes " " ++ decimal core else []
+
+-- what the host's vCPU of the name of this number has reserved, if one is admitted, and its share
+abbrev pub asked_at : List Vcpu → List (List ℕ) → ℕ → Option Reservation
+asked_at vcpus names v = asked_of vcpus (name_at names v)
+
+abbrev pub ppm_of : Option Reservation → ℕ
+ppm_of None = 0
+ppm_of (Some r) = r.share_ppm
+
+-- the least of latencies and one more, where there are any
+abbrev pub lesser : Option ℕ → Option Reservation → Option ℕ
+lesser least None = least
+lesser None (Some r) = Some r.latency_ns
+lesser (Some ns) (Some r) = Some (min ns r.latency_ns)
+
+-- the least latency that was promised to a vCPU of the VM below n, if any was
+unfoldable pub least_in : List Vcpu → List (List ℕ) → List ℕ → ℕ → Option ℕ
+least_in vcpus names vm zero = None
+least_in vcpus names vm (suc v) = if is_of names vm v
+    then lesser (least_in vcpus names vm v) (asked_at vcpus names v) else least_in vcpus names vm v
+
+-- ---- rows
+
+-- the names of the columns behind the first; what was asked for stands where there is a host
+abbrev pub vm_head : Option (List Vcpu) → List ℕ
+vm_head None = codes "  vcpus   share %    wait ms  cores\n"
+vm_head (Some vcpus) = codes "  vcpus   asked %   given %    wait ms  promised ms  cores\n"
+
+-- the shares that were asked for together, or a dash where nothing was promised
+abbrev pub sum_cell : Option ℕ → ℕ → List ℕ
+sum_cell None share = right 10 (codes "-")
+sum_cell (Some ns) share = percent_cell 5 share
+
+-- the least latency that was promised, or a dash
+abbrev pub least_cell : Option ℕ → List ℕ
+least_cell None = right 13 (codes "-")
+least_cell (Some ns) = millis_cell 9 ns
+
+-- the cells of a VM: how many vCPUs it has, their shares together, and the longest of their waits
+unfoldable pub vm_cells : ℕ → ℕ → List ℕ → ℕ → ℕ → ℕ → List ℕ
+vm_cells tick width vm count share wait = left width vm ++ (count_cell 7 count
+    ++ (percent_cell 5 share ++ (wait_cell tick wait ++ codes " ")))
+
+-- the same beside what was asked for and promised
+unfoldable pub asked_vm_cells : ℕ → ℕ → List ℕ → ℕ → ℕ → ℕ → ℕ → Option ℕ → List ℕ
+asked_vm_cells tick width vm count asked share wait promised = left width vm ++ (count_cell 7 count
+    ++ (sum_cell promised asked ++ (percent_cell 5 share ++ (wait_cell tick wait
+    ++ (least_cell promised ++ codes " ")))))
+
+-- the cells of a VM of these vCPUs
+abbrev pub vm_figures : Option (List Vcpu) → ℕ → ℕ → List (List ℕ) → List Task → List Stretch → List ℕ → List ℕ
+vm_figures None tick width names tasks slots vm =
+    vm_cells tick width vm (sum_in (λ v. 1) names vm (length tasks))
+    (sum_in (λ v. share_in (slice_get tasks v)) names vm (length tasks))
+    (most_in (wait_of slots) names vm (length tasks))
+vm_figures (Some vcpus) tick width names tasks slots vm =
+    asked_vm_cells tick width vm (sum_in (λ v. 1) names vm (length tasks))
+    (sum_in (λ v. ppm_of (asked_at vcpus names v)) names vm (length tasks))
+    (sum_in (λ v. share_in (slice_get tasks v)) names vm (length tasks))
+    (most_in (wait_of slots) names vm (length tasks)) (least_in vcpus names vm (length tasks))
+
+-- the row of a VM
+abbrev pub vm_line : Option (List Vcpu) → ℕ → ℕ → List (List ℕ) → List Task → List Stretch → ℕ → List ℕ → List ℕ
+vm_line host tick width names tasks slots cores vm =
+    vm_figures host tick width names tasks slots vm
+    ++ (texts_below (vm_core names vm slots (length tasks)) cores ++ codes "\n")
+
+-- the row of the VM whose first vCPU has this number; other vCPUs have none
+abbrev pub vm_row : Option (List Vcpu) → ℕ → ℕ → List (List ℕ) → List Task → List Stretch → ℕ → ℕ → List ℕ
+vm_row host tick width names tasks slots cores v =
+    if any_below (is_of names (vm_of (name_at names v))) v then []
+    else vm_line host tick width names tasks slots cores (vm_of (name_at names v))
+
+-- the text of these vCPUs and cores
+abbrev pub vm_table_of : Option (List Vcpu) → ℕ → ℕ → View → List ℕ
+vm_table_of host tick width view = left width (codes "vm") ++ (vm_head host
+    ++ (texts_below (vm_row host tick width view.names.items view.tasks.items view.slots.items view.cores)
+    (length view.tasks.items) ++ (core_head ++ texts_below (core_row view.slots.items) view.cores)))
+
+-- the tables of a plan by VM, beside what the vCPUs of a host have reserved where these are known
+abbrev pub vm_table_text : Option (List Vcpu) → ℕ → View → List ℕ
+vm_table_text host tick view = vm_table_of host tick (width_below view.names.items (length view.tasks.items)) view

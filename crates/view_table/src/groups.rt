@@ -1,0 +1,460 @@
+ghost use Rattle.std.specs.Prelude.{◌==◌, ◌&&◌, nat_lt, slice_index, ◌≡◌, ◌<◌, ◌≤◌, ◌^◌, None, Some, codes, length, option_copied, slice_get};
+ghost use Rattle.tab_core.specs.declared.TheConstants.{MAX_CORES, MAX_VCPUS};
+ghost use Rattle.tab_io.specs.Sinks.{Writes};
+ghost use Rattle.tab_words.specs.Texts.{texts_below};
+ghost use Rattle.vcpu_names.specs.Names.{name_at};
+ghost use Rattle.view_table.specs.Figures.{AreFigures};
+ghost use Rattle.view_table.specs.Groups.{any_below, asked_at, is_of, least_cell, least_in, lesser, most_in, ppm_of, share_in, sum_cell, sum_in, vm_core, vm_end, vm_figures, vm_head, vm_line, vm_of, vm_row, vm_stands, vm_table_of, vm_table_text};
+ghost use Rattle.view_table.specs.Inside.CellTexts.{cell_text};
+ghost use Rattle.view_table.specs.Waits.{wait_of};
+
+use crate::cells::{Cell, put_cells, put_left};
+use crate::diff::figure_of;
+use crate::figures::Figures;
+use crate::rows::{asked_of, name_at, share_of, wait_cell, width_of};
+use crate::table::{put_core_head, put_cores};
+use tab_core::{MAX_CORES, Name, Reservation, Vcpu};
+use tab_io::{Sink, WriteFault, write_all};
+use tab_words::put_numbered;
+use view_doc::View;
+
+/// Writes the tables of a plan by virtual machine: a row for each VM, which is the part of its vCPUs'
+/// names before the last dot, with how many vCPUs it has, their shares together, the longest of their
+/// waits, and the cores where one of them has slots; then a row for each core. Beside a host a row has what
+/// the VM's admitted vCPUs have reserved too: their shares together and the least of their latencies, or
+/// dashes where none is admitted.
+///
+/// A fault leaves a front of the text in the sink. Nothing is settled, and nothing is allocated.
+pub fn write_vm_table<K: Sink>(
+    sink: &mut K,
+    host: Option<&[Vcpu]>,
+    view: &View,
+    figures: &Figures,
+    tick_ns: u32,
+) -> Result<(), WriteFault>
+    requires figures { AreFigures view.now figures.now }
+    requires few { view.now.cores ≤ MAX_CORES }
+    requires vcpus { length view.now.tasks.items ≤ MAX_VCPUS }
+    ensures { Writes (K.state sink.old) (K.state sink.new) (vm_table_text (option_copied host.entry) tick_ns view.now) result }
+{
+    let width = width_of(&view.names, view.tasks.len());
+    put_vm_table(sink, host, view, figures, tick_ns, width)
+}
+
+fn put_vm_table<K: Sink>(
+    sink: &mut K,
+    host: Option<&[Vcpu]>,
+    view: &View,
+    figures: &Figures,
+    tick_ns: u32,
+    width: usize,
+) -> Result<(), WriteFault>
+    requires figures { AreFigures view.now figures.now }
+    requires few { view.now.cores ≤ MAX_CORES }
+    requires vcpus { length view.now.tasks.items ≤ MAX_VCPUS }
+    ensures { Writes (K.state sink.old) (K.state sink.new) (vm_table_of (option_copied host.entry) tick_ns width view.now) result }
+{
+    put_left(sink, width, b"vm")?;
+    put_vm_head(sink, &host)?;
+    put_vms(sink, host, view, figures, tick_ns, width)?;
+    put_core_head(sink)?;
+    put_cores(sink, view)
+}
+
+fn put_vm_head<K: Sink>(sink: &mut K, host: &Option<&[Vcpu]>) -> Result<(), WriteFault>
+    ensures { Writes (K.state sink.old) (K.state sink.new) (vm_head (option_copied host.now)) result }
+{
+    match host {
+        None => write_all(sink, b"  vcpus   share %    wait ms  cores\n"),
+        Some(_) => write_all(
+            sink,
+            b"  vcpus   asked %   given %    wait ms  promised ms  cores\n",
+        ),
+    }
+}
+
+// Writes the row of each VM.
+fn put_vms<K: Sink>(
+    sink: &mut K,
+    host: Option<&[Vcpu]>,
+    view: &View,
+    figures: &Figures,
+    tick_ns: u32,
+    width: usize,
+) -> Result<(), WriteFault>
+    requires figures { AreFigures view.now figures.now }
+    requires few { view.now.cores ≤ MAX_CORES }
+    requires vcpus { length view.now.tasks.items ≤ MAX_VCPUS }
+    ensures { Writes (K.state sink.old) (K.state sink.new)
+        (texts_below (vm_row (option_copied host.entry) tick_ns width view.now.names.items view.now.tasks.items view.now.slots.items
+        view.now.cores) (length view.now.tasks.items)) result }
+{
+    for vcpu in 0..view.tasks.len() {
+        put_vm(sink, host, view, figures, tick_ns, width, vcpu)?;
+    }
+    Ok(())
+}
+
+// Writes the row of the VM whose first vCPU this is, and nothing for another.
+fn put_vm<K: Sink>(
+    sink: &mut K,
+    host: Option<&[Vcpu]>,
+    view: &View,
+    figures: &Figures,
+    tick_ns: u32,
+    width: usize,
+    vcpu: usize,
+) -> Result<(), WriteFault>
+    requires figures { AreFigures view.now figures.now }
+    requires few { view.now.cores ≤ MAX_CORES }
+    requires vcpus { length view.now.tasks.items ≤ MAX_VCPUS }
+    ensures { Writes (K.state sink.old) (K.state sink.new)
+        (vm_row (option_copied host.entry) tick_ns width view.now.names.items view.now.tasks.items view.now.slots.items view.now.cores vcpu)
+        result }
+{
+    let vm = vm_at(&view.names, vcpu);
+    if has_vm(view, vm, vcpu) {
+        return Ok(());
+    }
+    put_vm_line(sink, host, view, figures, tick_ns, width, vm)
+}
+
+fn put_vm_line<K: Sink>(
+    sink: &mut K,
+    host: Option<&[Vcpu]>,
+    view: &View,
+    figures: &Figures,
+    tick_ns: u32,
+    width: usize,
+    vm: &[u8],
+) -> Result<(), WriteFault>
+    requires figures { AreFigures view.now figures.now }
+    requires few { view.now.cores ≤ MAX_CORES }
+    requires vcpus { length view.now.tasks.items ≤ MAX_VCPUS }
+    ensures { Writes (K.state sink.old) (K.state sink.new)
+        (vm_line (option_copied host.entry) tick_ns width view.now.names.items view.now.tasks.items view.now.slots.items view.now.cores vm.now)
+        result }
+{
+    put_figures(sink, host, view, figures, tick_ns, width, vm)?;
+    put_vm_cores(sink, view, figures, vm)?;
+    write_all(sink, b"\n")
+}
+
+// Writes the cells of a VM's row up to the cores.
+fn put_figures<K: Sink>(
+    sink: &mut K,
+    host: Option<&[Vcpu]>,
+    view: &View,
+    figures: &Figures,
+    tick_ns: u32,
+    width: usize,
+    vm: &[u8],
+) -> Result<(), WriteFault>
+    requires figures { AreFigures view.now figures.now }
+    requires vcpus { length view.now.tasks.items ≤ MAX_VCPUS }
+    ensures { Writes (K.state sink.old) (K.state sink.new)
+        (vm_figures (option_copied host.entry) tick_ns width view.now.names.items view.now.tasks.items
+        view.now.slots.items vm.now) result }
+{
+    match host {
+        None => put_plain_vm(sink, view, figures, tick_ns, width, vm),
+        Some(vcpus) => put_asked_vm(sink, vcpus, view, figures, tick_ns, width, vm),
+    }
+}
+
+fn put_plain_vm<K: Sink>(
+    sink: &mut K,
+    view: &View,
+    figures: &Figures,
+    tick_ns: u32,
+    width: usize,
+    vm: &[u8],
+) -> Result<(), WriteFault>
+    requires figures { AreFigures view.now figures.now }
+    requires vcpus { length view.now.tasks.items ≤ MAX_VCPUS }
+    ensures { Writes (K.state sink.old) (K.state sink.new)
+        (vm_figures None tick_ns width view.now.names.items view.now.tasks.items view.now.slots.items vm.now)
+        result }
+{
+    let count = count_in(view, vm);
+    let share = share_in(view, vm);
+    let wait = wait_in(view, figures, vm);
+    put_cells(
+        sink,
+        &[
+            Cell::Left(width, vm),
+            Cell::Count(7, count),
+            Cell::Percent(5, share),
+            wait_cell(tick_ns, wait),
+            Cell::Text(b" "),
+        ],
+    )
+}
+
+fn put_asked_vm<K: Sink>(
+    sink: &mut K,
+    vcpus: &[Vcpu],
+    view: &View,
+    figures: &Figures,
+    tick_ns: u32,
+    width: usize,
+    vm: &[u8],
+) -> Result<(), WriteFault>
+    requires figures { AreFigures view.now figures.now }
+    requires vcpus { length view.now.tasks.items ≤ MAX_VCPUS }
+    ensures { Writes (K.state sink.old) (K.state sink.new)
+        (vm_figures (Some vcpus.now) tick_ns width view.now.names.items view.now.tasks.items
+        view.now.slots.items vm.now) result }
+{
+    let count = count_in(view, vm);
+    let asked = asked_in(view, vcpus, vm);
+    let share = share_in(view, vm);
+    let wait = wait_in(view, figures, vm);
+    let promised = least_in(view, vcpus, vm);
+    put_cells(
+        sink,
+        &[
+            Cell::Left(width, vm),
+            Cell::Count(7, count),
+            sum_cell(promised, asked),
+            Cell::Percent(5, share),
+            wait_cell(tick_ns, wait),
+            least_cell(promised),
+            Cell::Text(b" "),
+        ],
+    )
+}
+
+// The shares that were asked for together.
+fn sum_cell(promised: Option<u64>, share: u64) -> Cell<'static>
+    ensures { cell_text result ≡ sum_cell promised share }
+{
+    match promised {
+        Some(_) => Cell::Percent(5, share),
+        None => Cell::Right(10, b"-"),
+    }
+}
+
+// The least latency that was promised.
+fn least_cell(promised: Option<u64>) -> Cell<'static>
+    ensures { cell_text result ≡ least_cell promised }
+{
+    match promised {
+        Some(ns) => Cell::Millis(9, ns),
+        None => Cell::Right(13, b"-"),
+    }
+}
+
+// The part of a name before the last dot, or all of it.
+fn vm_of(name: &[u8]) -> &[u8]
+    ensures { result.now ≡ vm_of name.now }
+{
+    let mut end = name.len();
+    for k in 0..name.len() {
+        if is_last_part(name, k) {
+            end = k;
+        }
+    }
+    &name[..end]
+}
+
+// Whether a name's last part may begin behind this byte.
+fn is_last_part(name: &[u8], k: usize) -> bool
+    requires { k < length name.now }
+    ensures { result ≡ ((slice_index name.now k == 46) && nat_lt 0 k) }
+{
+    name[k] == b'.' && 0 < k
+}
+
+fn vm_at(names: &[Name], vcpu: usize) -> &[u8]
+    ensures { result.now ≡ vm_of (name_at names.now vcpu) }
+{
+    vm_of(name_at(names, vcpu))
+}
+
+fn is_of(view: &View, vm: &[u8], vcpu: usize) -> bool
+    ensures { result ≡ is_of view.now.names.items vm.now vcpu }
+{
+    vm_at(&view.names, vcpu) == vm
+}
+
+// Whether a vCPU below the number is of the VM.
+fn has_vm(view: &View, vm: &[u8], count: usize) -> bool
+    ensures { result ≡ any_below (is_of view.now.names.items vm.now) count }
+{
+    let mut found = false;
+    for vcpu in 0..count {
+        if is_of(view, vm, vcpu) {
+            found = true;
+        }
+    }
+    found
+}
+
+// How many vCPUs the VM has.
+fn count_in(view: &View, vm: &[u8]) -> u64
+    requires { length view.now.tasks.items ≤ MAX_VCPUS }
+    ensures { result ≡ sum_in (λ v. 1) view.now.names.items vm.now (length view.now.tasks.items) }
+{
+    let mut count = 0;
+    for vcpu in 0..view.tasks.len() {
+        if is_of(view, vm, vcpu) {
+            count += 1;
+        }
+    }
+    count
+}
+
+// The shares of the VM's vCPUs together.
+fn share_in(view: &View, vm: &[u8]) -> u64
+    requires { length view.now.tasks.items ≤ MAX_VCPUS }
+    ensures { result ≡ sum_in (λ v. share_in (slice_get view.now.tasks.items v)) view.now.names.items vm.now
+        (length view.now.tasks.items) }
+{
+    let mut share = 0;
+    for vcpu in 0..view.tasks.len() {
+        if is_of(view, vm, vcpu) {
+            share += share_at(view, vcpu);
+        }
+    }
+    share
+}
+
+fn share_at(view: &View, vcpu: usize) -> u64
+    requires { vcpu < length view.now.tasks.items }
+    ensures value { result ≡ share_in (slice_get view.now.tasks.items vcpu) }
+    ensures small { result < 2 ^ 52 }
+{
+    share_of(&view.tasks[vcpu])
+}
+
+// The shares that the VM's vCPUs asked for together.
+fn asked_in(view: &View, vcpus: &[Vcpu], vm: &[u8]) -> u64
+    requires { length view.now.tasks.items ≤ MAX_VCPUS }
+    ensures { result ≡ sum_in (λ v. ppm_of (asked_at vcpus.now view.now.names.items v)) view.now.names.items
+        vm.now (length view.now.tasks.items) }
+{
+    let mut share = 0;
+    for vcpu in 0..view.tasks.len() {
+        if is_of(view, vm, vcpu) {
+            share += ppm_at(view, vcpus, vcpu);
+        }
+    }
+    share
+}
+
+fn ppm_at(view: &View, vcpus: &[Vcpu], vcpu: usize) -> u64
+    ensures value { result ≡ ppm_of (asked_at vcpus.now view.now.names.items vcpu) }
+    ensures small { result < 2 ^ 32 }
+{
+    match asked_at(view, vcpus, vcpu) {
+        Some(r) => u64::from(r.share_ppm),
+        None => 0,
+    }
+}
+
+fn asked_at(view: &View, vcpus: &[Vcpu], vcpu: usize) -> Option<Reservation>
+    ensures { result ≡ asked_at vcpus.now view.now.names.items vcpu }
+{
+    asked_of(vcpus, name_at(&view.names, vcpu))
+}
+
+// The least latency that was promised to one of the VM's vCPUs, if any was.
+fn least_in(view: &View, vcpus: &[Vcpu], vm: &[u8]) -> Option<u64>
+    ensures { result ≡ least_in vcpus.now view.now.names.items vm.now (length view.now.tasks.items) }
+{
+    let mut least = None;
+    for vcpu in 0..view.tasks.len() {
+        if is_of(view, vm, vcpu) {
+            least = lesser(least, &asked_at(view, vcpus, vcpu));
+        }
+    }
+    least
+}
+
+fn lesser(least: Option<u64>, asked: &Option<Reservation>) -> Option<u64>
+    ensures { result ≡ lesser least asked.now }
+{
+    match (least, asked) {
+        (_, None) => least,
+        (None, Some(r)) => Some(r.latency_ns),
+        (Some(ns), Some(r)) => Some(ns.min(r.latency_ns)),
+    }
+}
+
+// The longest of the VM's vCPUs' waits.
+fn wait_in(view: &View, figures: &Figures, vm: &[u8]) -> u32
+    requires { AreFigures view.now figures.now }
+    ensures { result ≡ most_in (wait_of view.now.slots.items) view.now.names.items vm.now
+        (length view.now.tasks.items) }
+{
+    let mut wait = 0u32;
+    for vcpu in 0..view.tasks.len() {
+        if is_of(view, vm, vcpu) {
+            wait = wait.max(figure_of(view, figures, vcpu));
+        }
+    }
+    wait
+}
+
+// Writes the cores where some vCPU of the VM has a slot.
+fn put_vm_cores<K: Sink>(
+    sink: &mut K,
+    view: &View,
+    figures: &Figures,
+    vm: &[u8],
+) -> Result<(), WriteFault>
+    requires figures { AreFigures view.now figures.now }
+    requires few { view.now.cores ≤ MAX_CORES }
+    ensures { Writes (K.state sink.old) (K.state sink.new)
+        (texts_below (vm_core view.now.names.items vm.now view.now.slots.items (length view.now.tasks.items))
+        view.now.cores) result }
+{
+    for core in 0..view.cores {
+        put_vm_core(sink, view, figures, vm, core)?;
+    }
+    Ok(())
+}
+
+fn put_vm_core<K: Sink>(
+    sink: &mut K,
+    view: &View,
+    figures: &Figures,
+    vm: &[u8],
+    core: u32,
+) -> Result<(), WriteFault>
+    requires figures { AreFigures view.now figures.now }
+    requires few { core < MAX_CORES }
+    ensures { Writes (K.state sink.old) (K.state sink.new)
+        (vm_core view.now.names.items vm.now view.now.slots.items (length view.now.tasks.items) core) result }
+{
+    if stands_in(view, figures, vm, core) {
+        put_numbered(sink, b" ", core, b"")
+    } else {
+        Ok(())
+    }
+}
+
+fn stands_in(view: &View, figures: &Figures, vm: &[u8], core: u32) -> bool
+    requires figures { AreFigures view.now figures.now }
+    requires few { core < MAX_CORES }
+    ensures { result ≡ any_below (vm_stands view.now.names.items vm.now view.now.slots.items core)
+        (length view.now.tasks.items) }
+{
+    let mut found = false;
+    for vcpu in 0..view.tasks.len() {
+        if stands_there(view, figures, vm, core, vcpu) {
+            found = true;
+        }
+    }
+    found
+}
+
+fn stands_there(view: &View, figures: &Figures, vm: &[u8], core: u32, vcpu: usize) -> bool
+    requires figures { AreFigures view.now figures.now }
+    requires few { core < MAX_CORES }
+    requires low { vcpu < length view.now.tasks.items }
+    ensures { result ≡ vm_stands view.now.names.items vm.now view.now.slots.items core vcpu }
+{
+    figures.stands[vcpu * MAX_CORES as usize + core as usize] && is_of(view, vm, vcpu)
+}
