@@ -1,8 +1,11 @@
-//! The program `tableau`: it answers its words by one call, over standard input and output.
+//! The program `tableau`: it answers its words by one call, over standard input and output, and
+//! tells on standard error what to do about a refusal.
 #![tactic(auto)]
 
 mod progress;
+mod told;
 
+use advice::KeptSource;
 use progress::ProgressGate;
 use round_words::RoundBoard;
 use std::io::{BufWriter, ErrorKind, IsTerminal};
@@ -10,6 +13,7 @@ use std::process::ExitCode;
 use std::{env, io};
 use tab_io::{StdSink, StdSource};
 use tableau_sim::{Status, tableau};
+use told::tell;
 
 fn main(rt: HostRuntime) -> ExitCode {
     let all: Vec<String> = match env::args(&rt) {
@@ -33,7 +37,7 @@ fn main(rt: HostRuntime) -> ExitCode {
     let Ok(writer) = BufWriter::new(rt.alloc(), io::writer(&rt)) else {
         return ExitCode::from(Status::NoMemory.exit());
     };
-    let mut input = StdSource::of(rt.reader());
+    let mut input = KeptSource::of(rt.alloc(), StdSource::of(rt.reader()));
     let mut output = StdSink::of(writer);
     let gate = ProgressGate::new(rt, rt.stderr(), rt.stderr().is_terminal());
     let done = tableau(
@@ -46,5 +50,8 @@ fn main(rt: HostRuntime) -> ExitCode {
         seat,
         &gate,
     );
+    if let Some(read) = input.kept() {
+        tell(&rt.stderr(), rt.alloc(), words, read, &done.status);
+    }
     ExitCode::from(done.status.exit())
 }

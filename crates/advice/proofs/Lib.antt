@@ -1,0 +1,4 @@
+mod KeysLemmas
+mod LeastLemmas
+mod TextsLemmas
+mod WritesLemmas

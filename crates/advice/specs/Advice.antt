@@ -1,0 +1,140 @@
+-- What is told after a refusal, of the words and the input that were refused. A text in `IsAdvice` is the
+-- whole advice: which line it quotes and which numbers it names is said by the definitions of the crates
+-- that refuse.
+use Rattle.std.specs.Prelude.{◌≡◌, ◌⊎◌, ℕ, ◌*◌, ◌≤◌, List, [], codes, length, slice_get, Option, Some, Result}
+use Rattle.tab_core.specs.declared.TheConstants.{ROUND}
+use Rattle.tab_core.specs.declared.host.Host.{Host}
+use Rattle.tab_core.specs.declared.periodic.Periodic.{Periodic}
+use Rattle.tab_core.specs.declared.reservation.Reservation.{Reservation}
+use Rattle.tab_core.specs.declared.vcpu.Vcpu.{Vcpu}
+use Rattle.tab_io.specs.Sinks.{Writes}
+use Rattle.tab_io.specs.Views.{SinkView}
+use Rattle.tab_io.specs.declared.sink.WriteFault.{WriteFault}
+use Rattle.host_doc.specs.Document.{IsDocument, IsHostText}
+use Rattle.host_doc.specs.declared.fault.HostFault.{HostFault}
+use Rattle.host_doc.specs.declared.fault.HostFault.TheVariants as host
+use Rattle.host_doc.specs.declared.fault.Path.{Path}
+use Rattle.period_choice.specs.Tasks.{AreTasksOf}
+use Rattle.toml.specs.Data.{Members}
+use Rattle.vcpu_names.specs.Names.{names_of}
+use Rattle.advice.specs.Hosts.{many_text, toml_text}
+use Rattle.advice.specs.Keys.{key_text, same_text}
+use Rattle.advice.specs.Least.{IsLeastLatency, IsLeastShare}
+use Rattle.advice.specs.Lines.{section_at}
+use Rattle.advice.specs.Periods.{period_text}
+use Rattle.advice.specs.PlanLines.{plan_line_text, shape_text, short_text, twice_text}
+use Rattle.advice.specs.Room.{due_of, room_text}
+use Rattle.advice.specs.Scripts.{script_text}
+use Rattle.advice.specs.Sections.{sections_text}
+use Rattle.advice.specs.Steps.{bad_step_text, due_text, waits_text}
+use Rattle.advice.specs.Usage.{usage_text}
+use Rattle.advice.specs.declared.refusal.Refusal.{Refusal}
+use Rattle.advice.specs.declared.refusal.Refusal.TheVariants as refusal
+
+-- the section is no TOML from some byte on; which byte that is, and what is wrong, is said by the reader of
+-- TOML
+pub record IsTomlText (section text : List ℕ) : Type 0 where
+  pub at : ℕ
+  pub message : List ℕ
+  pub within : at ≤ length section
+  pub is : text ≡ toml_text section at message
+
+-- the section is a document, of whose members the text tells
+abbrev pub TellsOfDocument : List ℕ → (Members → List ℕ) → List ℕ → Type 0
+TellsOfDocument section told text = (members : Members) × IsDocument section members × (text ≡ told members)
+
+-- the vCPU's reservation has no period, and the text tells of the nearest ones that have
+pub record IsVcpuText (vcpu : Vcpu) (tick_ns : ℕ) (text : List ℕ) : Type 0 where
+  pub reservation : Reservation
+  pub latency : ℕ
+  pub share : ℕ
+  pub reserved : vcpu.reservation ≡ Some reservation
+  pub least_latency : IsLeastLatency reservation tick_ns latency
+  pub least_share : IsLeastShare reservation tick_ns share
+  pub is : text ≡ period_text vcpu.name reservation latency share
+
+-- the section is a host with this vCPU, of which the text tells so
+pub record IsPeriodText (section : List ℕ) (number : ℕ) (text : List ℕ) : Type 0 where
+  pub host : Host
+  pub vcpu : Vcpu
+  pub is_host : IsHostText section host
+  pub at : slice_get host.vcpus number ≡ Some vcpu
+  pub tells : IsVcpuText vcpu host.tick_ns text
+
+-- the section is a host with these budgets, of which the text tells
+pub record TellsOfTasks (section : List ℕ) (told : Host → List (Option Periodic) → List ℕ) (text : List ℕ)
+    : Type 0 where
+  pub host : Host
+  pub tasks : List (Option Periodic)
+  pub is_host : IsHostText section host
+  pub are_tasks : AreTasksOf host tasks
+  pub is : text ≡ told host tasks
+
+-- the text tells of the key of this path
+abbrev pub IsKeyText : List ℕ → Path → List ℕ → Type 0
+IsKeyText section path text = TellsOfDocument section (λ members. key_text members path) text
+
+-- the text tells of this vCPU's name
+abbrev pub IsSameText : List ℕ → ℕ → List ℕ → Type 0
+IsSameText section vcpu text = TellsOfDocument section (λ members. same_text members vcpu) text
+
+-- the text tells what the vCPUs are due, and what all cores have
+abbrev pub IsRoomText : List ℕ → List ℕ → Type 0
+IsRoomText section text =
+    TellsOfTasks section (λ host tasks. room_text (due_of tasks) (host.cores * ROUND)) text
+
+-- the text tells of this line of the plan text, and of the line that is wanted there
+abbrev pub IsPlanText : List ℕ → List ℕ → ℕ → List ℕ → Type 0
+IsPlanText section plan line text = TellsOfTasks section
+    (λ host tasks. plan_line_text plan line host.cores (names_of host.vcpus) tasks) text
+
+-- an advice that needs memory, without which nothing is told
+abbrev pub OrSilent : (List ℕ → Type 0) → List ℕ → Type 0
+OrSilent IsText text = IsText text ⊎ (text ≡ [])
+
+-- the advice on a section that is no host
+abbrev pub IsHostAdvice : List ℕ → HostFault → List ℕ → Type 0
+IsHostAdvice section host.NotToml text = OrSilent (IsTomlText section) text
+IsHostAdvice section (host.BadKey path) text = OrSilent (IsKeyText section path) text
+IsHostAdvice section (host.OutOfRange path) text = OrSilent (IsKeyText section path) text
+IsHostAdvice section (host.SameName vcpu) text = OrSilent (IsSameText section vcpu) text
+IsHostAdvice section (host.TooMany count) text = text ≡ many_text count
+IsHostAdvice section host.NoMemory text = text ≡ []
+
+-- the advice on what the line of the refusal tells whole
+abbrev pub known_text : Refusal → List ℕ
+known_text refusal.ReadFault = codes "tableau: standard input failed; a folder can't be read, nor what is closed\n"
+known_text refusal.TooLong =
+    codes "tableau: an input has at most 4194304 bytes; cut the script, or make the host smaller\n"
+known_text refusal.TraceTooLong =
+    codes "tableau: a run keeps 1048576 stints at most; take fewer rounds, or a longer lag or quantum,\ntableau: or the report alone: tableau run ROUNDS\n"
+known_text refusal.WriteFault =
+    codes "tableau: the output failed; what stands there may be a front of the answer\n"
+known_text refusal.NoMemory = codes "tableau: memory ran out; take fewer rounds or a smaller host\n"
+known_text other = []
+
+-- the text is the advice on this refusal of these words with this input
+abbrev pub IsAdvice : List (List ℕ) → List ℕ → Refusal → List ℕ → Type 0
+IsAdvice words input (refusal.Usage place) text = text ≡ usage_text words place
+IsAdvice words input (refusal.BadSections found wanted) text = text ≡ sections_text input found wanted
+IsAdvice words input (refusal.Host fault) text = IsHostAdvice (section_at 0 input) fault text
+IsAdvice words input (refusal.NoPeriod vcpu) text = OrSilent (IsPeriodText (section_at 0 input) vcpu) text
+IsAdvice words input refusal.NoRoom text = OrSilent (IsRoomText (section_at 0 input)) text
+IsAdvice words input (refusal.NoFit demand room) text = text ≡ room_text demand room
+IsAdvice words input (refusal.BadPlanLine line) text =
+    OrSilent (IsPlanText (section_at 0 input) (section_at 1 input) line) text
+IsAdvice words input (refusal.BadShape core place) text = text ≡ shape_text core place
+IsAdvice words input (refusal.Twice tick core other) text = text ≡ twice_text tick core other
+IsAdvice words input (refusal.Short period_no got cost) text = text ≡ short_text period_no got cost
+IsAdvice words input (refusal.Script fault) text = text ≡ script_text (section_at 1 input) fault
+IsAdvice words input (refusal.BadStep line) text = text ≡ bad_step_text (section_at 2 input) line
+IsAdvice words input (refusal.NotNow line due) text = text ≡ due_text (section_at 2 input) line due
+IsAdvice words input (refusal.Behind line who tick) text = text ≡ waits_text (section_at 2 input) line who tick
+IsAdvice words input other text = text ≡ known_text other
+
+-- the call wrote such a text, or a front of it and the sink failed
+pub record WritesSome (IsText : List ℕ → Type 0) (old new : SinkView) (result : Result (Unit {0}) WriteFault)
+    : Type 0 where
+  pub text : List ℕ
+  pub is : IsText text
+  pub writes : Writes old new text result

@@ -1,0 +1,16 @@
+pub mod Advice
+pub mod Hosts
+pub mod Inside
+pub mod Kept
+pub mod Keys
+pub mod Least
+pub mod Lines
+pub mod Parts
+pub mod Periods
+pub mod Places
+pub mod PlanLines
+pub mod Room
+pub mod Scripts
+pub mod Sections
+pub mod Steps
+pub mod Usage

@@ -1,0 +1,11 @@
+-- The advice on a vCPU whose latency no period meets.
+use Rattle.std.specs.Prelude.{ℕ, List, ◌++◌, codes, decimal}
+use Rattle.tab_core.specs.declared.reservation.Reservation.{Reservation}
+
+-- what it asks, and the least latency in nanoseconds and the least share in parts per million that go with it
+abbrev pub period_text : List ℕ → Reservation → ℕ → ℕ → List ℕ
+period_text name reservation latency share = codes "tableau: "
+    ++ (name ++ (codes " asks share_ppm " ++ (decimal reservation.share_ppm
+    ++ (codes " within latency_ns " ++ (decimal reservation.latency_ns
+    ++ (codes ";\ntableau: the least latency for that share is " ++ (decimal latency
+    ++ (codes ", the least share for that latency " ++ (decimal share ++ codes "\n")))))))))

@@ -1,0 +1,61 @@
+-- The advice on a plan text: the line that is found and the one that is wanted, and what its tables break.
+use Rattle.std.specs.Prelude.{ℕ, ◌+◌, ◌-◌, nat_le, if◌then◌else◌, List, [], ◌∷◌, ◌++◌, codes, decimal, length, slice_get, Option, Some, None}
+use Rattle.tab_core.specs.declared.periodic.Periodic.{Periodic}
+use Rattle.vcpu_names.specs.Names.{name_at}
+use Rattle.advice.specs.Lines.{line_at}
+use Rattle.advice.specs.Parts.{quoted}
+
+-- the numbers and the budgets of the admitted vCPUs, of which the first may have this number
+abbrev pub admitted_from : ℕ → List (Option Periodic) → List (ℕ × Periodic)
+admitted_from number [] = []
+admitted_from number (None ∷ tasks) = admitted_from (number + 1) tasks
+admitted_from number (Some task ∷ tasks) = (number, task) ∷ admitted_from (number + 1) tasks
+
+abbrev pub found_text : List ℕ → ℕ → List ℕ
+found_text plan number = codes "tableau: plan line "
+    ++ (decimal number ++ (codes " is " ++ (quoted (line_at number plan)
+    ++ codes "; was the host changed since the plan was made?\n")))
+
+-- the first line of a plan text
+abbrev pub head_text : ℕ → ℕ → List ℕ
+head_text cores admitted = codes "tableau: wanted is plan cores "
+    ++ (decimal cores ++ (codes " vcpus " ++ (decimal admitted ++ codes "\n")))
+
+-- the line of a vCPU of this name and budget
+abbrev pub vcpu_text : List ℕ → Periodic → List ℕ
+vcpu_text name task = codes "tableau: wanted is vcpu "
+    ++ (name ++ (codes " period " ++ (decimal task.period ++ (codes " cost "
+    ++ (decimal task.cost ++ codes " home CORE\n")))))
+
+-- the lines of the tables
+abbrev pub table_text : List ℕ
+table_text =
+    codes "tableau: wanted is END NAME or END - of a segment, core C before the first of each core, or the last line end\n"
+
+abbrev pub behind_head : List (List ℕ) → Option (ℕ × Periodic) → List ℕ
+behind_head names (Some admitted) = vcpu_text (name_at names admitted.0) admitted.1
+behind_head names None = table_text
+
+-- the line of this number: the first one, that of the admitted vCPU so far behind it, or one of the tables
+abbrev pub wanted_text : ℕ → ℕ → List (List ℕ) → List (Option Periodic) → List ℕ
+wanted_text number cores names tasks = if nat_le number 1
+    then head_text cores (length (admitted_from 0 tasks))
+    else behind_head names (slice_get (admitted_from 0 tasks) (number - 2))
+
+abbrev pub plan_line_text : List ℕ → ℕ → ℕ → List (List ℕ) → List (Option Periodic) → List ℕ
+plan_line_text plan number cores names tasks = found_text plan number ++ wanted_text number cores names tasks
+
+abbrev pub shape_text : ℕ → ℕ → List ℕ
+shape_text core place = codes "tableau: behind core "
+    ++ (decimal core ++ (codes ", segment " ++ (decimal place
+    ++ codes " (from 0) has to end above the one before it, and at 102600 at most,\ntableau: where the last one ends\n")))
+
+abbrev pub twice_text : ℕ → ℕ → ℕ → List ℕ
+twice_text tick core other = codes "tableau: a vCPU has one core at a time; take tick "
+    ++ (decimal tick ++ (codes " from it on core " ++ (decimal core ++ (codes " or on core "
+    ++ (decimal other ++ codes "\n")))))
+
+abbrev pub short_text : ℕ → ℕ → ℕ → List ℕ
+short_text period_no got cost = codes "tableau: its segments have to sum to "
+    ++ (decimal cost ++ (codes " ticks in each of its periods, and sum to " ++ (decimal got
+    ++ (codes " in that of number " ++ (decimal period_no ++ codes " (from 0)\n")))))

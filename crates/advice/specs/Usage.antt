@@ -1,0 +1,120 @@
+-- The advice on words that are no command: what may stand at the place of the fault, and what to type.
+use Rattle.std.specs.Prelude.{ℕ, Bool, false, true, ◌==◌, ◌&&◌, ◌||◌, nat_le, if◌then◌else◌, List, [], ◌∷◌, ◌++◌, bytes_eq, codes, decimal, flat_map, Option, Some, None, slice_get, slice_index, take}
+use Rattle.std.specs.List.{list_all, list_any}
+use Rattle.advice.specs.Parts.{quoted}
+use Rattle.advice.specs.declared.usage.Wanted.{Wanted}
+use Rattle.advice.specs.declared.usage.Wanted.TheVariants.{Command, Nothing, Whole, Rounds, Mode, Seed, Cores, Vcpus}
+
+-- what may stand behind one word, behind two of which it is the first, and behind three
+abbrev pub wanted_first : List ℕ → Wanted
+wanted_first word = if bytes_eq word (codes "plan") then Whole
+    else (if bytes_eq word (codes "replay") || bytes_eq word (codes "run") then Rounds
+    else (if bytes_eq word (codes "gen") || bytes_eq word (codes "selftest") then Seed
+    else Nothing))
+
+abbrev pub wanted_second : List ℕ → Wanted
+wanted_second word = if bytes_eq word (codes "run") then Mode
+    else (if bytes_eq word (codes "gen") then Cores else Nothing)
+
+abbrev pub wanted_third : List ℕ → Wanted
+wanted_third word = if bytes_eq word (codes "gen") then Vcpus else Nothing
+
+-- what may stand behind words that a command begins with
+abbrev pub wanted_behind : List (List ℕ) → Wanted
+wanted_behind [] = Command
+wanted_behind (word ∷ []) = wanted_first word
+wanted_behind (word ∷ second ∷ []) = wanted_second word
+wanted_behind (word ∷ second ∷ third ∷ []) = wanted_third word
+wanted_behind (word ∷ second ∷ third ∷ fourth ∷ more) = Nothing
+
+-- the same in words
+abbrev pub wanted_text : Wanted → List ℕ
+wanted_text Command =
+    codes "the commands are plan, check, run, replay, gen and selftest; for help type: tableau --help"
+wanted_text Nothing = codes "nothing stands there"
+wanted_text Whole = codes "nothing stands there, or whole"
+wanted_text Rounds = codes "a count of rounds stands there, from 1 to 10000"
+wanted_text Mode = codes "nothing stands there, or trace, burst or live"
+wanted_text Seed = codes "a seed stands there, from 0 to 18446744073709551615"
+wanted_text Cores = codes "a count of cores stands there, from 1 to 32"
+wanted_text Vcpus =
+    codes "a count of vCPUs stands there, at most 256, and at most 99 for each core and one more"
+
+-- the word asks for help, or begins with a dash as nothing but `--help` and `--version` do
+abbrev pub asks_help : List ℕ → Bool
+asks_help word = (slice_index word 0 == 45) || bytes_eq word (codes "help")
+
+-- a command of this name reads its input
+abbrev pub reads : List ℕ → Bool
+reads word = bytes_eq word (codes "plan") || (bytes_eq word (codes "check")
+    || (bytes_eq word (codes "run") || bytes_eq word (codes "replay")))
+
+abbrev pub read_behind : List (List ℕ) → Bool
+read_behind [] = false
+read_behind (word ∷ words) = reads word
+
+-- a letter, a digit or one of `-./_`
+abbrev pub is_plain_byte : ℕ → Bool
+is_plain_byte byte = (nat_le 97 byte && nat_le byte 122) || ((nat_le 65 byte && nat_le byte 90)
+    || ((nat_le 45 byte && nat_le byte 57) || (byte == 95)))
+
+-- the word looks like a file's name: it has a dot, and needs no quotes
+abbrev pub has_dot : List ℕ → Bool
+has_dot word = list_any (λ byte. byte == 46) word
+
+abbrev pub are_plain : List ℕ → Bool
+are_plain word = list_all is_plain_byte word
+
+abbrev pub is_file_word : List ℕ → Bool
+is_file_word word = has_dot word && are_plain word
+
+abbrev pub file_word : List ℕ → List ℕ
+file_word word = if is_file_word word then word else codes "FILE"
+
+abbrev pub spaced : List ℕ → List ℕ
+spaced word = codes " " ++ word
+
+-- the place of the count of rounds, where that is missing
+abbrev pub rounds_text : Wanted → List ℕ
+rounds_text Rounds = codes " ROUNDS"
+rounds_text wanted = []
+
+-- the file behind the words
+abbrev pub file_text : List (List ℕ) → List ℕ → List ℕ
+file_text front word = rounds_text (wanted_behind front) ++ (codes " < " ++ (file_word word ++ codes "\n"))
+
+-- the line to type: the words that are right, and the file behind them
+abbrev pub shell_text : List (List ℕ) → List ℕ → List ℕ
+shell_text front word = codes "tableau: a file goes to standard input: tableau"
+    ++ (flat_map spaced front ++ file_text front word)
+
+-- there is a word
+abbrev pub is_begun : List (List ℕ) → Bool
+is_begun [] = false
+is_begun (word ∷ words) = true
+
+-- what to type in place of a word behind others
+abbrev pub hint_text : List (List ℕ) → List ℕ → List ℕ
+hint_text front word = if is_begun front
+    then (if asks_help word then codes "tableau: for help type: tableau --help\n"
+    else (if read_behind front then shell_text front word else []))
+    else []
+
+-- this word is wrong behind those
+abbrev pub found_text : List (List ℕ) → List ℕ → ℕ → List ℕ
+found_text front word place = codes "tableau: word "
+    ++ (decimal place ++ (codes ", " ++ (quoted word
+    ++ (codes ": " ++ (wanted_text (wanted_behind front) ++ codes "\n")))))
+
+-- a word is missing behind those
+abbrev pub missing_text : List (List ℕ) → List ℕ
+missing_text front = codes "tableau: a word is missing: "
+    ++ (wanted_text (wanted_behind front) ++ codes "\n")
+
+abbrev pub behind_text : List (List ℕ) → ℕ → Option (List ℕ) → List ℕ
+behind_text front place None = missing_text front
+behind_text front place (Some word) = found_text front word place ++ hint_text front word
+
+-- the advice on a fault at this place
+abbrev pub usage_text : List (List ℕ) → ℕ → List ℕ
+usage_text words place = behind_text (take place words) place (slice_get words place)

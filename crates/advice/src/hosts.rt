@@ -1,0 +1,197 @@
+ghost use Rattle.std.specs.Prelude.{◌*◌, ◌≤◌};
+ghost use Rattle.tab_core.specs.declared.TheConstants.{MAX_TICK_NS, MIN_TICK_NS, ROUND};
+ghost use Rattle.tab_io.specs.Sinks.{Writes};
+ghost use Rattle.advice.specs.Advice.{IsHostAdvice, IsKeyText, IsPeriodText, IsPlanText, IsRoomText, IsSameText, IsTomlText, IsVcpuText, OrSilent, WritesSome};
+ghost use Rattle.advice.specs.Periods.{period_text};
+ghost use Rattle.advice.specs.Room.{due_of, room_text};
+
+use crate::host_keys::{put_key, put_same_name};
+use crate::host_text::{put_toml_fault, put_too_many};
+use crate::least::{least_latency, least_share};
+use crate::part::{Part, put_parts};
+use crate::plan_lines::put_plan_line;
+use crate::room::{due_of, put_room};
+use host_doc::{HostFault, Path, read_host};
+use period_choice::tasks_of;
+use std::alloc::Global;
+use tab_core::{Host, ROUND, Reservation, Tasks, Vcpu, VcpuNo};
+use tab_io::{Sink, WriteFault};
+
+// The longest text of which places are told.
+const LONGEST: usize = 2_000_000_000;
+
+// Writes the advice on a section that is no host.
+pub(crate) fn put_host<K: Sink>(
+    alloc: Global,
+    sink: &mut K,
+    section: &[u8],
+    fault: &HostFault,
+) -> Result<(), WriteFault>
+    ensures { WritesSome (IsHostAdvice section.now fault.now) (K.state sink.old) (K.state sink.new) result }
+{
+    match fault {
+        HostFault::NotToml => put_not_toml(alloc, sink, section),
+        HostFault::BadKey { path } => put_bad_key(alloc, sink, section, path),
+        HostFault::OutOfRange { path } => put_bad_key(alloc, sink, section, path),
+        HostFault::SameName { vcpu } => put_same(alloc, sink, section, *vcpu),
+        HostFault::TooMany { count } => put_too_many(sink, *count),
+        HostFault::NoMemory => Ok(()),
+    }
+}
+
+// Writes the advice on the key of this path of a document.
+fn put_bad_key<K: Sink>(
+    alloc: Global,
+    sink: &mut K,
+    section: &[u8],
+    path: &Path,
+) -> Result<(), WriteFault>
+    ensures { WritesSome (OrSilent (IsKeyText section.now path.now)) (K.state sink.old) (K.state sink.new) result }
+{
+    match toml::table_from_slice(alloc, section) {
+        Ok(table) => put_key(sink, &table, path),
+        Err(_) => Ok(()),
+    }
+}
+
+// Writes the advice on a vCPU of a document that has the name of an earlier one.
+fn put_same<K: Sink>(
+    alloc: Global,
+    sink: &mut K,
+    section: &[u8],
+    vcpu: u32,
+) -> Result<(), WriteFault>
+    ensures { WritesSome (OrSilent (IsSameText section.now vcpu)) (K.state sink.old) (K.state sink.new) result }
+{
+    match toml::table_from_slice(alloc, section) {
+        Ok(table) => put_same_name(sink, &table, vcpu),
+        Err(_) => Ok(()),
+    }
+}
+
+// Writes where the section is no TOML, as its reader says.
+fn put_not_toml<K: Sink>(alloc: Global, sink: &mut K, section: &[u8]) -> Result<(), WriteFault>
+    ensures { WritesSome (OrSilent (IsTomlText section.now)) (K.state sink.old) (K.state sink.new) result }
+{
+    if section.len() > LONGEST {
+        return Ok(());
+    }
+    let Err(fault) = toml::table_from_slice(alloc, section) else {
+        return Ok(());
+    };
+    match fault.span() {
+        Some(span) => put_toml_fault(sink, section, span.start, fault.message().as_bytes()),
+        None => Ok(()),
+    }
+}
+
+// Writes the advice on a host of which no period meets the latency of this vCPU.
+pub(crate) fn put_no_period<K: Sink>(
+    alloc: Global,
+    sink: &mut K,
+    section: &[u8],
+    vcpu: &VcpuNo,
+) -> Result<(), WriteFault>
+    ensures { WritesSome (OrSilent (IsPeriodText section.now vcpu.now)) (K.state sink.old) (K.state sink.new) result }
+{
+    let Ok(host) = read_host(alloc, section) else {
+        return Ok(());
+    };
+    let Some(found) = host.vcpus.items().get(vcpu.index()) else {
+        return Ok(());
+    };
+    put_vcpu_period(sink, found, host.tick_ns)
+}
+
+// Writes the advice on this vCPU, with a tick of so many nanoseconds.
+fn put_vcpu_period<K: Sink>(sink: &mut K, vcpu: &Vcpu, tick_ns: u32) -> Result<(), WriteFault>
+    requires at_least { MIN_TICK_NS ≤ tick_ns }
+    requires at_most { tick_ns ≤ MAX_TICK_NS }
+    ensures { WritesSome (OrSilent (IsVcpuText vcpu.now tick_ns)) (K.state sink.old) (K.state sink.new) result }
+{
+    let Some(reservation) = vcpu.reservation else {
+        return Ok(());
+    };
+    let Some(latency) = least_latency(&reservation, tick_ns) else {
+        return Ok(());
+    };
+    let Some(share) = least_share(&reservation, tick_ns) else {
+        return Ok(());
+    };
+    put_period(sink, vcpu.name.bytes(), &reservation, latency, share)
+}
+
+fn put_period<K: Sink>(
+    sink: &mut K,
+    name: &[u8],
+    reservation: &Reservation,
+    latency: u64,
+    share: u32,
+) -> Result<(), WriteFault>
+    ensures { Writes (K.state sink.old) (K.state sink.new)
+        (period_text name.now reservation.now latency share) result }
+{
+    put_parts(
+        sink,
+        &[
+            Part::Text(b"tableau: "),
+            Part::Text(name),
+            Part::Text(b" asks share_ppm "),
+            Part::Number(reservation.share_ppm),
+            Part::Text(b" within latency_ns "),
+            Part::Wide(reservation.latency_ns),
+            Part::Text(b";\ntableau: the least latency for that share is "),
+            Part::Wide(latency),
+            Part::Text(b", the least share for that latency "),
+            Part::Number(share),
+            Part::Text(b"\n"),
+        ],
+    )
+}
+
+// Writes the advice on a host of which a vCPU can't be split.
+pub(crate) fn put_no_room<K: Sink>(
+    alloc: Global,
+    sink: &mut K,
+    section: &[u8],
+) -> Result<(), WriteFault>
+    ensures { WritesSome (OrSilent (IsRoomText section.now)) (K.state sink.old) (K.state sink.new) result }
+{
+    let Ok(host) = read_host(alloc, section) else {
+        return Ok(());
+    };
+    match tasks_of(alloc, &host) {
+        Ok(tasks) => put_room_of(sink, &host, &tasks),
+        Err(_) => Ok(()),
+    }
+}
+
+fn put_room_of<K: Sink>(sink: &mut K, host: &Host, tasks: &Tasks) -> Result<(), WriteFault>
+    ensures { Writes (K.state sink.old) (K.state sink.new)
+        (room_text (due_of tasks.now) (host.now.cores * ROUND)) result }
+{
+    put_room(
+        sink,
+        due_of(tasks),
+        u64::from(host.cores) * u64::from(ROUND),
+    )
+}
+
+// Writes the advice on a plan text whose line of this number is none for the host of the section.
+pub(crate) fn put_plan<K: Sink>(
+    alloc: Global,
+    sink: &mut K,
+    section: &[u8],
+    plan: &[u8],
+    line: u32,
+) -> Result<(), WriteFault>
+    ensures { WritesSome (OrSilent (IsPlanText section.now plan.now line)) (K.state sink.old) (K.state sink.new) result }
+{
+    let Ok(host) = read_host(alloc, section) else {
+        return Ok(());
+    };
+    match tasks_of(alloc, &host) {
+        Ok(tasks) => put_plan_line(sink, plan, line, &host, &tasks),
+        Err(_) => Ok(()),
+    }
+}

@@ -1,0 +1,27 @@
+//! Advice after a refusal: where the fault is, and what to do.
+//!
+//! `specs/Advice.antt` says what is told of each refusal, for the words and the input that were refused: the
+//! line that is quoted and the numbers, by the definitions of the crates that refuse. `write_advice` writes
+//! exactly that, or nothing where it lacks memory to look the input up again.
+#![tactic(auto)]
+
+mod host_keys;
+mod host_text;
+mod hosts;
+mod kept;
+mod least;
+mod line;
+mod part;
+mod plan_lines;
+mod refusal;
+mod room;
+mod script_lines;
+mod sections;
+mod step_lines;
+mod usage;
+mod write;
+
+pub use kept::KeptSource;
+pub use least::{least_latency, least_share};
+pub use refusal::{Due, Refusal};
+pub use write::write_advice;

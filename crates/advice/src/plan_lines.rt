@@ -1,0 +1,215 @@
+ghost use Rattle.std.specs.Prelude.{◌≡◌, ◌≤◌, length, slice_get};
+ghost use Rattle.tab_core.specs.declared.TheConstants.{MAX_VCPUS};
+ghost use Rattle.tab_io.specs.Sinks.{Writes};
+ghost use Rattle.vcpu_names.specs.Names.{name_at, names_of};
+ghost use Rattle.advice.specs.PlanLines.{admitted_from, behind_head, found_text, head_text, plan_line_text, shape_text, short_text, table_text, twice_text, vcpu_text, wanted_text};
+
+use crate::line::line_at;
+use crate::part::{Part, put_parts};
+use tab_core::{CoreNo, Host, Periodic, Tasks, Vcpu, VcpuNo};
+use tab_io::{Sink, WriteFault, write_all};
+use vcpu_names::name_in;
+
+// Writes the advice on a plan text whose line of this number is none for the host.
+pub(crate) fn put_plan_line<K: Sink>(
+    sink: &mut K,
+    plan: &[u8],
+    number: u32,
+    host: &Host,
+    tasks: &Tasks,
+) -> Result<(), WriteFault>
+    ensures { Writes (K.state sink.old) (K.state sink.new)
+        (plan_line_text plan.now number host.now.cores (names_of host.now.vcpus) tasks.now) result }
+{
+    if let Err(fault) = put_found(sink, plan, number) {
+        return Err(fault);
+    }
+    put_wanted(sink, number, host, tasks)
+}
+
+fn put_found<K: Sink>(sink: &mut K, plan: &[u8], number: u32) -> Result<(), WriteFault>
+    ensures { Writes (K.state sink.old) (K.state sink.new) (found_text plan.now number) result }
+{
+    put_parts(
+        sink,
+        &[
+            Part::Text(b"tableau: plan line "),
+            Part::Number(number),
+            Part::Text(b" is "),
+            Part::Quoted(line_at(plan, number)),
+            Part::Text(b"; was the host changed since the plan was made?\n"),
+        ],
+    )
+}
+
+// Writes the line that has to stand there.
+fn put_wanted<K: Sink>(
+    sink: &mut K,
+    number: u32,
+    host: &Host,
+    tasks: &Tasks,
+) -> Result<(), WriteFault>
+    ensures { Writes (K.state sink.old) (K.state sink.new)
+        (wanted_text number host.now.cores (names_of host.now.vcpus) tasks.now) result }
+{
+    if number <= 1 {
+        return put_head(sink, host.cores, count_admitted(tasks.items()));
+    }
+    put_behind_head(sink, host, tasks, number - 2)
+}
+
+// Writes the line that has to stand so far behind the first of the vCPUs.
+fn put_behind_head<K: Sink>(
+    sink: &mut K,
+    host: &Host,
+    tasks: &Tasks,
+    behind: u32,
+) -> Result<(), WriteFault>
+    ensures { Writes (K.state sink.old) (K.state sink.new)
+        (behind_head (names_of host.now.vcpus) (slice_get (admitted_from 0 tasks.now) behind)) result }
+{
+    match admitted_at(tasks.items(), behind) {
+        Some((vcpu, task)) => put_vcpu(sink, name_in(host.vcpus.items(), &vcpu), &task),
+        None => put_table_line(sink),
+    }
+}
+
+fn put_table_line<K: Sink>(sink: &mut K) -> Result<(), WriteFault>
+    ensures { Writes (K.state sink.old) (K.state sink.new) table_text result }
+{
+    write_all(
+        sink,
+        b"tableau: wanted is END NAME or END - of a segment, core C before the first of each core, or the last line end\n",
+    )
+}
+
+fn put_head<K: Sink>(sink: &mut K, cores: u32, admitted: u32) -> Result<(), WriteFault>
+    ensures { Writes (K.state sink.old) (K.state sink.new) (head_text cores admitted) result }
+{
+    put_parts(
+        sink,
+        &[
+            Part::Text(b"tableau: wanted is plan cores "),
+            Part::Number(cores),
+            Part::Text(b" vcpus "),
+            Part::Number(admitted),
+            Part::Text(b"\n"),
+        ],
+    )
+}
+
+fn put_vcpu<K: Sink>(sink: &mut K, name: &[u8], task: &Periodic) -> Result<(), WriteFault>
+    ensures { Writes (K.state sink.old) (K.state sink.new) (vcpu_text name.now task.now) result }
+{
+    put_parts(
+        sink,
+        &[
+            Part::Text(b"tableau: wanted is vcpu "),
+            Part::Text(name),
+            Part::Text(b" period "),
+            Part::Number(task.period),
+            Part::Text(b" cost "),
+            Part::Number(task.cost),
+            Part::Text(b" home CORE\n"),
+        ],
+    )
+}
+
+// How many vCPUs have a budget.
+fn count_admitted(tasks: &[Option<Periodic>]) -> u32
+    requires { length tasks.now ≤ MAX_VCPUS }
+    ensures { result ≡ length (admitted_from 0 tasks.now) }
+{
+    let mut count = 0;
+    for task in tasks {
+        count += u32::from(task.is_some());
+    }
+    count
+}
+
+// The number and the budget of the admitted vCPU behind so many others.
+fn admitted_at(tasks: &[Option<Periodic>], behind: u32) -> Option<(VcpuNo, Periodic)>
+    requires { length tasks.now ≤ MAX_VCPUS }
+    ensures { result ≡ slice_get (admitted_from 0 tasks.now) behind }
+{
+    let mut left = behind;
+    for number in 0..tasks.len() {
+        if let Some(task) = tasks[number] {
+            if left == 0 {
+                return Some((VcpuNo(number as u32), task));
+            }
+            left -= 1;
+        }
+    }
+    None
+}
+
+// Writes the advice on segments of a core that make no row.
+pub(crate) fn put_shape<K: Sink>(sink: &mut K, core: CoreNo, place: u32) -> Result<(), WriteFault>
+    ensures { Writes (K.state sink.old) (K.state sink.new) (shape_text core place) result }
+{
+    put_parts(
+        sink,
+        &[
+            Part::Text(b"tableau: behind core "),
+            Part::Number(core.0),
+            Part::Text(b", segment "),
+            Part::Number(place),
+            Part::Text(
+                b" (from 0) has to end above the one before it, and at 102600 at most,\ntableau: where the last one ends\n",
+            ),
+        ],
+    )
+}
+
+// Writes the advice on a vCPU that stands on two cores at a tick.
+pub(crate) fn put_twice<K: Sink>(
+    sink: &mut K,
+    tick: u32,
+    core: CoreNo,
+    other: CoreNo,
+) -> Result<(), WriteFault>
+    ensures { Writes (K.state sink.old) (K.state sink.new) (twice_text tick core other) result }
+{
+    put_cores(sink, tick, core.0, other.0)
+}
+
+fn put_cores<K: Sink>(sink: &mut K, tick: u32, core: u32, other: u32) -> Result<(), WriteFault>
+    ensures { Writes (K.state sink.old) (K.state sink.new) (twice_text tick core other) result }
+{
+    put_parts(
+        sink,
+        &[
+            Part::Text(b"tableau: a vCPU has one core at a time; take tick "),
+            Part::Number(tick),
+            Part::Text(b" from it on core "),
+            Part::Number(core),
+            Part::Text(b" or on core "),
+            Part::Number(other),
+            Part::Text(b"\n"),
+        ],
+    )
+}
+
+// Writes the advice on a vCPU that gets too little or too much in a period.
+pub(crate) fn put_short<K: Sink>(
+    sink: &mut K,
+    period_no: u32,
+    got: u32,
+    cost: u32,
+) -> Result<(), WriteFault>
+    ensures { Writes (K.state sink.old) (K.state sink.new) (short_text period_no got cost) result }
+{
+    put_parts(
+        sink,
+        &[
+            Part::Text(b"tableau: its segments have to sum to "),
+            Part::Number(cost),
+            Part::Text(b" ticks in each of its periods, and sum to "),
+            Part::Number(got),
+            Part::Text(b" in that of number "),
+            Part::Number(period_no),
+            Part::Text(b" (from 0)\n"),
+        ],
+    )
+}

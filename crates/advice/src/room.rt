@@ -1,0 +1,80 @@
+ghost use Rattle.std.specs.Prelude.{◌≡◌, ◌++◌, ◌<◌, ◌≤◌, ◌*◌, ◌^◌, length};
+ghost use Rattle.tab_core.specs.declared.TheConstants.{MAX_VCPUS, ROUND};
+ghost use Rattle.tab_io.specs.Sinks.{Writes};
+ghost use Rattle.advice.specs.Room.{ask_text, cores_text, due_of, due_of_task, remedy_text, room_text};
+
+use crate::part::{Part, put_parts};
+use reservation::demand_of;
+use tab_core::{Periodic, ROUND, Tasks};
+use tab_io::{Sink, WriteFault, write_all};
+
+// Writes the advice on vCPUs that are due so many ticks of a round, on cores that have so many.
+pub(crate) fn put_room<K: Sink>(sink: &mut K, demand: u64, room: u64) -> Result<(), WriteFault>
+    ensures { Writes (K.state sink.old) (K.state sink.new) (room_text demand room) result }
+{
+    if let Err(fault) = put_asked(sink, demand, room) {
+        return Err(fault);
+    }
+    put_remedy(sink, demand, room)
+}
+
+fn put_asked<K: Sink>(sink: &mut K, demand: u64, room: u64) -> Result<(), WriteFault>
+    ensures { Writes (K.state sink.old) (K.state sink.new) (ask_text demand room) result }
+{
+    put_parts(
+        sink,
+        &[
+            Part::Text(b"tableau: the vCPUs ask "),
+            Part::Wide(demand),
+            Part::Text(b" ticks of a round, and all cores have "),
+            Part::Wide(room),
+            Part::Text(b"\n"),
+        ],
+    )
+}
+
+fn put_remedy<K: Sink>(sink: &mut K, demand: u64, room: u64) -> Result<(), WriteFault>
+    ensures { Writes (K.state sink.old) (K.state sink.new) (remedy_text demand room) result }
+{
+    if demand <= room {
+        return write_all(
+            sink,
+            b"tableau: tableau plan whole has a plan for them; or take smaller shares, longer latencies\ntableau: or one core more\n",
+        );
+    }
+    put_cores(sink, demand.div_ceil(u64::from(ROUND)))
+}
+
+fn put_cores<K: Sink>(sink: &mut K, cores: u64) -> Result<(), WriteFault>
+    ensures { Writes (K.state sink.old) (K.state sink.new) (cores_text cores) result }
+{
+    put_parts(
+        sink,
+        &[
+            Part::Text(b"tableau: take fewer or smaller shares, or "),
+            Part::Wide(cores),
+            Part::Text(b" cores (32 are the most)\n"),
+        ],
+    )
+}
+
+// The ticks of a round that these budgets are due together.
+pub(crate) fn due_of(tasks: &Tasks) -> u64
+    ensures { result ≡ due_of tasks.now }
+{
+    let mut due = 0;
+    for task in tasks.items() {
+        due += due_of_task(task);
+    }
+    due
+}
+
+fn due_of_task(task: &Option<Periodic>) -> u64
+    ensures value { result ≡ due_of_task task.now }
+    ensures within { result ≤ ROUND }
+{
+    match task {
+        None => 0,
+        Some(task) => u64::from(demand_of(task)),
+    }
+}

@@ -1,0 +1,85 @@
+ghost use Rattle.std.specs.Prelude.{◌≡◌, ◌<◌, ◌^◌, length};
+ghost use Rattle.tab_words.specs.Commands.{texts};
+ghost use Rattle.advice.specs.Advice.{IsAdvice, WritesSome, known_text};
+
+use crate::hosts::{put_host, put_no_period, put_no_room, put_plan};
+use crate::line::section_at;
+use crate::plan_lines::{put_shape, put_short, put_twice};
+use crate::refusal::Refusal;
+use crate::room::put_room;
+use crate::script_lines::put_script;
+use crate::sections::put_sections;
+use crate::step_lines::{put_bad_step, put_due, put_waits};
+use crate::usage::put_usage;
+use std::alloc::Global;
+use tab_io::{Sink, WriteFault, write_all};
+
+/// Writes the advice on a refusal of these words with this input, of less than 2^32 bytes: where the fault
+/// is and what to do, in up to four lines that begin with `tableau: `.
+///
+/// For a fault of the host, and where the host has no plan or isn't that of a plan text, the host is read
+/// again; where memory is wanting for that, or the input isn't one that is refused so, nothing is written.
+/// A fault of the sink leaves a front of the advice in it. Nothing is settled.
+pub fn write_advice<K: Sink>(
+    alloc: Global,
+    words: &[String],
+    input: &[u8],
+    refusal: &Refusal,
+    sink: &mut K,
+) -> Result<(), WriteFault>
+    requires short { length input.now < 2 ^ 32 }
+    ensures { WritesSome (IsAdvice (texts words.now) input.now refusal.now)
+        (K.state sink.old) (K.state sink.new) result }
+{
+    match refusal {
+        Refusal::Usage { place } => put_usage(sink, words, *place),
+        Refusal::BadSections { found, wanted } => put_sections(sink, input, *found, *wanted),
+        Refusal::Host(fault) => put_host(alloc, sink, section_at(input, 0), fault),
+        Refusal::NoPeriod { vcpu } => put_no_period(alloc, sink, section_at(input, 0), vcpu),
+        Refusal::NoRoom => put_no_room(alloc, sink, section_at(input, 0)),
+        Refusal::NoFit { demand, room } => put_room(sink, *demand, *room),
+        Refusal::BadPlanLine { line } => put_plan(
+            alloc,
+            sink,
+            section_at(input, 0),
+            section_at(input, 1),
+            *line,
+        ),
+        Refusal::BadShape { core, place } => put_shape(sink, *core, *place),
+        Refusal::Twice { tick, core, other } => put_twice(sink, *tick, *core, *other),
+        Refusal::Short {
+            period_no,
+            got,
+            cost,
+        } => put_short(sink, *period_no, *got, *cost),
+        Refusal::Script(fault) => put_script(sink, section_at(input, 1), fault),
+        Refusal::BadStep { line } => put_bad_step(sink, section_at(input, 2), *line),
+        Refusal::NotNow { line, due } => put_due(sink, section_at(input, 2), *line, *due),
+        Refusal::Behind { line, who, tick } => {
+            put_waits(sink, section_at(input, 2), *line, who, *tick)
+        }
+        Refusal::ReadFault
+        | Refusal::TooLong
+        | Refusal::TraceTooLong
+        | Refusal::WriteFault
+        | Refusal::NoMemory => write_all(sink, known_text(refusal)),
+    }
+}
+
+// The advice on what the line of the refusal tells whole.
+fn known_text(refusal: &Refusal) -> &'static [u8]
+    ensures { result.now ≡ known_text refusal.now }
+{
+    match refusal {
+        Refusal::ReadFault =>
+            b"tableau: standard input failed; a folder can't be read, nor what is closed\n",
+        Refusal::TooLong =>
+            b"tableau: an input has at most 4194304 bytes; cut the script, or make the host smaller\n",
+        Refusal::TraceTooLong =>
+            b"tableau: a run keeps 1048576 stints at most; take fewer rounds, or a longer lag or quantum,\ntableau: or the report alone: tableau run ROUNDS\n",
+        Refusal::WriteFault =>
+            b"tableau: the output failed; what stands there may be a front of the answer\n",
+        Refusal::NoMemory => b"tableau: memory ran out; take fewer rounds or a smaller host\n",
+        _ => b"",
+    }
+}

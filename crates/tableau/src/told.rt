@@ -1,0 +1,116 @@
+//! What is told on standard error after a refusal.
+ghost use Rattle.std.specs.Prelude.{◌<◌, ◌^◌, length};
+
+use advice::{Due, Refusal, write_advice};
+use std::alloc::Global;
+use step_machine::{Answer, Phase};
+use tab_io::MemSink;
+use table_check::CheckFault;
+use tableau_sim::Status;
+
+// Room for the longest advice.
+const ROOM: usize = 4096;
+
+/// Writes the advice on this status of a call with these words, which read this input. Where memory is
+/// wanting, or the output fails, nothing more is written.
+pub(crate) fn tell<P: Print>(
+    output: &P,
+    alloc: Global,
+    words: &[String],
+    input: &[u8],
+    status: &Status,
+)
+    requires short { length input.now < 2 ^ 32 }
+{
+    let Some(refusal) = refusal_of(status) else {
+        return;
+    };
+    let Ok(mut sink) = MemSink::with_room(alloc, ROOM) else {
+        return;
+    };
+    let _ = write_advice(alloc, words, input, &refusal, &mut sink);
+    let _ = output.write_all(sink.bytes());
+}
+
+// What the advice is asked of.
+fn refusal_of(status: &Status) -> Option<Refusal> {
+    let refusal = match status {
+        Status::Ok => return None,
+        Status::Usage { place } => Refusal::Usage { place: *place },
+        Status::ReadFault => Refusal::ReadFault,
+        Status::TooLong => Refusal::TooLong,
+        Status::BadSections { found, wanted } => Refusal::BadSections {
+            found: *found,
+            wanted: *wanted,
+        },
+        Status::Host(fault) => Refusal::Host(*fault),
+        Status::Script(fault) => Refusal::Script(*fault),
+        Status::BadStep { line } => Refusal::BadStep { line: *line },
+        Status::NoPeriod { vcpu } => Refusal::NoPeriod { vcpu: *vcpu },
+        Status::NoRoom { .. } => Refusal::NoRoom,
+        Status::NoFit { demand, room } => Refusal::NoFit {
+            demand: *demand,
+            room: *room,
+        },
+        Status::BadPlanLine { line } => Refusal::BadPlanLine { line: *line },
+        Status::CheckNo(fault) => return of_tables(fault),
+        Status::TraceTooLong { .. } => Refusal::TraceTooLong,
+        Status::StepRefused { line, answer } => return of_step(*line, answer),
+        Status::WriteFault => Refusal::WriteFault,
+        Status::NoMemory => Refusal::NoMemory,
+    };
+    Some(refusal)
+}
+
+// The same of tables that are no plan.
+fn of_tables(fault: &CheckFault) -> Option<Refusal> {
+    match fault {
+        CheckFault::BadShape { core, place } => Some(Refusal::BadShape {
+            core: *core,
+            place: *place,
+        }),
+        CheckFault::Twice {
+            tick,
+            core,
+            other,
+            ..
+        } => Some(Refusal::Twice {
+            tick: *tick,
+            core: *core,
+            other: *other,
+        }),
+        CheckFault::Short {
+            period_no,
+            got,
+            cost,
+            ..
+        } => Some(Refusal::Short {
+            period_no: *period_no,
+            got: *got,
+            cost: *cost,
+        }),
+        CheckFault::NoMemory => None,
+    }
+}
+
+// The same of a step that isn't done.
+fn of_step(line: u32, answer: &Answer) -> Option<Refusal> {
+    let due = match answer {
+        Answer::Done => return None,
+        Answer::Behind { who, tick } => {
+            return Some(Refusal::Behind {
+                line,
+                who: *who,
+                tick: *tick,
+            });
+        }
+        Answer::NotNow { phase } => match phase {
+            Phase::See => Due::See,
+            Phase::Decide => Due::Decide,
+            Phase::Run => Due::Run,
+            Phase::Finished => Due::Finished,
+            Phase::AllPosted => Due::AllPosted,
+        },
+    };
+    Some(Refusal::NotNow { line, due })
+}
