@@ -26,8 +26,11 @@ install: all
 	install -m 644 docs/tableau-tools.1 "$(to)/share/man/man1/tableau-tools.1"
 	install -m 644 docs/tableau-host.5 "$(to)/share/man/man5/tableau-host.5"
 	install -m 644 completions/tableau.bash "$(to)/share/bash-completion/completions/tableau"
+	install -m 644 completions/tableau-tools.bash "$(to)/share/bash-completion/completions/tableau-tools"
 	install -m 644 completions/_tableau "$(to)/share/zsh/site-functions/_tableau"
+	install -m 644 completions/_tableau-tools "$(to)/share/zsh/site-functions/_tableau-tools"
 	install -m 644 completions/tableau.fish "$(to)/share/fish/vendor_completions.d/tableau.fish"
+	install -m 644 completions/tableau-tools.fish "$(to)/share/fish/vendor_completions.d/tableau-tools.fish"
 	install -m 644 README.md LICENSE-MIT LICENSE-APACHE docs/MANUAL.md docs/FORMATS.md docs/RULES.md docs/GLOSSARY.md \
 	  docs/PROVED.md docs/TOOLS.md "$(to)/share/doc/tableau"
 	install -m 644 crates/tableau/data/hosts/*.toml "$(to)/share/doc/tableau/examples"
@@ -38,6 +41,8 @@ uninstall:
 	rm -f "$(to)/share/man/man1/tableau.1" "$(to)/share/man/man1/tableau-tools.1"
 	rm -f "$(to)/share/bash-completion/completions/tableau" "$(to)/share/zsh/site-functions/_tableau"
 	rm -f "$(to)/share/fish/vendor_completions.d/tableau.fish"
+	rm -f "$(to)/share/bash-completion/completions/tableau-tools" "$(to)/share/zsh/site-functions/_tableau-tools"
+	rm -f "$(to)/share/fish/vendor_completions.d/tableau-tools.fish"
 	rm -rf "$(to)/share/doc/tableau"
 
 dist:

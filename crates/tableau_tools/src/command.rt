@@ -1,6 +1,6 @@
 use clap::{Arg, ArgAction, Command, value_parser};
 use std::alloc::{AllocError, Global};
-use tab_core::{MAX_TICK_NS, MIN_TICK_NS};
+use tab_core::{MAX_CORES, MAX_TICK_NS, MIN_TICK_NS};
 
 /// The words of the program.
 pub(crate) fn command<'a>(alloc: Global) -> Result<Command<'a>, AllocError> {
@@ -9,16 +9,18 @@ pub(crate) fn command<'a>(alloc: Global) -> Result<Command<'a>, AllocError> {
     let table = table_command(alloc)?;
     let diff = diff_command(alloc)?;
     let sections = sections_command(alloc)?;
+    let host = host_command(alloc)?;
     Command::new(alloc, "tableau-tools")
         .version("0.1.0")
-        .about("Shows what tableau wrote: plans, replays and traces")
+        .about("Shows what tableau wrote, and writes what it reads")
         .subcommand_required(true)
         .arg_required_else_help(true)
         .subcommand(table)?
         .subcommand(chart)?
         .subcommand(diff)?
         .subcommand(export)?
-        .subcommand(sections)
+        .subcommand(sections)?
+        .subcommand(host)
 }
 
 // The words of `chart`.
@@ -119,6 +121,24 @@ fn sections_command<'a>(alloc: Global) -> Result<Command<'a>, AllocError> {
     Command::new(alloc, "sections")
         .about("Writes files as the sections of one text, with a line %% between each two")
         .arg(files)
+}
+
+// The words of `host`.
+fn host_command<'a>(alloc: Global) -> Result<Command<'a>, AllocError> {
+    let cores = Arg::new(alloc, "cores")
+        .long("cores")
+        .value_name("N")
+        .required(true)
+        .value_parser(value_parser!(u32).range(1..=i64::from(MAX_CORES)))
+        .help("The host's cores, 1 to 32");
+    let sizes = Arg::new(alloc, "SIZE")
+        .action(ArgAction::Append)
+        .num_args(1..)
+        .help("VMs of a size, as \"small 18 x 2 20% 20ms\"; without it, lines of standard input");
+    Command::new(alloc, "host")
+        .about("Writes the host document of sizes of VMs")
+        .arg(cores)?
+        .arg(sizes)
 }
 
 // The file to read.

@@ -1,4 +1,5 @@
 use host_doc::HostFault;
+use sizes_doc::SizesFault;
 use std::alloc::{AllocError, AllocFailed};
 use tab_io::WriteFault;
 use thiserror::Error;
@@ -14,6 +15,8 @@ pub(crate) enum Fault {
     BadPlanLine { line: u32 },
     #[error("the {0}")]
     BadHost(HostFault),
+    #[error("{0}")]
+    BadSizes(SizesFault),
     #[error("the text is no plan")]
     NoPlan,
     #[error("{count} sections, and not a plan, or a host and its plan, with a line %% between them")]
@@ -73,6 +76,15 @@ impl From<ChartFault> for Fault {
             ChartFault::Nothing => Fault::Nothing,
             ChartFault::Write => Fault::WriteFault,
             ChartFault::NoMemory => Fault::NoMemory,
+        }
+    }
+}
+
+impl From<SizesFault> for Fault {
+    fn from(fault: SizesFault) -> Fault {
+        match fault {
+            SizesFault::NoMemory => Fault::NoMemory,
+            fault => Fault::BadSizes(fault),
         }
     }
 }

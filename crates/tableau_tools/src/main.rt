@@ -9,6 +9,7 @@ mod command;
 mod diff;
 mod export;
 mod fault;
+mod host;
 mod input;
 mod plan;
 mod sections;
@@ -70,6 +71,7 @@ fn dispatch(rt: &HostRuntime, matches: &ArgMatches<'_>) -> Result<u8, Fault> {
         Some(("export", matches)) => export::export(rt, matches)?,
         Some(("table", matches)) => table::table(rt, matches)?,
         Some(("sections", matches)) => sections::sections(rt, matches)?,
+        Some(("host", matches)) => host::host(rt, matches)?,
         Some(("diff", matches)) => match diff::diff(rt, matches) {
             Ok(differ) => return Ok(u8::from(differ)),
             Err(fault) => return Ok(refusal(rt, fault, DIFF_REFUSED)),

@@ -9,6 +9,8 @@ mod exports;
 #[cfg(test)]
 mod samples;
 #[cfg(test)]
+mod sizes;
+#[cfg(test)]
 mod tables;
 #[cfg(test)]
 mod views;

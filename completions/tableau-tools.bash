@@ -1,0 +1,25 @@
+# Completion of tableau-tools' words in bash.
+_tableau_tools() {
+  local word=${COMP_WORDS[COMP_CWORD]} before=${COMP_WORDS[COMP_CWORD - 1]} words=''
+  COMPREPLY=()
+  if [ "$COMP_CWORD" -eq 1 ]; then
+    words='table diff sections export host chart --help --version'
+  else
+    case $before in
+      --tick | --cores | --from | --to | --width) return ;;
+      export) words='csv chrome json' ;;
+    esac
+    case ${COMP_WORDS[1]},$word in
+      table,-* | diff,-* | export,-*) words='--tick --help' ;;
+      host,-*) words='--cores --help' ;;
+      chart,-*) words='--cores --from --to --width --tick --help' ;;
+      sections,-*) words='--help' ;;
+    esac
+  fi
+  if [ -n "$words" ]; then
+    mapfile -t COMPREPLY < <(compgen -W "$words" -- "$word")
+  elif [ "${COMP_WORDS[1]}" != host ]; then
+    mapfile -t COMPREPLY < <(compgen -f -- "$word")
+  fi
+}
+complete -o filenames -F _tableau_tools tableau-tools

@@ -1,0 +1,17 @@
+# Completion of tableau-tools' words in fish.
+complete -c tableau-tools -n '__fish_use_subcommand; or __fish_seen_subcommand_from host' -f
+complete -c tableau-tools -n __fish_use_subcommand -a table -d 'Write the shares, waits and loads of a plan'
+complete -c tableau-tools -n __fish_use_subcommand -a diff -d 'Write what differs between two plans'
+complete -c tableau-tools -n __fish_use_subcommand -a sections -d 'Write files as the sections of one text'
+complete -c tableau-tools -n __fish_use_subcommand -a export -d 'Write a plan, replay or trace for other programs'
+complete -c tableau-tools -n __fish_use_subcommand -a host -d 'Write the host document of sizes of VMs'
+complete -c tableau-tools -n __fish_use_subcommand -a chart -d 'Draw a plan, replay or trace'
+complete -c tableau-tools -l help -d 'Print the words'
+complete -c tableau-tools -n __fish_use_subcommand -l version -d 'Print the version'
+complete -c tableau-tools -n '__fish_seen_subcommand_from table diff export chart' -l tick -x -d 'Nanoseconds of a tick'
+complete -c tableau-tools -n '__fish_seen_subcommand_from export; and not __fish_seen_subcommand_from csv chrome json' -a 'csv chrome json'
+complete -c tableau-tools -n '__fish_seen_subcommand_from host' -l cores -x -d 'Cores of the host, 1 to 32'
+complete -c tableau-tools -n '__fish_seen_subcommand_from chart' -l cores -x -d 'Cores to draw, as 0-3'
+complete -c tableau-tools -n '__fish_seen_subcommand_from chart' -l from -x -d 'First tick to draw'
+complete -c tableau-tools -n '__fish_seen_subcommand_from chart' -l to -x -d 'Tick that ends what is drawn'
+complete -c tableau-tools -n '__fish_seen_subcommand_from chart' -l width -x -d 'Width of the picture in pixels'

@@ -1,0 +1,4 @@
+mod MeasureLemmas
+mod SizeLemmas
+mod TwiceLemmas
+mod SizedLemmas

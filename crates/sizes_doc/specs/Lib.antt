@@ -1,0 +1,4 @@
+pub mod Inside
+pub mod SizeLines
+pub mod SizedHost
+pub mod Sizes

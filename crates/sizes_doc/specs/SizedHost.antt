@@ -1,0 +1,80 @@
+-- The host that sizes make.
+-- Source: the names are this project's own. The numbers are what a host document takes where it names none.
+use Rattle.std.specs.Prelude.{◌≡◌, ◌≢◌, ℕ, ◌+◌, ◌*◌, ◌<◌, ◌≤◌, true, false, List, [], ◌∷◌, ◌++◌, All, codes, decimal, flat_map, length, map, slice_get, Some}
+use Rattle.std.specs.List.{range_with_len}
+use Rattle.tab_core.specs.Name.{IsName}
+use Rattle.tab_core.specs.Vcpus.{HaveDistinctNames}
+use Rattle.tab_core.specs.declared.TheConstants.{MAX_VCPUS, TICK_NS}
+use Rattle.tab_core.specs.declared.host.Host.{Host}
+use Rattle.tab_core.specs.declared.vcpu.Vcpu.{Vcpu}
+use Rattle.sizes_doc.specs.declared.fault.SizesFault.{SizesFault}
+use Rattle.sizes_doc.specs.declared.fault.SizesFault.TheVariants.{BadName, SameName, TooMany}
+use Rattle.sizes_doc.specs.declared.size.Size.{Size}
+
+-- the name of a vCPU: that of its size, the number of its VM and its own number in that, both from 0
+abbrev pub vcpu_name : List ℕ → ℕ → ℕ → List ℕ
+vcpu_name name machine number = name ++ (codes "-" ++ (decimal machine ++ (codes "." ++ decimal number)))
+
+-- it is admitted and runnable, and not capped
+abbrev pub vcpu_of : Size → ℕ → ℕ → Vcpu
+vcpu_of size machine number = record {
+  name = vcpu_name size.name.now machine number;
+  reservation = Some size.reservation;
+  runnable = true;
+  capped = false;
+}
+
+-- the vCPUs of a VM
+abbrev pub machine_vcpus : Size → ℕ → List Vcpu
+machine_vcpus size machine = map (vcpu_of size machine) (range_with_len 0 size.vcpus)
+
+-- those of all VMs of a size
+abbrev pub size_vcpus : Size → List Vcpu
+size_vcpus size = flat_map (machine_vcpus size) (range_with_len 0 size.machines)
+
+-- those of all sizes
+abbrev pub sizes_vcpus : List Size → List Vcpu
+sizes_vcpus sizes = flat_map size_vcpus sizes
+
+-- each vCPU's name is one, and no two are one name
+pub record HaveGoodNames (vcpus : List Vcpu) : Type 0 where
+  pub good : All (λ vcpu. IsName vcpu.name) vcpus
+  pub distinct : HaveDistinctNames vcpus
+
+-- the host of these sizes
+pub record IsHostOf (cores : ℕ) (sizes : List Size) (host : Host) : Type 0 where
+  pub tick_ns : host.tick_ns ≡ TICK_NS
+  pub cores_are : host.cores ≡ cores
+  pub lag : host.lag ≡ 1000
+  pub sliver : host.sliver ≡ 30
+  pub quantum : host.quantum ≡ 1000
+  pub vcpus_are : host.vcpus ≡ sizes_vcpus sizes
+  pub few : length host.vcpus ≤ MAX_VCPUS
+  pub names : HaveGoodNames host.vcpus
+
+-- a vCPU of the size has a name that isn't of the form of a name
+pub record HasBadName (size : Size) : Type 0 where
+  pub machine : ℕ
+  pub number : ℕ
+  pub low : machine < size.machines
+  pub within : number < size.vcpus
+  pub bad : ¬ (IsName (vcpu_name size.name.now machine number))
+
+-- the vCPU of this number has the name of an earlier one
+pub record IsTwice (vcpus : List Vcpu) (vcpu : ℕ) : Type 0 where
+  pub earlier : ℕ
+  pub first : Vcpu
+  pub second : Vcpu
+  pub before : earlier < vcpu
+  pub is_first : slice_get vcpus earlier ≡ Some first
+  pub is_second : slice_get vcpus vcpu ≡ Some second
+  pub same : first.name ≡ second.name
+
+-- why sizes make no host
+pub data HasFault (sizes : List Size) : SizesFault → Type 0 where
+  HasTooMany : (front : List Size) (size : Size) (back : List Size) → sizes ≡ front ++ size ∷ back
+      → length (sizes_vcpus front) ≤ MAX_VCPUS
+      → MAX_VCPUS < length (sizes_vcpus front) + size.machines * size.vcpus → HasFault sizes (TooMany size.line)
+  NamesBadly : (front : List Size) (size : Size) (back : List Size) → sizes ≡ front ++ size ∷ back
+      → HasBadName size → HasFault sizes (BadName size.line)
+  NamesTwice : (vcpu : ℕ) → IsTwice (sizes_vcpus sizes) vcpu → HasFault sizes (SameName vcpu)

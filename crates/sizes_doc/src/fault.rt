@@ -1,0 +1,79 @@
+ghost use Rattle.std.specs.Prelude.{◌≡◌};
+ghost use Rattle.sizes_doc.specs.declared.fault.SizesFault.TheVariants.{NoMemory};
+
+use std::alloc::{AllocError, AllocFailed};
+use std::error::Error;
+use std::fmt;
+use tab_core::MAX_VCPUS;
+
+/// A part of a size that isn't as it has to be.
+#[derive(Clone, Copy, Debug, PartialEq, Eq, Hash)]
+pub enum Part {
+    /// The words are not NAME VMS x VCPUS SHARE LATENCY.
+    Form,
+    Machines,
+    Vcpus,
+    Share,
+    Latency,
+}
+
+impl fmt::Display for Part {
+    fn fmt<W: fmt::Write>(&self, f: &mut fmt::Formatter<W>) -> fmt::Result {
+        match self {
+            Part::Form => write!(f, "it isn't NAME VMS x VCPUS SHARE LATENCY"),
+            Part::Machines => write!(f, "the count of VMs isn't 1 to {MAX_VCPUS}"),
+            Part::Vcpus => write!(f, "the count of vCPUs isn't 1 to {MAX_VCPUS}"),
+            Part::Share => write!(f, "the share isn't above 0 and up to 100%"),
+            Part::Latency => write!(f, "the latency isn't a time of up to 1000 s"),
+        }
+    }
+}
+
+/// Why sizes aren't read, or make no host. Lines are numbered from 1.
+#[derive(Clone, Copy, Debug, PartialEq, Eq, Hash)]
+pub enum SizesFault {
+    /// The line is no size, and it is the first such. This is its first bad part.
+    BadSize { line: u32, part: Part },
+    /// The sizes up to that of this line, and not before, have more vCPUs than a host may have.
+    TooMany { line: u32 },
+    /// A vCPU of the size of this line would have a name that isn't of the form of a name.
+    BadName { line: u32 },
+    /// The vCPU of this number, from 0, has the name of an earlier one.
+    SameName { vcpu: u32 },
+    NoMemory,
+}
+
+impl fmt::Display for SizesFault {
+    fn fmt<W: fmt::Write>(&self, f: &mut fmt::Formatter<W>) -> fmt::Result {
+        match self {
+            SizesFault::BadSize { line, part } => write!(f, "size {line}: {part}"),
+            SizesFault::TooMany { line } => write!(
+                f,
+                "size {line}: more than {MAX_VCPUS} vCPUs in all"
+            ),
+            SizesFault::BadName { line } => {
+                write!(f, "size {line}: its name doesn't make names of vCPUs")
+            }
+            SizesFault::SameName { vcpu } => write!(f, "the name of vcpu {vcpu} stands twice"),
+            SizesFault::NoMemory => write!(f, "want of memory"),
+        }
+    }
+}
+
+impl Error for SizesFault {}
+
+impl From<AllocError> for SizesFault {
+    ghost from_gives = { λ _ fault. fault ≡ NoMemory };
+
+    fn from(_: AllocError) -> SizesFault {
+        SizesFault::NoMemory
+    }
+}
+
+impl<T: Drop> From<AllocFailed<T>> for SizesFault {
+    ghost from_gives = { λ _ fault. fault ≡ NoMemory };
+
+    fn from(_: AllocFailed<T>) -> SizesFault {
+        SizesFault::NoMemory
+    }
+}

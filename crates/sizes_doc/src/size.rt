@@ -1,0 +1,21 @@
+ghost use Rattle.std.specs.Prelude.{◌≤◌};
+ghost use Rattle.tab_core.specs.declared.TheConstants.{MAX_VCPUS};
+
+use tab_core::Reservation;
+
+/// So many VMs of one size: each has so many vCPUs, and each vCPU this reservation.
+#[derive(Clone, Copy, Debug)]
+pub struct Size<'a> {
+    /// The line of the text that states it, from 1.
+    pub line: u32,
+    /// What the names of its vCPUs begin with.
+    pub name: &'a [u8],
+    pub machines: u32,
+    /// The vCPUs of each VM.
+    pub vcpus: u32,
+    pub reservation: Reservation,
+    pub ghost some_machines: { 1 ≤ machines },
+    pub ghost few_machines: { machines ≤ MAX_VCPUS },
+    pub ghost some_vcpus: { 1 ≤ vcpus },
+    pub ghost few_vcpus: { vcpus ≤ MAX_VCPUS },
+}

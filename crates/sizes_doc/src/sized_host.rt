@@ -1,0 +1,105 @@
+ghost use Rattle.std.specs.Prelude.{◌≡◌, ◌<◌, ◌≤◌, ◌⊎◌, ◌++◌, ◌∷◌, [], ◌*◌, ◌+◌, All, IfErr, IfOk, IsSome, OnOk, IsErrOf, length, flat_map};
+ghost use Rattle.tab_core.specs.Name.{IsName};
+ghost use Rattle.tab_core.specs.declared.TheConstants.{MAX_CORES, MAX_VCPUS};
+ghost use Rattle.sizes_doc.specs.SizedHost.{HasBadName, HasFault, IsHostOf, machine_vcpus, size_vcpus, vcpu_name, vcpu_of};
+ghost use Rattle.sizes_doc.specs.declared.fault.SizesFault.TheVariants.{NoMemory, BadName};
+
+use crate::fault::SizesFault;
+use crate::size::Size;
+use crate::twice::first_twice;
+use std::alloc::Global;
+use tab_core::{Host, MAX_VCPUS, Name, NameFault, TICK_NS, Vcpu, Vcpus};
+
+/// The host of these sizes, with so many cores: the vCPUs of the first size's VMs, one VM after the
+/// other, then those of the next size. The tick is the default, the lag 1000 ticks, the sliver 30 and
+/// the quantum 1000. Each vCPU is admitted and runnable, and none is capped.
+///
+/// The vCPUs of VM K of a size are named NAME-K.0, NAME-K.1 and so on, with K from 0.
+pub fn host_of_sizes(alloc: Global, cores: u32, sizes: &[Size<'_>]) -> Result<Host, SizesFault>
+    requires some_core { 1 ≤ cores }
+    requires few_cores { cores ≤ MAX_CORES }
+    ensures host { IfOk result (IsHostOf cores sizes.now) }
+    ensures admitted { IfOk result (λ host. All (λ vcpu. IsSome vcpu.reservation) host.vcpus) }
+    ensures fault { IfErr result (λ fault. (fault ≡ NoMemory) ⊎ HasFault sizes.now fault) }
+{
+    let mut vcpus = Vec::new(alloc);
+    for size in sizes {
+        if vcpus.len() + (size.machines * size.vcpus) as usize > MAX_VCPUS as usize {
+            return Err(SizesFault::TooMany { line: size.line });
+        }
+        push_size(alloc, &mut vcpus, size)?;
+    }
+    if let Some(vcpu) = first_twice(alloc, vcpus.as_slice())? {
+        return Err(SizesFault::SameName { vcpu });
+    }
+    Ok(Host {
+        tick_ns: TICK_NS,
+        cores,
+        lag: 1000,
+        sliver: 30,
+        quantum: 1000,
+        vcpus: Vcpus::of(vcpus),
+    })
+}
+
+// Pushes the vCPUs of all VMs of a size.
+fn push_size(alloc: Global, vcpus: &mut Vec<Vcpu>, size: &Size<'_>) -> Result<(), SizesFault>
+    ensures ok { OnOk result (vcpus.new.items ≡ vcpus.old.items ++ size_vcpus size.now) }
+    ensures fault { IfErr result (λ fault. (fault ≡ NoMemory)
+        ⊎ ((fault ≡ BadName size.now.line) × HasBadName size.now)) }
+{
+    for machine in 0..size.machines {
+        push_machine(alloc, vcpus, size, machine)?;
+    }
+    Ok(())
+}
+
+// Pushes the vCPUs of the VM of this number.
+fn push_machine(
+    alloc: Global,
+    vcpus: &mut Vec<Vcpu>,
+    size: &Size<'_>,
+    machine: u32,
+) -> Result<(), SizesFault>
+    requires { machine < size.now.machines }
+    ensures ok { OnOk result (vcpus.new.items ≡ vcpus.old.items ++ machine_vcpus size.now machine) }
+    ensures fault { IfErr result (λ fault. (fault ≡ NoMemory)
+        ⊎ ((fault ≡ BadName size.now.line) × HasBadName size.now)) }
+{
+    for number in 0..size.vcpus {
+        let vcpu = vcpu_of(alloc, size, machine, number)?;
+        vcpus.push(vcpu)?;
+    }
+    Ok(())
+}
+
+// The vCPU of this number of the VM of this number.
+fn vcpu_of(alloc: Global, size: &Size<'_>, machine: u32, number: u32) -> Result<Vcpu, SizesFault>
+    ensures ok { IfOk result (λ vcpu. vcpu ≡ vcpu_of size.now machine number) }
+    ensures fault { IfErr result (λ fault. (fault ≡ NoMemory)
+        ⊎ ((fault ≡ BadName size.now.line) × ¬ (IsName (vcpu_name size.now.name.now machine number)))) }
+{
+    let name = name_of(alloc, size, machine, number)?;
+    Ok(Vcpu {
+        name,
+        reservation: Some(size.reservation),
+        runnable: true,
+        capped: false,
+    })
+}
+
+// Its name.
+fn name_of(alloc: Global, size: &Size<'_>, machine: u32, number: u32) -> Result<Name, SizesFault>
+    ensures ok { IfOk result (λ name. name ≡ vcpu_name size.now.name.now machine number) }
+    ensures fault { IfErr result (λ fault. (fault ≡ NoMemory)
+        ⊎ ((fault ≡ BadName size.now.line) × ¬ (IsName (vcpu_name size.now.name.now machine number)))) }
+{
+    let mut bytes = size.name.to_vec(alloc)?;
+    let end = format!(in alloc; "-{machine}.{number}")?;
+    bytes.extend_from_slice(end.as_bytes())?;
+    match Name::of(alloc, bytes.as_slice()) {
+        Ok(name) => Ok(name),
+        Err(NameFault::NoMemory) => Err(SizesFault::NoMemory),
+        Err(NameFault::BadName) => Err(SizesFault::BadName { line: size.line }),
+    }
+}

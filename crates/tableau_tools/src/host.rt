@@ -1,0 +1,77 @@
+ghost use Rattle.std.specs.Prelude.{◌<◌, ◌≤◌, ◌^◌, All, IfOk, IsSome, length};
+ghost use Rattle.tab_core.specs.declared.TheConstants.{MAX_CORES};
+
+use crate::fault::Fault;
+use crate::input::input_of;
+use clap::ArgMatches;
+use host_gen::write_host;
+use sizes_doc::{host_of_sizes, read_sizes};
+use std::alloc::Global;
+use std::io;
+use std::io::BufWriter;
+use tab_core::{Host, MAX_CORES};
+use tab_io::{Put, Sink, StdSink};
+
+// The most bytes of sizes that are taken from words.
+const ROOM: usize = 1_048_576;
+
+/// Does `host`: it writes the document of the host that the sizes make.
+pub(crate) fn host(rt: &HostRuntime, matches: &ArgMatches<'_>) -> Result<(), Fault> {
+    // (the words were refused where the cores are not 1 to 32)
+    let cores = matches.get_one::<u32>("cores").unwrap_or(1).clamp(1, MAX_CORES);
+    let text = text_of(rt, matches)?;
+    let host = host_from(rt.alloc(), &text, cores)?;
+    put_host(rt, &host)
+}
+
+// The sizes as lines: those of the words, or of standard input where there are none.
+fn text_of(rt: &HostRuntime, matches: &ArgMatches<'_>) -> Result<Vec<u8>, Fault>
+    ensures { IfOk result (λ text. length text.items < 2 ^ 32) }
+{
+    let Some(words) = matches.get_strs("SIZE") else {
+        return input_of(rt, None);
+    };
+    let mut text = Vec::new(rt.alloc());
+    for word in words {
+        if word.len() > ROOM || text.len() > ROOM {
+            return Err(Fault::TooLong);
+        }
+        text.extend_from_slice(word.as_bytes())?;
+        text.push(b'\n')?;
+    }
+    if text.len() > 2 * ROOM {
+        return Err(Fault::TooLong);
+    }
+    Ok(text)
+}
+
+// The host that the lines of sizes make.
+fn host_from(alloc: Global, text: &[u8], cores: u32) -> Result<Host, Fault>
+    requires short { length text.now < 2 ^ 32 }
+    requires some_core { 1 ≤ cores }
+    requires few_cores { cores ≤ MAX_CORES }
+    ensures { IfOk result (λ host. All (λ vcpu. IsSome vcpu.reservation) host.vcpus) }
+{
+    match read_sizes(alloc, text) {
+        Ok(sizes) => match host_of_sizes(alloc, cores, sizes.as_slice()) {
+            Ok(host) => Ok(host),
+            Err(fault) => Err(Fault::from(fault)),
+        },
+        Err(fault) => Err(Fault::from(fault)),
+    }
+}
+
+// Writes the host's document to standard output.
+fn put_host(rt: &HostRuntime, host: &Host) -> Result<(), Fault>
+    requires { All (λ vcpu. IsSome vcpu.reservation) host.now.vcpus }
+{
+    let Ok(writer) = BufWriter::new(rt.alloc(), io::writer(rt)) else {
+        return Err(Fault::NoMemory);
+    };
+    let mut sink = StdSink::of(writer);
+    write_host(&mut sink, host)?;
+    match sink.finish() {
+        Put::Took(_) => Ok(()),
+        Put::Failed => Err(Fault::WriteFault),
+    }
+}
