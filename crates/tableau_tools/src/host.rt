@@ -18,7 +18,10 @@ const ROOM: usize = 1_048_576;
 /// Does `host`: it writes the document of the host that the sizes make.
 pub(crate) fn host(rt: &HostRuntime, matches: &ArgMatches<'_>) -> Result<(), Fault> {
     // (the words were refused where the cores are not 1 to 32)
-    let cores = matches.get_one::<u32>("cores").unwrap_or(1).clamp(1, MAX_CORES);
+    let cores = matches
+        .get_one::<u32>("cores")
+        .unwrap_or(1)
+        .clamp(1, MAX_CORES);
     let text = text_of(rt, matches)?;
     let host = host_from(rt.alloc(), &text, cores)?;
     put_host(rt, &host)
