@@ -1,3 +1,5 @@
+ghost use Rattle.std.specs.Prelude.{◌<◌, ◌≤◌, IfOk};
+
 use crate::fault::Fault;
 use crate::input::view_of;
 use clap::ArgMatches;
@@ -5,7 +7,7 @@ use std::io;
 use std::io::BufWriter;
 use tab_core::{MAX_CORES, MAX_TICK_NS, MAX_VCPUS, TICK_NS};
 use tab_io::{Put, Sink, StdSink};
-use view_chart::{ChartOptions, write_chart};
+use view_chart::{ChartOptions, write_chart, write_text_chart};
 
 /// Does `chart`: it reads a text and draws it.
 pub(crate) fn chart(rt: &HostRuntime, matches: &ArgMatches<'_>) -> Result<(), Fault> {
@@ -18,7 +20,11 @@ pub(crate) fn chart(rt: &HostRuntime, matches: &ArgMatches<'_>) -> Result<(), Fa
     if view.cores > MAX_CORES || view.names.len() > MAX_VCPUS as usize {
         return Err(Fault::TooMany);
     }
-    write_chart(rt.alloc(), &mut sink, &view, &options)?;
+    if matches.get_flag("text") {
+        write_text_chart(rt.alloc(), &mut sink, &view, &options)?;
+    } else {
+        write_chart(rt.alloc(), &mut sink, &view, &options)?;
+    }
     match sink.finish() {
         Put::Took(_) => Ok(()),
         Put::Failed => Err(Fault::WriteFault),
@@ -26,7 +32,10 @@ pub(crate) fn chart(rt: &HostRuntime, matches: &ArgMatches<'_>) -> Result<(), Fa
 }
 
 // What the words ask for.
-fn options_of(matches: &ArgMatches<'_>) -> Result<ChartOptions, Fault> {
+fn options_of(matches: &ArgMatches<'_>) -> Result<ChartOptions, Fault>
+    ensures some { IfOk result (λ options. 0 < options.width) }
+    ensures few { IfOk result (λ options. options.width ≤ 8000) }
+{
     let (first, last) = match matches.get_str("cores") {
         Some(word) => cores_of(word)?,
         None => (0, MAX_CORES - 1),
@@ -36,12 +45,24 @@ fn options_of(matches: &ArgMatches<'_>) -> Result<ChartOptions, Fault> {
         last,
         from: matches.get_one::<u32>("from").unwrap_or(0),
         to: matches.get_one::<u32>("to"),
-        width: matches.get_one::<u32>("width").unwrap_or(1160),
+        width: width_of(matches),
         tick_ns: matches
             .get_one::<u32>("tick")
             .unwrap_or(TICK_NS)
             .min(MAX_TICK_NS) as u16,
     })
+}
+
+// The width in pixels, or of a text in columns.
+fn width_of(matches: &ArgMatches<'_>) -> u32
+    ensures some { 0 < result }
+    ensures few { result ≤ 8000 }
+{
+    let usual = if matches.get_flag("text") { 76 } else { 1160 };
+    matches
+        .get_one::<u32>("width")
+        .unwrap_or(usual)
+        .clamp(1, 8000)
 }
 
 // The first and the last core of a word `FIRST-LAST`, or of a word `CORE`.

@@ -30,8 +30,9 @@ fn chart_command<'a>(alloc: Global) -> Result<Command<'a>, AllocError> {
         .value_name("FIRST-LAST")
         .help("The cores to draw; without it, all");
     Command::new(alloc, "chart")
-        .about("Draws a plan, replay or trace as a picture, in SVG")
+        .about("Draws a plan, replay or trace as a picture, in SVG or as a text")
         .arg(file_arg(alloc))?
+        .arg(text_arg(alloc))?
         .arg(cores)?
         .arg(number_arg(
             alloc,
@@ -58,14 +59,21 @@ fn number_arg<'a>(alloc: Global, name: &'a str, value: &'a str, help: &'a str) -
         .help(help)
 }
 
-// How wide a picture is.
+// Whether a text is written.
+fn text_arg<'a>(alloc: Global) -> Arg<'a> {
+    Arg::new(alloc, "text")
+        .long("text")
+        .action(ArgAction::SetTrue)
+        .help("A text for terminals in place of a picture")
+}
+
+// How wide a picture or a text is.
 fn width_arg<'a>(alloc: Global) -> Arg<'a> {
     Arg::new(alloc, "width")
         .long("width")
-        .value_name("PX")
-        .value_parser(value_parser!(u32).range(200..=8000))
-        .default_value("1160")
-        .help("Pixels of a picture's width")
+        .value_name("COUNT")
+        .value_parser(value_parser!(u32).range(1..=8000))
+        .help("Pixels of a picture's width, 1160 without it, or columns of a text, 76 without it")
 }
 
 // The words of `export`.

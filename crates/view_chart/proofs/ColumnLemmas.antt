@@ -3,9 +3,11 @@ use Rattle.std.proofs.Common.{arith, refl, ◌≡◌, ℕ, ◌+◌, ◌-◌, ◌
 use Rattle.std.proofs.Math.Nat.{div-le_self, div-lt_iff_lt-mul, div-mul-le_self, lt-div-mul-add}
 use Rattle.std.proofs.lemmas.Bool.{cases_eq, cases_lt}
 use Rattle.std.proofs.lemmas.Bool.Decides.{nat_tests}
+use Rattle.std.proofs.lemmas.Grind.{common_steps}
 use Rattle.std.proofs.lemmas.List.{get_or-replicate}
 use Rattle.std.proofs.lemmas.List.Sums.{sum_by-cons}
 use Rattle.std.proofs.lemmas.Nat.{le-div, mul-le}
+use Rattle.std.specs.List.{list_any}
 use Rattle.std.specs.Prelude.{◌==◌, if◌then◌else◌, nat_lt, slice_index}
 use Rattle.view_chart.specs.Columns.{sum_of, ticks_in, width_at}
 use Rattle.view_chart.specs.Inside.Filling.{AreBelow, AreCapped}
@@ -99,6 +101,24 @@ ticks_more f v bars old new below added j low =
     let was = below j low in
     let is = added j low in
     omega (arith, more, was, is)
+
+-- a vCPU without a bar has no ticks
+no_ticks : (f : Frame) (columns j v : ℕ) (bars : List Bar) → list_any (λ (bar : Bar). bar.vcpu == v) bars ≡ false
+    → sum_of (λ w. w == v) f columns bars j ≡ 0
+no_ticks f columns j v [] none = refl
+no_ticks f columns j v (bar ∷ bars) none =
+    let one : (bar.vcpu == v) ≡ false = grind (arith, common_steps, none) in
+    let rest : list_any (λ (b : Bar). b.vcpu == v) bars ≡ false = grind (arith, common_steps, none) in
+    grind (arith, common_steps, one, no_ticks f columns j v bars rest)
+
+-- so without one the ticks are those of the vCPUs below the next
+pub ticks_same : (f : Frame) (v : ℕ) (bars : List Bar) (ticks : List ℕ)
+    → list_any (λ (bar : Bar). bar.vcpu == v) bars ≡ false → AreBelow f bars v ticks → AreBelow f bars (v + 1) ticks
+ticks_same f v bars ticks none below j low =
+    let more = sum_more f 200 j v bars in
+    let was = below j low in
+    let nothing = no_ticks f 200 j v bars none in
+    omega (arith, more, was, nothing)
 
 -- and they are capped
 pub below_capped : (f : Frame) (v : ℕ) (bars : List Bar) (ticks : List ℕ) → AreBelow f bars v ticks

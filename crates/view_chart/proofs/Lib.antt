@@ -1,3 +1,5 @@
 pub mod ColourLemmas
 pub mod ColumnLemmas
+pub mod LaneLemmas
+pub mod LetterLemmas
 pub mod Sizes

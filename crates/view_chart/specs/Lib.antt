@@ -9,3 +9,4 @@ pub mod Lanes
 pub mod Legends
 pub mod Marks
 pub mod Shown
+pub mod TextCharts

@@ -40,7 +40,7 @@ pub(crate) fn width_at(frame: &Frame, columns: u32, j: u32) -> u64
 }
 
 // How many ticks of a bar are in a column.
-fn overlap(first: u64, last: u64, bar: &Bar) -> u64
+pub(crate) fn overlap(first: u64, last: u64, bar: &Bar) -> u64
     ensures value { result ≡ overlap first last bar.now }
     ensures small { result < 2 ^ 32 }
 {

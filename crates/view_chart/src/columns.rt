@@ -1,5 +1,6 @@
 ghost use Rattle.std.specs.Prelude.{◌≡◌, ◌<◌, ◌≤◌, ◌+◌, ◌==◌, ◌*◌, ◌/◌, ◌^◌, ℕ, [], length, nat_lt, slice_get, slice_index};
 ghost use Rattle.std.specs.List.{list_any};
+ghost use Rattle.tab_core.specs.declared.TheConstants.{MAX_VCPUS};
 ghost use Rattle.tab_io.specs.Sinks.{Writes};
 ghost use Rattle.tab_words.specs.Texts.{texts_below};
 ghost use Rattle.view_chart.specs.Columns.{column_box, column_path, columns_text, level_box, level_of, ticks_of, width_at};
@@ -8,9 +9,10 @@ ghost use Rattle.view_chart.specs.Lanes.{note_of, path_begin, path_end, titled_p
 
 use crate::cells::{add_bars, width_at};
 use crate::frame::{Bar, Frame};
+use crate::holders::holders_of;
 use crate::marks::put_box;
 use crate::paths::{name_at, put_path_begin, put_path_end};
-use tab_core::Name;
+use tab_core::{Name, VcpuNo};
 use tab_io::{Sink, WriteFault};
 use view_doc::Task;
 
@@ -26,24 +28,24 @@ pub(crate) fn put_columns<K: Sink>(
     bars: &[Bar],
 ) -> Result<(), WriteFault>
     requires few { length names.now ≤ length colours.now }
+    requires all { length names.now ≤ MAX_VCPUS }
     requires low { y < 2 ^ 31 }
     requires high { high ≤ 4000 }
     ensures { Writes (K.state sink.old) (K.state sink.new)
         (columns_text frame.now y high names.now tasks.now colours.now bars.now) result }
 {
+    let holders = holders_of(bars);
     let mut ticks = [0u64; 200];
     for v in 0..names.len() {
-        let below = ticks;
-        add_bars(&mut ticks, frame, 200, bars, v);
+        let held = holders.has(VcpuNo(v as u32));
         put_column(
-            sink, frame, y, high, names, tasks, colours, bars, v, &below, &ticks,
+            sink, frame, y, high, names, tasks, colours, bars, held, v, &mut ticks,
         )?;
     }
     Ok(())
 }
 
-// Writes a vCPU's path of boxes in columns, if it has a bar, where it is known how many ticks those below
-// it have and how many it has with them.
+// Writes a vCPU's path of boxes in columns, if it has a bar, and adds its ticks to those of the lower ones.
 fn put_column<K: Sink>(
     sink: &mut K,
     frame: &Frame,
@@ -53,47 +55,37 @@ fn put_column<K: Sink>(
     tasks: &[Task],
     colours: &[u32],
     bars: &[Bar],
+    held: bool,
     v: usize,
-    below: &[u64; 200],
-    with: &[u64; 200],
+    ticks: &mut [u64; 200],
 ) -> Result<(), WriteFault>
     requires few { v < length colours.now }
     requires low { y < 2 ^ 31 }
     requires high { high ≤ 4000 }
-    requires below { AreBelow frame.now bars.now v below.now }
-    requires with { AreBelow frame.now bars.now (v + 1) with.now }
-    ensures { Writes (K.state sink.old) (K.state sink.new)
+    requires held { held ≡ list_any (λ bar. bar.vcpu == v) bars.now }
+    requires below { AreBelow frame.now bars.now v ticks.old }
+    ensures wrote { Writes (K.state sink.old) (K.state sink.new)
         (column_path frame.now y high names.now tasks.now colours.now bars.now v) result }
+    ensures below { AreBelow frame.now bars.now (v + 1) ticks.new }
 {
-    if has_vcpu(bars, v) {
-        put_titled(
-            sink,
-            frame,
-            y,
-            high,
-            bars,
-            v,
-            colours[v],
-            name_at(names, v),
-            tasks,
-            below,
-            with,
-        )
-    } else {
-        Ok(())
+    if !held {
+        return Ok(());
     }
-}
-
-// Whether one of the bars is the vCPU's.
-fn has_vcpu(bars: &[Bar], v: usize) -> bool
-    ensures { result ≡ list_any (λ bar. bar.vcpu == v) bars.now }
-{
-    for bar in bars {
-        if bar.vcpu.index() == v {
-            return true;
-        }
-    }
-    false
+    let below = *ticks;
+    add_bars(ticks, frame, 200, bars, v);
+    put_titled(
+        sink,
+        frame,
+        y,
+        high,
+        bars,
+        v,
+        colours[v],
+        name_at(names, v),
+        tasks,
+        &below,
+        ticks,
+    )
 }
 
 // Writes the path.

@@ -11,7 +11,7 @@ pub struct ChartOptions {
     pub from: u32,
     /// The tick that ends what is shown; without it, and beyond it, the end of the last round does.
     pub to: Option<u32>,
-    /// The width of a picture in pixels.
+    /// The width of a picture in pixels, and of a text in columns.
     pub width: u32,
     /// Nanoseconds of a tick.
     pub tick_ns: u16,

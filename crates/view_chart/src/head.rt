@@ -104,7 +104,7 @@ fn put_ground<K: Sink>(sink: &mut K, tall: u32) -> Result<(), WriteFault>
     )
 }
 
-fn put_title<K: Sink>(sink: &mut K, head: &Head) -> Result<(), WriteFault>
+pub(crate) fn put_title<K: Sink>(sink: &mut K, head: &Head) -> Result<(), WriteFault>
     ensures { Writes (K.state sink.old) (K.state sink.new) (title_text head.now) result }
 {
     put_title_of(
@@ -153,7 +153,7 @@ fn kind_word(is_run: bool) -> &'static [u8]
 }
 
 #[tactic(auto, unfolding(crate::specs::Heads::sub_text))]
-fn put_sub<K: Sink>(sink: &mut K, head: &Head) -> Result<(), WriteFault>
+pub(crate) fn put_sub<K: Sink>(sink: &mut K, head: &Head) -> Result<(), WriteFault>
     ensures { Writes (K.state sink.old) (K.state sink.new) (sub_text head.now) result }
 {
     put_pieces(

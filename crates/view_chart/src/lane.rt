@@ -1,15 +1,17 @@
-ghost use Rattle.std.specs.Prelude.{◌≡◌, ◌<◌, ◌≤◌, ◌+◌, ◌-◌, ◌/◌, ◌^◌, ◌++◌, flat_map, length, slice_get};
+ghost use Rattle.std.specs.Prelude.{◌≡◌, ◌<◌, ◌≤◌, ◌+◌, ◌-◌, ◌/◌, ◌^◌, ◌++◌, ◌==◌, flat_map, length, slice_get};
 ghost use Rattle.std.specs.List.{list_any};
+ghost use Rattle.tab_core.specs.declared.TheConstants.{MAX_VCPUS};
 ghost use Rattle.tab_io.specs.Sinks.{Writes};
 ghost use Rattle.tab_words.specs.Texts.{texts_below};
 ghost use Rattle.view_chart.specs.Frames.{letters_of};
 ghost use Rattle.view_chart.specs.Lanes.{bar_box, bar_name, bars_text, box_of, core_label, cut_line, cut_of, is_of, label_text, line_in, name_text, names_begin, note_of, path_begin, path_end, share_label, titled_path, top_in, vcpu_path, vcpu_paths, way_class, way_word, width_of};
 
 use crate::frame::{Bar, Frame};
+use crate::holders::holders_of;
 use crate::marks::put_box;
 use crate::paths::{name_at, put_path_begin, put_path_end};
 use crate::places::{letters_of, x_at};
-use tab_core::Name;
+use tab_core::{Name, VcpuNo};
 use tab_io::{Sink, WriteFault, write_all};
 use tab_words::{TextPiece, put_pieces};
 use view_doc::Task;
@@ -26,6 +28,7 @@ pub(crate) fn put_bars<K: Sink>(
     bars: &[Bar],
 ) -> Result<(), WriteFault>
     requires few { length names.now ≤ length colours.now }
+    requires all { length names.now ≤ MAX_VCPUS }
     requires low { y < 2 ^ 31 }
     requires high { high ≤ 4000 }
     ensures { Writes (K.state sink.old) (K.state sink.new)
@@ -51,19 +54,22 @@ fn put_all_paths<K: Sink>(
     bars: &[Bar],
 ) -> Result<(), WriteFault>
     requires few { length names.now ≤ length colours.now }
+    requires all { length names.now ≤ MAX_VCPUS }
     requires low { y < 2 ^ 31 }
     requires high { high ≤ 4000 }
     ensures { Writes (K.state sink.old) (K.state sink.new)
         (texts_below (vcpu_paths frame.now y high names.now tasks.now colours.now bars.now) (length names.now))
         result }
 {
+    let holders = holders_of(bars);
     for v in 0..names.len() {
-        put_paths(sink, frame, y, high, names, tasks, colours, bars, v)?;
+        let held = holders.has(VcpuNo(v as u32));
+        put_paths(sink, frame, y, high, names, tasks, colours, bars, held, v)?;
     }
     Ok(())
 }
 
-// Writes the paths of a vCPU.
+// Writes the paths of a vCPU, if it has a bar.
 fn put_paths<K: Sink>(
     sink: &mut K,
     frame: &Frame,
@@ -73,14 +79,19 @@ fn put_paths<K: Sink>(
     tasks: &[Task],
     colours: &[u32],
     bars: &[Bar],
+    held: bool,
     v: usize,
 ) -> Result<(), WriteFault>
     requires few { v < length colours.now }
+    requires held { held ≡ list_any (λ bar. bar.vcpu == v) bars.now }
     requires low { y < 2 ^ 31 }
     requires high { high ≤ 4000 }
     ensures { Writes (K.state sink.old) (K.state sink.new)
         (vcpu_paths frame.now y high names.now tasks.now colours.now bars.now v) result }
 {
+    if !held {
+        return Ok(());
+    }
     put_path(sink, frame, y, high, names, tasks, colours, bars, false, v)?;
     put_path(sink, frame, y, high, names, tasks, colours, bars, true, v)
 }

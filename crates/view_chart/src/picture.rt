@@ -71,7 +71,7 @@ fn put_chart_head<K: Sink>(
 
 // What the head says.
 #[tactic(auto, unfolding(crate::specs::Charts::head_of))]
-fn head_of(frame: &Frame, is_run: bool, cores: u32, vcpus: u64, lanes: &[Lane]) -> Head
+pub(crate) fn head_of(frame: &Frame, is_run: bool, cores: u32, vcpus: u64, lanes: &[Lane]) -> Head
     requires { length lanes.now ≤ MAX_CORES }
     ensures { result ≡ head_of frame.now is_run cores vcpus lanes.now }
 {
@@ -153,6 +153,7 @@ fn put_lanes<K: Sink>(
     lanes: &[Lane],
 ) -> Result<(), WriteFault>
     requires lanes { length lanes.now ≤ MAX_CORES }
+    requires few { length names.now ≤ MAX_VCPUS }
     requires coloured { length names.now ≤ length colours.now }
     ensures { Writes (K.state sink.old) (K.state sink.new)
         (texts_below (lane_at frame.now first names.now tasks.now colours.now lanes.now) (length lanes.now))
@@ -177,6 +178,7 @@ fn put_lane_at<K: Sink>(
 ) -> Result<(), WriteFault>
     requires lanes { length lanes.now ≤ MAX_CORES }
     requires there { i < length lanes.now }
+    requires few { length names.now ≤ MAX_VCPUS }
     requires coloured { length names.now ≤ length colours.now }
     ensures { Writes (K.state sink.old) (K.state sink.new)
         (lane_at frame.now first names.now tasks.now colours.now lanes.now i) result }
@@ -209,6 +211,7 @@ fn put_lane<K: Sink>(
     colours: &[u32],
     bars: &[Bar],
 ) -> Result<(), WriteFault>
+    requires few { length names.now ≤ MAX_VCPUS }
     requires coloured { length names.now ≤ length colours.now }
     requires low { y < 2 ^ 31 }
     requires high { high ≤ 4000 }
@@ -233,6 +236,7 @@ fn put_lane_of<K: Sink>(
     colours: &[u32],
     bars: &[Bar],
 ) -> Result<(), WriteFault>
+    requires few { length names.now ≤ MAX_VCPUS }
     requires coloured { length names.now ≤ length colours.now }
     requires low { y < 2 ^ 31 }
     requires high { high ≤ 4000 }
@@ -256,6 +260,7 @@ fn put_body<K: Sink>(
     colours: &[u32],
     bars: &[Bar],
 ) -> Result<(), WriteFault>
+    requires few { length names.now ≤ MAX_VCPUS }
     requires coloured { length names.now ≤ length colours.now }
     requires low { y < 2 ^ 31 }
     requires high { high ≤ 4000 }

@@ -1,6 +1,6 @@
 use Rattle.std.proofs.lemmas.Result.{err_from_is_err_and}
 use Rattle.tab_words.proofs.NumberedTextLemmas.{all_written, next_broken, next_written, none_written}
-use Rattle.view_chart.proofs.ColumnLemmas.{below_capped, start_below, ticks_more}
+use Rattle.view_chart.proofs.ColumnLemmas.{start_below}
 use Rattle.view_chart.specs.Columns.{column_path}
 use Rattle.view_chart.proofs.columns.put_columns.Goals as goal
 
@@ -10,30 +10,18 @@ loop-v-init g c = record {
   below = start_below c.args.frame.now c.args.bars.now;
 }
 
-pub add_bars-requires-clause-capped : goal.add_bars-requires-clause-capped
-add_bars-requires-clause-capped g c =
-    below_capped c.args.frame.now c.loop-v.v c.args.bars.now c.loop-v.ticks c.loop-v.invariant.below
-
-pub put_column-requires-clause-below : goal.put_column-requires-clause-below
-put_column-requires-clause-below g c = c.loop-v.invariant.below
-
-pub put_column-requires-clause-with : goal.put_column-requires-clause-with
-put_column-requires-clause-with g c = ticks_more c.args.frame.now c.loop-v.v c.args.bars.now c.loop-v.ticks
-    c.add_bars.new.ticks c.loop-v.invariant.below c.add_bars.ensures.added
-
 pub returns-in_err-put_column : goal.returns-in_err-put_column
 returns-in_err-put_column g c =
     let p = err_from_is_err_and c.from_residual.result c.from_residual.ensures.1 in
     rw p.1 (next_broken _ _ _ (column_path c.args.frame.now c.args.y c.args.high c.args.names.now c.args.tasks.now c.args.colours.now c.args.bars.now) c.loop-v.v _ (tt {0}) _
-    c.in_err-put_column.field-0.0 c.loop-v-test.true c.loop-v.invariant.wrote c.put_column.ensures
+    c.in_err-put_column.field-0.0 c.loop-v-test.true c.loop-v.invariant.wrote c.put_column.ensures.wrote
     c.in_err-put_column.was)
 
 pub loop-v-preserved : goal.loop-v-preserved
 loop-v-preserved g c = record {
   wrote = next_written _ _ _ (column_path c.args.frame.now c.args.y c.args.high c.args.names.now c.args.tasks.now c.args.colours.now c.args.bars.now) c.loop-v.v (tt {0}) c.in_ok-put_column.field-0 _
-      c.loop-v.invariant.wrote c.put_column.ensures c.in_ok-put_column.was;
-  below = ticks_more c.args.frame.now c.loop-v.v c.args.bars.now c.loop-v.ticks
-      c.add_bars.new.ticks c.loop-v.invariant.below c.add_bars.ensures.added;
+      c.loop-v.invariant.wrote c.put_column.ensures.wrote c.in_ok-put_column.was;
+  below = c.put_column.ensures.below;
 }
 
 pub returns : goal.returns
