@@ -1,6 +1,6 @@
 -- The host that sizes make.
 -- Source: the names are this project's own. The numbers are what a host document takes where it names none.
-use Rattle.std.specs.Prelude.{◌≡◌, ◌≢◌, ℕ, ◌+◌, ◌*◌, ◌<◌, ◌≤◌, true, false, List, [], ◌∷◌, ◌++◌, All, codes, decimal, flat_map, length, map, slice_get, Some}
+use Rattle.std.specs.Prelude.{◌≡◌, ℕ, ◌+◌, ◌*◌, ◌<◌, ◌≤◌, true, false, List, ◌∷◌, ◌++◌, All, codes, decimal, flat_map, length, map, slice_get, Some}
 use Rattle.std.specs.List.{range_with_len}
 use Rattle.tab_core.specs.Name.{IsName}
 use Rattle.tab_core.specs.Vcpus.{HaveDistinctNames}

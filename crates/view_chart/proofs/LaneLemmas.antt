@@ -1,10 +1,9 @@
 -- A vCPU without a bar has no path.
-use Rattle.std.proofs.Common.{arith, refl, ◌≡◌, ℕ, Bool, true, false, List, [], ◌∷◌, ◌++◌}
-use Rattle.std.proofs.lemmas.Bool.Decides.{nat_tests}
+use Rattle.std.proofs.Common.{arith, refl, ◌≡◌, ℕ, Bool, true, false, List, [], ◌∷◌}
 use Rattle.std.proofs.lemmas.Grind.{common_steps}
 use Rattle.std.specs.List.{list_any}
 use Rattle.std.specs.Prelude.{◌==◌}
-use Rattle.view_chart.specs.Lanes.{is_of, vcpu_path, vcpu_paths}
+use Rattle.view_chart.specs.Lanes.{is_of, vcpu_paths}
 use Rattle.view_chart.specs.declared.frame.Bar.{Bar}
 use Rattle.view_chart.specs.declared.frame.Frame.{Frame}
 use Rattle.view_doc.specs.declared.view.Task.{Task}

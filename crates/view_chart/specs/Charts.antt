@@ -1,6 +1,6 @@
 -- A view as a picture, in SVG: a lane for each core, a box for each slot or stint.
 -- Source: Scalable Vector Graphics (SVG) 1.1, W3C Recommendation.
-use Rattle.std.specs.Prelude.{ℕ, zero, suc, ◌+◌, ◌-◌, ◌*◌, ◌/◌, ◌==◌, ◌||◌, ◌++◌, nat_le, nat_lt, Bool, true, false, List, [], ◌∷◌, codes, decimal, if◌then◌else◌, length, min, slice_index_or}
+use Rattle.std.specs.Prelude.{ℕ, zero, suc, ◌+◌, ◌-◌, ◌*◌, ◌/◌, ◌++◌, nat_lt, Bool, true, false, List, [], ◌∷◌, codes, decimal, if◌then◌else◌, length, min, slice_index_or}
 use Rattle.std.specs.List.{sum_by}
 use Rattle.tab_core.specs.declared.TheConstants.{ROUND}
 use Rattle.tab_words.specs.Texts.{texts_below}

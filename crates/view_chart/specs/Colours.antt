@@ -1,6 +1,6 @@
 -- The colours of the vCPUs: the number, where there are twelve or fewer; else in rising number the least that
 -- no lower vCPU on a shared core has, or the number modulo 12 where all are taken.
-use Rattle.std.specs.Prelude.{ℕ, zero, suc, ◌%◌, ◌==◌, ◌&&◌, ◌||◌, nat_le, Bool, true, false, List, [], ◌∷◌, ◌++◌, if◌then◌else◌, slice_get, slice_index, Option, Some, None}
+use Rattle.std.specs.Prelude.{ℕ, zero, suc, ◌%◌, ◌==◌, ◌&&◌, ◌||◌, nat_le, Bool, false, List, [], ◌∷◌, ◌++◌, if◌then◌else◌, slice_get, slice_index, Option, Some, None}
 use Rattle.std.specs.List.{list_any}
 use Rattle.tab_core.specs.declared.TheConstants.{MAX_CORES}
 use Rattle.view_doc.specs.declared.view.Stretch.{Stretch}

@@ -1,6 +1,6 @@
 -- A lane of many bars is drawn as 200 columns: in each the vCPUs stand upon each other by number, each as high
 -- as its part of the column's ticks.
-use Rattle.std.specs.Prelude.{ℕ, ◌+◌, ◌-◌, ◌*◌, ◌/◌, ◌==◌, ◌++◌, nat_lt, Bool, List, [], codes, if◌then◌else◌, length, max, min, slice_index, slice_get}
+use Rattle.std.specs.Prelude.{ℕ, ◌+◌, ◌-◌, ◌*◌, ◌/◌, ◌==◌, nat_lt, Bool, List, [], if◌then◌else◌, length, max, min, slice_index, slice_get}
 use Rattle.std.specs.List.{list_any, sum_by}
 use Rattle.tab_words.specs.Texts.{texts_below}
 use Rattle.vcpu_names.specs.Names.{name_at}

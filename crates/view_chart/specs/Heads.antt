@@ -1,5 +1,5 @@
 -- The head of a picture: the words for readers, the colours, and the lines above the lanes.
-use Rattle.std.specs.Prelude.{ℕ, ◌+◌, ◌-◌, ◌*◌, ◌/◌, ◌%◌, ◌++◌, Bool, true, false, List, [], codes, decimal}
+use Rattle.std.specs.Prelude.{ℕ, ◌*◌, ◌/◌, ◌%◌, ◌++◌, Bool, true, false, List, codes, decimal}
 use Rattle.view_chart.specs.Marks.{plural}
 use Rattle.view_chart.specs.declared.head.Head.{Head}
 

@@ -1,10 +1,10 @@
 -- A core's lane: a path of boxes for each vCPU and way of running, and the names that fit.
-use Rattle.std.specs.Prelude.{◌≡◌, ℕ, ◌+◌, ◌-◌, ◌*◌, ◌/◌, ◌%◌, ◌==◌, ◌&&◌, ◌++◌, nat_le, Bool, true, false, not, List, [], ◌∷◌, codes, decimal, flat_map, if◌then◌else◌, length, slice_index, Option, Some, None, slice_get}
+use Rattle.std.specs.Prelude.{ℕ, ◌+◌, ◌-◌, ◌*◌, ◌/◌, ◌%◌, ◌==◌, ◌&&◌, ◌++◌, nat_le, Bool, true, false, not, List, [], codes, decimal, flat_map, if◌then◌else◌, length, slice_index, Option, Some, None, slice_get}
 use Rattle.std.specs.List.{list_any}
 use Rattle.tab_words.specs.Texts.{texts_below}
 use Rattle.vcpu_names.specs.Names.{name_at}
 use Rattle.view_chart.specs.Frames.{letters_of, right_end, x_at}
-use Rattle.view_chart.specs.Marks.{box_path, per_mille, tenths_ms}
+use Rattle.view_chart.specs.Marks.{box_path, tenths_ms}
 use Rattle.view_chart.specs.declared.frame.Bar.{Bar}
 use Rattle.view_chart.specs.declared.frame.Frame.{Frame}
 use Rattle.view_doc.specs.declared.view.Task.{Task}

@@ -1,5 +1,4 @@
-use Rattle.std.proofs.Common.{◌≡◌, length, refl, sym, ap, ◌∙◌, subst, arith}
-use Rattle.script_doc.specs.declared.event.Event.{Event}
+use Rattle.std.proofs.Common.{length, refl, sym, ap, subst, arith}
 use Rattle.table_form.specs.Running.Courses.{CourseView}
 use Rattle.table_form.specs.Running.State.{State}
 use Rattle.stint_limit.proofs.StintBoundLemmas.{all_stints}

@@ -1,4 +1,4 @@
-use Rattle.std.proofs.Common.{◌≡◌, ◌*◌, ◌<◌, ◌^◌, arith}
+use Rattle.std.proofs.Common.{◌<◌, ◌^◌, arith}
 use Rattle.tab_words.specs.Numbers.{Spells}
 use Rattle.sizes_doc.proofs.MeasureLemmas.{counts_same}
 use Rattle.sizes_doc.proofs.measure.measured.Goals as goal

@@ -1,4 +1,4 @@
-use Rattle.std.proofs.Common.{◌≡◌, ◌+◌, [], ◌∷◌, ◌++◌, inr, true, false, rules, subst, arith}
+use Rattle.std.proofs.Common.{◌≡◌, [], ◌∷◌, ◌++◌, inr, true, false, rules, subst, arith}
 use Rattle.std.proofs.lemmas.Grind.{common_steps}
 use Rattle.script_doc.specs.Statements.{is_skipped}
 use Rattle.sizes_doc.proofs.SizeLemmas.{AreRead, all_read, bad_line, more_read, skipped_read}

@@ -1,10 +1,9 @@
-use Rattle.std.proofs.Common.{◌≡◌, ◌≤◌, ◌<◌, ◌+◌, ◌*◌, ◌⊎◌, ◌∷◌, ◌++◌, List, inl, inr, length, take, Some, IfErr, rules, sym, subst, ap, ◌∙◌, length-append, arith}
-use Rattle.std.proofs.lemmas.Grind.{common_steps}
+use Rattle.std.proofs.Common.{◌≡◌, ◌≤◌, ◌<◌, ◌+◌, ◌*◌, ◌⊎◌, ◌++◌, List, inr, length, take, rules, sym, subst, ap, ◌∙◌, length-append, arith}
 use Rattle.std.proofs.lemmas.List.{take_all}
 use Rattle.std.proofs.lemmas.Result.{err_from_is_err_and}
 use Rattle.tab_core.specs.declared.TheConstants.{MAX_VCPUS}
 use Rattle.tab_core.specs.declared.vcpu.Vcpu.{Vcpu}
-use Rattle.sizes_doc.specs.SizedHost.{HasBadName, HasFault, HasTooMany, IsTwice, NamesBadly, NamesTwice, size_vcpus, sizes_vcpus}
+use Rattle.sizes_doc.specs.SizedHost.{HasBadName, HasFault, HasTooMany, IsTwice, NamesTwice, size_vcpus, sizes_vcpus}
 use Rattle.sizes_doc.specs.declared.fault.SizesFault.{SizesFault}
 use Rattle.sizes_doc.specs.declared.fault.SizesFault.TheVariants.{BadName, NoMemory}
 use Rattle.sizes_doc.proofs.SizedLemmas.{all_admitted, bad_at, length-size, parted, size_more}

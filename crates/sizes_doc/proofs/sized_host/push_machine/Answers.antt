@@ -1,4 +1,4 @@
-use Rattle.std.proofs.Common.{◌≡◌, [], ◌∷◌, ◌++◌, rules, arith}
+use Rattle.std.proofs.Common.{◌≡◌, [], ◌∷◌, ◌++◌, arith}
 use Rattle.std.proofs.lemmas.Grind.{common_steps}
 use Rattle.sizes_doc.proofs.SizedLemmas.{vcpu_more}
 use Rattle.sizes_doc.proofs.sized_host.push_machine.Goals as goal

@@ -1,4 +1,4 @@
-use Rattle.std.proofs.Common.{◌≡◌, ◌<◌, ◌||◌, ℕ, List, true, false, not, bytes_eq, get_or, length, take, rules, sym, subst, arith}
+use Rattle.std.proofs.Common.{◌≡◌, ◌||◌, ℕ, List, true, false, bytes_eq, rules, arith}
 use Rattle.std.proofs.lemmas.Grind.{common_steps}
 use Rattle.tab_core.specs.Name.{IsName}
 use Rattle.host_doc.specs.Inside.TextSets.{has_text}

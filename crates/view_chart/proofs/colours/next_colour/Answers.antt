@@ -1,5 +1,4 @@
 use Rattle.std.proofs.Common.{arith, ◌%◌}
-use Rattle.std.proofs.lemmas.Grind.{common_steps}
 use Rattle.view_chart.specs.Colours.{is_taken}
 use Rattle.view_chart.proofs.ColourLemmas.{free_more}
 use Rattle.view_chart.proofs.colours.next_colour.Goals as goal

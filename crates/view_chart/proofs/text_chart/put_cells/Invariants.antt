@@ -1,4 +1,4 @@
-use Rattle.std.proofs.Common.{Ok, length}
+use Rattle.std.proofs.Common.{Ok}
 use Rattle.tab_io.specs.Sinks.{Writes}
 use Rattle.tab_words.specs.Texts.{texts_below}
 use Rattle.view_chart.specs.TextCharts.{cell_at}
