@@ -1,3 +1,4 @@
+mod AgainLemmas
 mod KeysLemmas
 mod LeastLemmas
 mod TextsLemmas

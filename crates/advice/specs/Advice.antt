@@ -1,7 +1,7 @@
 -- What is told after a refusal, of the words and the input that were refused. A text in `IsAdvice` is the
 -- whole advice: which line it quotes and which numbers it names is said by the definitions of the crates
 -- that refuse.
-use Rattle.std.specs.Prelude.{◌≡◌, ◌⊎◌, ℕ, ◌*◌, ◌≤◌, List, [], codes, length, slice_get, Option, Some, Result}
+use Rattle.std.specs.Prelude.{◌≡◌, ◌⊎◌, ℕ, ◌*◌, ◌≤◌, List, [], codes, length, slice_get, Option, Some, Result, Ok, Err}
 use Rattle.tab_core.specs.declared.TheConstants.{ROUND}
 use Rattle.tab_core.specs.declared.host.Host.{Host}
 use Rattle.tab_core.specs.declared.periodic.Periodic.{Periodic}
@@ -14,6 +14,7 @@ use Rattle.host_doc.specs.Document.{IsDocument, IsHostText}
 use Rattle.host_doc.specs.declared.fault.HostFault.{HostFault}
 use Rattle.host_doc.specs.declared.fault.HostFault.TheVariants as host
 use Rattle.host_doc.specs.declared.fault.Path.{Path}
+use Rattle.period_choice.specs.Choice.{HasPeriod}
 use Rattle.period_choice.specs.Tasks.{AreTasksOf}
 use Rattle.toml.specs.Data.{Members}
 use Rattle.vcpu_names.specs.Names.{names_of}
@@ -28,12 +29,16 @@ use Rattle.advice.specs.Scripts.{script_text}
 use Rattle.advice.specs.Sections.{sections_text}
 use Rattle.advice.specs.Steps.{bad_step_text, due_text, waits_text}
 use Rattle.advice.specs.Usage.{usage_text}
+use Rattle.advice.specs.declared.fault.AdviceFault.{AdviceFault}
+use Rattle.advice.specs.declared.fault.AdviceFault.TheVariants as fault
 use Rattle.advice.specs.declared.refusal.Refusal.{Refusal}
 use Rattle.advice.specs.declared.refusal.Refusal.TheVariants as refusal
 
--- the section is no TOML from some byte on; which byte that is, and what is wrong, is said by the reader of
--- TOML
+-- the section, of at most 2,000,000,000 bytes, is no TOML from some byte on; which byte that is, and what is
+-- wrong, is said by the reader of TOML
 pub record IsTomlText (section text : List ℕ) : Type 0 where
+  pub no_document : (members : Members) → ¬ (IsDocument section members)
+  pub short : length section ≤ 2000000000
   pub at : ℕ
   pub message : List ℕ
   pub within : at ≤ length section
@@ -49,6 +54,7 @@ pub record IsVcpuText (vcpu : Vcpu) (tick_ns : ℕ) (text : List ℕ) : Type 0 w
   pub latency : ℕ
   pub share : ℕ
   pub reserved : vcpu.reservation ≡ Some reservation
+  pub lacks : ¬ (HasPeriod reservation tick_ns)
   pub least_latency : IsLeastLatency reservation tick_ns latency
   pub least_share : IsLeastShare reservation tick_ns share
   pub is : text ≡ period_text vcpu.name reservation latency share
@@ -88,16 +94,16 @@ abbrev pub IsPlanText : List ℕ → List ℕ → ℕ → List ℕ → Type 0
 IsPlanText section plan line text = TellsOfTasks section
     (λ host tasks. plan_line_text plan line host.cores (names_of host.vcpus) tasks) text
 
--- an advice that needs memory, without which nothing is told
-abbrev pub OrSilent : (List ℕ → Type 0) → List ℕ → Type 0
-OrSilent IsText text = IsText text ⊎ (text ≡ [])
+-- the text is such a one; where there is none, nothing is told
+abbrev pub WhereThereIs : (List ℕ → Type 0) → List ℕ → Type 0
+WhereThereIs IsText text = IsText text ⊎ (((other : List ℕ) → ¬ (IsText other)) × (text ≡ []))
 
 -- the advice on a section that is no host
 abbrev pub IsHostAdvice : List ℕ → HostFault → List ℕ → Type 0
-IsHostAdvice section host.NotToml text = OrSilent (IsTomlText section) text
-IsHostAdvice section (host.BadKey path) text = OrSilent (IsKeyText section path) text
-IsHostAdvice section (host.OutOfRange path) text = OrSilent (IsKeyText section path) text
-IsHostAdvice section (host.SameName vcpu) text = OrSilent (IsSameText section vcpu) text
+IsHostAdvice section host.NotToml text = WhereThereIs (IsTomlText section) text
+IsHostAdvice section (host.BadKey path) text = WhereThereIs (IsKeyText section path) text
+IsHostAdvice section (host.OutOfRange path) text = WhereThereIs (IsKeyText section path) text
+IsHostAdvice section (host.SameName vcpu) text = WhereThereIs (IsSameText section vcpu) text
 IsHostAdvice section (host.TooMany count) text = text ≡ many_text count
 IsHostAdvice section host.NoMemory text = text ≡ []
 
@@ -113,28 +119,39 @@ known_text refusal.WriteFault =
 known_text refusal.NoMemory = codes "tableau: memory ran out; take fewer rounds or a smaller host\n"
 known_text other = []
 
+-- the advice on a refusal for which the host isn't read again: words, lines and the refusal's own numbers tell it
+abbrev pub plain_text : List (List ℕ) → List ℕ → Refusal → List ℕ
+plain_text words input (refusal.Usage place) = usage_text words place
+plain_text words input (refusal.BadSections found wanted) = sections_text input found wanted
+plain_text words input (refusal.NoFit demand room) = room_text demand room
+plain_text words input (refusal.BadShape core place) = shape_text core place
+plain_text words input (refusal.Twice tick core other) = twice_text tick core other
+plain_text words input (refusal.Short period_no got cost) = short_text period_no got cost
+plain_text words input (refusal.Script fault) = script_text (section_at 1 input) fault
+plain_text words input (refusal.BadStep line) = bad_step_text (section_at 2 input) line
+plain_text words input (refusal.NotNow line due) = due_text (section_at 2 input) line due
+plain_text words input (refusal.Behind line who tick) = waits_text (section_at 2 input) line who tick
+plain_text words input other = known_text other
+
 -- the text is the advice on this refusal of these words with this input
 abbrev pub IsAdvice : List (List ℕ) → List ℕ → Refusal → List ℕ → Type 0
-IsAdvice words input (refusal.Usage place) text = text ≡ usage_text words place
-IsAdvice words input (refusal.BadSections found wanted) text = text ≡ sections_text input found wanted
 IsAdvice words input (refusal.Host fault) text = IsHostAdvice (section_at 0 input) fault text
-IsAdvice words input (refusal.NoPeriod vcpu) text = OrSilent (IsPeriodText (section_at 0 input) vcpu) text
-IsAdvice words input refusal.NoRoom text = OrSilent (IsRoomText (section_at 0 input)) text
-IsAdvice words input (refusal.NoFit demand room) text = text ≡ room_text demand room
+IsAdvice words input (refusal.NoPeriod vcpu) text =
+    WhereThereIs (IsPeriodText (section_at 0 input) vcpu) text
+IsAdvice words input refusal.NoRoom text = WhereThereIs (IsRoomText (section_at 0 input)) text
 IsAdvice words input (refusal.BadPlanLine line) text =
-    OrSilent (IsPlanText (section_at 0 input) (section_at 1 input) line) text
-IsAdvice words input (refusal.BadShape core place) text = text ≡ shape_text core place
-IsAdvice words input (refusal.Twice tick core other) text = text ≡ twice_text tick core other
-IsAdvice words input (refusal.Short period_no got cost) text = text ≡ short_text period_no got cost
-IsAdvice words input (refusal.Script fault) text = text ≡ script_text (section_at 1 input) fault
-IsAdvice words input (refusal.BadStep line) text = text ≡ bad_step_text (section_at 2 input) line
-IsAdvice words input (refusal.NotNow line due) text = text ≡ due_text (section_at 2 input) line due
-IsAdvice words input (refusal.Behind line who tick) text = text ≡ waits_text (section_at 2 input) line who tick
-IsAdvice words input other text = text ≡ known_text other
+    WhereThereIs (IsPlanText (section_at 0 input) (section_at 1 input) line) text
+IsAdvice words input other text = text ≡ plain_text words input other
 
 -- the call wrote such a text, or a front of it and the sink failed
-pub record WritesSome (IsText : List ℕ → Type 0) (old new : SinkView) (result : Result (Unit {0}) WriteFault)
+pub record WritesSuch (IsText : List ℕ → Type 0) (old new : SinkView) (result : Result (Unit {0}) WriteFault)
     : Type 0 where
   pub text : List ℕ
   pub is : IsText text
   pub writes : Writes old new text result
+
+-- the same, or memory ran out and nothing was written
+abbrev pub WritesSome : (List ℕ → Type 0) → SinkView → SinkView → Result (Unit {0}) AdviceFault → Type 0
+WritesSome IsText old new (Ok done) = WritesSuch IsText old new (Ok done)
+WritesSome IsText old new (Err (fault.Sink of_write)) = WritesSuch IsText old new (Err of_write)
+WritesSome IsText old new (Err fault.NoMemory) = new ≡ old

@@ -1,4 +1,5 @@
 pub mod Advice
+pub mod Faults
 pub mod Hosts
 pub mod Inside
 pub mod Kept

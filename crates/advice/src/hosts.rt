@@ -1,18 +1,19 @@
 ghost use Rattle.std.specs.Prelude.{◌*◌, ◌≤◌};
 ghost use Rattle.tab_core.specs.declared.TheConstants.{MAX_TICK_NS, MIN_TICK_NS, ROUND};
 ghost use Rattle.tab_io.specs.Sinks.{Writes};
-ghost use Rattle.advice.specs.Advice.{IsHostAdvice, IsKeyText, IsPeriodText, IsPlanText, IsRoomText, IsSameText, IsTomlText, IsVcpuText, OrSilent, WritesSome};
+ghost use Rattle.advice.specs.Advice.{IsHostAdvice, IsKeyText, IsPeriodText, IsPlanText, IsRoomText, IsSameText, IsTomlText, IsVcpuText, WhereThereIs, WritesSome};
 ghost use Rattle.advice.specs.Periods.{period_text};
 ghost use Rattle.advice.specs.Room.{due_of, room_text};
 
+use crate::again::{host_again, table_again, tasks_again};
+use crate::fault::{AdviceFault, of_sink};
 use crate::host_keys::{put_key, put_same_name};
 use crate::host_text::{put_toml_fault, put_too_many};
 use crate::least::{least_latency, least_share};
 use crate::part::{Part, put_parts};
 use crate::plan_lines::put_plan_line;
 use crate::room::{due_of, put_room};
-use host_doc::{HostFault, Path, read_host};
-use period_choice::tasks_of;
+use host_doc::{HostFault, Path};
 use std::alloc::Global;
 use tab_core::{Host, ROUND, Reservation, Tasks, Vcpu, VcpuNo};
 use tab_io::{Sink, WriteFault};
@@ -26,7 +27,7 @@ pub(crate) fn put_host<K: Sink>(
     sink: &mut K,
     section: &[u8],
     fault: &HostFault,
-) -> Result<(), WriteFault>
+) -> Result<(), AdviceFault>
     ensures { WritesSome (IsHostAdvice section.now fault.now) (K.state sink.old) (K.state sink.new) result }
 {
     match fault {
@@ -34,7 +35,7 @@ pub(crate) fn put_host<K: Sink>(
         HostFault::BadKey { path } => put_bad_key(alloc, sink, section, path),
         HostFault::OutOfRange { path } => put_bad_key(alloc, sink, section, path),
         HostFault::SameName { vcpu } => put_same(alloc, sink, section, *vcpu),
-        HostFault::TooMany { count } => put_too_many(sink, *count),
+        HostFault::TooMany { count } => of_sink(put_too_many(sink, *count)),
         HostFault::NoMemory => Ok(()),
     }
 }
@@ -45,12 +46,12 @@ fn put_bad_key<K: Sink>(
     sink: &mut K,
     section: &[u8],
     path: &Path,
-) -> Result<(), WriteFault>
-    ensures { WritesSome (OrSilent (IsKeyText section.now path.now)) (K.state sink.old) (K.state sink.new) result }
+) -> Result<(), AdviceFault>
+    ensures { WritesSome (WhereThereIs (IsKeyText section.now path.now)) (K.state sink.old) (K.state sink.new) result }
 {
-    match toml::table_from_slice(alloc, section) {
-        Ok(table) => put_key(sink, &table, path),
-        Err(_) => Ok(()),
+    match table_again(alloc, section)? {
+        Some(table) => of_sink(put_key(sink, &table, path)),
+        None => Ok(()),
     }
 }
 
@@ -60,18 +61,18 @@ fn put_same<K: Sink>(
     sink: &mut K,
     section: &[u8],
     vcpu: u32,
-) -> Result<(), WriteFault>
-    ensures { WritesSome (OrSilent (IsSameText section.now vcpu)) (K.state sink.old) (K.state sink.new) result }
+) -> Result<(), AdviceFault>
+    ensures { WritesSome (WhereThereIs (IsSameText section.now vcpu)) (K.state sink.old) (K.state sink.new) result }
 {
-    match toml::table_from_slice(alloc, section) {
-        Ok(table) => put_same_name(sink, &table, vcpu),
-        Err(_) => Ok(()),
+    match table_again(alloc, section)? {
+        Some(table) => of_sink(put_same_name(sink, &table, vcpu)),
+        None => Ok(()),
     }
 }
 
 // Writes where the section is no TOML, as its reader says.
-fn put_not_toml<K: Sink>(alloc: Global, sink: &mut K, section: &[u8]) -> Result<(), WriteFault>
-    ensures { WritesSome (OrSilent (IsTomlText section.now)) (K.state sink.old) (K.state sink.new) result }
+fn put_not_toml<K: Sink>(alloc: Global, sink: &mut K, section: &[u8]) -> Result<(), AdviceFault>
+    ensures { WritesSome (WhereThereIs (IsTomlText section.now)) (K.state sink.old) (K.state sink.new) result }
 {
     if section.len() > LONGEST {
         return Ok(());
@@ -80,8 +81,13 @@ fn put_not_toml<K: Sink>(alloc: Global, sink: &mut K, section: &[u8]) -> Result<
         return Ok(());
     };
     match fault.span() {
-        Some(span) => put_toml_fault(sink, section, span.start, fault.message().as_bytes()),
-        None => Ok(()),
+        Some(span) => of_sink(put_toml_fault(
+            sink,
+            section,
+            span.start,
+            fault.message().as_bytes(),
+        )),
+        None => Err(AdviceFault::NoMemory),
     }
 }
 
@@ -91,10 +97,10 @@ pub(crate) fn put_no_period<K: Sink>(
     sink: &mut K,
     section: &[u8],
     vcpu: &VcpuNo,
-) -> Result<(), WriteFault>
-    ensures { WritesSome (OrSilent (IsPeriodText section.now vcpu.now)) (K.state sink.old) (K.state sink.new) result }
+) -> Result<(), AdviceFault>
+    ensures { WritesSome (WhereThereIs (IsPeriodText section.now vcpu.now)) (K.state sink.old) (K.state sink.new) result }
 {
-    let Ok(host) = read_host(alloc, section) else {
+    let Some(host) = host_again(alloc, section)? else {
         return Ok(());
     };
     let Some(found) = host.vcpus.items().get(vcpu.index()) else {
@@ -104,10 +110,10 @@ pub(crate) fn put_no_period<K: Sink>(
 }
 
 // Writes the advice on this vCPU, with a tick of so many nanoseconds.
-fn put_vcpu_period<K: Sink>(sink: &mut K, vcpu: &Vcpu, tick_ns: u32) -> Result<(), WriteFault>
+fn put_vcpu_period<K: Sink>(sink: &mut K, vcpu: &Vcpu, tick_ns: u32) -> Result<(), AdviceFault>
     requires at_least { MIN_TICK_NS ≤ tick_ns }
     requires at_most { tick_ns ≤ MAX_TICK_NS }
-    ensures { WritesSome (OrSilent (IsVcpuText vcpu.now tick_ns)) (K.state sink.old) (K.state sink.new) result }
+    ensures { WritesSome (WhereThereIs (IsVcpuText vcpu.now tick_ns)) (K.state sink.old) (K.state sink.new) result }
 {
     let Some(reservation) = vcpu.reservation else {
         return Ok(());
@@ -118,7 +124,7 @@ fn put_vcpu_period<K: Sink>(sink: &mut K, vcpu: &Vcpu, tick_ns: u32) -> Result<(
     let Some(share) = least_share(&reservation, tick_ns) else {
         return Ok(());
     };
-    put_period(sink, vcpu.name.bytes(), &reservation, latency, share)
+    of_sink(put_period(sink, vcpu.name.bytes(), &reservation, latency, share))
 }
 
 fn put_period<K: Sink>(
@@ -154,15 +160,15 @@ pub(crate) fn put_no_room<K: Sink>(
     alloc: Global,
     sink: &mut K,
     section: &[u8],
-) -> Result<(), WriteFault>
-    ensures { WritesSome (OrSilent (IsRoomText section.now)) (K.state sink.old) (K.state sink.new) result }
+) -> Result<(), AdviceFault>
+    ensures { WritesSome (WhereThereIs (IsRoomText section.now)) (K.state sink.old) (K.state sink.new) result }
 {
-    let Ok(host) = read_host(alloc, section) else {
+    let Some(host) = host_again(alloc, section)? else {
         return Ok(());
     };
-    match tasks_of(alloc, &host) {
-        Ok(tasks) => put_room_of(sink, &host, &tasks),
-        Err(_) => Ok(()),
+    match tasks_again(alloc, &host)? {
+        Some(tasks) => of_sink(put_room_of(sink, &host, &tasks)),
+        None => Ok(()),
     }
 }
 
@@ -184,14 +190,14 @@ pub(crate) fn put_plan<K: Sink>(
     section: &[u8],
     plan: &[u8],
     line: u32,
-) -> Result<(), WriteFault>
-    ensures { WritesSome (OrSilent (IsPlanText section.now plan.now line)) (K.state sink.old) (K.state sink.new) result }
+) -> Result<(), AdviceFault>
+    ensures { WritesSome (WhereThereIs (IsPlanText section.now plan.now line)) (K.state sink.old) (K.state sink.new) result }
 {
-    let Ok(host) = read_host(alloc, section) else {
+    let Some(host) = host_again(alloc, section)? else {
         return Ok(());
     };
-    match tasks_of(alloc, &host) {
-        Ok(tasks) => put_plan_line(sink, plan, line, &host, &tasks),
-        Err(_) => Ok(()),
+    match tasks_again(alloc, &host)? {
+        Some(tasks) => of_sink(put_plan_line(sink, plan, line, &host, &tasks)),
+        None => Ok(()),
     }
 }

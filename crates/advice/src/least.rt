@@ -1,4 +1,4 @@
-ghost use Rattle.std.specs.Prelude.{◌≡◌, ◌+◌, ◌-◌, ◌<◌, ◌≤◌, MatchBool, MatchOption};
+ghost use Rattle.std.specs.Prelude.{◌≡◌, ◌+◌, ◌-◌, ◌<◌, ◌≤◌, IfSome, MatchBool, MatchOption};
 ghost use Rattle.period_choice.specs.Choice.{HasPeriod};
 ghost use Rattle.tab_core.specs.declared.TheConstants.{MAX_TICK_NS, MIN_TICK_NS};
 ghost use Rattle.advice.specs.Least.{IsLeastLatency, IsLeastShare};
@@ -13,7 +13,8 @@ use tab_core::{Reservation, WHOLE_PPM};
 pub fn least_latency(r: &Reservation, tick_ns: u32) -> Option<u64>
     requires at_least { MIN_TICK_NS ≤ tick_ns }
     requires at_most { tick_ns ≤ MAX_TICK_NS }
-    ensures { MatchOption result (HasPeriod r.now tick_ns) (IsLeastLatency r.now tick_ns) }
+    ensures found { MatchOption result (HasPeriod r.now tick_ns) (IsLeastLatency r.now tick_ns) }
+    ensures lacks { IfSome result (λ _. ¬ (HasPeriod r.now tick_ns)) }
 {
     if has_period(r, tick_ns) {
         return None;
@@ -56,7 +57,8 @@ fn nearer_latency(r: &Reservation, tick_ns: u32, low: u64, high: u64) -> (u64, u
 pub fn least_share(r: &Reservation, tick_ns: u32) -> Option<u32>
     requires at_least { MIN_TICK_NS ≤ tick_ns }
     requires at_most { tick_ns ≤ MAX_TICK_NS }
-    ensures { MatchOption result (HasPeriod r.now tick_ns) (IsLeastShare r.now tick_ns) }
+    ensures found { MatchOption result (HasPeriod r.now tick_ns) (IsLeastShare r.now tick_ns) }
+    ensures lacks { IfSome result (λ _. ¬ (HasPeriod r.now tick_ns)) }
 {
     if has_period(r, tick_ns) {
         return None;

@@ -2,9 +2,11 @@
 //!
 //! `specs/Advice.antt` says what is told of each refusal, for the words and the input that were refused: the
 //! line that is quoted and the numbers, by the definitions of the crates that refuse. `write_advice` writes
-//! exactly that, or nothing where it lacks memory to look the input up again.
+//! exactly that, or tells that it lacks memory to look the input up again.
 #![tactic(auto)]
 
+mod again;
+mod fault;
 mod host_keys;
 mod host_text;
 mod hosts;
@@ -21,6 +23,7 @@ mod step_lines;
 mod usage;
 mod write;
 
+pub use fault::AdviceFault;
 pub use kept::KeptSource;
 pub use least::{least_latency, least_share};
 pub use refusal::{Due, Refusal};

@@ -1,7 +1,9 @@
 ghost use Rattle.std.specs.Prelude.{◌≡◌, ◌<◌, ◌^◌, length};
+ghost use Rattle.tab_io.specs.Sinks.{Writes};
 ghost use Rattle.tab_words.specs.Commands.{texts};
-ghost use Rattle.advice.specs.Advice.{IsAdvice, WritesSome, known_text};
+ghost use Rattle.advice.specs.Advice.{IsAdvice, WritesSome, known_text, plain_text};
 
+use crate::fault::{AdviceFault, of_sink};
 use crate::hosts::{put_host, put_no_period, put_no_room, put_plan};
 use crate::line::section_at;
 use crate::plan_lines::{put_shape, put_short, put_twice};
@@ -18,26 +20,23 @@ use tab_io::{Sink, WriteFault, write_all};
 /// is and what to do, in up to four lines that begin with `tableau: `.
 ///
 /// For a fault of the host, and where the host has no plan or isn't that of a plan text, the host is read
-/// again; where memory is wanting for that, or the input isn't one that is refused so, nothing is written.
-/// A fault of the sink leaves a front of the advice in it. Nothing is settled.
+/// again. Where it isn't refused so, there is no advice, and nothing is written. Nor is anything where memory
+/// runs out (`NoMemory`). A fault of the sink leaves a front of the advice in it. Nothing is settled.
 pub fn write_advice<K: Sink>(
     alloc: Global,
     words: &[String],
     input: &[u8],
     refusal: &Refusal,
     sink: &mut K,
-) -> Result<(), WriteFault>
+) -> Result<(), AdviceFault>
     requires short { length input.now < 2 ^ 32 }
     ensures { WritesSome (IsAdvice (texts words.now) input.now refusal.now)
         (K.state sink.old) (K.state sink.new) result }
 {
     match refusal {
-        Refusal::Usage { place } => put_usage(sink, words, *place),
-        Refusal::BadSections { found, wanted } => put_sections(sink, input, *found, *wanted),
         Refusal::Host(fault) => put_host(alloc, sink, section_at(input, 0), fault),
         Refusal::NoPeriod { vcpu } => put_no_period(alloc, sink, section_at(input, 0), vcpu),
         Refusal::NoRoom => put_no_room(alloc, sink, section_at(input, 0)),
-        Refusal::NoFit { demand, room } => put_room(sink, *demand, *room),
         Refusal::BadPlanLine { line } => put_plan(
             alloc,
             sink,
@@ -45,6 +44,25 @@ pub fn write_advice<K: Sink>(
             section_at(input, 1),
             *line,
         ),
+        _ => of_sink(put_plain(words, input, refusal, sink)),
+    }
+}
+
+// Writes the advice on a refusal that needs no second look at the host.
+fn put_plain<K: Sink>(
+    words: &[String],
+    input: &[u8],
+    refusal: &Refusal,
+    sink: &mut K,
+) -> Result<(), WriteFault>
+    requires short { length input.now < 2 ^ 32 }
+    ensures { Writes (K.state sink.old) (K.state sink.new)
+        (plain_text (texts words.now) input.now refusal.now) result }
+{
+    match refusal {
+        Refusal::Usage { place } => put_usage(sink, words, *place),
+        Refusal::BadSections { found, wanted } => put_sections(sink, input, *found, *wanted),
+        Refusal::NoFit { demand, room } => put_room(sink, *demand, *room),
         Refusal::BadShape { core, place } => put_shape(sink, *core, *place),
         Refusal::Twice { tick, core, other } => put_twice(sink, *tick, *core, *other),
         Refusal::Short {
@@ -58,11 +76,7 @@ pub fn write_advice<K: Sink>(
         Refusal::Behind { line, who, tick } => {
             put_waits(sink, section_at(input, 2), *line, who, *tick)
         }
-        Refusal::ReadFault
-        | Refusal::TooLong
-        | Refusal::TraceTooLong
-        | Refusal::WriteFault
-        | Refusal::NoMemory => write_all(sink, known_text(refusal)),
+        _ => write_all(sink, known_text(refusal)),
     }
 }
 

@@ -22,6 +22,7 @@ pub use laws::{
     a_script_has_no_fault, a_step_list_has_no_bad_line, a_text_has_one_bad_step,
     a_text_has_one_script_fault, a_text_states_one_script, a_text_states_one_step_list,
 };
+pub use line::is_skipped;
 pub use refusal::{put_script_fault, put_steps_fault};
 pub use script::Script;
 pub use script_fault::ScriptFault;

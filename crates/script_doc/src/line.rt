@@ -3,8 +3,9 @@ ghost use Rattle.script_doc.specs.Statements.{is_skipped};
 
 use tab_words::Words;
 
-// A line that says nothing: one without words, or a comment.
-pub(crate) fn is_skipped(line: &[u8]) -> bool
+/// Whether a line says nothing, in a script, a list of steps or of sizes: it has no words, or its first byte
+/// is `#`.
+pub fn is_skipped(line: &[u8]) -> bool
     ensures { result ≡ is_skipped line.now }
 {
     Words::of(line).next().is_none() || is_comment(line)

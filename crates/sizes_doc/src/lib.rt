@@ -6,7 +6,6 @@
 #![tactic(auto)]
 
 mod fault;
-mod line;
 mod measure;
 mod size;
 mod size_reader;

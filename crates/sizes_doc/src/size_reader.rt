@@ -7,9 +7,9 @@ ghost use Rattle.sizes_doc.specs.SizeLines.{AreSizes, IsFirstBad};
 ghost use Rattle.sizes_doc.specs.declared.fault.SizesFault.TheVariants.{NoMemory};
 
 use crate::fault::{Part, SizesFault};
-use crate::line::is_skipped;
 use crate::measure::{count_of, latency_of, share_of};
 use crate::size::Size;
+use script_doc::is_skipped;
 use std::alloc::Global;
 use tab_core::Reservation;
 use tab_words::{Lines, Words};

@@ -1,0 +1,12 @@
+use Rattle.std.proofs.Common.{rules}
+use Rattle.advice.specs.Advice.{IsSameText}
+use Rattle.advice.specs.Inside.Again.{IsNoDocument}
+use Rattle.advice.specs.Keys.{same_text}
+use Rattle.advice.proofs.AgainLemmas.{no_member_is_told}
+use Rattle.advice.proofs.WritesLemmas.{tells_nothing}
+use Rattle.advice.proofs.hosts.put_same.Goals as goal
+
+pub returns-in-None : goal.returns-in-None
+returns-in-None g c =
+    let none : IsNoDocument c.args.section.now = search rules in
+    tells_nothing (IsSameText c.args.section.now c.args.vcpu) _ (no_member_is_told c.args.section.now (λ members. same_text members c.args.vcpu) none)
