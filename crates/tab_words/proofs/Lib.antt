@@ -1,6 +1,7 @@
 pub mod BlockLemmas
 pub mod CommandLemmas
 pub mod CutLemmas
+pub mod FrontLemmas
 pub mod LineLemmas
 pub mod NumberLemmas
 pub mod NumberedTextLemmas

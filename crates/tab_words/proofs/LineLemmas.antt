@@ -17,7 +17,7 @@ unfolding raw_lines_of
 raw_lines_of-nil = refl
 
 -- a line feed ends its line: their step at one
-raw_lines_of-feed : (byte : ℕ) (bytes : List ℕ) → byte ≡ 10
+pub raw_lines_of-feed : (byte : ℕ) (bytes : List ℕ) → byte ≡ 10
     → raw_lines_of (byte ∷ bytes) ≡ (byte ∷ []) ∷ raw_lines_of bytes
 unfolding raw_lines_of
 raw_lines_of-feed byte bytes is = rw is refl

@@ -5,21 +5,17 @@ use Rattle.std.proofs.lemmas.List.{append-nil, drop-drop, drop_all, drop_at, len
 use Rattle.std.specs.List.{concat, onto_first, slice_split}
 use Rattle.tab_words.specs.Lines.{raw_lines_of}
 use Rattle.tab_words.specs.Sections.{is_separator, sections_of}
-
--- bytes that come before the first of the sections, and belong to it
-abbrev pub extend : List ℕ → List (List ℕ) → List (List ℕ)
-extend front [] = front ∷ []
-extend front (section ∷ sections) = (front ++ section) ∷ sections
+use Rattle.tab_words.specs.Inside.Fronts.{behind}
 
 -- two lines in a row go into the section together: the loop adds them one by one
-extend-extend : (a b : List ℕ) (sections : List (List ℕ))
-    → extend a (extend b sections) ≡ extend (a ++ b) sections
-extend-extend a b [] = refl
-extend-extend a b (section ∷ sections) = ap (λ first. first ∷ sections) (sym (append_assoc a b section))
+pub behind-behind : (a b : List ℕ) (sections : List (List ℕ))
+    → behind a (behind b sections) ≡ behind (a ++ b) sections
+behind-behind a b [] = refl
+behind-behind a b (section ∷ sections) = ap (λ first. first ∷ sections) (sym (append_assoc a b section))
 
 -- the definition puts a line into the first part; this says so of the sections
 pub map_concat-onto_first : (row : List ℕ) (parts : List (List (List ℕ)))
-    → map concat (onto_first row parts) ≡ extend row (map concat parts)
+    → map concat (onto_first row parts) ≡ behind row (map concat parts)
 map_concat-onto_first row [] = ap (λ first. first ∷ []) (append-nil row)
 map_concat-onto_first row (part ∷ parts) = refl
 
@@ -37,28 +33,28 @@ sections_of-separator bytes row rest rows is =
 
 -- another line belongs to the section behind it
 pub sections_of-row : (bytes row rest : List ℕ) → raw_lines_of bytes ≡ row ∷ raw_lines_of rest
-    → is_separator row ≡ false → sections_of bytes ≡ extend row (sections_of rest)
+    → is_separator row ≡ false → sections_of bytes ≡ behind row (sections_of rest)
 unfolding sections_of
 sections_of-row bytes row rest rows is =
     ap (λ rs. map concat (slice_split is_separator rs)) rows
     ∙ rw is (map_concat-onto_first row (slice_split is_separator (raw_lines_of rest)))
 
 -- there is always a first section
-extend-nil : (rows : List (List ℕ))
-    → extend [] (map concat (slice_split is_separator rows)) ≡ map concat (slice_split is_separator rows)
-extend-nil [] = refl
-extend-nil (row ∷ rows) =
+behind-nil : (rows : List (List ℕ))
+    → behind [] (map concat (slice_split is_separator rows)) ≡ map concat (slice_split is_separator rows)
+behind-nil [] = refl
+behind-nil (row ∷ rows) =
     let parts = slice_split is_separator rows in
     let sections = λ (b : Bool). map concat (cond b ([] ∷ parts) (onto_first row parts)) in
-    elim (is_separator row) as (λ b. extend [] (sections b) ≡ sections b) [
+    elim (is_separator row) as (λ b. behind [] (sections b) ≡ sections b) [
       | true ↦ refl
-      | false ↦ rw (map_concat-onto_first row parts) (extend-extend [] row (map concat parts))
+      | false ↦ rw (map_concat-onto_first row parts) (behind-behind [] row (map concat parts))
     ]
 
 -- the loop begins with no byte in the section
-pub sections_of-extend : (bytes : List ℕ) → sections_of bytes ≡ extend [] (sections_of bytes)
+pub sections_of-behind : (bytes : List ℕ) → sections_of bytes ≡ behind [] (sections_of bytes)
 unfolding sections_of
-sections_of-extend bytes = sym (extend-nil (raw_lines_of bytes))
+sections_of-behind bytes = sym (behind-nil (raw_lines_of bytes))
 
 -- a separator has two bytes, so each section leaves less of the text
 pub separator_long : (row : List ℕ) → is_separator row ≡ true → 2 ≤ length row
@@ -68,19 +64,19 @@ separator_long (a ∷ b ∷ row) is = omega arith
 
 -- a separator ends the first section before it
 pub section_before : (front bytes row rest : List ℕ) (sections : List (List ℕ))
-    → sections ≡ extend front (sections_of bytes)
+    → sections ≡ behind front (sections_of bytes)
     → raw_lines_of bytes ≡ row ∷ raw_lines_of rest → is_separator row ≡ true
     → sections ≡ front ∷ sections_of rest
 section_before front bytes row rest sections before rows is =
-    before ∙ ap (extend front) (sections_of-separator bytes row rest rows is)
+    before ∙ ap (behind front) (sections_of-separator bytes row rest rows is)
     ∙ ap (λ first. first ∷ sections_of rest) (append-nil front)
 
 -- another line belongs to the first section
 pub section_more : (all bytes row rest : List ℕ) (at : ℕ)
-    → sections_of all ≡ extend (take at all) (sections_of (drop at all)) → bytes ≡ drop at all
+    → sections_of all ≡ behind (take at all) (sections_of (drop at all)) → bytes ≡ drop at all
     → bytes ≡ row ++ rest
     → raw_lines_of bytes ≡ row ∷ raw_lines_of rest → is_separator row ≡ false → at ≤ length all
-    → sections_of all ≡ extend (take (at + length row) all) (sections_of (drop (at + length row) all))
+    → sections_of all ≡ behind (take (at + length row) all) (sections_of (drop (at + length row) all))
 section_more all bytes row rest at before from whole rows is within =
     let so_far = take at all ++ row in
     let joined : all ≡ so_far ++ rest =
@@ -92,19 +88,19 @@ section_more all bytes row rest at before from whole rows is within =
     ap (take (at + length row)) joined ∙ take_at so_far rest (at + length row) size in
     let back : drop (at + length row) all ≡ rest =
     ap (drop (at + length row)) joined ∙ drop_at so_far rest (at + length row) size in
-    before ∙ ap (λ b. extend (take at all) (sections_of b)) (sym from)
-    ∙ ap (extend (take at all)) (sections_of-row bytes row rest rows is)
-    ∙ extend-extend (take at all) row (sections_of rest)
-    ∙ ap (λ f. extend f (sections_of rest)) (sym front)
-    ∙ ap (λ r. extend (take (at + length row) all) (sections_of r)) (sym back)
+    before ∙ ap (λ b. behind (take at all) (sections_of b)) (sym from)
+    ∙ ap (behind (take at all)) (sections_of-row bytes row rest rows is)
+    ∙ behind-behind (take at all) row (sections_of rest)
+    ∙ ap (λ f. behind f (sections_of rest)) (sym front)
+    ∙ ap (λ r. behind (take (at + length row) all) (sections_of r)) (sym back)
 
 -- past all lines the bytes before are the last section
 pub section_last : (all : List ℕ) (at : ℕ)
-    → sections_of all ≡ extend (take at all) (sections_of (drop at all)) → length all ≤ at
+    → sections_of all ≡ behind (take at all) (sections_of (drop at all)) → length all ≤ at
     → sections_of all ≡ all ∷ []
 section_last all at before past =
-    before ∙ ap (λ b. extend (take at all) (sections_of b)) (drop_all at all past)
-    ∙ ap (extend (take at all)) sections_of-nil
+    before ∙ ap (λ b. behind (take at all) (sections_of b)) (drop_all at all past)
+    ∙ ap (behind (take at all)) sections_of-nil
     ∙ ap (λ b. b ∷ []) (append-nil (take at all) ∙ take_all at all past)
 
 -- what follows the item at a place, and where none does

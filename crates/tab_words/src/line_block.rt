@@ -1,4 +1,4 @@
-ghost use Rattle.std.specs.Prelude.{◌≡◌, [], ◌++◌, OnErr, OnOk, decimal, flat_map, length, map, take};
+ghost use Rattle.std.specs.Prelude.{◌≡◌, [], ◌∷◌, ◌++◌, OnErr, OnOk, decimal, flat_map, length, map, take};
 ghost use Rattle.tab_io.specs.Sinks.{Writes};
 ghost use Rattle.tab_words.specs.Blocks.{PutsBehind};
 ghost use Rattle.tab_words.specs.Pieces.{piece_text, spaced};
@@ -9,6 +9,9 @@ use arrayvec::{ArrayVec, CapacityError};
 use itoa::Buffer;
 use std::marker::Model;
 use tab_io::{Sink, WriteFault, write_all};
+
+// How many bytes are copied one by one at most.
+const MOST_ONE_BY_ONE: usize = 12;
 
 /// Lines that are gathered, up to this many bytes, and then written at once. Contracts see the bytes.
 #[derive(Drop)]
@@ -101,11 +104,11 @@ fn gather<const N: usize>(
     ensures err { OnErr result (take (length bytes.old.items) bytes.new.items ≡ bytes.old.items) }
 {
     let Some((word, more)) = words.split_first() else {
-        return bytes.try_extend_from_slice(b"\n");
+        return gather_byte(bytes, b'\n');
     };
     gather_word(bytes, word)?;
     gather_spaced(bytes, more)?;
-    bytes.try_extend_from_slice(b"\n")
+    gather_byte(bytes, b'\n')
 }
 
 // Appends the words, each behind a space, or a front of that where there is no room.
@@ -117,7 +120,7 @@ fn gather_spaced<const N: usize>(
     ensures err { OnErr result (take (length bytes.old.items) bytes.new.items ≡ bytes.old.items) }
 {
     for word in words {
-        bytes.try_extend_from_slice(b" ")?;
+        gather_byte(bytes, b' ')?;
         gather_word(bytes, word)?;
     }
     Ok(())
@@ -131,7 +134,7 @@ fn gather_word<const N: usize>(
     ensures err { OnErr result (bytes.new.items ≡ bytes.old.items) }
 {
     match word {
-        TextPiece::Text(text) => bytes.try_extend_from_slice(text),
+        TextPiece::Text(text) => gather_bytes(bytes, text),
         TextPiece::Number(n) => gather_number(bytes, u64::from(*n)),
         TextPiece::Wide(n) => gather_number(bytes, *n),
     }
@@ -142,7 +145,36 @@ fn gather_number<const N: usize>(bytes: &mut ArrayVec<u8, N>, n: u64) -> Result<
     ensures err { OnErr result (bytes.new.items ≡ bytes.old.items) }
 {
     let mut buffer = Buffer::new();
-    bytes.try_extend_from_slice(buffer.format(n).as_bytes())
+    gather_bytes(bytes, buffer.format(n).as_bytes())
+}
+
+// Appends the bytes, if there is room. A copy of many costs less at once, and of few one by one.
+fn gather_bytes<const N: usize>(
+    bytes: &mut ArrayVec<u8, N>,
+    text: &[u8],
+) -> Result<(), CapacityError>
+    ensures ok { OnOk result (bytes.new.items ≡ bytes.old.items ++ text.now) }
+    ensures err { OnErr result (bytes.new.items ≡ bytes.old.items) }
+{
+    if text.len() > MOST_ONE_BY_ONE || text.len() > bytes.remaining_capacity() {
+        return bytes.try_extend_from_slice(text);
+    }
+    for byte in text {
+        bytes.push(*byte);
+    }
+    Ok(())
+}
+
+// Appends the byte, if there is room.
+fn gather_byte<const N: usize>(bytes: &mut ArrayVec<u8, N>, byte: u8) -> Result<(), CapacityError>
+    ensures ok { OnOk result (bytes.new.items ≡ bytes.old.items ++ byte ∷ []) }
+    ensures err { OnErr result (bytes.new.items ≡ bytes.old.items) }
+{
+    if bytes.is_full() {
+        return Err(CapacityError::new(()));
+    }
+    bytes.push(byte);
+    Ok(())
 }
 
 // Writes the line word by word.

@@ -1,7 +1,9 @@
-ghost use Rattle.std.specs.Prelude.{◌≡◌, ◌+◌, ◌^◌, ◌<◌, ◌≤◌, [], ◌∷◌, ◌++◌, length, IfSome, MatchOption, slice_index_or};
+ghost use Rattle.std.specs.Prelude.{◌≡◌, ◌+◌, ◌^◌, ◌<◌, ◌≤◌, [], ◌∷◌, drop, length, take, IfSome, MatchOption, slice_index_or};
 ghost use Rattle.tab_words.specs.Sections.{is_separator, sections_of};
+ghost use Rattle.tab_words.specs.Inside.Fronts.{behind};
 
 use crate::line::first_line;
+use memchr::memchr;
 use std::marker::Model;
 
 /// The sections of a text, which separators part. Contracts see the list of their bytes.
@@ -71,16 +73,29 @@ fn first_section(bytes: &[u8]) -> (&[u8], Option<&[u8]>)
         (λ rest. sections_of bytes.now ≡ result.0.now ∷ sections_of rest.now) }
     ensures shorter { IfSome result.1 (λ rest. length rest.now + 2 ≤ length bytes.now) }
 {
-    let mut at = 0;
+    let mut at = plain_length(bytes);
     while at < bytes.len() {
         let (before, rest) = bytes.split_at(at);
         let (line, after) = first_line(rest);
         if is_separator(line) {
             return (before, Some(after));
         }
-        at += line.len();
+        at += line.len() + plain_length(after);
     }
     (bytes, None)
+}
+
+// How many bytes at the front begin no separator: all but the byte before the first `%`, and what
+// follows. They belong to the first section.
+fn plain_length(bytes: &[u8]) -> usize
+    ensures within { result ≤ length bytes.now }
+    ensures sections { sections_of bytes.now
+        ≡ behind (take result bytes.now) (sections_of (drop result bytes.now)) }
+{
+    match memchr(b'%', bytes) {
+        Some(place) => place.saturating_sub(1),
+        None => bytes.len(),
+    }
 }
 
 fn is_separator(line: &[u8]) -> bool

@@ -15,7 +15,7 @@ flat_some None v e = absurd (none-some v e)
 flat_some (Some cell) v e = ap Some e
 
 -- a core with an owner at a place is one of the rows
-owner_within : (rows : List Row) (c x v : ℕ) → owner_at rows c x ≡ Some v → c < length rows
+pub owner_within : (rows : List Row) (c x v : ℕ) → owner_at rows c x ≡ Some v → c < length rows
 owner_within rows c x v owned = elim (cases_lt c (length rows)) [
   | inl less ↦ less
   | inr past ↦ absurd (none-some v (sym (ap (λ row. cell_of row x) (slice_get_past rows c past)) ∙ owned))

@@ -1,6 +1,6 @@
 -- Which tables are good, and the first fault of those that aren't: shapes come first, then clashes,
 -- then shortages.
-use Rattle.std.specs.Prelude.{ℕ, List, Option}
+use Rattle.std.specs.Prelude.{List, Option}
 use Rattle.tab_core.specs.declared.periodic.Periodic.{Periodic}
 use Rattle.table_form.specs.Tables.Serves.{Apart, Serves}
 use Rattle.table_form.specs.declared.segment.Segment.{Segment}

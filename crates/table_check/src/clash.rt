@@ -7,7 +7,9 @@ ghost use Rattle.table_check.specs.declared.clash.Clash.{Clash};
 ghost use Rattle.table_check.specs.Inside.Pairs.{IsFirstBefore};
 
 use crate::fault::CheckFault;
+use crate::marks::seem_apart;
 use crate::meeting::find_meeting;
+use std::alloc::Global;
 use tab_core::{CoreNo, VcpuNo};
 use table_form::Segments;
 
@@ -83,14 +85,18 @@ fn take_core(raw: &[Segments], core: usize, best: Option<Clash>) -> Option<Clash
     best
 }
 
-// The first clash of the rows, each pair of which is swept from end to end of a segment.
-pub(crate) fn find_clash(raw: &[Segments]) -> Option<Clash>
+// The first clash of the rows. Where marks don't tell that there is none, each pair of rows is swept
+// from end to end of a segment.
+pub(crate) fn find_clash(alloc: Global, raw: &[Segments]) -> Option<Clash>
     requires good { HaveGoodShapes raw.now }
     requires few { length raw.now ≤ MAX_CORES }
     ensures none { IfNone result (Apart (rows_of raw.now)) }
     ensures some { IfSome result
         (λ clash. IsFirstClash (rows_of raw.now) clash.vcpu clash.tick clash.core clash.other) }
 {
+    if seem_apart(alloc, raw) {
+        return None;
+    }
     let mut best = None;
     for core in 0..raw.len() {
         best = take_core(raw, core, best);

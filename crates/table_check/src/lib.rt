@@ -9,6 +9,7 @@ mod checker;
 mod clash;
 mod counters;
 mod fault;
+mod marks;
 mod meeting;
 mod refusal;
 mod shape;
