@@ -7,7 +7,7 @@ ghost use Rattle.core_workers.specs.Groups.{cores_view};
 ghost use Rattle.core_workers.specs.Inside.Clocks.{AreTicks};
 ghost use Rattle.core_workers.specs.Inside.Places.{ArePlaces};
 ghost use Rattle.core_workers.specs.Inside.Teams.{IsManned, IsTeam};
-ghost use Rattle.core_workers.specs.Numbers.{IsLeast};
+ghost use Rattle.core_workers.specs.Numbers.{IsFirstLeast, IsLeastBut};
 
 use crate::gate::Gate;
 use crate::places::Places;
@@ -57,7 +57,7 @@ pub(crate) fn read_clocks<G: Gate>(
     }
 }
 
-/// A core of least clock, and the least clock of the others.
+/// A core of least clock, and the least clock of the others, or OUT where none of them is to go on.
 #[derive(Clone, Copy, Debug)]
 pub struct Least {
     pub core: u32,
@@ -68,8 +68,9 @@ pub struct Least {
 pub fn find_least(ticks: &[u32; 32], cores: u32) -> Least
     requires { (1 ≤ cores) × (cores ≤ MAX_CORES) }
     ensures within { result.core < cores }
-    ensures least { IsLeast ticks.now result.core cores }
-    ensures next { slice_index ticks.now result.core ≤ result.next }
+    ensures least { IsFirstLeast ticks.now result.core cores }
+    ensures next { IsLeastBut ticks.now result.core cores result.next }
+    ensures ahead { slice_index ticks.now result.core ≤ result.next }
 {
     let mut least = Least { core: 0, next: OUT };
     let mut low = ticks[0];

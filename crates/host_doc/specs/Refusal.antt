@@ -20,11 +20,16 @@ path_in (Some number) key = codes "vcpu " ++ (decimal number ++ key_behind key)
 abbrev pub path_text : Path → List ℕ
 path_text path = path_in path.vcpu path.key
 
--- want of memory is no fault of the text, and has no line here
+-- the fault in words
+abbrev pub fault_words : HostFault → List ℕ
+fault_words host.NotToml = codes "host is not TOML"
+fault_words (host.BadKey path) = codes "host key " ++ path_text path
+fault_words (host.OutOfRange path) = codes "host value " ++ path_text path
+fault_words (host.SameName vcpu) = codes "name of vcpu " ++ (decimal vcpu ++ codes " stands twice")
+fault_words (host.TooMany count) = decimal count ++ codes " vcpus"
+fault_words host.NoMemory = codes "want of memory"
+
+-- the line of the fault; want of memory is no fault of the text, and has no line here
 abbrev pub host_fault_line : HostFault → List ℕ
-host_fault_line host.NotToml = codes "refused: host is not TOML\n"
-host_fault_line (host.BadKey path) = codes "refused: host key " ++ (path_text path ++ codes "\n")
-host_fault_line (host.OutOfRange path) = codes "refused: host value " ++ (path_text path ++ codes "\n")
-host_fault_line (host.SameName vcpu) = codes "refused: name of vcpu " ++ (decimal vcpu ++ codes " stands twice\n")
-host_fault_line (host.TooMany count) = codes "refused: " ++ (decimal count ++ codes " vcpus\n")
 host_fault_line host.NoMemory = []
+host_fault_line fault = codes "refused: " ++ (fault_words fault ++ codes "\n")

@@ -1,5 +1,6 @@
-ghost use Rattle.std.specs.Prelude.{◌≡◌};
+ghost use Rattle.std.specs.Prelude.{◌≡◌, Some};
 ghost use Rattle.host_doc.specs.Path.{of_document, of_vcpu, word_of};
+ghost use Rattle.host_doc.specs.Refusal.{fault_words, path_text};
 ghost use Rattle.host_doc.specs.declared.fault.HostFault.TheVariants.{NoMemory};
 
 use std::alloc::{AllocError, AllocFailed};
@@ -77,15 +78,14 @@ impl Path {
 }
 
 impl fmt::Display for Path {
+    ghost output = { λ path. Some (path_text path) };
+
     fn fmt<W: fmt::Write>(&self, f: &mut fmt::Formatter<W>) -> fmt::Result {
         match self.vcpu {
-            Some(vcpu) => {
-                if self.key == Key::Vcpu {
-                    write!(f, "vcpu {vcpu}")
-                } else {
-                    write!(f, "vcpu {vcpu} {}", self.key.word())
-                }
-            }
+            Some(vcpu) => match self.key {
+                Key::Vcpu => write!(f, "vcpu {vcpu}"),
+                key => write!(f, "vcpu {vcpu} {}", key.word()),
+            },
             None => write!(f, "{}", self.key.word()),
         }
     }
@@ -109,6 +109,8 @@ pub enum HostFault {
 }
 
 impl fmt::Display for HostFault {
+    ghost output = { λ fault. Some (fault_words fault) };
+
     fn fmt<W: fmt::Write>(&self, f: &mut fmt::Formatter<W>) -> fmt::Result {
         match self {
             HostFault::NotToml => write!(f, "host is not TOML"),
