@@ -9,6 +9,7 @@ pub mod LeastLemmas
 pub mod PeriodLemmas
 pub mod RunningLemmas
 pub mod RanLemmas
+pub mod ReadyLemmas
 pub mod ScriptBurstLemmas
 pub mod SeenLemmas
 pub mod SightLemmas

@@ -1,11 +1,11 @@
 -- The ticks of all events are raised core by core.
-use Rattle.std.proofs.Common.{◌≡◌, ℕ, suc, ◌+◌, ◌-◌, ◌<◌, ◌≤◌, inl, inr, max, List, length, get_or, Some, refl, sym, ap, subst, ◌∙◌, arith}
+use Rattle.std.proofs.Common.{◌≡◌, ℕ, suc, ◌+◌, ◌-◌, ◌<◌, ◌≤◌, inl, inr, max, List, length, get_or, Some, subst, ◌∙◌, arith}
 use Rattle.std.specs.Prelude.{slice_get}
 use Rattle.std.proofs.lemmas.Bool.{cases_lt}
 use Rattle.std.proofs.lemmas.List.{get_or-set_other, get_or-set_same}
 use Rattle.std.proofs.Math.ListN.{set}
 use Rattle.tab_core.specs.declared.stint.Stint.{Stint}
-use Rattle.burst_bound.specs.Inside.Seeing.{AreInOrder, IsRaised, IsUnseenCount, SeesFrom}
+use Rattle.burst_bound.specs.Inside.Seeing.{AreInOrder, IsRaised, IsUnseenCount}
 use Rattle.burst_bound.proofs.UnseenLemmas.{all_seen, not_before, seen_behind}
 
 -- where all stints have seen the event, nothing is raised

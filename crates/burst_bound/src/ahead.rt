@@ -1,12 +1,13 @@
-ghost use Rattle.std.specs.Prelude.{◌≡◌, ◌*◌, ◌<◌, ◌≤◌, ℕ, IfOk, Some, false, length, slice_get, slice_index, true, vec_capacity};
+ghost use Rattle.std.specs.Prelude.{◌≡◌, ◌*◌, ◌<◌, ◌≤◌, ℕ, IfOk, Some, false, length, replicate, slice_get, slice_index, true, vec_capacity, if◌then◌else◌};
+ghost use Rattle.tab_core.specs.VcpuSets.{has_vcpu};
 ghost use Rattle.tab_core.specs.declared.TheConstants.{MAX_ROUNDS, MAX_VCPUS, ROUND};
 ghost use Rattle.burst_bound.specs.Answers.{IsOneIfAny};
 ghost use Rattle.burst_bound.specs.Bursts.{IsBurstBound};
-ghost use Rattle.burst_bound.specs.Inside.Bounding.{AreReady, AreSince, IsReadyFrom, IsSince, KeepsBudget, LosesBudget};
+ghost use Rattle.burst_bound.specs.Inside.Bounding.{AreReady, AreSince, IsSince, KeepsBudget, LosesBudget};
 
 use crate::bounding::{end_since, is_budget};
 use std::alloc::Global;
-use tab_core::{MAX_VCPUS, NoMemory, Periodic, ROUND, VcpuNo};
+use tab_core::{MAX_VCPUS, NoMemory, Periodic, ROUND, VcpuNo, VcpuSet};
 use table_form::Course;
 
 // For each round the first one from which on the rounds up to it have its plan, and for each vCPU the least count
@@ -21,24 +22,24 @@ impl Ahead {
     // Nothing yet, with room for so many rounds.
     pub(crate) fn room(alloc: Global, rounds: u32) -> Result<Ahead, NoMemory>
         ensures since { IfOk result (λ ahead. rounds ≤ vec_capacity ahead.since) }
-        ensures ready { IfOk result (λ ahead. MAX_VCPUS ≤ vec_capacity ahead.ready) }
+        ensures ready { IfOk result (λ ahead. length ahead.ready.items ≡ MAX_VCPUS) }
     {
         Ok(Ahead {
             since: Vec::with_capacity(alloc, rounds as usize)?,
-            ready: Vec::with_capacity(alloc, MAX_VCPUS as usize)?,
+            ready: vec![in alloc; 0; MAX_VCPUS as usize]?,
         })
     }
 
     // What the course and the used counts of its rounds say. Takes no memory.
     pub(crate) fn fill(&mut self, course: &Course, used: &[u32])
         requires since { length used.now ≤ vec_capacity self.old.since }
-        requires ready { MAX_VCPUS ≤ vec_capacity self.old.ready }
+        requires ready { length self.old.ready.items ≡ MAX_VCPUS }
         requires few { length used.now ≤ MAX_ROUNDS }
         requires counts { (r count : ℕ) → slice_get used.now r ≡ Some count → count ≤ length course.now.ticks }
         ensures since { AreSince course.now used.now self.new.since.items }
         ensures ready { AreReady course.now self.new.ready.items }
         ensures since_room { vec_capacity self.new.since ≡ vec_capacity self.old.since }
-        ensures ready_room { vec_capacity self.new.ready ≡ vec_capacity self.old.ready }
+        ensures ready_size { length self.new.ready.items ≡ MAX_VCPUS }
     {
         fill_since(course, used, &mut self.since);
         fill_ready(course, &mut self.ready);
@@ -137,29 +138,44 @@ fn first_alike(course: &Course, used: &[u32], since: &[u32], round: usize) -> u3
     since[round - 1]
 }
 
-// For each vCPU the least count of first events from which on it is runnable.
-fn fill_ready(course: &Course, ready: &mut Vec<u32>)
-    requires room { MAX_VCPUS ≤ vec_capacity ready.old }
-    ensures ready { AreReady course.now ready.new.items }
-    ensures room { vec_capacity ready.new ≡ vec_capacity ready.old }
+// For each vCPU the least count of first events from which on it is runnable. The counts are gone over once for
+// all of them, from the last one down.
+fn fill_ready(course: &Course, ready: &mut [u32])
+    requires size { length ready.old ≡ MAX_VCPUS }
+    ensures size { length ready.new ≡ MAX_VCPUS }
+    ensures ready { AreReady course.now ready.new }
 {
-    ready.clear();
-    for vcpu in 0..MAX_VCPUS {
-        let first = ready_from(course, VcpuNo(vcpu));
-        ready.push_reserved(first);
+    let mut first = course.count();
+    // those that are runnable after each count from `first` on
+    let mut steady = course.runnable_after(first).copy();
+    give_all(first + 1, ready);
+    while first > 0 {
+        let gone = steady.without(course.runnable_after(first - 1));
+        give(&gone, first, ready);
+        steady = steady.without(&gone);
+        first -= 1;
+    }
+    give(&steady, 0, ready);
+}
+
+// This count for each member of the set.
+fn give(set: &VcpuSet, count: u32, ready: &mut [u32])
+    requires size { length ready.old ≡ MAX_VCPUS }
+    ensures size { length ready.new ≡ MAX_VCPUS }
+    ensures given { (v : ℕ) → v < MAX_VCPUS → slice_index ready.new v
+        ≡ (if has_vcpu set.now v then count else slice_index ready.old v) }
+{
+    let mut from = 0;
+    while let Some(vcpu) = set.first_common(set, from) {
+        let place = vcpu.index();
+        ready[place] = count;
+        from = place as u32 + 1;
     }
 }
 
-// The least count of first events from which on the vCPU is runnable.
-fn ready_from(course: &Course, vcpu: VcpuNo) -> u32
-    ensures { IsReadyFrom course.now vcpu result }
+// This count for each vCPU.
+fn give_all(count: u32, ready: &mut [u32])
+    ensures { ready.new ≡ replicate (length ready.old) count }
 {
-    let mut first = course.count() + 1;
-    while first > 0 {
-        if !course.runnable_after(first - 1).has(vcpu) {
-            return first;
-        }
-        first -= 1;
-    }
-    first
+    ready.fill(count);
 }

@@ -47,7 +47,7 @@ impl Model for BurstReport {
     ghost view = { λ r. burst_report_view r.answers.items r.rounds r.stints r.events };
 
     ghost invariant = { λ r. (r.stints ≤ vec_capacity r.runs.pieces) × (r.stints ≤ vec_capacity r.runs.before)
-        × (r.rounds ≤ vec_capacity r.ahead.since) × (MAX_VCPUS ≤ vec_capacity r.ahead.ready)
+        × (r.rounds ≤ vec_capacity r.ahead.since) × (length r.ahead.ready.items ≡ MAX_VCPUS)
         × (r.events ≤ vec_capacity r.answers) × (length r.sights.items ≡ r.events) };
 }
 

@@ -1,11 +1,20 @@
-use Rattle.std.proofs.Common.{◌≡◌, ℕ, ◌<◌, length}
-use Rattle.std.specs.Prelude.{slice_index, vec_capacity}
+use Rattle.std.proofs.Common.{◌≡◌, ℕ, ◌<◌, ◌≤◌, length}
+use Rattle.std.specs.Prelude.{false, slice_index}
+use Rattle.tab_core.specs.VcpuSets.{has_vcpu}
+use Rattle.tab_core.specs.declared.TheConstants.{MAX_VCPUS}
 use Rattle.burst_bound.specs.Inside.Bounding.{IsReadyFrom}
+use Rattle.burst_bound.proofs.ReadyLemmas.{AreSteady}
 use Rattle.burst_bound.proofs.ahead.fill_ready.Given as goal
 
-abbrev pub invariant-loop-vcpu : goal.invariant-loop-vcpu
-invariant-loop-vcpu l = record {
-  size : length l.ready.items ≡ l.vcpu;
-  each : (v : ℕ) → v < l.vcpu → IsReadyFrom l.fn.course v (slice_index l.ready.items v);
-  room : vec_capacity l.ready ≡ vec_capacity l.fn.ready;
+-- the steady vCPUs are runnable from this count on, and of each other one it is found from when on
+abbrev pub invariant-loop-first : goal.invariant-loop-first
+invariant-loop-first l = record {
+  size : length l.ready ≡ MAX_VCPUS;
+  within : l.first ≤ length l.fn.course.ticks;
+  steady : AreSteady l.fn.course l.first l.steady;
+  others : (v : ℕ) → v < MAX_VCPUS → has_vcpu l.steady v ≡ false
+      → IsReadyFrom l.fn.course v (slice_index l.ready v);
 }
+
+abbrev pub decreases-loop-first : goal.decreases-loop-first
+decreases-loop-first l = l.first

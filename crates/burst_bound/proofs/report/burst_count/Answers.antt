@@ -1,4 +1,4 @@
-use Rattle.std.proofs.Common.{◌≡◌, ◌+◌, length, ap, sym, subst, ◌∙◌, arith, rules}
+use Rattle.std.proofs.Common.{length, ap, ◌∙◌, arith, rules}
 use Rattle.burst_bound.specs.ScriptBursts.{bursts_of}
 use Rattle.burst_bound.proofs.ScriptBurstLemmas.{all_bursts, burst_next, no_burst_here, no_burst_yet}
 use Rattle.burst_bound.proofs.report.burst_count.Goals as goal

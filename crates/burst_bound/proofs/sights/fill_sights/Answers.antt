@@ -1,5 +1,4 @@
-use Rattle.std.proofs.Common.{◌≡◌, ℕ, ◌+◌, ◌<◌, ◌≤◌, List, max, length, get_or, subst, sym, ap, ◌∙◌, arith, rules}
-use Rattle.std.specs.Prelude.{replicate}
+use Rattle.std.proofs.Common.{◌≡◌, ℕ, List, get_or, subst, sym, ◌∙◌, arith}
 use Rattle.std.proofs.lemmas.Grind.{common_steps}
 use Rattle.tab_core.specs.declared.stint.Stint.{Stint}
 use Rattle.burst_bound.specs.Inside.Seeing.{IsSeenBelow, SeesFrom}

@@ -1,4 +1,4 @@
-use Rattle.std.proofs.Common.{◌≡◌, ℕ, suc, ◌+◌, ◌-◌, ◌<◌, ◌≤◌, inl, inr, max, List, length, get_or, Some, refl, sym, ap, subst, ◌∙◌, arith, rules}
+use Rattle.std.proofs.Common.{◌≡◌, ℕ, ◌+◌, ◌-◌, ◌<◌, ◌≤◌, inl, inr, max, get_or, Some, refl, ◌∙◌, arith, rules}
 use Rattle.std.specs.Prelude.{slice_get}
 use Rattle.std.proofs.Math.ListN.{set}
 use Rattle.std.proofs.lemmas.Bool.{cases_lt}
@@ -7,7 +7,6 @@ use Rattle.std.proofs.lemmas.Grind.{common_steps}
 use Rattle.std.proofs.lemmas.List.{length-set}
 use Rattle.std.proofs.lemmas.Option.{slice_get_read}
 use Rattle.tab_core.specs.declared.stint.Stint.{Stint}
-use Rattle.burst_bound.specs.Inside.Seeing.{IsRaised}
 use Rattle.burst_bound.proofs.SightLemmas.{raised_last, raised_more, raised_none, rest_more}
 use Rattle.burst_bound.proofs.sights.raise.Goals as goal
 use Rattle.burst_bound.proofs.sights.raise.Goals.{then-unseen-gt0, else-unseen-gt0}
