@@ -5,10 +5,12 @@ pub mod Criterion
 pub mod Few
 pub mod First
 pub mod Inside
+pub mod Kept
 pub mod LoadLemmas
 pub mod Misses
 pub mod OverloadsLemmas
 pub mod Pieces
+pub mod Repeats
 pub mod Shorter
 pub mod Starts
 pub mod Steps

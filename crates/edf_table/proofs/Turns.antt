@@ -1,13 +1,13 @@
 -- Which piece is ready, and that the most urgent piece has the tick.
 use Rattle.std.proofs.Common.{◌≡◌, ℕ, ◌+◌, ◌-◌, ◌*◌, ◌/◌, ◌<◌, ◌≤◌, true, false, ltb, leb, List, length, get_or, Option, Some, None, refl, ap, subst, sym, ◌∙◌, inl, inr, arith}
 use Rattle.std.proofs.Math.Nat.{le-div_iff_mul-le, div-mul-le_self, mul-le-mul_left}
-use Rattle.std.proofs.lemmas.Bool.{cases_lt, false≢true, and_parts, and_from, leb-true, le-leb, ltb-true, lt-ltb}
+use Rattle.std.proofs.lemmas.Bool.{cases_eq, cases_lt, false≢true, and_parts, and_from, leb-true, le-leb, ltb-true, lt-ltb}
 use Rattle.tab_core.specs.declared.TheConstants.{ROUND}
 use Rattle.tab_core.specs.declared.piece.Piece.{Piece}
 use Rattle.tab_core.proofs.Periods.{period_facts}
 use Rattle.table_form.specs.Planning.Jobs.{Job, job_of, subtask_of, jobs_of}
 use Rattle.table_form.specs.Planning.EdfRow.{is_pending, edf_cells}
-use Rattle.edf_table.specs.Inside.Progress.{Among, IsCounted, MetBefore, IsMostUrgent, cell, had, window_no, is_ready}
+use Rattle.edf_table.specs.Inside.Progress.{Among, IsCounted, MetBefore, IsDueFirst, IsMostUrgent, cell, had, window_no, is_ready}
 use Rattle.table_form.specs.Planning.Windows.{DistinctVcpus}
 use Rattle.edf_table.proofs.Counts.{Distinct, distinct_same, had_le_had}
 use Rattle.edf_table.proofs.First.{IsFirst, NotAfter, first_pending_is}
@@ -52,6 +52,29 @@ pub ready_parts : (p : Piece) (given tick : ℕ) → is_ready p given tick ≡ t
 ready_parts p given tick h =
     let both = and_parts (leb p.from tick) (ltb given ((window_no p tick + 1) * p.cost)) h in
     (leb-true _ _ both.0, ltb-true _ _ both.1)
+
+-- what is due first is transitive, ties included
+due_trans : (tick : ℕ) (a b c : Piece) → IsDueFirst tick a b → IsDueFirst tick b c → IsDueFirst tick a c
+due_trans tick a b c (inl x) (inl y) = inl (omega arith)
+due_trans tick a b c (inl x) (inr y) = inl (omega (arith, y.0))
+due_trans tick a b c (inr x) (inl y) = inl (omega (arith, x.0))
+due_trans tick a b c (inr x) (inr y) = inr (omega (arith, x.0, y.0), omega (arith, x.1, y.1))
+
+-- a ready piece that is due before the most urgent one so far takes its place
+pub urgent_new : (ps : List Piece) (gs : List ℕ) (tick i b : ℕ) → i < length ps
+    → ((d : Piece) → is_ready (get_or ps i d) (get_or gs i 0) tick ≡ true)
+    → IsMostUrgent ps gs tick i b → ((d : Piece) → IsDueFirst tick (get_or ps i d) (get_or ps b d))
+    → IsMostUrgent ps gs tick (i + 1) i
+urgent_new ps gs tick i b i-in ready urgent before = record {
+  in_range = i-in;
+  ready = ready;
+  first = λ k d lt k-ready. elim (cases_eq k i) [
+    | inl same ↦ subst (λ m. IsDueFirst tick (get_or ps i d) (get_or ps m d)) (sym same)
+        (inr (refl, omega arith))
+    | inr ne ↦ due_trans tick (get_or ps i d) (get_or ps b d) (get_or ps k d) (before d)
+        (urgent.first k d (omega arith) k-ready)
+  ];
+}
 
 -- the window that a ready piece is at is a pending job
 ready_pending : (ps : List Piece) (gs : List ℕ) (tick i : ℕ) (d : Piece) → IsCounted ps gs tick

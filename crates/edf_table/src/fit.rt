@@ -5,12 +5,14 @@ ghost use Rattle.edf_table.specs.Overloads.{IsReportedOf};
 ghost use Rattle.edf_table.specs.Inside.Progress.{IsFirstEnd};
 ghost use Rattle.table_form.specs.Planning.Windows.{DistinctVcpus};
 
+use crate::common::common_period;
 use crate::light::are_unsplit_and_light;
 use crate::overload::last_overload;
-use crate::turn::{NO_TICKS, any_missed, run_turn};
-use tab_core::{Over, Piece, ROUND};
+use crate::turn::{NO_TICKS, any_missed, first_windows, next_event, run_turn};
+use tab_core::{Over, Piece};
 
-// The first tick at which a window ends without its cost.
+// The first tick at which a window ends without its cost. Where there is none up to a multiple of
+// all periods, there is none in the round, since the simulation then repeats itself.
 fn first_miss(pieces: &[Piece]) -> Option<u32>
     requires { DistinctVcpus pieces.now }
     ensures none { IfNone result (Fits (jobs_of pieces.now)) }
@@ -19,16 +21,20 @@ fn first_miss(pieces: &[Piece]) -> Option<u32>
     if are_unsplit_and_light(pieces) {
         return None;
     }
+    let common = common_period(pieces);
+    let mut windows = first_windows(pieces);
     let mut given = NO_TICKS;
     let mut tick = 0;
-    while tick < ROUND {
-        if any_missed(pieces, &given, tick) {
+    let mut event = 0;
+    while tick < common {
+        if any_missed(pieces, &windows, &given, tick) {
             return Some(tick);
         }
-        tick = run_turn(pieces, &mut given, tick).end;
+        event = next_event(pieces, &mut windows, tick, event);
+        tick = run_turn(pieces, &windows, &mut given, tick, event).end;
     }
-    if any_missed(pieces, &given, ROUND) {
-        Some(ROUND)
+    if any_missed(pieces, &windows, &given, tick) {
+        Some(tick)
     } else {
         None
     }

@@ -5,7 +5,7 @@
 //! and it gives each job its cost inside its window, as `specs/Windows.antt` there says.
 #![tactic(auto)]
 
-mod due;
+mod common;
 mod fault;
 mod fit;
 mod laws;
@@ -13,6 +13,7 @@ mod light;
 mod overload;
 mod simulation;
 mod turn;
+mod window;
 
 pub use fault::EdfFault;
 pub use fit::find_overload;

@@ -8,7 +8,7 @@ ghost use Rattle.table_form.specs.Planning.Windows.{DistinctVcpus, KeepsToWindow
 
 use crate::fault::EdfFault;
 use crate::fit::find_overload;
-use crate::turn::{NO_TICKS, run_turn};
+use crate::turn::{NO_TICKS, first_windows, next_event, run_turn};
 use std::alloc::{AllocError, Global};
 use tab_core::{Over, Piece, ROUND, VcpuNo};
 use table_form::{CoreTable, RowBuilder};
@@ -49,11 +49,14 @@ pub fn build_row(alloc: Global, pieces: &[Piece]) -> Result<CoreTable, AllocErro
     ensures windows { IfOk result (λ row. ServesWindows pieces.now row) }
     ensures inside { IfOk result (λ row. KeepsToWindows pieces.now row) }
 {
+    let mut windows = first_windows(pieces);
     let mut given = NO_TICKS;
     let mut row = RowBuilder::new(alloc);
     let mut tick = 0;
+    let mut event = 0;
     while tick < ROUND {
-        let turn = run_turn(pieces, &mut given, tick);
+        event = next_event(pieces, &mut windows, tick, event);
+        let turn = run_turn(pieces, &windows, &mut given, tick, event);
         row.push_run(turn.owner, turn.end - tick)?;
         tick = turn.end;
     }

@@ -6,6 +6,7 @@ use Rattle.tab_core.specs.declared.piece.Piece.{Piece}
 use Rattle.table_form.specs.Planning.Jobs.{Job, job_of, subtask_of, jobs_of}
 use Rattle.table_form.specs.Planning.Demand.{IsOverloaded}
 use Rattle.table_form.specs.Planning.EdfRow.{cells_of, edf_cells, first_pending, owner_of}
+use Rattle.edf_table.specs.declared.window.Window.{Window}
 
 -- the job is one of the list
 abbrev pub Among : List Job → Job → Type 0
@@ -82,14 +83,28 @@ pub record SomeMissed (ps : List Piece) (given : List ℕ) (tick : ℕ) : Type 0
   pub in_range : at < length ps
   pub missed : (d : Piece) → IsMissedAt (slice_index_or ps at d) (slice_index given at) tick
 
--- no window of the piece begins or ends at a tick above `tick` and below `until`
-pub record IsCalm (p : Piece) (tick until : ℕ) : Type 0 where
-  pub no_begin : (k : ℕ) → tick < k * p.period + p.from → until ≤ k * p.period + p.from
-  pub no_end : (k : ℕ) → tick < k * p.period + p.to → until ≤ k * p.period + p.to
+-- no window of the piece begins at a tick above `tick` and below `until`
+abbrev pub IsCalm : Piece → ℕ → ℕ → Type 0
+IsCalm p tick until = (k : ℕ) → tick < k * p.period + p.from → until ≤ k * p.period + p.from
 
 -- and of the first n pieces none has such a window
 abbrev pub AreCalm : List Piece → ℕ → ℕ → ℕ → Type 0
 AreCalm ps n tick until = (i : ℕ) (d : Piece) → i < n → IsCalm (slice_index_or ps i d) tick until
+
+-- what is kept of a piece once its windows that begin below `bound` have begun, and no further one
+-- begins below `event`
+pub record IsKept (p : Piece) (bound event : ℕ) (w : Window) : Type 0 where
+  pub count : ℕ
+  pub next_is : w.next ≡ count * p.period + p.from
+  pub goal_is : w.goal ≡ count * p.cost
+  pub due_is : 0 < count → w.due + p.period ≡ count * p.period + p.to
+  pub begun : w.next < bound + p.period
+  pub ahead : event ≤ w.next
+
+-- and of each of the first n pieces
+abbrev pub AreKept : List Piece → List Window → ℕ → ℕ → ℕ → Type 0
+AreKept ps ws n bound event = (i : ℕ) (d : Piece) (v : Window) → i < n
+    → IsKept (slice_index_or ps i d) bound event (slice_index_or ws i v)
 
 -- of the first n pieces none has a window that begins at a tick above `from` and below `tick`
 abbrev pub NoBegin : List Piece → ℕ → ℕ → ℕ → Type 0
@@ -119,3 +134,8 @@ pub record IsFirstEnd (jobs : List Job) (end : ℕ) : Type 0 where
   pub begin : ℕ
   pub overloaded : IsOverloaded jobs begin end
   pub least : (f t : ℕ) → IsOverloaded jobs f t → end ≤ t
+
+-- the period of each of the first n pieces divides so many ticks
+abbrev pub IsCommon : List Piece → ℕ → ℕ → Type 0
+IsCommon ps n ticks = (i : ℕ) (d : Piece) → i < n
+    → ticks / (slice_index_or ps i d).period * (slice_index_or ps i d).period ≡ ticks

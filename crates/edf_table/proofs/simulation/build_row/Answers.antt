@@ -1,4 +1,4 @@
-use Rattle.std.proofs.Common.{◌≡◌, ◌∙◌, ◌*◌, ◌+◌, ◌-◌, map, arith, subst, sym, slice_get, Some}
+use Rattle.std.proofs.Common.{◌≡◌, ◌∙◌, ◌*◌, ◌+◌, ◌-◌, length, map, arith, subst, sym, slice_get, Some}
 use Rattle.std.proofs.lemmas.Option.{slice_get_within}
 use Rattle.tab_core.specs.declared.TheConstants.{MAX_VCPUS, ROUND}
 use Rattle.table_form.specs.Planning.EdfRow.{edf_cells, owner_of}
@@ -8,14 +8,21 @@ use Rattle.edf_table.specs.Inside.Progress.{GoesTo, IsCounted, MetBefore}
 use Rattle.edf_table.proofs.Calm.{row_along}
 use Rattle.edf_table.proofs.Few.{few_pieces}
 use Rattle.edf_table.proofs.Inside.{row_in_windows, length-edf_row}
+use Rattle.edf_table.proofs.Kept.{all_kept_later}
 use Rattle.edf_table.proofs.Misses.{fits_met}
 use Rattle.edf_table.proofs.Steps.{counted_start, row_start, row_length, row_at_end}
 use Rattle.edf_table.proofs.Windowed.{window_of_piece}
 use Rattle.edf_table.proofs.simulation.build_row.Goals as goal
 
+pub first_windows-windows-requires : goal.first_windows-windows-requires
+first_windows-windows-requires c = few_pieces c.args.pieces.now c.requires.distinct
+
 pub loop-tick-init : goal.loop-tick-init
 loop-tick-init c = record {
+  in_time = omega arith;
   in_round = omega arith;
+  enough = c.first_windows-windows.ensures.enough;
+  kept = c.first_windows-windows.ensures.kept;
   counted = counted_start c.args.pieces.now MAX_VCPUS (few_pieces c.args.pieces.now c.requires.distinct);
   met = λ j a lt. absurd (omega arith);
   row_is = row_start (jobs_of c.args.pieces.now) c.new-row.result c.new-row.ensures;
@@ -32,7 +39,8 @@ push_run-requires-clause-room c =
     c.loop-tick.invariant.row_is in omega (
       arith,
       c.run_turn-turn.ensures.later,
-      c.run_turn-turn.ensures.in_round,
+      c.run_turn-turn.ensures.within,
+      c.next_event-event.ensures.in_round,
     )
 
 pub loop-tick-preserved : goal.loop-tick-preserved
@@ -43,7 +51,12 @@ loop-tick-preserved c =
     let js = jobs_of c.args.pieces.now in
     let owner = c.run_turn-turn.result.owner in
     record {
-      in_round = c.run_turn-turn.ensures.in_round;
+      in_time = c.run_turn-turn.ensures.within;
+      in_round = c.next_event-event.ensures.in_round;
+      enough = omega (arith, c.next_event-event.ensures.enough, c.loop-tick.invariant.enough);
+      kept = all_kept_later c.args.pieces.now c.next_event-event.new.windows (length c.args.pieces.now)
+          (c.loop-tick.tick + 1) end c.next_event-event.result c.next_event-event.result
+          c.next_event-event.ensures.kept (omega (arith, c.run_turn-turn.ensures.later)) (omega arith);
       counted = c.run_turn-turn.ensures.counted;
       met = c.run_turn-turn.ensures.met;
       row_is = subst (λ e. c.push_run.new.self ≡ map owner_of (edf_cells js e)) at
