@@ -3,6 +3,7 @@ pub mod HomeLemmas
 pub mod LineWordLemmas
 pub mod MeaningLemmas
 pub mod OneMeaning
+pub mod PlainLineLemmas
 pub mod PlanTextLemmas
 pub mod ReadBack
 pub mod ReadingHeadLemmas

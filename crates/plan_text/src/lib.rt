@@ -10,6 +10,7 @@ mod cores;
 mod laws;
 mod line_words;
 mod lines_left;
+mod plain_line;
 mod read;
 mod read_cores;
 mod read_fault;

@@ -12,6 +12,7 @@ ghost use Rattle.plan_text.specs.Inside.Reading.{AreFromCore, IsNoSegment, IsNoS
 ghost use Rattle.plan_text.specs.declared.read_fault.ReadPlan.{ReadPlan};
 
 use crate::lines_left::LinesLeft;
+use crate::plain_line::plain_line;
 use crate::read_fault::ReadPlan;
 use std::alloc::{AllocError, Global};
 use tab_core::{Periodic, VcpuNo};
@@ -107,6 +108,9 @@ fn segment_of(line: &[u8], names: &Names<'_>, tasks: &[Option<Periodic>]) -> Opt
         (IsNoSegmentLine names.now tasks.now (words_of line.now))
         (λ s. IsFineSegment tasks.now s × (words_of line.now ≡ segment_words names.now s)) }
 {
+    if let Some((end, owner)) = plain_line(line) {
+        return segment_with(end, owner, names, tasks);
+    }
     let mut words = Words::of(line);
     let (Some(end), Some(owner), None) = (words.next(), words.next(), words.next()) else {
         return None;
@@ -114,6 +118,23 @@ fn segment_of(line: &[u8], names: &Names<'_>, tasks: &[Option<Periodic>]) -> Opt
     let Some(end) = end_of(end) else {
         return None;
     };
+    segment_with(end, owner, names, tasks)
+}
+
+// The segment with this end whose owner is the word.
+fn segment_with(
+    end: u32,
+    owner: &[u8],
+    names: &Names<'_>,
+    tasks: &[Option<Periodic>],
+) -> Option<Segment>
+    requires good { AreHostNames names.now }
+    requires named { length names.now ≡ length tasks.now }
+    ensures { MatchOption result
+        (IsNoSegmentLine names.now tasks.now (decimal end ∷ owner.now ∷ []))
+        (λ s. IsFineSegment tasks.now s
+        × (decimal end ∷ owner.now ∷ [] ≡ segment_words names.now s)) }
+{
     if owner == b"-".as_slice() {
         return Some(Segment { owner: None, end });
     }

@@ -225,3 +225,42 @@ fn two_tasks(rt: HostRuntime) -> Result<(), Fail> {
     }
     Ok(())
 }
+
+// A row of single cells that a and b have in turn, a first where `first` is 0. At the tick `changed` it is the
+// other.
+fn in_turn(alloc: Global, first: u32, changed: Option<u32>) -> Result<Vec<Part>, Fail>
+    requires { first ≤ 1 }
+{
+    let mut row = Vec::new(alloc);
+    for tick in 0..102_600 {
+        let late = u32::from(changed == Some(tick));
+        row.push((tick + 1, Some((tick + first + late) % 2)))?;
+    }
+    Ok(row)
+}
+
+// So many segments are told apart by marks of their ticks, and clashes still by sweeps.
+#[test]
+fn single_cells(rt: HostRuntime) -> Result<(), Fail> {
+    let alloc = rt.alloc();
+    let one = in_turn(alloc, 0, None)?;
+    let other = in_turn(alloc, 1, None)?;
+    let late = in_turn(alloc, 1, Some(102_599))?;
+    let twice = in_turn(alloc, 1, Some(7))?;
+    let cases: [(&[&[Part]], &str); 3] = [
+        (&[one.as_slice(), other.as_slice()], "ok"),
+        (
+            &[one.as_slice(), late.as_slice()],
+            "vCPU 1 stands on cores 0 and 1 at tick 102599",
+        ),
+        (
+            &[other.as_slice(), late.as_slice(), twice.as_slice()],
+            "vCPU 1 stands on cores 0 and 1 at tick 0",
+        ),
+    ];
+    for (rows, expected) in cases {
+        let said = answer(alloc, [half(), forty()], rows)?;
+        assert_eq!(rt; said.as_str(), expected);
+    }
+    Ok(())
+}

@@ -1,76 +1,18 @@
 -- Rows whose ticks are marked one row after the other are apart.
-use Rattle.std.proofs.Common.{◌≡◌, ◌≢◌, ℕ, ◌+◌, ◌<◌, ◌≤◌, Bool, false, true, ◌||◌, List, [], length, get_or, set, slice_get, Option, Some, refl, ap, sym, ◌∙◌, inl, inr, arith}
-use Rattle.std.specs.Prelude.{◌==◌, slice_index_or, slice_set}
+use Rattle.std.proofs.Common.{◌≡◌, ℕ, ◌+◌, ◌<◌, ◌≤◌, Bool, false, true, List, length, get_or, slice_get, Option, Some, refl, ap, sym, ◌∙◌, inl, inr, arith}
 use Rattle.std.proofs.lemmas.Bool.{cases_eq, cases_lt}
-use Rattle.std.proofs.lemmas.Bool.Decides.{nat_tests}
-use Rattle.std.proofs.lemmas.Grind.{common_steps, get_or-set_at}
-use Rattle.std.proofs.lemmas.List.{get_or-set_other, length-set}
 use Rattle.std.proofs.lemmas.Option.{same_Some, slice_get-get_or, slice_get-map, slice_get_within}
 use Rattle.std.specs.Option.{option_map}
-use Rattle.tab_core.specs.VcpuSets.{has_vcpu}
-use Rattle.tab_core.specs.declared.TheConstants.{MAX_VCPUS, ROUND}
+use Rattle.tab_core.specs.declared.TheConstants.{ROUND}
 use Rattle.table_form.specs.declared.segment.Segment.{Segment}
 use Rattle.table_form.specs.Tables.Rows.{Row, RisesTo, cells_from}
 use Rattle.table_form.specs.Tables.Serves.{Apart, cell_of, owner_at}
 use Rattle.table_form.proofs.RowLemmas.{length-cells_from}
-use Rattle.table_check.specs.Inside.Marks.{AreMarks, IsNewMark, KeepsMarks, MarksRow, is_marked}
+use Rattle.table_check.specs.Inside.Marks.{IsNewMark, KeepsMarks, MarksRow, is_marked}
 use Rattle.table_check.specs.Shapes.{rows_of}
 use Rattle.table_check.proofs.Pairs.{flat_some, owner_within}
 use Rattle.table_check.proofs.RawShapes.{length-rows_of}
 use Rattle.table_check.proofs.Sweep.{GoesOnFrom, owner_now}
-
--- a vCPU was put into a set
-member_put : (set : List Bool) (u w : ℕ) → u < length set
-    → has_vcpu (slice_set set u true) w ≡ (has_vcpu set w || (u == w))
-member_put set u w low =
-    elim (cases_eq w u) [
-      | inl same ↦ grind (arith, common_steps, nat_tests, same)
-      | inr other ↦ grind (arith, common_steps, nat_tests, other)
-    ]
-
--- a member is still one, and the vCPU is one now
-put_kept : (set : List Bool) (u w : ℕ) → u < length set → has_vcpu set w ≡ true
-    → has_vcpu (slice_set set u true) w ≡ true
-put_kept set u w low is = let put = member_put set u w low in grind (arith, common_steps, put, is)
-
-put_now : (set : List Bool) (u : ℕ) → u < length set → has_vcpu (slice_set set u true) u ≡ true
-put_now set u low = let put = member_put set u u low in grind (arith, common_steps, nat_tests, put)
-
--- marks in which one tick more is marked
-pub record IsMarkedAt (old new : List (List Bool)) (v x : ℕ) : Type 0 where
-  pub are : AreMarks new
-  pub kept : KeepsMarks old new
-  pub marked : is_marked new v x ≡ true
-  pub others : (y : ℕ) → y ≢ x → slice_index_or new y [] ≡ slice_index_or old y []
-
--- a mark is put into the tick's set
-pub marked_at : (marks : List (List Bool)) (own : List Bool) (v x : ℕ) → AreMarks marks → x < ROUND
-    → v < MAX_VCPUS → own ≡ slice_set (slice_index_or marks x []) v true
-    → IsMarkedAt marks (set marks x own) v x
-marked_at marks own v x are low small is =
-    let size = are.vcpus x low in
-    let here : (y : ℕ) → y ≡ x → slice_index_or (set marks x own) y [] ≡ slice_set (slice_index_or marks x []) v true =
-    λ y same. get_or-set_at marks x y own [] same (omega (arith, are.ticks)) ∙ is in
-    let others : (y : ℕ) → y ≢ x → slice_index_or (set marks x own) y [] ≡ slice_index_or marks y [] =
-    λ y other. get_or-set_other marks x y own [] other in
-    record {
-      are = record {
-        ticks = length-set marks x own ∙ are.ticks;
-        vcpus = λ y within. elim (cases_eq y x) [
-          | inl same ↦ ap length (here y same) ∙ (length-set _ _ _ ∙ size)
-          | inr other ↦ ap length (others y other) ∙ are.vcpus y within
-        ];
-      };
-      kept = λ w y was. elim (cases_eq y x) [
-        | inl same ↦ ap (λ s. has_vcpu s w) (here y same)
-            ∙ put_kept (slice_index_or marks x []) v w (omega (arith, size))
-            (sym (ap (λ z. is_marked marks w z) same) ∙ was)
-        | inr other ↦ ap (λ s. has_vcpu s w) (others y other) ∙ was
-      ];
-      marked = ap (λ s. has_vcpu s v) (here x refl)
-          ∙ put_now (slice_index_or marks x []) v (omega (arith, size));
-      others = others;
-    }
 
 -- a tick that isn't marked now wasn't before
 pub was_free : (old new : List (List Bool)) (v x : ℕ) → KeepsMarks old new → is_marked new v x ≡ false
