@@ -9,11 +9,13 @@ pub record NamesFrom (first n mask : ℕ) : Type 0 where
   pub there : (c : ℕ) → names mask c ≡ true → (i : ℕ) × (i < n) × (c ≡ first + i)
   pub all : (i : ℕ) → i < n → names mask (first + i) ≡ true
 
--- no core of the first n is behind core c, and each before it is ahead of it
-pub record IsFirstLeast (ticks : List ℕ) (c n : ℕ) : Type 0 where
-  pub core : c < n
-  pub least : (d : ℕ) → d < n → slice_index ticks c ≤ slice_index ticks d
-  pub first : (d : ℕ) → d < c → slice_index ticks c < slice_index ticks d
+-- no core of the first n is behind core c
+abbrev pub IsLeast : List ℕ → ℕ → ℕ → Type 0
+IsLeast ticks c n = (d : ℕ) → d < n → slice_index ticks c ≤ slice_index ticks d
+
+-- each core before core c is ahead of it
+abbrev pub IsFirst : List ℕ → ℕ → Type 0
+IsFirst ticks c = (d : ℕ) → d < c → slice_index ticks c < slice_index ticks d
 
 -- the tick is the least clock of the first n cores but core c, or OUT where no other is to go on
 pub record IsLeastBut (ticks : List ℕ) (c n tick : ℕ) : Type 0 where

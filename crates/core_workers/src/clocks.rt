@@ -7,7 +7,7 @@ ghost use Rattle.core_workers.specs.Groups.{cores_view};
 ghost use Rattle.core_workers.specs.Inside.Clocks.{AreTicks};
 ghost use Rattle.core_workers.specs.Inside.Places.{ArePlaces};
 ghost use Rattle.core_workers.specs.Inside.Teams.{IsManned, IsTeam};
-ghost use Rattle.core_workers.specs.Numbers.{IsFirstLeast, IsLeastBut};
+ghost use Rattle.core_workers.specs.Numbers.{IsFirst, IsLeast, IsLeastBut};
 
 use crate::gate::Gate;
 use crate::places::Places;
@@ -68,9 +68,10 @@ pub struct Least {
 pub fn find_least(ticks: &[u32; 32], cores: u32) -> Least
     requires { (1 ≤ cores) × (cores ≤ MAX_CORES) }
     ensures within { result.core < cores }
-    ensures least { IsFirstLeast ticks.now result.core cores }
-    ensures next { IsLeastBut ticks.now result.core cores result.next }
-    ensures ahead { slice_index ticks.now result.core ≤ result.next }
+    ensures least { IsLeast ticks.now result.core cores }
+    ensures first { IsFirst ticks.now result.core }
+    ensures next { slice_index ticks.now result.core ≤ result.next }
+    ensures others { IsLeastBut ticks.now result.core cores result.next }
 {
     let mut least = Least { core: 0, next: OUT };
     let mut low = ticks[0];
