@@ -128,8 +128,13 @@ def runs():
     write("core1.run_10000", "cores = 1\n%%\n")
     few = [(f"v{n}", 400_000, 102_702_600) for n in range(64)]
     write("trace32.run_100_trace", host(32, few) + "%%\n")
-    bursts = "".join(f"{n * 170} burst v{n % 64} {1 + n % 5_000}\n" for n in range(60_000))
-    write("burst32.run_100_burst", host(32, few) + "%%\n" + bursts)
+    mixed = host(32, [(f"v{n}", 100_000 + n * 7_919 % 210_000, 7_000_000 + n * 604_171 % 80_000_000)
+                      for n in range(128)])
+    bursts = "".join(f"{n * 170} burst v{n % 128} {1 + n % 5_000}\n" for n in range(60_000))
+    wakes = "".join(f"{n * 170} wake v{n % 128}\n" for n in range(60_000))
+    write("mixed32.run_100", mixed + "%%\n")
+    write("wake32.run_100", mixed + "%%\n" + wakes)
+    write("burst32.run_100_burst", mixed + "%%\n" + bursts)
     events = "".join(f"{n * 15_600} {'wake' if n % 2 else 'block'} v{n // 2 % 32}\n" for n in range(65_535))
     write("events4.run_10000", host(4, [(f"v{n}", 100_000, 20_000_000) for n in range(32)]) + "%%\n" + events)
 
