@@ -12,7 +12,8 @@ use Rattle.tab_words.specs.Lines.{raw_lines_of}
 use Rattle.tab_words.specs.Sections.{is_separator, sections_of}
 use Rattle.tab_words.proofs.LineLemmas.{raw_lines_of-line}
 use Rattle.tab_words.specs.Texts.{line_of, text_of}
-use Rattle.tab_words.proofs.SectionLemmas.{extend, sections_of-nil, sections_of-row}
+use Rattle.tab_words.specs.Inside.Fronts.{behind}
+use Rattle.tab_words.proofs.SectionLemmas.{sections_of-nil, sections_of-row}
 use Rattle.tab_words.proofs.TextLemmas.{decimal_word, is_plain}
 use Rattle.host_gen.specs.HostText.{Line, capped_lines, head_lines, host_text, key_words, quoted, truth_word, vcpu_text, format_lines, named_tick, number_lines}
 use Rattle.host_gen.proofs.HostTextLemmas.{key_line, if_named}
@@ -60,7 +61,7 @@ line_more : (line rest : List ℕ) → list_all is_inside line ≡ true → is_s
     → IsOneSection rest → IsOneSection (line ++ 10 ∷ rest)
 line_more line rest all other one =
     sections_of-row (line ++ 10 ∷ rest) (line ++ 10 ∷ []) rest (line_cut line rest all) other
-    ∙ ap (extend (line ++ 10 ∷ [])) one
+    ∙ ap (behind (line ++ 10 ∷ [])) one
     ∙ ap (λ bytes. bytes ∷ []) (append_assoc line (10 ∷ []) rest)
 
 -- the lines leave one section one, whatever it is

@@ -9,15 +9,10 @@ use Rattle.std.proofs.lemmas.Slice.Eq.{bytes_eq-Decides}
 use Rattle.tab_words.specs.Lines.{lines_of, without_feed}
 use Rattle.tab_words.specs.Sections.{is_separator, sections_of}
 use Rattle.tab_words.proofs.LineLemmas.{raw_lines_of-line, without_feed-feed}
-use Rattle.tab_words.proofs.SectionLemmas.{extend, sections_of-extend, sections_of-nil, sections_of-row, sections_of-separator}
+use Rattle.tab_words.specs.Inside.Fronts.{behind}
+use Rattle.tab_words.proofs.SectionLemmas.{behind-behind, sections_of-behind, sections_of-nil, sections_of-row, sections_of-separator}
 use Rattle.section_join.specs.Mended.{ends_in_return, first_cut, is_cut, joined, mended, mended_line, without_return}
 use Rattle.section_join.proofs.RowLemmas.{EachLacks, Lacks, lines_lack}
-
--- two lines in a row go into the section together
-extend-extend : (a b : List ℕ) (sections : List (List ℕ))
-    → extend a (extend b sections) ≡ extend (a ++ b) sections
-extend-extend a b [] = refl
-extend-extend a b (section ∷ sections) = ap (λ first. first ∷ sections) (sym (append_assoc a b section))
 
 -- a mended line has no line feed but at its end
 still_lacks : (line : List ℕ) → Lacks line → Lacks (without_return line)
@@ -65,8 +60,8 @@ first_none line lines none = split (is_cut line) (first_cut lines) none
 
 -- mended lines stand in front of the first section of what follows
 lines_extend : (lines : List (List ℕ)) (rest : List ℕ) → EachLacks lines → first_cut lines ≡ None
-    → sections_of (flat_map mended_line lines ++ rest) ≡ extend (flat_map mended_line lines) (sections_of rest)
-lines_extend [] rest lack none = sections_of-extend rest
+    → sections_of (flat_map mended_line lines ++ rest) ≡ behind (flat_map mended_line lines) (sections_of rest)
+lines_extend [] rest lack none = sections_of-behind rest
 lines_extend (line ∷ lines) rest lack none =
     let text = without_return line in
     let back = flat_map mended_line lines in
@@ -76,8 +71,8 @@ lines_extend (line ∷ lines) rest lack none =
     let rows = raw_lines_of-line text (back ++ rest) (still_lacks line lack.0) in
     ap sections_of whole
     ∙ sections_of-row (text ++ 10 ∷ (back ++ rest)) (text ++ 10 ∷ []) (back ++ rest) rows (no_separator text parts.0)
-    ∙ ap (extend (text ++ 10 ∷ [])) (lines_extend lines rest lack.1 parts.1)
-    ∙ extend-extend (text ++ 10 ∷ []) back (sections_of rest)
+    ∙ ap (behind (text ++ 10 ∷ [])) (lines_extend lines rest lack.1 parts.1)
+    ∙ behind-behind (text ++ 10 ∷ []) back (sections_of rest)
 
 -- a mended text alone is one section
 one_section : (text : List ℕ) → first_cut (lines_of text) ≡ None → sections_of (mended text) ≡ mended text ∷ []
@@ -87,7 +82,7 @@ one_section text none =
     let front = flat_map mended_line lines in
     ap sections_of (sym (append-nil front))
     ∙ lines_extend lines [] (lines_lack text) none
-    ∙ ap (extend front) sections_of-nil
+    ∙ ap (behind front) sections_of-nil
     ∙ ap (λ first. first ∷ []) (append-nil front)
 
 -- with a separator and more behind it, it is the first section
@@ -102,7 +97,7 @@ first_section text rest none =
     (All-cons (λ b. b ≢ 10) 37 [] (λ e. absurd (omega (arith, e))) (λ k d low is. absurd (omega (arith, low)))) in
     let rows = raw_lines_of-line (37 ∷ 37 ∷ []) rest percent in
     lines_extend lines (37 ∷ 37 ∷ 10 ∷ rest) (lines_lack text) none
-    ∙ ap (extend front) (sections_of-separator (37 ∷ 37 ∷ 10 ∷ rest) (37 ∷ 37 ∷ 10 ∷ []) rest rows refl)
+    ∙ ap (behind front) (sections_of-separator (37 ∷ 37 ∷ 10 ∷ rest) (37 ∷ 37 ∷ 10 ∷ []) rest rows refl)
     ∙ ap (λ first. first ∷ sections_of rest) (append-nil front)
 
 -- the law
