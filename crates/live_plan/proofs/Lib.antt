@@ -13,4 +13,5 @@ pub mod WorkingLemmas
 pub mod CellsLemmas
 pub mod CrewsLemmas
 pub mod MeetingLemmas
+pub mod OutcomesLemmas
 pub mod TellingLemmas

@@ -29,7 +29,7 @@ use Rattle.live_plan.proofs.ChangesLemmas.{host_unique}
 use Rattle.live_plan.proofs.CoursesLemmas.{edits_at, known_live}
 
 -- a change edits the known host to one host
-edited_here : (host : Host) (changes : List (List Edit)) (k : ℕ) (before : BookState) (edits : List Edit) (a b : Host)
+pub edited_here : (host : Host) (changes : List (List Edit)) (k : ℕ) (before : BookState) (edits : List Edit) (a b : Host)
     → HostAfter host changes k before.host → slice_get changes k ≡ Some edits → IsEdited before.host edits a
     → IsEditedBy host changes k b → a ≡ b
 edited_here host changes k before edits a b stands at is by =

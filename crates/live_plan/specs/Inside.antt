@@ -4,5 +4,6 @@ pub mod Crewing
 pub mod Finishing
 pub mod Lists
 pub mod Making
+pub mod Outcomes
 pub mod Seeking
 pub mod Working

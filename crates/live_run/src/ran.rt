@@ -3,6 +3,7 @@ ghost use Rattle.tab_core.specs.declared.TheConstants.{MAX_ROUNDS};
 ghost use Rattle.script_doc.specs.Script.{AreInRun, AreWithin};
 ghost use Rattle.round_words.specs.Seats.{view_of, IsSeatOf};
 ghost use Rattle.round_words.specs.Views.{opening};
+ghost use Rattle.live_plan.specs.Books.{IsLiveBookOf};
 ghost use Rattle.live_run.specs.Inside.Readies.{HasRoomToTell, IsReady};
 ghost use Rattle.live_run.specs.LiveRuns.{IsRunOf, IsUnplanned, LeavesView};
 
@@ -10,11 +11,11 @@ use crate::telling::tell;
 use core_workers::Gate;
 use course_run::changes_of;
 use live_plan::{LiveBook, LiveCrew, run_live};
-use plan_book::{BookFault, Outcome, PlanBook, make_book};
+use plan_book::{BookFault, Outcome, PlanBook};
 use plan_make::PlanFault;
 use round_words::{RoundBoard, RoundSeat};
 use script_doc::Script;
-use std::alloc::{AllocError, Global};
+use std::alloc::Global;
 use std::marker::Model;
 use std::sync::Wait;
 use std::thread::Threads;
@@ -87,7 +88,7 @@ pub fn run_script<R: Threads + Wait + Sync, G: Gate>(
     if stopped.is_some() {
         return Err((seat, LiveFault::Stopped));
     }
-    let Ok((book, changes, mut report)) = room_to_tell(rt, alloc, host, script, rounds) else {
+    let Ok((book, changes, mut report)) = room_to_tell(rt, alloc, live, host, script, rounds) else {
         return Err((seat, LiveFault::Stopped));
     };
     seat.shown();
@@ -123,21 +124,20 @@ fn ready<R: Threads + Sync>(
     Ok((book, crew))
 }
 
-// The script's book, what became of its changes, and room for the report of a run. The host has a plan, so that
-// only memory can be wanting.
+// The script's book, with the plans that the run made, what became of its changes, and room for the report of a run.
 fn room_to_tell<R: Threads + Sync>(
     rt: &R,
     alloc: Global,
+    live: LiveBook,
     host: &Host,
     script: &Script,
     rounds: u32,
 ) -> Result<(PlanBook, Vec<(u32, Outcome)>, Report), NoMemory>
+    requires live { IsLiveBookOf host.now script.now live }
     requires within { AreWithin (length host.now.vcpus) script.now }
     ensures { IfOk result (λ r. HasRoomToTell rounds host.now script.now r.0 r.1.items r.2) }
 {
-    let Ok(book) = make_book(rt, alloc, host, script) else {
-        return Err(AllocError);
-    };
+    let book = live.into_book(rt, alloc, host, script)?;
     let changes = changes_of(alloc, script.events(), book.outcomes())?;
     let report = Report::room(alloc, book.course(), rounds)?;
     Ok((book, changes, report))

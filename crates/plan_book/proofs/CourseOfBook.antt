@@ -15,17 +15,12 @@ use Rattle.script_doc.specs.declared.event.Event.{Event}
 use Rattle.plan_book.specs.After.{IsKnownAfter}
 use Rattle.plan_book.specs.Books.{BookView, IsBookOf, book_view}
 use Rattle.plan_book.specs.Courses.{IsCourseOf, Shows, ShowsAfter, ticks_of}
-use Rattle.plan_book.specs.Inside.Making.{BookInvariant, IsRecorded, known_of}
+use Rattle.plan_book.specs.Inside.Making.{BookInvariant, IsRecorded, course_of, known_of}
 use Rattle.plan_book.specs.States.{BookState}
 use Rattle.plan_book.specs.declared.book_so_far.BookSoFar.{BookSoFar}
 use Rattle.plan_book.proofs.ListsByIndex.{index_is, index_or_is, same}
 use Rattle.plan_book.proofs.SameShape.{few_outcomes, known_within, same_shape}
 use Rattle.plan_book.proofs.OneState.{known_unique}
-
--- the course that is made of the host's numbers, the events and these lists
-abbrev pub course_of : Host → List Event → List Plan → List ℕ → List (List Bool) → CourseView
-course_of host events plans numbers runnable =
-    course_view host.cores host.lag host.quantum (ticks_of events) plans numbers runnable
 
 -- reads a course's tick as the event's
 tick_is : (events : List Event) (i : ℕ) (d : Event) → i < length events

@@ -1,7 +1,8 @@
+pub mod BookMade
 pub mod CourseOfBook
 pub mod EditedLemmas
-pub mod HostRefusals
 pub mod ListsByIndex
+pub mod MadesLemmas
 pub mod MakingLemmas
 pub mod NamesBelow
 pub mod NextState

@@ -134,7 +134,7 @@ changes_more events n event at =
         rw is (omega (arith, more))
 
 -- so after n events there are as many outcomes as changes among them
-has_outcomes_in : (host : Host) (events : List Event) (n : ℕ) (known : BookState)
+pub has_outcomes_in : (host : Host) (events : List Event) (n : ℕ) (known : BookState)
     → IsKnownAfter host events n known → HasOutcomes (changes_in (take n events)) known
 has_outcomes_in host events zero known is =
     record { outcomes = ap length is.no_outcome; number = omega (arith, is.number_is) }

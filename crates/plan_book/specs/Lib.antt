@@ -3,5 +3,6 @@ pub mod Books
 pub mod Changes
 pub mod Courses
 pub mod Inside
+pub mod Mades
 pub mod States
 pub mod Waits

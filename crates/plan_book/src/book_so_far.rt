@@ -1,16 +1,14 @@
-ghost use Rattle.std.specs.Prelude.{◌≡◌, ◌⊎◌, ◌<◌, ◌≤◌, ◌^◌, [], ◌∷◌, ◌++◌, IfErr, IfOk, List, OnOk, Option, length};
+ghost use Rattle.std.specs.Prelude.{◌≡◌, ◌⊎◌, ◌<◌, ◌^◌, [], ◌∷◌, ◌++◌, IfErr, IfOk, IfSome, Ok, OnOk, Some, length, slice_get};
 ghost use Rattle.tab_core.specs.Edits.{AreEditsOf, IsEdited};
-ghost use Rattle.tab_core.specs.declared.TheConstants.{MAX_VCPUS};
-ghost use Rattle.tab_core.specs.declared.periodic.Periodic.{Periodic};
-ghost use Rattle.period_choice.specs.Tasks.{AreTasksOf};
-ghost use Rattle.worst_fit.specs.Bound.{IsWithinBound};
-ghost use Rattle.table_form.specs.Tables.Plans.{IsPlanFor, PlanView};
+ghost use Rattle.tab_core.specs.declared.host.Host.{Host as HostValue};
+ghost use Rattle.table_form.specs.Tables.Plans.{IsPlanFor};
 ghost use Rattle.table_form.specs.Tables.Views.{plan_view};
 ghost use Rattle.plan_make.specs.Planned.{IsPlanned};
 ghost use Rattle.script_doc.specs.Events.{IsActWithin};
 ghost use Rattle.plan_book.specs.After.{Applies};
 ghost use Rattle.plan_book.specs.Changes.{IsChangeRefused, IsChangeTaken, IsUnplanned};
-ghost use Rattle.plan_book.specs.Inside.Making.{IsHostFault, KeepsPlans, known_of, outcome_of_fault};
+ghost use Rattle.plan_book.specs.Inside.Making.{AreLeft, IsNextMade, KeepsPlans, known_of, outcome_of_fault};
+ghost use Rattle.plan_book.specs.Mades.{IsMadeOf};
 ghost use Rattle.plan_book.specs.States.{IsKnownAtFirst};
 
 use crate::outcome::Outcome;
@@ -32,20 +30,13 @@ pub(crate) struct BookSoFar {
 }
 
 impl BookSoFar {
-    // What is known before the first event.
-    pub(crate) fn start<R: Threads + Sync>(
-        rt: &R,
-        alloc: Global,
-        host: &Host,
-    ) -> Result<BookSoFar, PlanFault>
+    // What is known before the first event of a host with this plan.
+    pub(crate) fn start(alloc: Global, host: &Host, plan: Plan) -> Result<BookSoFar, NoMemory>
+        requires { IsMadeOf host.now (Ok plan) }
         ensures first { IfOk result (λ so_far. IsKnownAtFirst host.now (known_of so_far)) }
         ensures one_plan { IfOk result (λ so_far. length so_far.plans.items ≡ 1) }
         ensures fits { IfOk result (λ so_far. IsPlanFor so_far.host (known_of so_far).plan) }
-        ensures fault { IfErr result (IsHostFault host.now) }
-        ensures bound { (tasks : List (Option Periodic)) → AreTasksOf host.now tasks
-            → IsWithinBound tasks host.now.cores → IfErr result (λ fault. fault ≡ PlanFault.NoMemory) }
     {
-        let plan = plan(rt, alloc, host)?;
         Ok(BookSoFar {
             host: host.copy(alloc)?,
             plans: only(alloc, plan)?,
@@ -54,15 +45,18 @@ impl BookSoFar {
         })
     }
 
-    // What is known after one event more.
+    // What is known after one event more. What was made of a change before is taken from its place.
     pub(crate) fn apply<R: Threads + Sync>(
         &mut self,
         rt: &R,
         alloc: Global,
         act: &Act,
+        made: &mut [Option<Result<Plan, Outcome>>],
     ) -> Result<(), NoMemory>
         requires some { 0 < length self.old.plans.items }
         requires within { IsActWithin (length self.old.host.vcpus) act.now }
+        requires made { IsNextMade (known_of self.old) act.now made.old }
+        ensures left { AreLeft made.old made.new }
         ensures applies { OnOk result (Applies (known_of self.old) act.now (known_of self.new)) }
         ensures keeps_plans { OnOk result (KeepsPlans self.old.plans.items self.new.plans.items) }
         ensures fits { IsPlanFor self.old.host (known_of self.old).plan
@@ -71,21 +65,27 @@ impl BookSoFar {
         match act {
             Act::Wake(vcpu) => self.runnable.put(*vcpu),
             Act::Block(vcpu) => self.runnable.take(*vcpu),
-            Act::Change(edits) => self.change(rt, alloc, edits.items())?,
+            Act::Change(edits) => {
+                let before = taken(made, self.outcomes.len());
+                self.change(rt, alloc, edits.items(), before)?;
+            }
             Act::Burst { .. } => {}
         }
         Ok(())
     }
 
-    // A change of reservations: its host and its plan, or why it is refused.
+    // A change of reservations: its host and its plan, or why it is refused, which may have been made before.
     fn change<R: Threads + Sync>(
         &mut self,
         rt: &R,
         alloc: Global,
         edits: &[Edit],
+        before: Option<Result<Plan, Outcome>>,
     ) -> Result<(), NoMemory>
         requires some { 0 < length self.old.plans.items }
         requires within { AreEditsOf (length self.old.host.vcpus) edits.now }
+        requires before { IfSome before (λ made. (host : HostValue) → IsEdited self.old.host edits.now host
+            → IsMadeOf host made) }
         ensures applies { OnOk result (IsChangeTaken (known_of self.old) edits.now (known_of self.new)
             ⊎ IsChangeRefused (known_of self.old) edits.now (known_of self.new)) }
         ensures keeps_plans { OnOk result (KeepsPlans self.old.plans.items self.new.plans.items) }
@@ -93,7 +93,7 @@ impl BookSoFar {
             → OnOk result (IsPlanFor self.new.host (known_of self.new).plan) }
     {
         let host = self.host.edited(alloc, edits)?;
-        match planned(rt, alloc, &host)? {
+        match made_of(rt, alloc, &host, before)? {
             Ok(plan) => {
                 self.take(host, plan)?;
                 Ok(())
@@ -126,6 +126,34 @@ impl BookSoFar {
         ensures { result ≡ (known_of self.now).number }
     {
         (self.plans.len() - 1) as u32
+    }
+}
+
+// What stands at a place, if anything, which is taken away.
+fn taken(made: &mut [Option<Result<Plan, Outcome>>], place: usize) -> Option<Result<Plan, Outcome>>
+    ensures taken { IfSome result (λ m. slice_get made.old place ≡ Some (Some m)) }
+    ensures left { AreLeft made.old made.new }
+{
+    if place < made.len() {
+        made[place].take()
+    } else {
+        None
+    }
+}
+
+// What was made of the host before, or else is made of it now.
+fn made_of<R: Threads + Sync>(
+    rt: &R,
+    alloc: Global,
+    host: &Host,
+    before: Option<Result<Plan, Outcome>>,
+) -> Result<Result<Plan, Outcome>, NoMemory>
+    requires { IfSome before (IsMadeOf host.now) }
+    ensures { IfOk result (IsMadeOf host.now) }
+{
+    match before {
+        Some(made) => Ok(made),
+        None => planned(rt, alloc, host),
     }
 }
 

@@ -23,5 +23,5 @@ pub use laws::{
     a_run_has_one_tick, a_script_makes_one_course, every_wait_is_within_latency,
     the_capped_stay_capped,
 };
-pub use make::{make_book, ticks_in};
+pub use make::{make_book, make_book_with, ticks_in};
 pub use outcome::Outcome;

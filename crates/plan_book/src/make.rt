@@ -1,4 +1,4 @@
-ghost use Rattle.std.specs.Prelude.{◌≡◌, ◌≤◌, ℕ, IfErr, IfOk, IsErr, IsErrOf, List, Option, length};
+ghost use Rattle.std.specs.Prelude.{◌≡◌, ◌≤◌, ℕ, IfErr, IfOk, IsErr, IsErrOf, List, Ok, Option, length};
 ghost use Rattle.tab_core.specs.declared.TheConstants.{MAX_ROUNDS};
 ghost use Rattle.tab_core.specs.declared.over.Over.{Over};
 ghost use Rattle.tab_core.specs.declared.periodic.Periodic.{Periodic};
@@ -11,18 +11,21 @@ ghost use Rattle.script_doc.specs.Script.{AreInRun, AreWithin, changes_in};
 ghost use Rattle.plan_book.specs.After.{IsKnownAfter};
 ghost use Rattle.plan_book.specs.Books.{IsBookOf, NameVcpusBelow};
 ghost use Rattle.plan_book.specs.Courses.{ticks_of};
+ghost use Rattle.plan_book.specs.Inside.Making.{IsBookMade};
+ghost use Rattle.plan_book.specs.Mades.{AreMadeOf, IsMadeOf};
 ghost use Rattle.plan_book.specs.States.{BookState};
 
 use crate::book::PlanBook;
 use crate::book_so_far::BookSoFar;
 use crate::counts::Counts;
 use crate::fault::BookFault;
-use plan_make::PlanFault;
+use crate::outcome::Outcome;
+use plan_make::{PlanFault, plan};
 use script_doc::{Event, Script};
 use std::alloc::Global;
 use std::thread::Threads;
 use tab_core::{Host, NoMemory};
-use table_form::Course;
+use table_form::{Course, Plan};
 
 /// The plan book of a host and a script, whose vCPUs are the host's.
 ///
@@ -72,12 +75,55 @@ pub fn make_book<R: Threads + Sync>(
     ensures planned { (plan : PlanView) → IsPlanned host.now plan
         → IfErr result (λ fault. fault ≡ PlanFault.NoMemory) }
 {
+    let first = plan(rt, alloc, host)?;
+    Ok(book_of(rt, alloc, host, script, first, &mut [])?)
+}
+
+/// The same book, where the host's plan is known, and of some changes what was made of them: the plan of the
+/// host that the change makes, or the outcome of its refusal, at the place of the change's number. Every other
+/// change is planned here. What is made use of is taken from its place.
+///
+/// Fails only for want of memory.
+pub fn make_book_with<R: Threads + Sync>(
+    rt: &R,
+    alloc: Global,
+    host: &Host,
+    script: &Script,
+    first: Plan,
+    made: &mut [Option<Result<Plan, Outcome>>],
+) -> Result<PlanBook, NoMemory>
+    requires within { AreWithin (length host.now.vcpus) script.now }
+    requires first { IsMadeOf host.now (Ok first) }
+    requires made { AreMadeOf host.now script.now made.old }
+    ensures ok { IfOk result (IsBookOf host.now script.now) }
+    ensures changes { IfOk result (λ book. length book.outcomes ≡ changes_in script.now) }
+    ensures vcpus { IfOk result (λ book. (n : ℕ) → n ≤ length script.now
+        → length (plan_after book.course n).tasks ≡ length host.now.vcpus) }
+{
+    let book = book_of(rt, alloc, host, script, first, made)?;
+    Ok(book)
+}
+
+// The book of what is known after each count of the events.
+fn book_of<R: Threads + Sync>(
+    rt: &R,
+    alloc: Global,
+    host: &Host,
+    script: &Script,
+    first: Plan,
+    made: &mut [Option<Result<Plan, Outcome>>],
+) -> Result<PlanBook, NoMemory>
+    requires within { AreWithin (length host.now.vcpus) script.now }
+    requires first { IsMadeOf host.now (Ok first) }
+    requires made { AreMadeOf host.now script.now made.old }
+    ensures { IfOk result (IsBookMade host.now script.now) }
+{
     let events = script.events();
-    let mut so_far = BookSoFar::start(rt, alloc, host)?;
+    let mut so_far = BookSoFar::start(alloc, host, first)?;
     let mut counts = Counts::with_room(alloc, events.len() + 1)?;
     counts.add(&so_far)?;
     for event in events {
-        so_far.apply(rt, alloc, &event.act)?;
+        so_far.apply(rt, alloc, &event.act, made)?;
         counts.add(&so_far)?;
     }
     let course = Course::of(

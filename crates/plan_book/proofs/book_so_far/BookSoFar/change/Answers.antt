@@ -1,5 +1,6 @@
-use Rattle.std.proofs.Common.{◌≡◌, ◌∷◌, [], ◌++◌, inl, inr, refl, arith}
+use Rattle.std.proofs.Common.{◌≡◌, ◌∷◌, [], ◌++◌, inl, inr, Ok, refl, arith}
 use Rattle.std.proofs.lemmas.Grind.{common_steps}
+use Rattle.plan_book.specs.Mades.{IsMadeOf}
 use Rattle.plan_book.specs.declared.book_so_far.BookSoFar.{BookSoFar}
 use Rattle.plan_book.proofs.NextState.{fits_taken, known_refused, known_taken}
 use Rattle.plan_book.proofs.book_so_far.BookSoFar.change.Goals as goal
@@ -7,9 +8,10 @@ use Rattle.plan_book.proofs.book_so_far.BookSoFar.change.Goals as goal
 pub returns-in_ok-take-in-Ok-clause-applies : goal.returns-in_ok-take-in-Ok-clause-applies
 returns-in_ok-take-in-Ok-clause-applies g c =
     let told = c.in_ok-take-in-Ok.ensures in
+    let made : IsMadeOf c.in_ok-host.host (Ok c.in-Ok.plan) = rw c.in-Ok.is at c.in_ok-plan.ensures in
     inl (known_taken c.args.self.now c.take.new.self c.args.edits.now c.in-Ok.plan c.requires.some
     (rw told.host c.in_ok-host.ensures)
-    (rw (told.host) (rw c.in-Ok.is at c.in_ok-plan.ensures.planned)) told.plans told.runnable told.outcomes)
+    (rw (told.host) made.0) told.plans told.runnable told.outcomes)
 
 pub returns-in_ok-take-in-Ok-clause-keeps_plans : goal.returns-in_ok-take-in-Ok-clause-keeps_plans
 returns-in_ok-take-in-Ok-clause-keeps_plans g c = inr (c.in-Ok.plan, c.in_ok-take-in-Ok.ensures.plans)
@@ -17,8 +19,9 @@ returns-in_ok-take-in-Ok-clause-keeps_plans g c = inr (c.in-Ok.plan, c.in_ok-tak
 pub returns-in_ok-take-in-Ok-clause-fits : goal.returns-in_ok-take-in-Ok-clause-fits
 returns-in_ok-take-in-Ok-clause-fits g c _ =
     let told = c.in_ok-take-in-Ok.ensures in
+    let made : IsMadeOf c.in_ok-host.host (Ok c.in-Ok.plan) = rw c.in-Ok.is at c.in_ok-plan.ensures in
     fits_taken c.args.self.now c.take.new.self c.in-Ok.plan told.plans
-    (rw told.host (rw c.in-Ok.is at c.in_ok-plan.ensures.fits))
+    (rw told.host made.1)
 
 pub returns-in_ok-push-in-Err-clause-applies : goal.returns-in_ok-push-in-Err-clause-applies
 returns-in_ok-push-in-Err-clause-applies g c =
@@ -32,4 +35,4 @@ returns-in_ok-push-in-Err-clause-applies g c =
       outcomes = c.push.new.self;
     } in
     inr (known_refused c.args.self.now c.args.edits.now c.in_ok-host.host c.in-Err.outcome
-    c.in_ok-host.ensures (rw c.in-Err.is at c.in_ok-plan.ensures.unplanned) new refl pushed)
+    c.in_ok-host.ensures (rw c.in-Err.is at c.in_ok-plan.ensures) new refl pushed)
