@@ -6,13 +6,14 @@ _tableau_tools() {
     words='table diff sections export host chart --help --version'
   else
     case $before in
-      --tick | --cores | --from | --to | --width) return ;;
+      --tick | --cores | --vcpus | --from | --to | --width) return ;;
       export) words='csv chrome json' ;;
+      --by) words='core vcpu' ;;
     esac
     case ${COMP_WORDS[1]},$word in
       table,-* | diff,-* | export,-*) words='--tick --help' ;;
       host,-*) words='--cores --help' ;;
-      chart,-*) words='--cores --from --to --width --tick --help' ;;
+      chart,-*) words='--text --by --cores --vcpus --from --to --width --tick --help' ;;
       sections,-*) words='--help' ;;
     esac
   fi

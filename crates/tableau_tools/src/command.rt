@@ -29,11 +29,22 @@ fn chart_command<'a>(alloc: Global) -> Result<Command<'a>, AllocError> {
         .long("cores")
         .value_name("FIRST-LAST")
         .help("The cores to draw; without it, all");
+    let vcpus = Arg::new(alloc, "vcpus")
+        .long("vcpus")
+        .value_name("FIRST-LAST")
+        .help("With --by vcpu, the vCPUs to draw, by number from 0; without it, all");
+    let by = Arg::new(alloc, "by")
+        .long("by")
+        .value_name("LANES")
+        .value_parser(["core", "vcpu"].as_slice())
+        .help("A lane for each core, or for each vCPU with its longest wait; without it, core");
     Command::new(alloc, "chart")
         .about("Draws a plan, replay or trace as a picture, in SVG or as a text")
         .arg(file_arg(alloc))?
-        .arg(text_arg(alloc))?
+        .arg(text_arg(alloc)?)?
+        .arg(by)?
         .arg(cores)?
+        .arg(vcpus)?
         .arg(number_arg(
             alloc,
             "from",
@@ -60,11 +71,12 @@ fn number_arg<'a>(alloc: Global, name: &'a str, value: &'a str, help: &'a str) -
 }
 
 // Whether a text is written.
-fn text_arg<'a>(alloc: Global) -> Arg<'a> {
+fn text_arg<'a>(alloc: Global) -> Result<Arg<'a>, AllocError> {
     Arg::new(alloc, "text")
         .long("text")
         .action(ArgAction::SetTrue)
-        .help("A text for terminals in place of a picture")
+        .help("A text for terminals, of lanes of cores, in place of a picture")
+        .conflicts_with("by")
 }
 
 // How wide a picture or a text is.
@@ -73,7 +85,9 @@ fn width_arg<'a>(alloc: Global) -> Arg<'a> {
         .long("width")
         .value_name("COUNT")
         .value_parser(value_parser!(u32).range(1..=8000))
-        .help("Pixels of a picture's width, 1160 without it, or columns of a text, 76 without it")
+        .help(
+            "Pixels of a picture's width, 200 to 8000, and 1160 without it, or columns of a text, 76 without it",
+        )
 }
 
 // The words of `export`.

@@ -31,9 +31,13 @@ pub(crate) enum Fault {
     NoFile,
     #[error("a word of the command isn't text")]
     NoText,
-    #[error("the cores aren't of the form FIRST-LAST")]
-    BadCores,
-    #[error("no tick or no core is to be drawn")]
+    #[error("the cores or vCPUs aren't of the form FIRST-LAST")]
+    BadLanes,
+    #[error("--cores chooses lanes of cores, and --vcpus those of --by vcpu")]
+    OtherLanes,
+    #[error("a picture is 200 to 8000 pixels wide")]
+    TooNarrow,
+    #[error("no tick or no lane is to be drawn")]
     Nothing,
     #[error("there are more cores or vCPUs than 32 or 256")]
     TooMany,

@@ -7,6 +7,8 @@ mod charts;
 #[cfg(test)]
 mod exports;
 #[cfg(test)]
+mod pictures;
+#[cfg(test)]
 mod samples;
 #[cfg(test)]
 mod sizes;

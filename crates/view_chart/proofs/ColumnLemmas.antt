@@ -85,10 +85,10 @@ pub sum_more : (f : Frame) (columns j v : ℕ) (bars : List Bar)
 sum_more f columns j v [] = refl
 sum_more f columns j v (bar ∷ bars) =
     let rest = sum_more f columns j v bars in
-    let one = next_one bar.vcpu v (ticks_in f columns j bar) in
-    let low = sum_by-cons (λ (b : Bar). if nat_lt b.vcpu v then ticks_in f columns j b else 0) bar bars in
-    let same = sum_by-cons (λ (b : Bar). if b.vcpu == v then ticks_in f columns j b else 0) bar bars in
-    let all = sum_by-cons (λ (b : Bar). if nat_lt b.vcpu (v + 1) then ticks_in f columns j b else 0) bar bars in
+    let one = next_one bar.key v (ticks_in f columns j bar) in
+    let low = sum_by-cons (λ (b : Bar). if nat_lt b.key v then ticks_in f columns j b else 0) bar bars in
+    let same = sum_by-cons (λ (b : Bar). if b.key == v then ticks_in f columns j b else 0) bar bars in
+    let all = sum_by-cons (λ (b : Bar). if nat_lt b.key (v + 1) then ticks_in f columns j b else 0) bar bars in
     omega (arith, rest, one, low, same, all)
 
 -- so with its ticks there are those of the vCPUs below the next
@@ -103,17 +103,17 @@ ticks_more f v bars old new below added j low =
     omega (arith, more, was, is)
 
 -- a vCPU without a bar has no ticks
-no_ticks : (f : Frame) (columns j v : ℕ) (bars : List Bar) → list_any (λ (bar : Bar). bar.vcpu == v) bars ≡ false
+no_ticks : (f : Frame) (columns j v : ℕ) (bars : List Bar) → list_any (λ (bar : Bar). bar.key == v) bars ≡ false
     → sum_of (λ w. w == v) f columns bars j ≡ 0
 no_ticks f columns j v [] none = refl
 no_ticks f columns j v (bar ∷ bars) none =
-    let one : (bar.vcpu == v) ≡ false = grind (arith, common_steps, none) in
-    let rest : list_any (λ (b : Bar). b.vcpu == v) bars ≡ false = grind (arith, common_steps, none) in
+    let one : (bar.key == v) ≡ false = grind (arith, common_steps, none) in
+    let rest : list_any (λ (b : Bar). b.key == v) bars ≡ false = grind (arith, common_steps, none) in
     grind (arith, common_steps, one, no_ticks f columns j v bars rest)
 
 -- so without one the ticks are those of the vCPUs below the next
 pub ticks_same : (f : Frame) (v : ℕ) (bars : List Bar) (ticks : List ℕ)
-    → list_any (λ (bar : Bar). bar.vcpu == v) bars ≡ false → AreBelow f bars v ticks → AreBelow f bars (v + 1) ticks
+    → list_any (λ (bar : Bar). bar.key == v) bars ≡ false → AreBelow f bars v ticks → AreBelow f bars (v + 1) ticks
 ticks_same f v bars ticks none below j low =
     let more = sum_more f 200 j v bars in
     let was = below j low in

@@ -9,16 +9,16 @@ use Rattle.view_chart.specs.declared.frame.Frame.{Frame}
 use Rattle.view_doc.specs.declared.view.Task.{Task}
 
 -- without a bar there is none of a way of running
-no_way : (v : ℕ) (shared : Bool) (bars : List Bar) → list_any (λ (bar : Bar). bar.vcpu == v) bars ≡ false
+no_way : (v : ℕ) (shared : Bool) (bars : List Bar) → list_any (λ (bar : Bar). bar.key == v) bars ≡ false
     → list_any (is_of v shared) bars ≡ false
 no_way v shared [] none = refl
 no_way v shared (bar ∷ bars) none =
-    let one : (bar.vcpu == v) ≡ false = grind (arith, common_steps, none) in
-    let rest : list_any (λ (b : Bar). b.vcpu == v) bars ≡ false = grind (arith, common_steps, none) in
+    let one : (bar.key == v) ≡ false = grind (arith, common_steps, none) in
+    let rest : list_any (λ (b : Bar). b.key == v) bars ≡ false = grind (arith, common_steps, none) in
     grind (arith, common_steps, one, no_way v shared bars rest)
 
 -- so there is no path
 pub no_paths : (f : Frame) (y high : ℕ) (names : List (List ℕ)) (tasks : List Task) (colours : List ℕ)
-    (bars : List Bar) (v : ℕ) → list_any (λ (bar : Bar). bar.vcpu == v) bars ≡ false
+    (bars : List Bar) (v : ℕ) → list_any (λ (bar : Bar). bar.key == v) bars ≡ false
     → vcpu_paths f y high names tasks colours bars v ≡ []
 no_paths f y high names tasks colours bars v none = rw (no_way v false bars none, no_way v true bars none) refl

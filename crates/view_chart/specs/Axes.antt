@@ -1,4 +1,4 @@
--- The axis of time above the lanes: marks at round times, twelve steps at most.
+-- The axes of time above the lanes and of ticks below them: marks at round numbers, twelve steps at most.
 use Rattle.std.specs.Prelude.{ℕ, ◌+◌, ◌-◌, ◌*◌, ◌/◌, ◌++◌, ◌&&◌, nat_le, nat_lt, List, [], ◌∷◌, codes, decimal, if◌then◌else◌, min}
 use Rattle.tab_words.specs.Texts.{texts_below}
 use Rattle.view_chart.specs.Frames.{x_at}
@@ -64,5 +64,38 @@ axis_of f foot marks = codes "<path class=\"grid\" d=\"" ++ (texts_below (line_a
     ++ (unit_word (step_of f) ++ codes "</text>\n")))))
 
 -- the axis above lanes that end there
+abbrev pub time_axis : Frame → ℕ → List ℕ
+time_axis f foot = axis_of f foot (end_mark f - first_mark f)
+
+-- ---- ticks, below the lanes
+
+-- the step between marks, and the numbers of the first mark and of the one behind the last
+abbrev pub tick_step : Frame → ℕ
+tick_step f = step_in (f.to - f.from) STEPS
+
+abbrev pub first_tick : Frame → ℕ
+first_tick f = (f.from + (tick_step f - 1)) / tick_step f
+
+abbrev pub end_tick : Frame → ℕ
+end_tick f = f.to / tick_step f + 1
+
+-- a number below the lanes
+unfoldable pub tick_text : ℕ → ℕ → ℕ → List ℕ
+tick_text x y tick = codes "<text x=\"" ++ (decimal x ++ (codes "\" y=\"" ++ (decimal y
+    ++ (codes "\" font-size=\"900\" class=\"dim\" text-anchor=\"middle\">" ++ (decimal tick ++ codes "</text>\n")))))
+
+abbrev pub tick_number : Frame → ℕ → ℕ → List ℕ
+tick_number f y k = tick_text (x_at f ((first_tick f + k) * tick_step f)) y ((first_tick f + k) * tick_step f)
+
+unfoldable pub ticks_word : ℕ → List ℕ
+ticks_word y = codes "<text x=\"4000\" y=\"" ++ (decimal y ++ codes "\" font-size=\"900\" class=\"dim\">ticks</text>\n")
+
+abbrev pub tick_axis_of : Frame → ℕ → ℕ → List ℕ
+tick_axis_of f y marks = texts_below (tick_number f y) marks ++ ticks_word y
+
+abbrev pub tick_axis : Frame → ℕ → List ℕ
+tick_axis f foot = tick_axis_of f (foot + 1300) (end_tick f - first_tick f)
+
+-- both
 abbrev pub axis_text : Frame → ℕ → List ℕ
-axis_text f foot = axis_of f foot (end_mark f - first_mark f)
+axis_text f foot = time_axis f foot ++ tick_axis f foot

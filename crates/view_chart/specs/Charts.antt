@@ -1,15 +1,15 @@
--- A view as a picture, in SVG: a lane for each core, a box for each slot or stint.
+-- A view as a picture, in SVG: a lane for each core or vCPU, a box for each slot or stint.
 -- Source: Scalable Vector Graphics (SVG) 1.1, W3C Recommendation.
 use Rattle.std.specs.Prelude.{ℕ, zero, suc, ◌+◌, ◌-◌, ◌*◌, ◌/◌, ◌++◌, nat_lt, Bool, true, false, List, [], ◌∷◌, codes, decimal, if◌then◌else◌, length, min, slice_index_or}
 use Rattle.std.specs.List.{sum_by}
 use Rattle.tab_core.specs.declared.TheConstants.{ROUND}
 use Rattle.tab_words.specs.Texts.{texts_below}
 use Rattle.view_chart.specs.Axes.{axis_text}
-use Rattle.view_chart.specs.Colours.{colours_of}
+use Rattle.view_chart.specs.Colours.{colours_of, core_names, core_tones, tones_of}
 use Rattle.view_chart.specs.Columns.{columns_text}
 use Rattle.view_chart.specs.Frames.{foot_of, height_of, pitch_of, top_of, x_at}
 use Rattle.view_chart.specs.Heads.{head_text}
-use Rattle.view_chart.specs.Lanes.{bars_text, ground_box, label_text}
+use Rattle.view_chart.specs.Lanes.{bars_text, ground_box, label_text, waits_text}
 use Rattle.view_chart.specs.Legends.{end_of, legend_text}
 use Rattle.view_chart.specs.Marks.{per_mille, tenths_ms}
 use Rattle.view_chart.specs.Shown.{cores_in, frame_of, held_in, lane_bars, lanes_of, shown_in}
@@ -20,6 +20,7 @@ use Rattle.view_chart.specs.declared.head.Head.{Head}
 use Rattle.view_doc.specs.declared.view.Stretch.{Stretch}
 use Rattle.view_doc.specs.declared.view.Task.{Task}
 use Rattle.view_doc.specs.declared.view.View.{View}
+use Rattle.view_table.specs.declared.figures.Figures.{Figures}
 
 -- ---- rounds
 
@@ -32,7 +33,7 @@ rounds_shown f = (f.to - 1) / ROUND + 1 - f.from / ROUND
 
 -- a line where a round begins, or where what is shown begins, and the round's number
 unfoldable pub round_text : ℕ → ℕ → ℕ → List ℕ
-round_text x foot r = codes "<path class=\"round\" d=\"M" ++ (decimal x ++ (codes " 7000V" ++ (decimal foot
+round_text x foot r = codes "<path class=\"round\" d=\"M" ++ (decimal x ++ (codes " 9300V" ++ (decimal foot
     ++ (codes "\"/><text x=\"" ++ (decimal (x + 500)
     ++ (codes "\" y=\"7600\" font-size=\"1000\" class=\"label\">round " ++ (decimal r ++ codes "</text>\n")))))))
 
@@ -55,19 +56,22 @@ lane_body f y high names tasks colours bars =
     if nat_lt 342 (length bars) then columns_text f y high names tasks colours bars
     else bars_text f y high names tasks colours bars
 
--- the lane of a core, of which so much is somebody's
-abbrev pub lane_of : Frame → ℕ → ℕ → ℕ → ℕ → List (List ℕ) → List Task → List ℕ → List Bar → List ℕ
-lane_of f core y high share names tasks colours bars = label_text core y high share
-    ++ (lane_body f y high names tasks colours bars ++ codes "</g>\n")
+-- the lane of a core or vCPU, of which so much is somebody's
+abbrev pub lane_of : Frame → List (List ℕ) → Figures → ℕ → ℕ → ℕ → ℕ → List (List ℕ) → List Task → List ℕ → List Bar
+    → List ℕ
+lane_of f labels figures row y high share names tasks colours bars = label_text f.by_vcpu labels row y high share
+    ++ (lane_body f y high names tasks colours bars ++ (waits_text f y high figures row ++ codes "</g>\n"))
 
-abbrev pub lane_text : Frame → ℕ → ℕ → ℕ → List (List ℕ) → List Task → List ℕ → List Bar → List ℕ
-lane_text f core y high names tasks colours bars =
-    lane_of f core y high (per_mille (held_in f bars) (f.to - f.from)) names tasks colours bars
+abbrev pub lane_text : Frame → List (List ℕ) → Figures → ℕ → ℕ → ℕ → List (List ℕ) → List Task → List ℕ → List Bar
+    → List ℕ
+lane_text f labels figures row y high names tasks colours bars =
+    lane_of f labels figures row y high (per_mille (held_in f bars) (f.to - f.from)) names tasks colours bars
 
--- the lane of a number, of which the first is this core's
-abbrev pub lane_at : Frame → ℕ → List (List ℕ) → List Task → List ℕ → List (List Bar) → ℕ → List ℕ
-lane_at f first names tasks colours lanes i = lane_text f (first + i) (top_of (length lanes) i)
-    (height_of (length lanes)) names tasks colours (slice_index_or lanes i [])
+-- the lane of a number, of which the first is this core's or vCPU's
+abbrev pub lane_at : Frame → ℕ → List (List ℕ) → Figures → List (List ℕ) → List Task → List ℕ → List (List Bar) → ℕ
+    → List ℕ
+lane_at f first labels figures names tasks colours lanes i = lane_text f labels figures (first + i)
+    (top_of (length lanes) i) (height_of (length lanes)) names tasks colours (slice_index_or lanes i [])
 
 -- the grounds of the lanes
 abbrev pub grounds_text : ℕ → List ℕ
@@ -85,9 +89,10 @@ abbrev pub tall_of : ℕ → ℕ → ℕ
 tall_of lanes vcpus = end_of (foot_of lanes) vcpus + 1000
 
 -- what the head says
-unfoldable pub head_of : Frame → Bool → ℕ → ℕ → List (List Bar) → Head
-head_of f is_run cores vcpus lanes = record {
-  is_run = is_run;
+unfoldable pub head_of : Frame → ℕ → ℕ → List (List Bar) → Head
+head_of f cores vcpus lanes = record {
+  is_run = f.is_run;
+  by_vcpu = f.by_vcpu;
   cores = cores;
   vcpus = vcpus;
   from = f.from;
@@ -96,15 +101,17 @@ head_of f is_run cores vcpus lanes = record {
   share = share_in f lanes;
 }
 
--- the picture of these lanes
-unfoldable pub chart_of : Frame → ℕ → ℕ → Bool → ℕ → List (List ℕ) → List Task → List ℕ → List (List Bar) → List ℕ
-chart_of f width first is_run cores names tasks colours lanes =
-    head_text width (tall_of (length lanes) (length names)) (head_of f is_run cores (length names) lanes)
+-- the picture of these lanes: the vCPUs have these names and figures, and the keys of the bars those names, tasks
+-- and tones
+unfoldable pub chart_of : Frame → ℕ → ℕ → ℕ → List (List ℕ) → Figures → List (List ℕ) → List Task → List ℕ
+    → List (List Bar) → List ℕ
+chart_of f width first cores labels figures names tasks colours lanes =
+    head_text width (tall_of (length lanes) (length names)) (head_of f cores (length labels) lanes)
     ++ (grounds_text (length lanes)
     ++ (axis_text f (foot_of (length lanes))
-    ++ (texts_below (lane_at f first names tasks colours lanes) (length lanes)
-    ++ (rounds_text f is_run (foot_of (length lanes))
-    ++ (legend_text f.tick (foot_of (length lanes)) names tasks colours ++ codes "</svg>\n")))))
+    ++ (texts_below (lane_at f first labels figures names tasks colours lanes) (length lanes)
+    ++ (rounds_text f f.is_run (foot_of (length lanes))
+    ++ (legend_text f (foot_of (length lanes)) names tasks colours ++ codes "</svg>\n")))))
 
 -- the lanes of a view, as many as are asked for
 abbrev pub lanes_below : Frame → List Stretch → ℕ → ℕ → List (List Bar)
@@ -115,8 +122,20 @@ abbrev pub chart_lanes : View → ChartOptions → List (List Bar)
 chart_lanes view options =
     lanes_below (frame_of view options) (shown_in view) options.first (lanes_of view options)
 
--- the picture of a view
-abbrev pub chart_text : ChartOptions → View → List ℕ
-chart_text options view = chart_of (frame_of view options) options.width options.first view.is_run (cores_in view)
-    view.names.items view.tasks.items
-    (colours_of (shown_in view) view.tasks.items (length view.names.items)) (chart_lanes view options)
+-- the tones of the vCPUs
+abbrev pub vcpu_tones : View → Figures → List ℕ
+vcpu_tones view figures = tones_of view.is_run figures
+    (colours_of (shown_in view) view.tasks.items (length view.names.items)) (length view.names.items)
+
+-- the picture of a view: with lanes of cores, or of vCPUs
+abbrev pub cores_chart : ChartOptions → View → Figures → List ℕ
+cores_chart options view figures = chart_of (frame_of view options) options.width options.first (cores_in view)
+    view.names.items figures view.names.items view.tasks.items (vcpu_tones view figures) (chart_lanes view options)
+
+abbrev pub vcpus_chart : ChartOptions → View → Figures → List ℕ
+vcpus_chart options view figures = chart_of (frame_of view options) options.width options.first (cores_in view)
+    view.names.items figures (core_names (cores_in view)) [] (core_tones (cores_in view)) (chart_lanes view options)
+
+abbrev pub chart_text : ChartOptions → View → Figures → List ℕ
+chart_text options view figures =
+    if options.by_vcpu then vcpus_chart options view figures else cores_chart options view figures

@@ -1,23 +1,18 @@
 -- The colours of the vCPUs: the number, where there are twelve or fewer; else in rising number the least that
--- no lower vCPU on a shared core has, or the number modulo 12 where all are taken.
-use Rattle.std.specs.Prelude.{ℕ, zero, suc, ◌%◌, ◌==◌, ◌&&◌, ◌||◌, nat_le, Bool, false, List, [], ◌∷◌, ◌++◌, if◌then◌else◌, slice_get, slice_index, Option, Some, None}
+-- no lower vCPU on a shared core has, or the number modulo 12 where all are taken. A tone is a colour, with a dark
+-- foot where a vCPU of a plan has slots on several cores: such tones are numbered from 12.
+use Rattle.std.specs.Prelude.{ℕ, zero, suc, ◌+◌, ◌*◌, ◌%◌, ◌==◌, ◌&&◌, ◌||◌, nat_le, Bool, true, false, List, [], ◌∷◌, ◌++◌, decimal, if◌then◌else◌, slice_get, slice_index, slice_index_or, Option, Some, None}
 use Rattle.std.specs.List.{list_any}
 use Rattle.tab_core.specs.declared.TheConstants.{MAX_CORES}
+use Rattle.view_chart.specs.Shown.{has_it}
 use Rattle.view_doc.specs.declared.view.Stretch.{Stretch}
 use Rattle.view_doc.specs.declared.view.Task.{Task}
-use Rattle.view_doc.specs.declared.view.Use.{Use}
-use Rattle.view_doc.specs.declared.view.Use.TheVariants.{Idle, Slot, Shared}
+use Rattle.view_table.specs.declared.figures.Figures.{Figures}
 
 -- one of the numbers below n passes the test
 abbrev pub any_below : (ℕ → Bool) → ℕ → Bool
 any_below test zero = false
 any_below test (suc n) = any_below test n || test n
-
--- the vCPU has it
-abbrev pub has_it : Use → ℕ → Bool
-has_it Idle v = false
-has_it (Slot owner) v = owner == v
-has_it (Shared owner) v = owner == v
 
 -- the vCPU's home is the core
 abbrev pub is_home : Option Task → ℕ → Bool
@@ -66,3 +61,52 @@ colours_below on vcpus (suc v) =
 -- the colours of all
 abbrev pub colours_of : List Stretch → List Task → ℕ → List ℕ
 colours_of stretches tasks vcpus = colours_below (stands_on stretches tasks) vcpus vcpus
+
+-- how many of the vCPUs below a number one meets
+abbrev pub met_below : (ℕ → ℕ → Bool) → ℕ → ℕ → ℕ
+met_below on v zero = 0
+met_below on v (suc u) = met_below on v u + (if meets on u v then 1 else 0)
+
+-- ---- tones
+
+-- one of the cores below a number passes the test, and a lower one passes it too
+abbrev pub twice_below : (ℕ → Bool) → ℕ → Bool
+twice_below test zero = false
+twice_below test (suc n) = twice_below test n || (test n && any_below test n)
+
+-- the vCPU has slots on several cores of the plan
+abbrev pub stands_at : Figures → ℕ → ℕ → Bool
+stands_at figures v core = slice_index_or figures.stands.items (v * MAX_CORES + core) false
+
+abbrev pub is_split : Figures → ℕ → Bool
+is_split figures v = twice_below (stands_at figures v) MAX_CORES
+
+-- a colour, with a dark foot or without
+abbrev pub tone : Bool → ℕ → ℕ
+tone false colour = colour
+tone true colour = 12 + colour % 12
+
+-- the tones of those below a number, which have these colours
+abbrev pub tones_below : (ℕ → Bool) → List ℕ → ℕ → List ℕ
+tones_below split colours zero = []
+tones_below split colours (suc v) =
+    tones_below split colours v ++ tone (split v) (slice_index colours v) ∷ []
+
+-- the vCPU's tone has a dark foot: in a plan, not in a run
+abbrev pub has_foot : Bool → Figures → ℕ → Bool
+has_foot false figures v = is_split figures v
+has_foot true figures v = false
+
+-- the tones of so many vCPUs that have these colours
+abbrev pub tones_of : Bool → Figures → List ℕ → ℕ → List ℕ
+tones_of is_run figures colours vcpus = tones_below (has_foot is_run figures) colours vcpus
+
+-- the tones of so many cores, by number
+abbrev pub core_tones : ℕ → List ℕ
+core_tones zero = []
+core_tones (suc core) = core_tones core ++ core % 12 ∷ []
+
+-- the numbers of so many cores, as they are written
+abbrev pub core_names : ℕ → List (List ℕ)
+core_names zero = []
+core_names (suc core) = core_names core ++ decimal core ∷ []

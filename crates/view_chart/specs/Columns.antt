@@ -27,7 +27,7 @@ ticks_in f columns j bar = overlap (edge_of f columns j) (edge_of f columns (j +
 
 -- how many ticks of a column the vCPUs have that pass the test: at most all
 abbrev pub sum_of : (ℕ → Bool) → Frame → ℕ → List Bar → ℕ → ℕ
-sum_of some f columns bars j = sum_by (λ bar. if some bar.vcpu then ticks_in f columns j bar else 0) bars
+sum_of some f columns bars j = sum_by (λ bar. if some bar.key then ticks_in f columns j bar else 0) bars
 
 abbrev pub ticks_of : (ℕ → Bool) → Frame → ℕ → List Bar → ℕ → ℕ
 ticks_of some f columns bars j = min (width_at f columns j) (sum_of some f columns bars j)
@@ -48,9 +48,9 @@ column_box f y high bars v j =
 -- a vCPU's path of boxes in columns, if it has a bar
 abbrev pub column_path : Frame → ℕ → ℕ → List (List ℕ) → List Task → List ℕ → List Bar → ℕ → List ℕ
 column_path f y high names tasks colours bars v =
-    if list_any (λ bar. bar.vcpu == v) bars
+    if list_any (λ bar. bar.key == v) bars
     then titled_path (slice_index colours v) [] (texts_below (column_box f y high bars v) 200)
-    (note_of f.tick (name_at names v) (slice_get tasks v)) []
+    (note_of f (name_at names v) (slice_get tasks v)) []
     else []
 
 -- the lane

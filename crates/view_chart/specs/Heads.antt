@@ -1,5 +1,5 @@
 -- The head of a picture: the words for readers, the colours, and the lines above the lanes.
-use Rattle.std.specs.Prelude.{ℕ, ◌*◌, ◌/◌, ◌%◌, ◌++◌, Bool, true, false, List, codes, decimal}
+use Rattle.std.specs.Prelude.{ℕ, ◌*◌, ◌/◌, ◌%◌, ◌++◌, Bool, true, false, List, [], codes, decimal, if◌then◌else◌}
 use Rattle.view_chart.specs.Marks.{plural}
 use Rattle.view_chart.specs.declared.head.Head.{Head}
 
@@ -8,20 +8,38 @@ abbrev pub kind_word : Bool → List ℕ
 kind_word false = codes "Plan"
 kind_word true = codes "Run"
 
-unfoldable pub title_of : List ℕ → ℕ → List ℕ → ℕ → List ℕ → List ℕ
-title_of kind cores many vcpus more = kind ++ (codes " of " ++ (decimal cores ++ (codes " core" ++ (many
-    ++ (codes ", " ++ (decimal vcpus ++ (codes " vCPU" ++ more)))))))
+-- what the lanes are, where it isn't cores
+abbrev pub lanes_word : Bool → List ℕ
+lanes_word false = []
+lanes_word true = codes ", by vCPU"
+
+unfoldable pub title_of : List ℕ → ℕ → List ℕ → ℕ → List ℕ → List ℕ → List ℕ
+title_of kind cores many vcpus more lanes = kind ++ (codes " of " ++ (decimal cores ++ (codes " core" ++ (many
+    ++ (codes ", " ++ (decimal vcpus ++ (codes " vCPU" ++ (more ++ lanes))))))))
 
 abbrev pub title_text : Head → List ℕ
-title_text h = title_of (kind_word h.is_run) h.cores (plural h.cores) h.vcpus (plural h.vcpus)
+title_text h = title_of (kind_word h.is_run) h.cores (plural h.cores) h.vcpus (plural h.vcpus) (lanes_word h.by_vcpu)
 
--- which ticks are shown, how long they last in tenths of a millisecond, and how much of them is somebody's in
--- tenths of a percent
-unfoldable pub sub_text : Head → List ℕ
-sub_text h = codes "Ticks " ++ (decimal h.from ++ (codes " to " ++ (decimal h.to ++ (codes ": "
-    ++ (decimal (h.lasting / 10) ++ (codes "." ++ (decimal (h.lasting % 10)
-    ++ (codes " ms, of which vCPUs have " ++ (decimal (h.share / 10) ++ (codes "." ++ (decimal (h.share % 10)
-    ++ codes " %.")))))))))))
+-- which ticks are shown, and how long they last in tenths of a millisecond
+unfoldable pub ticks_text : ℕ → ℕ → ℕ → List ℕ
+ticks_text from to lasting = codes "Ticks " ++ (decimal from ++ (codes " to " ++ (decimal to ++ (codes ": "
+    ++ (decimal (lasting / 10) ++ (codes "." ++ (decimal (lasting % 10) ++ codes " ms")))))))
+
+-- how much of them is somebody's, in tenths of a percent
+unfoldable pub share_text : ℕ → List ℕ
+share_text share = codes ", of which vCPUs have " ++ (decimal (share / 10) ++ (codes "." ++ (decimal (share % 10)
+    ++ codes " %.")))
+
+-- what stands on the lanes of vCPUs
+abbrev pub lanes_note : Bool → List ℕ
+lanes_note false = codes ". A dark line is the longest wait for a slot; right of it how long that is."
+lanes_note true = codes ". The lanes are the vCPUs', the boxes the cores'."
+
+abbrev pub sub_end : Head → List ℕ
+sub_end h = if h.by_vcpu then lanes_note h.is_run else share_text h.share
+
+abbrev pub sub_text : Head → List ℕ
+sub_text h = ticks_text h.from h.to h.lasting ++ sub_end h
 
 -- the size in pixels, and in units of the picture
 unfoldable pub svg_begin : ℕ → ℕ → ℕ → List ℕ
@@ -29,9 +47,10 @@ svg_begin width height tall = codes "<svg xmlns=\"http://www.w3.org/2000/svg\" w
     ++ (codes "\" height=\"" ++ (decimal height ++ (codes "\" viewBox=\"0 0 116000 " ++ (decimal tall
     ++ codes "\" role=\"img\" aria-labelledby=\"t d\" font-family=\"DejaVu Sans,Verdana,Arial,sans-serif\">\n<title id=\"t\">")))))
 
--- the classes: words, lanes, and twelve colours, on each of which the words have a contrast of 5.7 or more
+-- the classes: words, lanes, twelve colours, on each of which the words have a contrast of 5.7 or more, and the same
+-- with a dark foot
 abbrev pub style_text : List ℕ
-style_text = codes "</desc>\n<style>text{fill:#1d2433}.dim{fill:#5d6778}.label{font-weight:bold}.name{font-family:DejaVu Sans Mono,Menlo,Consolas,monospace}.lane{fill:#f0f2f6}.grid{stroke:#ffffff;stroke-width:100}.cut{stroke:#ffffff;stroke-width:80}.round{stroke:#1d2433;stroke-width:140}.sh{fill-opacity:.62}.c0{fill:#93b5fd}.c1{fill:#eab927}.c2{fill:#ace5d9}.c3{fill:#d9a3cc}.c4{fill:#82b24d}.c5{fill:#dabc98}.c6{fill:#9f92ef}.c7{fill:#e1dd63}.c8{fill:#7cae9b}.c9{fill:#b9ccf3}.c10{fill:#c389c8}.c11{fill:#e2d8ab}</style>\n"
+style_text = codes "</desc>\n<style>text{fill:#1d2433}.dim,.dim text{fill:#5d6778}.label{font-weight:bold}.name{font-family:DejaVu Sans Mono,Menlo,Consolas,monospace}.lane{fill:#f0f2f6}.grid{stroke:#ffffff;stroke-width:100}.cut{stroke:#ffffff;stroke-width:80}.round{stroke:#1d2433;stroke-width:140}.sh{fill-opacity:.62}.wait{stroke:#1d2433;stroke-width:180}.c0{fill:#93b5fd}.c1{fill:#eab927}.c2{fill:#ace5d9}.c3{fill:#d9a3cc}.c4{fill:#82b24d}.c5{fill:#dabc98}.c6{fill:#9f92ef}.c7{fill:#e1dd63}.c8{fill:#7cae9b}.c9{fill:#b9ccf3}.c10{fill:#c389c8}.c11{fill:#e2d8ab}.c12{fill:url(#f0)}.c13{fill:url(#f1)}.c14{fill:url(#f2)}.c15{fill:url(#f3)}.c16{fill:url(#f4)}.c17{fill:url(#f5)}.c18{fill:url(#f6)}.c19{fill:url(#f7)}.c20{fill:url(#f8)}.c21{fill:url(#f9)}.c22{fill:url(#f10)}.c23{fill:url(#f11)}</style>\n<defs><linearGradient id=\"f0\" x2=\"0\" y2=\"1\"><stop offset=\".78\" stop-color=\"#93b5fd\"/><stop offset=\".78\" stop-color=\"#1d2433\"/></linearGradient><linearGradient id=\"f1\" x2=\"0\" y2=\"1\"><stop offset=\".78\" stop-color=\"#eab927\"/><stop offset=\".78\" stop-color=\"#1d2433\"/></linearGradient><linearGradient id=\"f2\" x2=\"0\" y2=\"1\"><stop offset=\".78\" stop-color=\"#ace5d9\"/><stop offset=\".78\" stop-color=\"#1d2433\"/></linearGradient><linearGradient id=\"f3\" x2=\"0\" y2=\"1\"><stop offset=\".78\" stop-color=\"#d9a3cc\"/><stop offset=\".78\" stop-color=\"#1d2433\"/></linearGradient><linearGradient id=\"f4\" x2=\"0\" y2=\"1\"><stop offset=\".78\" stop-color=\"#82b24d\"/><stop offset=\".78\" stop-color=\"#1d2433\"/></linearGradient><linearGradient id=\"f5\" x2=\"0\" y2=\"1\"><stop offset=\".78\" stop-color=\"#dabc98\"/><stop offset=\".78\" stop-color=\"#1d2433\"/></linearGradient><linearGradient id=\"f6\" x2=\"0\" y2=\"1\"><stop offset=\".78\" stop-color=\"#9f92ef\"/><stop offset=\".78\" stop-color=\"#1d2433\"/></linearGradient><linearGradient id=\"f7\" x2=\"0\" y2=\"1\"><stop offset=\".78\" stop-color=\"#e1dd63\"/><stop offset=\".78\" stop-color=\"#1d2433\"/></linearGradient><linearGradient id=\"f8\" x2=\"0\" y2=\"1\"><stop offset=\".78\" stop-color=\"#7cae9b\"/><stop offset=\".78\" stop-color=\"#1d2433\"/></linearGradient><linearGradient id=\"f9\" x2=\"0\" y2=\"1\"><stop offset=\".78\" stop-color=\"#b9ccf3\"/><stop offset=\".78\" stop-color=\"#1d2433\"/></linearGradient><linearGradient id=\"f10\" x2=\"0\" y2=\"1\"><stop offset=\".78\" stop-color=\"#c389c8\"/><stop offset=\".78\" stop-color=\"#1d2433\"/></linearGradient><linearGradient id=\"f11\" x2=\"0\" y2=\"1\"><stop offset=\".78\" stop-color=\"#e2d8ab\"/><stop offset=\".78\" stop-color=\"#1d2433\"/></linearGradient></defs>\n"
 
 unfoldable pub title_begin : ℕ → List ℕ
 title_begin tall = codes "<path fill=\"#ffffff\" d=\"M0 0H116000V" ++ (decimal tall

@@ -1,8 +1,9 @@
--- The list of the vCPUs below the lanes: four in a row, by number.
-use Rattle.std.specs.Prelude.{ℕ, ◌+◌, ◌-◌, ◌*◌, ◌/◌, ◌%◌, ◌++◌, List, [], codes, decimal, length, slice_index, slice_get, Option, Some, None, min}
+-- The list of the vCPUs, or of the cores by whose numbers lanes of vCPUs are drawn, below the lanes: four in a row.
+use Rattle.std.specs.Prelude.{ℕ, ◌+◌, ◌-◌, ◌*◌, ◌/◌, ◌%◌, ◌++◌, Bool, true, false, List, [], codes, decimal, length, slice_index, slice_get, Option, Some, None, min}
 use Rattle.tab_words.specs.Texts.{texts_below}
 use Rattle.vcpu_names.specs.Names.{name_at}
 use Rattle.view_chart.specs.Marks.{per_mille, short_dots, short_front, tenths_ms}
+use Rattle.view_chart.specs.declared.frame.Frame.{Frame}
 use Rattle.view_doc.specs.declared.view.Task.{Task}
 
 -- where the column of a vCPU begins, and its row's line
@@ -10,17 +11,31 @@ abbrev pub column_of : ℕ → ℕ
 column_of v = 4000 + v % 4 * 27000
 
 abbrev pub row_of : ℕ → ℕ → ℕ
-row_of foot v = foot + 4200 + v / 4 * 1400
+row_of foot v = foot + 5500 + v / 4 * 1400
 
--- the first row
-unfoldable pub legend_head : ℕ → ℕ → ℕ → ℕ → List ℕ
-legend_head x share period y = codes "<text x=\"" ++ (decimal x ++ (codes "\" y=\"" ++ (decimal y
-    ++ (codes "\" font-size=\"1000\" class=\"label\">vCPU</text>\n<g font-size=\"900\" class=\"dim\" text-anchor=\"end\"><text x=\""
-    ++ (decimal share ++ (codes "\" y=\"" ++ (decimal y ++ (codes "\">share</text><text x=\"" ++ (decimal period
-    ++ (codes "\" y=\"" ++ (decimal y ++ codes "\">period</text></g>\n")))))))))))
+-- the first row: what is listed, and what is told of it where there are reservations
+abbrev pub listed_word : Bool → List ℕ
+listed_word false = codes "vCPU"
+listed_word true = codes "core"
 
-abbrev pub head_at : ℕ → ℕ → List ℕ
-head_at foot v = legend_head (column_of v) (column_of v + 19000) (column_of v + 25000) (foot + 2500)
+unfoldable pub legend_head : ℕ → ℕ → List ℕ → List ℕ
+legend_head x y word = codes "<text x=\"" ++ (decimal x ++ (codes "\" y=\"" ++ (decimal y
+    ++ (codes "\" font-size=\"1000\" class=\"label\">" ++ (word ++ codes "</text>\n")))))
+
+unfoldable pub task_head : ℕ → ℕ → ℕ → List ℕ
+task_head share period y = codes "<g font-size=\"900\" class=\"dim\" text-anchor=\"end\"><text x=\"" ++ (decimal share
+    ++ (codes "\" y=\"" ++ (decimal y ++ (codes "\">share</text><text x=\"" ++ (decimal period
+    ++ (codes "\" y=\"" ++ (decimal y ++ codes "\">period</text></g>\n")))))))
+
+abbrev pub task_heads : ℕ → ℕ → Option Task → List ℕ
+task_heads x y None = []
+task_heads x y (Some t) = task_head (x + 19000) (x + 25000) y
+
+abbrev pub head_from : Bool → ℕ → ℕ → Option Task → List ℕ
+head_from by_vcpu x y task = legend_head x y (listed_word by_vcpu) ++ task_heads x y task
+
+abbrev pub head_at : Frame → ℕ → List Task → ℕ → List ℕ
+head_at f foot tasks v = head_from f.by_vcpu (column_of v) (foot + 3800) (slice_get tasks v)
 
 -- a vCPU's colour and name
 unfoldable pub swatch : ℕ → ℕ → ℕ → List ℕ
@@ -54,10 +69,10 @@ abbrev pub legend_entry : ℕ → ℕ → List (List ℕ) → List Task → List
 legend_entry tick foot names tasks colours v = entry_at tick (column_of v) (row_of foot v) (slice_index colours v)
     (name_at names v) (slice_get tasks v)
 
-abbrev pub legend_text : ℕ → ℕ → List (List ℕ) → List Task → List ℕ → List ℕ
-legend_text tick foot names tasks colours = texts_below (head_at foot) (min (length names) 4)
-    ++ texts_below (legend_entry tick foot names tasks colours) (length names)
+abbrev pub legend_text : Frame → ℕ → List (List ℕ) → List Task → List ℕ → List ℕ
+legend_text f foot names tasks colours = texts_below (head_at f foot tasks) (min (length names) 4)
+    ++ texts_below (legend_entry f.tick foot names tasks colours) (length names)
 
 -- where it ends: below its last row
 abbrev pub end_of : ℕ → ℕ → ℕ
-end_of foot vcpus = foot + 4200 + (vcpus + 3) / 4 * 1400
+end_of foot count = foot + 5500 + (count + 3) / 4 * 1400

@@ -1,5 +1,5 @@
--- What of a view is drawn: its cores, its stretches, and the ticks up to which it goes.
-use Rattle.std.specs.Prelude.{ℕ, ◌+◌, ◌-◌, ◌*◌, ◌/◌, ◌^◌, ◌==◌, ◌&&◌, ◌||◌, nat_le, nat_lt, Bool, true, false, List, [], ◌∷◌, if◌then◌else◌, flat_map, max, min, Option, Some, None}
+-- What of a view is drawn: its lanes, by core or by vCPU, its stretches, and the ticks up to which it goes.
+use Rattle.std.specs.Prelude.{ℕ, ◌+◌, ◌-◌, ◌*◌, ◌/◌, ◌^◌, ◌==◌, ◌&&◌, ◌||◌, nat_le, nat_lt, Bool, true, false, List, [], ◌∷◌, if◌then◌else◌, flat_map, length, max, min, Option, Some, None}
 use Rattle.std.specs.List.{sum_by}
 use Rattle.tab_core.specs.declared.TheConstants.{ROUND}
 use Rattle.view_chart.specs.declared.frame.Bar.{Bar}
@@ -43,30 +43,59 @@ frame_of view options = record {
   from = options.from;
   to = end_at options.to (whole_of (shown_in view));
   tick = options.tick_ns;
+  by_vcpu = options.by_vcpu;
+  is_run = view.is_run;
 }
 
--- how many lanes there are: the cores that were asked for, of those that there are
+-- how many cores or vCPUs could have a lane, and how many have one: those that were asked for
+abbrev pub rows_in : View → ChartOptions → ℕ
+rows_in view options = if options.by_vcpu then length view.names.items else cores_in view
+
 abbrev pub lanes_of : View → ChartOptions → ℕ
-lanes_of view options = min (options.last + 1) (cores_in view) - options.first
+lanes_of view options = min (options.last + 1) (rows_in view options) - options.first
+
+-- the vCPU has it
+abbrev pub has_it : Use → ℕ → Bool
+has_it Idle v = false
+has_it (Slot owner) v = owner == v
+has_it (Shared owner) v = owner == v
+
+-- a stretch is on the lane of a core, or of a vCPU
+abbrev pub is_on : Bool → ℕ → Stretch → Bool
+is_on false row s = s.core == row
+is_on true row s = has_it s.by row
+
+-- what tells the bars of a lane apart: the vCPU on a core's lane, the core on a vCPU's
+abbrev pub key_of : Bool → Stretch → ℕ → ℕ
+key_of false s vcpu = vcpu
+key_of true s vcpu = s.core
 
 -- the ticks of a stretch that are shown, if a vCPU has them
 abbrev pub held_bars : Frame → Stretch → Use → List Bar
 held_bars f s Idle = []
-held_bars f s (Slot v) =
-    (record { from = max s.from f.from; end = min s.end f.to; vcpu = v; shared = false }) ∷ []
-held_bars f s (Shared v) =
-    (record { from = max s.from f.from; end = min s.end f.to; vcpu = v; shared = true }) ∷ []
+held_bars f s (Slot v) = (record {
+  from = max s.from f.from;
+  end = min s.end f.to;
+  key = key_of f.by_vcpu s v;
+  shared = false;
+}) ∷ []
+held_bars f s (Shared v) = (record {
+  from = max s.from f.from;
+  end = min s.end f.to;
+  key = key_of f.by_vcpu s v;
+  shared = true;
+}) ∷ []
 
--- the bar of a stretch on a core's lane, if it has ticks there
+-- the bar of a stretch on a lane, if it has ticks there
 abbrev pub bars_in : Frame → ℕ → Stretch → List Bar
-bars_in f core s =
-    if (s.core == core) && (nat_lt s.from f.to && nat_lt f.from s.end) then held_bars f s s.by else []
+bars_in f row s =
+    if is_on f.by_vcpu row s && (nat_lt s.from f.to && nat_lt f.from s.end) then held_bars f s s.by else []
 
--- the bars of a core's lane, in the order of the text
+-- the bars of a lane, in the order of the text
 abbrev pub lane_bars : Frame → List Stretch → ℕ → List Bar
-lane_bars f stretches core = flat_map (bars_in f core) stretches
+lane_bars f stretches row = flat_map (bars_in f row) stretches
 
--- nothing is shown: no tick, or no core
+-- nothing is shown: no tick, or no lane
 abbrev pub shows_nothing : ChartOptions → View → Bool
 shows_nothing options view =
     nat_le (frame_of view options).to (frame_of view options).from || (lanes_of view options == 0)

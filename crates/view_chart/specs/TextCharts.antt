@@ -88,12 +88,12 @@ abbrev pub head_lines : Head → List ℕ
 head_lines h = title_text h ++ (codes "\n" ++ (sub_text h ++ codes "\n"))
 
 -- the text of these lanes
-abbrev pub text_of : Frame → ℕ → ℕ → Bool → ℕ → List (List ℕ) → List (List Bar) → List ℕ
-text_of f columns first is_run cores names lanes = head_lines (head_of f is_run cores (length names) lanes)
+abbrev pub text_of : Frame → ℕ → ℕ → ℕ → List (List ℕ) → List (List Bar) → List ℕ
+text_of f columns first cores names lanes = head_lines (head_of f cores (length names) lanes)
     ++ (texts_below (line_at f columns (length names) first lanes) (length lanes)
     ++ texts_below (key_at names) (length names))
 
 -- the text of a view
 abbrev pub text_chart : ChartOptions → View → List ℕ
-text_chart options view = text_of (frame_of view options) options.width options.first view.is_run (cores_in view)
+text_chart options view = text_of (frame_of view options) options.width options.first (cores_in view)
     view.names.items (chart_lanes view options)

@@ -1,8 +1,8 @@
 ghost use Rattle.std.specs.Prelude.{◌≡◌, ◌<◌, ◌≤◌, ◌*◌, ◌+◌, ◌-◌, ◌^◌};
-ghost use Rattle.tab_core.specs.declared.TheConstants.{MAX_CORES};
+ghost use Rattle.tab_core.specs.declared.TheConstants.{MAX_VCPUS};
 ghost use Rattle.tab_io.specs.Sinks.{Writes};
 ghost use Rattle.tab_words.specs.Texts.{texts_below};
-ghost use Rattle.view_chart.specs.Axes.{axis_of, axis_text, end_mark, first_mark, grid_line, line_at, mark_at, mark_text, micros_at, number_at, step_in, step_of, tick_at, unit_of, unit_word};
+ghost use Rattle.view_chart.specs.Axes.{axis_of, axis_text, end_mark, end_tick, first_mark, first_tick, grid_line, line_at, mark_at, mark_text, micros_at, number_at, step_in, step_of, tick_at, tick_axis, tick_axis_of, tick_number, tick_step, tick_text, ticks_word, time_axis, unit_of, unit_word};
 ghost use Rattle.view_chart.specs.Frames.{foot_of};
 
 use crate::frame::Frame;
@@ -42,10 +42,18 @@ const STEPS: [u32; 28] = [
     1_000_000_000,
 ];
 
-// Writes the axis of time, with lines through so many lanes.
+// Writes the axes of time and of ticks, with lines through so many lanes.
 pub(crate) fn put_axis<K: Sink>(sink: &mut K, frame: &Frame, lanes: u32) -> Result<(), WriteFault>
-    requires { lanes ≤ MAX_CORES }
+    requires { lanes ≤ MAX_VCPUS }
     ensures { Writes (K.state sink.old) (K.state sink.new) (axis_text frame.now (foot_of lanes)) result }
+{
+    put_time_axis(sink, frame, lanes)?;
+    put_tick_axis(sink, frame, lanes)
+}
+
+fn put_time_axis<K: Sink>(sink: &mut K, frame: &Frame, lanes: u32) -> Result<(), WriteFault>
+    requires { lanes ≤ MAX_VCPUS }
+    ensures { Writes (K.state sink.old) (K.state sink.new) (time_axis frame.now (foot_of lanes)) result }
 {
     put_axis_of(sink, frame, foot_of(lanes), marks_of(frame))
 }
@@ -241,4 +249,121 @@ fn unit_word(step: u64) -> &'static [u8]
     ensures { result.now ≡ unit_word step }
 {
     if step >= 1000 { b"ms" } else { b"us" }
+}
+
+// Writes the numbers of ticks below so many lanes.
+fn put_tick_axis<K: Sink>(sink: &mut K, frame: &Frame, lanes: u32) -> Result<(), WriteFault>
+    requires { lanes ≤ MAX_VCPUS }
+    ensures { Writes (K.state sink.old) (K.state sink.new) (tick_axis frame.now (foot_of lanes)) result }
+{
+    put_tick_axis_of(sink, frame, foot_of(lanes) + 1300, tick_marks(frame))
+}
+
+fn put_tick_axis_of<K: Sink>(
+    sink: &mut K,
+    frame: &Frame,
+    y: u32,
+    marks: u64,
+) -> Result<(), WriteFault>
+    requires { marks ≤ end_tick frame.now - first_tick frame.now }
+    ensures { Writes (K.state sink.old) (K.state sink.new) (tick_axis_of frame.now y marks) result }
+{
+    put_tick_numbers(sink, frame, y, marks)?;
+    put_ticks_word(sink, y)
+}
+
+#[tactic(auto, unfolding(crate::specs::Axes::ticks_word))]
+fn put_ticks_word<K: Sink>(sink: &mut K, y: u32) -> Result<(), WriteFault>
+    ensures { Writes (K.state sink.old) (K.state sink.new) (ticks_word y) result }
+{
+    put_pieces(
+        sink,
+        &[
+            TextPiece::Text(b"<text x=\"4000\" y=\""),
+            TextPiece::Number(y),
+            TextPiece::Text(b"\" font-size=\"900\" class=\"dim\">ticks</text>\n"),
+        ],
+    )
+}
+
+// The ticks between two marks.
+fn tick_step(frame: &Frame) -> u64
+    ensures value { result ≡ tick_step frame.now }
+    ensures some { 0 < result }
+    ensures small { result < 2 ^ 32 }
+{
+    step_in(u64::from(span_of(frame)), &STEPS)
+}
+
+// The number of the first mark, and of the one behind the last.
+fn first_tick(frame: &Frame) -> u64
+    ensures { result ≡ first_tick frame.now }
+{
+    let step = tick_step(frame);
+    (u64::from(frame.from) + (step - 1)) / step
+}
+
+fn end_tick(frame: &Frame) -> u64
+    ensures { result ≡ end_tick frame.now }
+{
+    u64::from(frame.to) / tick_step(frame) + 1
+}
+
+// How many marks there are.
+fn tick_marks(frame: &Frame) -> u64
+    ensures { result ≡ end_tick frame.now - first_tick frame.now }
+{
+    end_tick(frame).saturating_sub(first_tick(frame))
+}
+
+fn put_tick_numbers<K: Sink>(
+    sink: &mut K,
+    frame: &Frame,
+    y: u32,
+    marks: u64,
+) -> Result<(), WriteFault>
+    requires { marks ≤ end_tick frame.now - first_tick frame.now }
+    ensures { Writes (K.state sink.old) (K.state sink.new) (texts_below (tick_number frame.now y) marks) result }
+{
+    for k in 0..marks {
+        put_tick_number(sink, frame, y, k)?;
+    }
+    Ok(())
+}
+
+fn put_tick_number<K: Sink>(sink: &mut K, frame: &Frame, y: u32, k: u64) -> Result<(), WriteFault>
+    requires { k < end_tick frame.now - first_tick frame.now }
+    ensures { Writes (K.state sink.old) (K.state sink.new) (tick_number frame.now y k) result }
+{
+    let tick = marked_tick(frame, k);
+    put_tick(sink, x_at(frame, tick), y, tick)
+}
+
+// The tick of the mark of a number.
+fn marked_tick(frame: &Frame, k: u64) -> u32
+    requires { k < end_tick frame.now - first_tick frame.now }
+    ensures { result ≡ (first_tick frame.now + k) * tick_step frame.now }
+{
+    let last = u64::from(frame.to);
+    let tick = (first_tick(frame) + k) * tick_step(frame);
+    prove!(tick <= last);
+    tick as u32
+}
+
+#[tactic(auto, unfolding(crate::specs::Axes::tick_text))]
+fn put_tick<K: Sink>(sink: &mut K, x: u64, y: u32, tick: u32) -> Result<(), WriteFault>
+    ensures { Writes (K.state sink.old) (K.state sink.new) (tick_text x y tick) result }
+{
+    put_pieces(
+        sink,
+        &[
+            TextPiece::Text(b"<text x=\""),
+            TextPiece::Wide(x),
+            TextPiece::Text(b"\" y=\""),
+            TextPiece::Number(y),
+            TextPiece::Text(b"\" font-size=\"900\" class=\"dim\" text-anchor=\"middle\">"),
+            TextPiece::Number(tick),
+            TextPiece::Text(b"</text>\n"),
+        ],
+    )
 }

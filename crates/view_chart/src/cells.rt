@@ -136,7 +136,7 @@ pub(crate) fn add_bars(ticks: &mut [u64], frame: &Frame, columns: u32, bars: &[B
         + sum_of (λ w. w == v) frame.now columns bars.now j) }
 {
     for bar in bars {
-        if bar.vcpu.index() == v {
+        if usize::from(bar.key) == v {
             add_bar(ticks, frame, columns, bar);
         }
     }

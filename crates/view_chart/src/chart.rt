@@ -1,20 +1,24 @@
-ghost use Rattle.std.specs.Prelude.{◌≡◌, ◌<◌, ◌≤◌, ◌+◌, ◌^◌, ℕ, IfOk, IsErrOf, Ok, Err, length, true};
+ghost use Rattle.std.specs.Prelude.{◌≡◌, ◌<◌, ◌≤◌, ◌+◌, ◌^◌, ℕ, IfErr, IfOk, IsErrOf, Ok, Err, length, true};
 ghost use Rattle.tab_core.specs.declared.TheConstants.{MAX_CORES, MAX_VCPUS};
 ghost use Rattle.tab_io.specs.Sinks.{Writes};
-ghost use Rattle.view_chart.specs.Charts.{chart_text};
-ghost use Rattle.view_chart.specs.Shown.{shows_nothing};
+ghost use Rattle.view_chart.specs.Charts.{chart_lanes, chart_text, cores_chart, vcpu_tones, vcpus_chart};
+ghost use Rattle.view_chart.specs.Shown.{frame_of, shows_nothing};
+ghost use Rattle.view_table.specs.Figures.{AreFigures};
 ghost use Rattle.view_chart.specs.declared.chart.ChartFault.TheVariants as fault;
 
 use crate::colours::colours_of;
-use crate::frame::ChartOptions;
-use crate::lanes::lanes_from;
+use crate::frame::{ChartOptions, Frame};
+use crate::lanes::{Lane, lanes_from};
 use crate::picture::put_picture;
 use crate::shown::{cores_in, frame_of, lanes_of, shown_in, shows_nothing};
+use crate::tones::{core_names, core_tones, tones_of};
 use std::alloc::{AllocError, Global};
 use std::error::Error;
 use std::fmt;
+use tab_core::NoMemory;
 use tab_io::{Sink, WriteFault};
 use view_doc::View;
+use view_table::Figures;
 
 /// Why a view isn't drawn.
 #[derive(Clone, Copy, Debug, PartialEq, Eq, Hash)]
@@ -40,21 +44,24 @@ impl Error for ChartFault {}
 
 /// Draws a view of at most 32 cores and 256 vCPUs as a picture, in SVG.
 ///
-/// Each core that the options name has a lane, with a box for each slot of a plan or stint of a run of
-/// the ticks that are shown. A fault of writing leaves a front of the text in the sink; nothing is
-/// written where there is no memory, or where no tick or no core is shown. Nothing is settled.
+/// Each core or vCPU that the options name has a lane, with a box for each slot of a plan or stint of a run of
+/// the ticks that are shown. On a vCPU's lane of a plan a line marks its longest wait, which the figures have.
+/// A fault of writing leaves a front of the text in the sink; nothing is written where there is no memory, or
+/// where no tick or no lane is shown. Nothing is settled.
 pub fn write_chart<K: Sink>(
     alloc: Global,
     sink: &mut K,
     view: &View,
+    figures: &Figures,
     options: &ChartOptions,
 ) -> Result<(), ChartFault>
     requires cores { view.now.cores ≤ MAX_CORES }
     requires vcpus { length view.now.names.items ≤ MAX_VCPUS }
+    requires figures { AreFigures view.now figures.now }
     ensures ok { IfOk result (λ u. Writes (K.state sink.old) (K.state sink.new)
-        (chart_text options.now view.now) (Ok u)) }
+        (chart_text options.now view.now figures.now) (Ok u)) }
     ensures broken { IsErrOf result fault.Write → Writes {U = Unit {0}} (K.state sink.old) (K.state sink.new)
-        (chart_text options.now view.now) (Err (record {})) }
+        (chart_text options.now view.now figures.now) (Err (record {})) }
     ensures nothing { IsErrOf result fault.Nothing → shows_nothing options.now view.now ≡ true }
     ensures nothing_due { shows_nothing options.now view.now ≡ true → IsErrOf result fault.Nothing }
     ensures unwritten { IsErrOf result fault.NoMemory → sink.new ≡ sink.old }
@@ -65,27 +72,116 @@ pub fn write_chart<K: Sink>(
     }
     let count = lanes_of(view, options);
     let frame = frame_of(view, options);
-    let stretches = shown_in(view);
-    let Ok(lanes) = lanes_from(alloc, &frame, stretches, options.first, count) else {
+    let Ok(lanes) = lanes_from(alloc, &frame, shown_in(view), options.first, count) else {
         return Err(ChartFault::NoMemory);
     };
-    let Ok(colours) = colours_of(alloc, stretches, &view.tasks, view.names.len()) else {
+    if options.by_vcpu {
+        draw_vcpus(alloc, sink, view, figures, options, &frame, &lanes)
+    } else {
+        draw_cores(alloc, sink, view, figures, options, &frame, &lanes)
+    }
+}
+
+// Draws lanes of cores.
+fn draw_cores<K: Sink>(
+    alloc: Global,
+    sink: &mut K,
+    view: &View,
+    figures: &Figures,
+    options: &ChartOptions,
+    frame: &Frame,
+    lanes: &[Lane],
+) -> Result<(), ChartFault>
+    requires vcpus { length view.now.names.items ≤ MAX_VCPUS }
+    requires frame { frame.now ≡ frame_of view.now options.now }
+    requires lanes { lanes.now ≡ chart_lanes view.now options.now }
+    requires few { length lanes.now ≤ MAX_VCPUS }
+    ensures ok { IfOk result (λ u. Writes (K.state sink.old) (K.state sink.new)
+        (cores_chart options.now view.now figures.now) (Ok u)) }
+    ensures broken { IsErrOf result fault.Write → Writes {U = Unit {0}} (K.state sink.old) (K.state sink.new)
+        (cores_chart options.now view.now figures.now) (Err (record {})) }
+    ensures some { IsErrOf result fault.Nothing → ⊥ }
+    ensures unwritten { IsErrOf result fault.NoMemory → sink.new ≡ sink.old }
+{
+    let Ok(tones) = vcpu_tones(alloc, view, figures) else {
         return Err(ChartFault::NoMemory);
     };
-    let drawn = put_picture(
+    told(put_picture(
         sink,
-        &frame,
+        frame,
         options.width,
         options.first,
-        view.is_run,
         cores_in(view),
         &view.names,
+        figures,
+        &view.names,
         &view.tasks,
-        &colours,
-        &lanes,
-    );
-    match drawn {
+        &tones,
+        lanes,
+    ))
+}
+
+// Draws lanes of vCPUs.
+fn draw_vcpus<K: Sink>(
+    alloc: Global,
+    sink: &mut K,
+    view: &View,
+    figures: &Figures,
+    options: &ChartOptions,
+    frame: &Frame,
+    lanes: &[Lane],
+) -> Result<(), ChartFault>
+    requires cores { view.now.cores ≤ MAX_CORES }
+    requires frame { frame.now ≡ frame_of view.now options.now }
+    requires lanes { lanes.now ≡ chart_lanes view.now options.now }
+    requires few { length lanes.now ≤ MAX_VCPUS }
+    ensures ok { IfOk result (λ u. Writes (K.state sink.old) (K.state sink.new)
+        (vcpus_chart options.now view.now figures.now) (Ok u)) }
+    ensures broken { IsErrOf result fault.Write → Writes {U = Unit {0}} (K.state sink.old) (K.state sink.new)
+        (vcpus_chart options.now view.now figures.now) (Err (record {})) }
+    ensures some { IsErrOf result fault.Nothing → ⊥ }
+    ensures unwritten { IsErrOf result fault.NoMemory → sink.new ≡ sink.old }
+{
+    let cores = cores_in(view);
+    let Ok(names) = core_names(alloc, cores) else {
+        return Err(ChartFault::NoMemory);
+    };
+    let Ok(tones) = core_tones(alloc, cores) else {
+        return Err(ChartFault::NoMemory);
+    };
+    told(put_picture(
+        sink,
+        frame,
+        options.width,
+        options.first,
+        cores,
+        &view.names,
+        figures,
+        &names,
+        &[],
+        &tones,
+        lanes,
+    ))
+}
+
+// What a fault of writing is here.
+fn told(written: Result<(), WriteFault>) -> Result<(), ChartFault>
+    ensures ok { IfOk result (λ u. written ≡ Ok u) }
+    ensures broken { IfErr result (λ f. (f ≡ fault.Write) × (written ≡ Err (record {}))) }
+{
+    match written {
         Ok(()) => Ok(()),
         Err(WriteFault) => Err(ChartFault::Write),
     }
+}
+
+// The tones of the vCPUs.
+fn vcpu_tones(alloc: Global, view: &View, figures: &Figures) -> Result<Vec<u32>, NoMemory>
+    requires { length view.now.names.items ≤ MAX_VCPUS }
+    ensures tones { IfOk result (λ tones. tones.items ≡ vcpu_tones view.now figures.now) }
+    ensures count { IfOk result (λ tones. length tones.items ≡ length view.now.names.items) }
+{
+    let count = view.names.len();
+    let colours = colours_of(alloc, shown_in(view), &view.tasks, count)?;
+    tones_of(alloc, view.is_run, figures, &colours, count)
 }

@@ -1,7 +1,8 @@
 ghost use Rattle.std.specs.Prelude.{◌≡◌, ◌<◌, ◌≤◌, ◌||◌, ◌^◌, ℕ, Bool, List, IfOk, false, length, slice_get};
 ghost use Rattle.tab_core.specs.VcpuSets.{has_vcpu};
 ghost use Rattle.tab_core.specs.declared.TheConstants.{MAX_CORES, MAX_VCPUS};
-ghost use Rattle.view_chart.specs.Colours.{any_below, colours_below, colours_of, first_free, has_it, is_home, is_taken, meets, next_colour, runs_on, stands_on};
+ghost use Rattle.view_chart.specs.Colours.{any_below, colours_below, colours_of, core_names, core_tones, first_free, has_foot, is_home, is_split, is_taken, meets, next_colour, runs_on, stands_at, stands_on, tone, tones_below, tones_of, twice_below};
+ghost use Rattle.view_chart.specs.Shown.{has_it};
 ghost use Rattle.view_chart.specs.Inside.Standing.{AreOn};
 
 use std::alloc::{AllocError, Global};

@@ -62,7 +62,7 @@ fn put_column<K: Sink>(
     requires few { v < length colours.now }
     requires low { y < 2 ^ 31 }
     requires high { high ≤ 4000 }
-    requires held { held ≡ list_any (λ bar. bar.vcpu == v) bars.now }
+    requires held { held ≡ list_any (λ bar. bar.key == v) bars.now }
     requires below { AreBelow frame.now bars.now v ticks.old }
     ensures wrote { Writes (K.state sink.old) (K.state sink.new)
         (column_path frame.now y high names.now tasks.now colours.now bars.now v) result }
@@ -108,11 +108,11 @@ fn put_titled<K: Sink>(
     requires with { AreBelow frame.now bars.now (v + 1) with.now }
     ensures { Writes (K.state sink.old) (K.state sink.new)
         (titled_path colour [] (texts_below (column_box frame.now y high bars.now v) 200)
-        (note_of frame.now.tick name.now (slice_get tasks.now v)) []) result }
+        (note_of frame.now name.now (slice_get tasks.now v)) []) result }
 {
     put_path_begin(sink, colour, b"")?;
     put_boxes(sink, frame, y, high, bars, v, below, with)?;
-    put_path_end(sink, frame.tick, name, tasks, v, b"")
+    put_path_end(sink, frame, name, tasks, v, b"")
 }
 
 // Writes its boxes.

@@ -1,11 +1,11 @@
-use tab_core::VcpuNo;
-
 /// What is shown of a view, and how.
 #[derive(Clone, Copy, Debug)]
 pub struct ChartOptions {
-    /// The first core that has a lane.
+    /// Whether each vCPU has a lane, with boxes by core; else each core has one, with boxes by vCPU.
+    pub by_vcpu: bool,
+    /// The first core or vCPU that has a lane.
     pub first: u32,
-    /// The last core that has a lane, if there are so many.
+    /// The last that has a lane, if there are so many.
     pub last: u32,
     /// The first tick that is shown.
     pub from: u32,
@@ -17,19 +17,23 @@ pub struct ChartOptions {
     pub tick_ns: u16,
 }
 
-// The ticks that are shown, from the first up to, and without, the last, and how many ns one has.
+// The ticks that are shown, from the first up to, and without, the last, how many ns one has, whether the lanes
+// are those of vCPUs, and whether a run is shown.
 #[derive(Clone, Copy)]
 pub(crate) struct Frame {
     pub(crate) from: u32,
     pub(crate) to: u32,
     pub(crate) tick: u16,
+    pub(crate) by_vcpu: bool,
+    pub(crate) is_run: bool,
 }
 
-// The ticks of a lane that a vCPU has, in its slot or in time that nobody used.
+// The ticks of a lane that a vCPU has, in its slot or in time that nobody used. What tells the bars of a lane
+// apart is the vCPU's number on a core's lane, and the core's on a vCPU's.
 #[derive(Clone, Copy)]
 pub(crate) struct Bar {
     pub(crate) from: u32,
     pub(crate) end: u32,
-    pub(crate) vcpu: VcpuNo,
+    pub(crate) key: u8,
     pub(crate) shared: bool,
 }

@@ -1,6 +1,6 @@
 ghost use Rattle.std.specs.Prelude.{◌≡◌, ◌<◌, ◌≤◌, ◌*◌, ◌/◌};
 ghost use Rattle.tab_io.specs.Sinks.{Writes};
-ghost use Rattle.view_chart.specs.Heads.{head_text, kind_word, style_text, sub_text, svg_begin, title_begin, title_of, title_text};
+ghost use Rattle.view_chart.specs.Heads.{head_text, kind_word, lanes_note, lanes_word, share_text, style_text, sub_end, sub_text, svg_begin, ticks_text, title_begin, title_of, title_text};
 
 use crate::marks::plural;
 use tab_io::{Sink, WriteFault, write_all};
@@ -10,6 +10,7 @@ use tab_words::{TextPiece, put_pieces};
 #[derive(Clone, Copy)]
 pub(crate) struct Head {
     pub(crate) is_run: bool,
+    pub(crate) by_vcpu: bool,
     pub(crate) cores: u32,
     pub(crate) vcpus: u64,
     pub(crate) from: u32,
@@ -83,7 +84,7 @@ fn put_style<K: Sink>(sink: &mut K) -> Result<(), WriteFault>
 {
     write_all(
         sink,
-        b"</desc>\n<style>text{fill:#1d2433}.dim{fill:#5d6778}.label{font-weight:bold}.name{font-family:DejaVu Sans Mono,Menlo,Consolas,monospace}.lane{fill:#f0f2f6}.grid{stroke:#ffffff;stroke-width:100}.cut{stroke:#ffffff;stroke-width:80}.round{stroke:#1d2433;stroke-width:140}.sh{fill-opacity:.62}.c0{fill:#93b5fd}.c1{fill:#eab927}.c2{fill:#ace5d9}.c3{fill:#d9a3cc}.c4{fill:#82b24d}.c5{fill:#dabc98}.c6{fill:#9f92ef}.c7{fill:#e1dd63}.c8{fill:#7cae9b}.c9{fill:#b9ccf3}.c10{fill:#c389c8}.c11{fill:#e2d8ab}</style>\n",
+        b"</desc>\n<style>text{fill:#1d2433}.dim,.dim text{fill:#5d6778}.label{font-weight:bold}.name{font-family:DejaVu Sans Mono,Menlo,Consolas,monospace}.lane{fill:#f0f2f6}.grid{stroke:#ffffff;stroke-width:100}.cut{stroke:#ffffff;stroke-width:80}.round{stroke:#1d2433;stroke-width:140}.sh{fill-opacity:.62}.wait{stroke:#1d2433;stroke-width:180}.c0{fill:#93b5fd}.c1{fill:#eab927}.c2{fill:#ace5d9}.c3{fill:#d9a3cc}.c4{fill:#82b24d}.c5{fill:#dabc98}.c6{fill:#9f92ef}.c7{fill:#e1dd63}.c8{fill:#7cae9b}.c9{fill:#b9ccf3}.c10{fill:#c389c8}.c11{fill:#e2d8ab}.c12{fill:url(#f0)}.c13{fill:url(#f1)}.c14{fill:url(#f2)}.c15{fill:url(#f3)}.c16{fill:url(#f4)}.c17{fill:url(#f5)}.c18{fill:url(#f6)}.c19{fill:url(#f7)}.c20{fill:url(#f8)}.c21{fill:url(#f9)}.c22{fill:url(#f10)}.c23{fill:url(#f11)}</style>\n<defs><linearGradient id=\"f0\" x2=\"0\" y2=\"1\"><stop offset=\".78\" stop-color=\"#93b5fd\"/><stop offset=\".78\" stop-color=\"#1d2433\"/></linearGradient><linearGradient id=\"f1\" x2=\"0\" y2=\"1\"><stop offset=\".78\" stop-color=\"#eab927\"/><stop offset=\".78\" stop-color=\"#1d2433\"/></linearGradient><linearGradient id=\"f2\" x2=\"0\" y2=\"1\"><stop offset=\".78\" stop-color=\"#ace5d9\"/><stop offset=\".78\" stop-color=\"#1d2433\"/></linearGradient><linearGradient id=\"f3\" x2=\"0\" y2=\"1\"><stop offset=\".78\" stop-color=\"#d9a3cc\"/><stop offset=\".78\" stop-color=\"#1d2433\"/></linearGradient><linearGradient id=\"f4\" x2=\"0\" y2=\"1\"><stop offset=\".78\" stop-color=\"#82b24d\"/><stop offset=\".78\" stop-color=\"#1d2433\"/></linearGradient><linearGradient id=\"f5\" x2=\"0\" y2=\"1\"><stop offset=\".78\" stop-color=\"#dabc98\"/><stop offset=\".78\" stop-color=\"#1d2433\"/></linearGradient><linearGradient id=\"f6\" x2=\"0\" y2=\"1\"><stop offset=\".78\" stop-color=\"#9f92ef\"/><stop offset=\".78\" stop-color=\"#1d2433\"/></linearGradient><linearGradient id=\"f7\" x2=\"0\" y2=\"1\"><stop offset=\".78\" stop-color=\"#e1dd63\"/><stop offset=\".78\" stop-color=\"#1d2433\"/></linearGradient><linearGradient id=\"f8\" x2=\"0\" y2=\"1\"><stop offset=\".78\" stop-color=\"#7cae9b\"/><stop offset=\".78\" stop-color=\"#1d2433\"/></linearGradient><linearGradient id=\"f9\" x2=\"0\" y2=\"1\"><stop offset=\".78\" stop-color=\"#b9ccf3\"/><stop offset=\".78\" stop-color=\"#1d2433\"/></linearGradient><linearGradient id=\"f10\" x2=\"0\" y2=\"1\"><stop offset=\".78\" stop-color=\"#c389c8\"/><stop offset=\".78\" stop-color=\"#1d2433\"/></linearGradient><linearGradient id=\"f11\" x2=\"0\" y2=\"1\"><stop offset=\".78\" stop-color=\"#e2d8ab\"/><stop offset=\".78\" stop-color=\"#1d2433\"/></linearGradient></defs>\n",
     )
 }
 
@@ -114,6 +115,7 @@ pub(crate) fn put_title<K: Sink>(sink: &mut K, head: &Head) -> Result<(), WriteF
         plural(u64::from(head.cores)),
         head.vcpus,
         plural(head.vcpus),
+        lanes_word(head.by_vcpu),
     )
 }
 
@@ -125,9 +127,10 @@ fn put_title_of<'a, K: Sink>(
     many: &'a [u8],
     vcpus: u64,
     more: &'a [u8],
+    lanes: &'a [u8],
 ) -> Result<(), WriteFault>
     ensures { Writes (K.state sink.old) (K.state sink.new)
-        (title_of kind.now cores many.now vcpus more.now) result }
+        (title_of kind.now cores many.now vcpus more.now lanes.now) result }
 {
     put_pieces(
         sink,
@@ -141,6 +144,7 @@ fn put_title_of<'a, K: Sink>(
             TextPiece::Wide(vcpus),
             TextPiece::Text(b" vCPU"),
             TextPiece::Text(more),
+            TextPiece::Text(lanes),
         ],
     )
 }
@@ -152,25 +156,73 @@ fn kind_word(is_run: bool) -> &'static [u8]
     if is_run { b"Run" } else { b"Plan" }
 }
 
-#[tactic(auto, unfolding(crate::specs::Heads::sub_text))]
+// What the lanes are, where it isn't cores.
+fn lanes_word(by_vcpu: bool) -> &'static [u8]
+    ensures { result.now ≡ lanes_word by_vcpu }
+{
+    if by_vcpu { b", by vCPU" } else { b"" }
+}
+
+// Writes which ticks are shown, and what of them.
 pub(crate) fn put_sub<K: Sink>(sink: &mut K, head: &Head) -> Result<(), WriteFault>
     ensures { Writes (K.state sink.old) (K.state sink.new) (sub_text head.now) result }
+{
+    put_ticks(sink, head.from, head.to, head.lasting)?;
+    put_sub_end(sink, head)
+}
+
+#[tactic(auto, unfolding(crate::specs::Heads::ticks_text))]
+fn put_ticks<K: Sink>(sink: &mut K, from: u32, to: u32, lasting: u64) -> Result<(), WriteFault>
+    ensures { Writes (K.state sink.old) (K.state sink.new) (ticks_text from to lasting) result }
 {
     put_pieces(
         sink,
         &[
             TextPiece::Text(b"Ticks "),
-            TextPiece::Number(head.from),
+            TextPiece::Number(from),
             TextPiece::Text(b" to "),
-            TextPiece::Number(head.to),
+            TextPiece::Number(to),
             TextPiece::Text(b": "),
-            TextPiece::Wide(head.lasting / 10),
+            TextPiece::Wide(lasting / 10),
             TextPiece::Text(b"."),
-            TextPiece::Wide(head.lasting % 10),
-            TextPiece::Text(b" ms, of which vCPUs have "),
-            TextPiece::Wide(head.share / 10),
+            TextPiece::Wide(lasting % 10),
+            TextPiece::Text(b" ms"),
+        ],
+    )
+}
+
+fn put_sub_end<K: Sink>(sink: &mut K, head: &Head) -> Result<(), WriteFault>
+    ensures { Writes (K.state sink.old) (K.state sink.new) (sub_end head.now) result }
+{
+    if head.by_vcpu {
+        write_all(sink, lanes_note(head.is_run))
+    } else {
+        put_share(sink, head.share)
+    }
+}
+
+// What stands on the lanes of vCPUs.
+fn lanes_note(is_run: bool) -> &'static [u8]
+    ensures { result.now ≡ lanes_note is_run }
+{
+    if is_run {
+        b". The lanes are the vCPUs', the boxes the cores'."
+    } else {
+        b". A dark line is the longest wait for a slot; right of it how long that is."
+    }
+}
+
+#[tactic(auto, unfolding(crate::specs::Heads::share_text))]
+fn put_share<K: Sink>(sink: &mut K, share: u64) -> Result<(), WriteFault>
+    ensures { Writes (K.state sink.old) (K.state sink.new) (share_text share) result }
+{
+    put_pieces(
+        sink,
+        &[
+            TextPiece::Text(b", of which vCPUs have "),
+            TextPiece::Wide(share / 10),
             TextPiece::Text(b"."),
-            TextPiece::Wide(head.share % 10),
+            TextPiece::Wide(share % 10),
             TextPiece::Text(b" %."),
         ],
     )

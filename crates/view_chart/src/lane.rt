@@ -4,7 +4,7 @@ ghost use Rattle.tab_core.specs.declared.TheConstants.{MAX_VCPUS};
 ghost use Rattle.tab_io.specs.Sinks.{Writes};
 ghost use Rattle.tab_words.specs.Texts.{texts_below};
 ghost use Rattle.view_chart.specs.Frames.{letters_of};
-ghost use Rattle.view_chart.specs.Lanes.{bar_box, bar_name, bars_text, box_of, core_label, cut_line, cut_of, is_of, label_text, line_in, name_text, names_begin, note_of, path_begin, path_end, share_label, titled_path, top_in, vcpu_path, vcpu_paths, way_class, way_word, width_of};
+ghost use Rattle.view_chart.specs.Lanes.{bar_box, bar_name, bars_text, box_of, cut_line, cut_of, is_of, line_in, name_text, names_begin, note_of, path_begin, path_end, titled_path, top_in, vcpu_path, vcpu_paths, way_class, way_word, width_of};
 
 use crate::frame::{Bar, Frame};
 use crate::holders::holders_of;
@@ -83,7 +83,7 @@ fn put_paths<K: Sink>(
     v: usize,
 ) -> Result<(), WriteFault>
     requires few { v < length colours.now }
-    requires held { held ≡ list_any (λ bar. bar.vcpu == v) bars.now }
+    requires held { held ≡ list_any (λ bar. bar.key == v) bars.now }
     requires low { y < 2 ^ 31 }
     requires high { high ≤ 4000 }
     ensures { Writes (K.state sink.old) (K.state sink.new)
@@ -150,11 +150,11 @@ fn put_titled<K: Sink>(
     requires high { high ≤ 4000 }
     ensures { Writes (K.state sink.old) (K.state sink.new)
         (titled_path colour (way_class shared) (flat_map (box_of frame.now y high v shared) bars.now)
-        (note_of frame.now.tick name.now (slice_get tasks.now v)) (way_word shared)) result }
+        (note_of frame.now name.now (slice_get tasks.now v)) (way_word shared)) result }
 {
     put_way_begin(sink, colour, shared)?;
     put_boxes(sink, frame, y, high, bars, shared, v)?;
-    put_way_end(sink, frame.tick, name, tasks, v, shared)
+    put_way_end(sink, frame, name, tasks, v, shared)
 }
 
 fn put_way_begin<K: Sink>(sink: &mut K, colour: u32, shared: bool) -> Result<(), WriteFault>
@@ -165,16 +165,16 @@ fn put_way_begin<K: Sink>(sink: &mut K, colour: u32, shared: bool) -> Result<(),
 
 fn put_way_end<K: Sink>(
     sink: &mut K,
-    tick: u16,
+    frame: &Frame,
     name: &[u8],
     tasks: &[Task],
     v: usize,
     shared: bool,
 ) -> Result<(), WriteFault>
     ensures { Writes (K.state sink.old) (K.state sink.new)
-        (path_end (note_of tick name.now (slice_get tasks.now v)) (way_word shared)) result }
+        (path_end (note_of frame.now name.now (slice_get tasks.now v)) (way_word shared)) result }
 {
-    put_path_end(sink, tick, name, tasks, v, way_word(shared))
+    put_path_end(sink, frame, name, tasks, v, way_word(shared))
 }
 
 // Whether a bar is the vCPU's, and run in this way.
@@ -182,7 +182,7 @@ fn is_of(bar: &Bar, v: usize, shared: bool) -> bool
     ensures { result ≡ is_of v shared bar.now }
 {
     let so = if shared { bar.shared } else { !bar.shared };
-    bar.vcpu.index() == v && so
+    usize::from(bar.key) == v && so
 }
 
 // Whether one of the bars is.
@@ -385,7 +385,7 @@ fn put_bar_name<K: Sink>(
     requires high { high ≤ 4000 }
     ensures { Writes (K.state sink.old) (K.state sink.new) (bar_name frame.now y high names.now bar.now) result }
 {
-    let name = name_at(names, bar.vcpu.index());
+    let name = name_at(names, usize::from(bar.key));
     let letters = letters_of(high);
     let x0 = x_at(frame, bar.from);
     let x1 = x_at(frame, bar.end);
@@ -413,7 +413,7 @@ fn width_of(letters: u32, name: &[u8]) -> u64
 }
 
 // The line on which letters stand in the middle of what is so high.
-fn line_in(y: u32, high: u32, letters: u32) -> u32
+pub(crate) fn line_in(y: u32, high: u32, letters: u32) -> u32
     requires low { y < 2 ^ 32 - 10000 }
     requires high { high ≤ 4000 }
     requires small { letters ≤ 1000 }
@@ -436,81 +436,6 @@ fn put_name<K: Sink>(sink: &mut K, x: u64, y: u32, name: &[u8]) -> Result<(), Wr
             TextPiece::Text(b"\">"),
             TextPiece::Text(name),
             TextPiece::Text(b"</text>\n"),
-        ],
-    )
-}
-
-// Writes a core's number left of its lane, and how much of the lane is somebody's.
-pub(crate) fn put_label<K: Sink>(
-    sink: &mut K,
-    core: u64,
-    y: u32,
-    high: u32,
-    share: u64,
-) -> Result<(), WriteFault>
-    requires low { y < 2 ^ 31 }
-    requires high { high ≤ 4000 }
-    ensures { Writes (K.state sink.old) (K.state sink.new) (label_text core y high share) result }
-{
-    if high >= 2800 {
-        put_two_lines(sink, core, y, high, share)
-    } else {
-        let letters = letters_of(high);
-        put_core(sink, core, line_in(y, high, letters), letters)
-    }
-}
-
-fn put_two_lines<K: Sink>(
-    sink: &mut K,
-    core: u64,
-    y: u32,
-    high: u32,
-    share: u64,
-) -> Result<(), WriteFault>
-    requires low { y < 2 ^ 31 }
-    requires least { 2800 ≤ high }
-    requires high { high ≤ 4000 }
-    ensures { Writes (K.state sink.old) (K.state sink.new)
-        (core_label core (y + high / 2 - 100) 1100 ++ share_label (y + high / 2 + 1200) share) result }
-{
-    put_core(sink, core, y + high / 2 - 100, 1100)?;
-    put_share(sink, y + high / 2 + 1200, share)
-}
-
-#[tactic(auto, unfolding(crate::specs::Lanes::core_label))]
-fn put_core<K: Sink>(sink: &mut K, core: u64, y: u32, letters: u32) -> Result<(), WriteFault>
-    ensures { Writes (K.state sink.old) (K.state sink.new) (core_label core y letters) result }
-{
-    put_pieces(
-        sink,
-        &[
-            TextPiece::Text(b"<g><title>core "),
-            TextPiece::Wide(core),
-            TextPiece::Text(b"</title>\n<text x=\"8700\" y=\""),
-            TextPiece::Number(y),
-            TextPiece::Text(b"\" font-size=\""),
-            TextPiece::Number(letters),
-            TextPiece::Text(b"\" class=\"label\" text-anchor=\"end\">core "),
-            TextPiece::Wide(core),
-            TextPiece::Text(b"</text>\n"),
-        ],
-    )
-}
-
-#[tactic(auto, unfolding(crate::specs::Lanes::share_label))]
-fn put_share<K: Sink>(sink: &mut K, y: u32, share: u64) -> Result<(), WriteFault>
-    ensures { Writes (K.state sink.old) (K.state sink.new) (share_label y share) result }
-{
-    put_pieces(
-        sink,
-        &[
-            TextPiece::Text(b"<text x=\"8700\" y=\""),
-            TextPiece::Number(y),
-            TextPiece::Text(b"\" font-size=\"900\" class=\"dim\" text-anchor=\"end\">"),
-            TextPiece::Wide(share / 10),
-            TextPiece::Text(b"."),
-            TextPiece::Wide(share % 10),
-            TextPiece::Text(b" %</text>\n"),
         ],
     )
 }

@@ -1,11 +1,12 @@
 ghost use Rattle.std.specs.Prelude.{◌≡◌, ◌<◌, ◌≤◌, ◌+◌, ◌^◌, length, min, slice_get};
-ghost use Rattle.tab_core.specs.declared.TheConstants.{MAX_CORES, MAX_VCPUS};
+ghost use Rattle.tab_core.specs.declared.TheConstants.{MAX_VCPUS};
 ghost use Rattle.tab_io.specs.Sinks.{Writes};
 ghost use Rattle.tab_words.specs.Texts.{texts_below};
 ghost use Rattle.view_chart.specs.Frames.{foot_of};
 ghost use Rattle.view_chart.specs.Marks.{short_dots, short_front};
-ghost use Rattle.view_chart.specs.Legends.{column_of, entry_at, head_at, legend_entry, legend_head, legend_name, legend_task, legend_text, row_of, swatch, task_cells, task_entry};
+ghost use Rattle.view_chart.specs.Legends.{column_of, entry_at, head_at, head_from, legend_entry, legend_head, legend_name, legend_task, legend_text, listed_word, row_of, swatch, task_cells, task_entry, task_head, task_heads};
 
+use crate::frame::Frame;
 use crate::marks::{per_mille, short_dots, short_front, tenths_ms};
 use crate::paths::name_at;
 use crate::places::foot_of;
@@ -14,27 +15,27 @@ use tab_io::{Sink, WriteFault};
 use tab_words::{TextPiece, put_pieces};
 use view_doc::Task;
 
-// Writes the list of the vCPUs below so many lanes.
+// Writes the list of the keys below so many lanes.
 pub(crate) fn put_legend<K: Sink>(
     sink: &mut K,
-    tick: u16,
+    frame: &Frame,
     lanes: u32,
     names: &[Name],
     tasks: &[Task],
     colours: &[u32],
 ) -> Result<(), WriteFault>
-    requires lanes { lanes ≤ MAX_CORES }
+    requires lanes { lanes ≤ MAX_VCPUS }
     requires few { length names.now ≤ MAX_VCPUS }
     requires coloured { length names.now ≤ length colours.now }
     ensures { Writes (K.state sink.old) (K.state sink.new)
-        (legend_text tick (foot_of lanes) names.now tasks.now colours.now) result }
+        (legend_text frame.now (foot_of lanes) names.now tasks.now colours.now) result }
 {
-    put_legend_at(sink, tick, foot_of(lanes), names, tasks, colours)
+    put_legend_at(sink, frame, foot_of(lanes), names, tasks, colours)
 }
 
 fn put_legend_at<K: Sink>(
     sink: &mut K,
-    tick: u16,
+    frame: &Frame,
     foot: u32,
     names: &[Name],
     tasks: &[Task],
@@ -44,49 +45,91 @@ fn put_legend_at<K: Sink>(
     requires few { length names.now ≤ MAX_VCPUS }
     requires coloured { length names.now ≤ length colours.now }
     ensures { Writes (K.state sink.old) (K.state sink.new)
-        (legend_text tick foot names.now tasks.now colours.now) result }
+        (legend_text frame.now foot names.now tasks.now colours.now) result }
 {
-    put_heads(sink, foot, names)?;
-    put_entries(sink, tick, foot, names, tasks, colours)
+    put_heads(sink, frame, foot, names, tasks)?;
+    put_entries(sink, frame.tick, foot, names, tasks, colours)
 }
 
 // Writes the heads of the columns.
-fn put_heads<K: Sink>(sink: &mut K, foot: u32, names: &[Name]) -> Result<(), WriteFault>
+fn put_heads<K: Sink>(
+    sink: &mut K,
+    frame: &Frame,
+    foot: u32,
+    names: &[Name],
+    tasks: &[Task],
+) -> Result<(), WriteFault>
     requires low { foot < 2 ^ 31 }
     ensures { Writes (K.state sink.old) (K.state sink.new)
-        (texts_below (head_at foot) (min (length names.now) 4)) result }
+        (texts_below (head_at frame.now foot tasks.now) (min (length names.now) 4)) result }
 {
-    put_some_heads(sink, foot, names.len().min(4))
+    put_some_heads(sink, frame, foot, tasks, names.len().min(4))
 }
 
 // Writes the heads of so many columns.
-fn put_some_heads<K: Sink>(sink: &mut K, foot: u32, count: usize) -> Result<(), WriteFault>
+fn put_some_heads<K: Sink>(
+    sink: &mut K,
+    frame: &Frame,
+    foot: u32,
+    tasks: &[Task],
+    count: usize,
+) -> Result<(), WriteFault>
     requires low { foot < 2 ^ 31 }
-    ensures { Writes (K.state sink.old) (K.state sink.new) (texts_below (head_at foot) count) result }
+    ensures { Writes (K.state sink.old) (K.state sink.new)
+        (texts_below (head_at frame.now foot tasks.now) count) result }
 {
     for v in 0..count {
-        put_head_at(sink, foot, v)?;
+        put_head_at(sink, frame, foot, tasks, v)?;
     }
     Ok(())
 }
 
-fn put_head_at<K: Sink>(sink: &mut K, foot: u32, v: usize) -> Result<(), WriteFault>
+fn put_head_at<K: Sink>(
+    sink: &mut K,
+    frame: &Frame,
+    foot: u32,
+    tasks: &[Task],
+    v: usize,
+) -> Result<(), WriteFault>
     requires low { foot < 2 ^ 31 }
-    ensures { Writes (K.state sink.old) (K.state sink.new) (head_at foot v) result }
+    ensures { Writes (K.state sink.old) (K.state sink.new) (head_at frame.now foot tasks.now v) result }
 {
-    let x = column_of(v);
-    put_legend_head(sink, x, x + 19_000, x + 25_000, foot + 2500)
+    put_head_from(sink, frame.by_vcpu, column_of(v), foot + 3800, tasks, v)
+}
+
+fn put_head_from<K: Sink>(
+    sink: &mut K,
+    by_vcpu: bool,
+    x: u32,
+    y: u32,
+    tasks: &[Task],
+    v: usize,
+) -> Result<(), WriteFault>
+    requires { x ≤ 85000 }
+    ensures { Writes (K.state sink.old) (K.state sink.new)
+        (head_from by_vcpu x y (slice_get tasks.now v)) result }
+{
+    put_listed(sink, by_vcpu, x, y)?;
+    put_task_heads(sink, x, y, tasks, v)
+}
+
+fn put_listed<K: Sink>(sink: &mut K, by_vcpu: bool, x: u32, y: u32) -> Result<(), WriteFault>
+    ensures { Writes (K.state sink.old) (K.state sink.new)
+        (legend_head x y (listed_word by_vcpu)) result }
+{
+    put_legend_head(sink, x, y, listed_word(by_vcpu))
+}
+
+// What is listed.
+fn listed_word(by_vcpu: bool) -> &'static [u8]
+    ensures { result.now ≡ listed_word by_vcpu }
+{
+    if by_vcpu { b"core" } else { b"vCPU" }
 }
 
 #[tactic(auto, unfolding(crate::specs::Legends::legend_head))]
-fn put_legend_head<K: Sink>(
-    sink: &mut K,
-    x: u32,
-    share: u32,
-    period: u32,
-    y: u32,
-) -> Result<(), WriteFault>
-    ensures { Writes (K.state sink.old) (K.state sink.new) (legend_head x share period y) result }
+fn put_legend_head<K: Sink>(sink: &mut K, x: u32, y: u32, word: &[u8]) -> Result<(), WriteFault>
+    ensures { Writes (K.state sink.old) (K.state sink.new) (legend_head x y word.now) result }
 {
     put_pieces(
         sink,
@@ -95,9 +138,39 @@ fn put_legend_head<K: Sink>(
             TextPiece::Number(x),
             TextPiece::Text(b"\" y=\""),
             TextPiece::Number(y),
-            TextPiece::Text(
-                b"\" font-size=\"1000\" class=\"label\">vCPU</text>\n<g font-size=\"900\" class=\"dim\" text-anchor=\"end\"><text x=\"",
-            ),
+            TextPiece::Text(b"\" font-size=\"1000\" class=\"label\">"),
+            TextPiece::Text(word),
+            TextPiece::Text(b"</text>\n"),
+        ],
+    )
+}
+
+// Writes what is told of each, where there are reservations.
+fn put_task_heads<K: Sink>(
+    sink: &mut K,
+    x: u32,
+    y: u32,
+    tasks: &[Task],
+    v: usize,
+) -> Result<(), WriteFault>
+    requires { x ≤ 85000 }
+    ensures { Writes (K.state sink.old) (K.state sink.new)
+        (task_heads x y (slice_get tasks.now v)) result }
+{
+    match tasks.get(v) {
+        Some(_) => put_task_head(sink, x + 19_000, x + 25_000, y),
+        None => Ok(()),
+    }
+}
+
+#[tactic(auto, unfolding(crate::specs::Legends::task_head))]
+fn put_task_head<K: Sink>(sink: &mut K, share: u32, period: u32, y: u32) -> Result<(), WriteFault>
+    ensures { Writes (K.state sink.old) (K.state sink.new) (task_head share period y) result }
+{
+    put_pieces(
+        sink,
+        &[
+            TextPiece::Text(b"<g font-size=\"900\" class=\"dim\" text-anchor=\"end\"><text x=\""),
             TextPiece::Number(share),
             TextPiece::Text(b"\" y=\""),
             TextPiece::Number(y),
@@ -123,9 +196,9 @@ fn row_of(foot: u32, v: usize) -> u32
     requires low { foot < 2 ^ 31 }
     requires few { v < MAX_VCPUS }
     ensures value { result ≡ row_of foot v }
-    ensures low { 4200 ≤ result }
+    ensures low { 5500 ≤ result }
 {
-    foot + 4200 + (v / 4) as u32 * 1400
+    foot + 5500 + (v / 4) as u32 * 1400
 }
 
 // Writes the rows.
@@ -188,7 +261,7 @@ fn put_entry_at<K: Sink>(
     v: usize,
 ) -> Result<(), WriteFault>
     requires x { x ≤ 85000 }
-    requires y { 4200 ≤ y }
+    requires y { 5500 ≤ y }
     ensures { Writes (K.state sink.old) (K.state sink.new)
         (entry_at tick x y colour name.now (slice_get tasks.now v)) result }
 {

@@ -33,7 +33,7 @@ fn owned_at(frame: &Frame, columns: u32, bars: &[Bar], j: u32) -> [u64; 256]
     let wide = width_at(frame, columns, j);
     let mut ticks = [0u64; 256];
     for bar in bars {
-        let i = bar.vcpu.index();
+        let i = usize::from(bar.key);
         ticks[i] = (ticks[i] + overlap(first, last, bar)).min(wide);
     }
     ticks

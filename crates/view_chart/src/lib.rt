@@ -1,4 +1,4 @@
-//! A view as a picture: a lane for each core, with a box for each slot or stint.
+//! A view as a picture: a lane for each core or vCPU, with a box for each slot or stint.
 //!
 //! What is written is a definition of `specs/`, begun in `specs/Charts.antt`. All numbers are whole.
 #![tactic(auto)]
@@ -11,8 +11,10 @@ mod columns;
 mod frame;
 mod head;
 mod holders;
+mod labels;
 mod lane;
 mod lanes;
+mod laws;
 mod legend;
 mod letters;
 mod marks;
@@ -22,7 +24,10 @@ mod places;
 mod rounds;
 mod shown;
 mod text_chart;
+mod tones;
+mod waits;
 
 pub use chart::{ChartFault, write_chart};
 pub use frame::ChartOptions;
+pub use laws::{a_column_stays_in_its_lane, colours_of_a_lane_differ, no_slot_vanishes};
 pub use text_chart::write_text_chart;

@@ -1,8 +1,9 @@
-ghost use Rattle.std.specs.Prelude.{◌≡◌, ◌<◌, ◌≤◌, ◌^◌, length, slice_get};
+ghost use Rattle.std.specs.Prelude.{◌≡◌, ◌<◌, ◌≤◌, ◌^◌, ◌++◌, length, slice_get};
 ghost use Rattle.tab_io.specs.Sinks.{Writes};
 ghost use Rattle.vcpu_names.specs.Names.{name_at as name_of};
-ghost use Rattle.view_chart.specs.Lanes.{note_of, path_begin, path_end, task_note};
+ghost use Rattle.view_chart.specs.Lanes.{key_word, note_of, path_begin, path_end, task_note};
 
+use crate::frame::Frame;
 use crate::marks::tenths_ms;
 use tab_core::Name;
 use tab_io::{Sink, WriteFault, write_all};
@@ -43,17 +44,17 @@ pub(crate) fn put_path_begin<K: Sink>(
 // Writes how it ends.
 pub(crate) fn put_path_end<K: Sink>(
     sink: &mut K,
-    tick: u16,
+    frame: &Frame,
     name: &[u8],
     tasks: &[Task],
     v: usize,
     word: &[u8],
 ) -> Result<(), WriteFault>
     ensures { Writes (K.state sink.old) (K.state sink.new)
-        (path_end (note_of tick name.now (slice_get tasks.now v)) word.now) result }
+        (path_end (note_of frame.now name.now (slice_get tasks.now v)) word.now) result }
 {
     write_all(sink, b"\"><title>")?;
-    put_note(sink, tick, name, tasks, v)?;
+    put_note(sink, frame, name, tasks, v)?;
     write_all(sink, word)?;
     write_all(sink, b"</title></path>\n")
 }
@@ -61,23 +62,36 @@ pub(crate) fn put_path_end<K: Sink>(
 // Writes what is told of a vCPU.
 fn put_note<K: Sink>(
     sink: &mut K,
-    tick: u16,
+    frame: &Frame,
     name: &[u8],
     tasks: &[Task],
     v: usize,
 ) -> Result<(), WriteFault>
-    ensures { Writes (K.state sink.old) (K.state sink.new) (note_of tick name.now (slice_get tasks.now v)) result }
+    ensures { Writes (K.state sink.old) (K.state sink.new) (note_of frame.now name.now (slice_get tasks.now v)) result }
 {
     match tasks.get(v) {
         Some(task) => put_task_note(
             sink,
             name,
             task.home.0,
-            tenths_ms(tick, task.cost),
-            tenths_ms(tick, task.period),
+            tenths_ms(frame.tick, task.cost),
+            tenths_ms(frame.tick, task.period),
         ),
-        None => write_all(sink, name),
+        None => put_key(sink, key_word(frame.by_vcpu), name),
     }
+}
+
+// What a name without a reservation is.
+fn key_word(by_vcpu: bool) -> &'static [u8]
+    ensures { result.now ≡ key_word by_vcpu }
+{
+    if by_vcpu { b"core " } else { b"" }
+}
+
+fn put_key<'a, K: Sink>(sink: &mut K, word: &'a [u8], name: &'a [u8]) -> Result<(), WriteFault>
+    ensures { Writes (K.state sink.old) (K.state sink.new) (word.now ++ name.now) result }
+{
+    put_pieces(sink, &[TextPiece::Text(word), TextPiece::Text(name)])
 }
 
 #[tactic(auto, unfolding(crate::specs::Lanes::task_note))]

@@ -1,5 +1,5 @@
 ghost use Rattle.std.specs.Prelude.{◌≡◌, ◌<◌, ◌≤◌, ◌+◌, ◌^◌, length};
-ghost use Rattle.tab_core.specs.declared.TheConstants.{MAX_CORES, MAX_VCPUS};
+ghost use Rattle.tab_core.specs.declared.TheConstants.{MAX_VCPUS};
 ghost use Rattle.tab_io.specs.Sinks.{Writes};
 ghost use Rattle.tab_words.specs.Texts.{texts_below};
 ghost use Rattle.view_chart.specs.Charts.{chart_of, grounds_text, head_of, lane_at, lane_body, lane_of, lane_text, tall_of};
@@ -11,41 +11,56 @@ use crate::axis::put_axis;
 use crate::columns::put_columns;
 use crate::frame::{Bar, Frame};
 use crate::head::{Head, put_head};
-use crate::lane::{put_bars, put_label};
+use crate::labels::put_label;
+use crate::lane::put_bars;
 use crate::lanes::{Lane, held_in, share_in};
 use crate::legend::put_legend;
 use crate::marks::{per_mille, put_box, tenths_ms};
 use crate::places::{foot_of, height_of, pitch_of, span_of, top_of};
 use crate::rounds::put_rounds;
+use crate::waits::put_waits;
 use tab_core::{Name, ROUND};
 use tab_io::{Sink, WriteFault, write_all};
 use view_doc::Task;
+use view_table::Figures;
 
-// Writes the picture of these lanes, of which the first is a core's.
+// Writes the picture of these lanes, of which the first is a core's or vCPU's. The vCPUs have these labels and
+// figures, and the keys of the bars those names, tasks and tones.
 pub(crate) fn put_picture<K: Sink>(
     sink: &mut K,
     frame: &Frame,
     width: u32,
     first: u32,
-    is_run: bool,
     cores: u32,
+    labels: &[Name],
+    figures: &Figures,
     names: &[Name],
     tasks: &[Task],
     colours: &[u32],
     lanes: &[Lane],
 ) -> Result<(), WriteFault>
-    requires lanes { length lanes.now ≤ MAX_CORES }
+    requires lanes { length lanes.now ≤ MAX_VCPUS }
     requires few { length names.now ≤ MAX_VCPUS }
     requires coloured { length names.now ≤ length colours.now }
     ensures { Writes (K.state sink.old) (K.state sink.new)
-        (chart_of frame.now width first is_run cores names.now tasks.now colours.now lanes.now) result }
+        (chart_of frame.now width first cores labels.now figures.now names.now tasks.now colours.now lanes.now) result }
 {
-    put_chart_head(sink, frame, width, is_run, cores, names, lanes)?;
+    put_chart_head(
+        sink,
+        frame,
+        width,
+        cores,
+        labels.len() as u64,
+        names.len(),
+        lanes,
+    )?;
     put_grounds(sink, lanes.len() as u32)?;
     put_axis(sink, frame, lanes.len() as u32)?;
-    put_lanes(sink, frame, first, names, tasks, colours, lanes)?;
-    put_rounds(sink, frame, is_run, lanes.len() as u32)?;
-    put_legend(sink, frame.tick, lanes.len() as u32, names, tasks, colours)?;
+    put_lanes(
+        sink, frame, first, labels, figures, names, tasks, colours, lanes,
+    )?;
+    put_rounds(sink, frame, lanes.len() as u32)?;
+    put_legend(sink, frame, lanes.len() as u32, names, tasks, colours)?;
     write_all(sink, b"</svg>\n")
 }
 
@@ -54,29 +69,29 @@ fn put_chart_head<K: Sink>(
     sink: &mut K,
     frame: &Frame,
     width: u32,
-    is_run: bool,
     cores: u32,
-    names: &[Name],
+    vcpus: u64,
+    keys: usize,
     lanes: &[Lane],
 ) -> Result<(), WriteFault>
-    requires lanes { length lanes.now ≤ MAX_CORES }
-    requires few { length names.now ≤ MAX_VCPUS }
+    requires lanes { length lanes.now ≤ MAX_VCPUS }
+    requires few { keys ≤ MAX_VCPUS }
     ensures { Writes (K.state sink.old) (K.state sink.new)
-        (head_text width (tall_of (length lanes.now) (length names.now))
-        (head_of frame.now is_run cores (length names.now) lanes.now)) result }
+        (head_text width (tall_of (length lanes.now) keys) (head_of frame.now cores vcpus lanes.now)) result }
 {
-    let head = head_of(frame, is_run, cores, names.len() as u64, lanes);
-    put_head(sink, width, tall_of(lanes.len() as u32, names.len()), &head)
+    let head = head_of(frame, cores, vcpus, lanes);
+    put_head(sink, width, tall_of(lanes.len() as u32, keys), &head)
 }
 
 // What the head says.
 #[tactic(auto, unfolding(crate::specs::Charts::head_of))]
-pub(crate) fn head_of(frame: &Frame, is_run: bool, cores: u32, vcpus: u64, lanes: &[Lane]) -> Head
-    requires { length lanes.now ≤ MAX_CORES }
-    ensures { result ≡ head_of frame.now is_run cores vcpus lanes.now }
+pub(crate) fn head_of(frame: &Frame, cores: u32, vcpus: u64, lanes: &[Lane]) -> Head
+    requires { length lanes.now ≤ MAX_VCPUS }
+    ensures { result ≡ head_of frame.now cores vcpus lanes.now }
 {
     Head {
-        is_run,
+        is_run: frame.is_run,
+        by_vcpu: frame.by_vcpu,
         cores,
         vcpus,
         from: frame.from,
@@ -86,18 +101,18 @@ pub(crate) fn head_of(frame: &Frame, is_run: bool, cores: u32, vcpus: u64, lanes
     }
 }
 
-// How tall a picture of so many lanes and vCPUs is.
+// How tall a picture of so many lanes and keys is.
 fn tall_of(lanes: u32, vcpus: usize) -> u32
-    requires lanes { lanes ≤ MAX_CORES }
+    requires lanes { lanes ≤ MAX_VCPUS }
     requires vcpus { vcpus ≤ MAX_VCPUS }
     ensures { result ≡ tall_of lanes vcpus }
 {
-    foot_of(lanes) + 4200 + ((vcpus + 3) / 4) as u32 * 1400 + 1000
+    foot_of(lanes) + 5500 + ((vcpus + 3) / 4) as u32 * 1400 + 1000
 }
 
 // Writes the grounds of so many lanes.
 fn put_grounds<K: Sink>(sink: &mut K, lanes: u32) -> Result<(), WriteFault>
-    requires { lanes ≤ MAX_CORES }
+    requires { lanes ≤ MAX_VCPUS }
     ensures { Writes (K.state sink.old) (K.state sink.new) (grounds_text lanes) result }
 {
     write_all(sink, b"<path class=\"lane\" d=\"")?;
@@ -106,7 +121,7 @@ fn put_grounds<K: Sink>(sink: &mut K, lanes: u32) -> Result<(), WriteFault>
 }
 
 fn put_ground_boxes<K: Sink>(sink: &mut K, lanes: u32) -> Result<(), WriteFault>
-    requires { lanes ≤ MAX_CORES }
+    requires { lanes ≤ MAX_VCPUS }
     ensures { Writes (K.state sink.old) (K.state sink.new)
         (texts_below (ground_box (height_of lanes) (pitch_of lanes)) lanes) result }
 {
@@ -114,7 +129,7 @@ fn put_ground_boxes<K: Sink>(sink: &mut K, lanes: u32) -> Result<(), WriteFault>
 }
 
 fn put_boxes<K: Sink>(sink: &mut K, high: u32, pitch: u32, lanes: u32) -> Result<(), WriteFault>
-    requires few { lanes ≤ MAX_CORES }
+    requires few { lanes ≤ MAX_VCPUS }
     requires high { high ≤ 4000 }
     requires pitch { pitch ≤ 4800 }
     ensures { Writes (K.state sink.old) (K.state sink.new) (texts_below (ground_box high pitch) lanes) result }
@@ -127,7 +142,7 @@ fn put_boxes<K: Sink>(sink: &mut K, high: u32, pitch: u32, lanes: u32) -> Result
 
 #[tactic(auto, using(crate::proofs::Sizes::lane_offset))]
 fn put_ground<K: Sink>(sink: &mut K, high: u32, pitch: u32, i: u32) -> Result<(), WriteFault>
-    requires few { i ≤ MAX_CORES }
+    requires few { i ≤ MAX_VCPUS }
     requires high { high ≤ 4000 }
     requires pitch { pitch ≤ 4800 }
     ensures { Writes (K.state sink.old) (K.state sink.new) (ground_box high pitch i) result }
@@ -147,20 +162,24 @@ fn put_lanes<K: Sink>(
     sink: &mut K,
     frame: &Frame,
     first: u32,
+    labels: &[Name],
+    figures: &Figures,
     names: &[Name],
     tasks: &[Task],
     colours: &[u32],
     lanes: &[Lane],
 ) -> Result<(), WriteFault>
-    requires lanes { length lanes.now ≤ MAX_CORES }
+    requires lanes { length lanes.now ≤ MAX_VCPUS }
     requires few { length names.now ≤ MAX_VCPUS }
     requires coloured { length names.now ≤ length colours.now }
     ensures { Writes (K.state sink.old) (K.state sink.new)
-        (texts_below (lane_at frame.now first names.now tasks.now colours.now lanes.now) (length lanes.now))
+        (texts_below (lane_at frame.now first labels.now figures.now names.now tasks.now colours.now lanes.now) (length lanes.now))
         result }
 {
     for i in 0..lanes.len() {
-        put_lane_at(sink, frame, first, names, tasks, colours, lanes, i)?;
+        put_lane_at(
+            sink, frame, first, labels, figures, names, tasks, colours, lanes, i,
+        )?;
     }
     Ok(())
 }
@@ -170,26 +189,30 @@ fn put_lane_at<K: Sink>(
     sink: &mut K,
     frame: &Frame,
     first: u32,
+    labels: &[Name],
+    figures: &Figures,
     names: &[Name],
     tasks: &[Task],
     colours: &[u32],
     lanes: &[Lane],
     i: usize,
 ) -> Result<(), WriteFault>
-    requires lanes { length lanes.now ≤ MAX_CORES }
+    requires lanes { length lanes.now ≤ MAX_VCPUS }
     requires there { i < length lanes.now }
     requires few { length names.now ≤ MAX_VCPUS }
     requires coloured { length names.now ≤ length colours.now }
     ensures { Writes (K.state sink.old) (K.state sink.new)
-        (lane_at frame.now first names.now tasks.now colours.now lanes.now i) result }
+        (lane_at frame.now first labels.now figures.now names.now tasks.now colours.now lanes.now i) result }
 {
     let count = lanes.len() as u32;
-    let core = u64::from(first) + i as u64;
+    let row = u64::from(first) + i as u64;
     let y = top_of(count, i as u32);
     put_lane(
         sink,
         frame,
-        core,
+        labels,
+        figures,
+        row,
         y,
         height_of(count),
         names,
@@ -199,11 +222,13 @@ fn put_lane_at<K: Sink>(
     )
 }
 
-// Writes the lane of a core.
+// Writes the lane of a core or vCPU.
 fn put_lane<K: Sink>(
     sink: &mut K,
     frame: &Frame,
-    core: u64,
+    labels: &[Name],
+    figures: &Figures,
+    row: u64,
     y: u32,
     high: u32,
     names: &[Name],
@@ -216,18 +241,20 @@ fn put_lane<K: Sink>(
     requires low { y < 2 ^ 31 }
     requires high { high ≤ 4000 }
     ensures { Writes (K.state sink.old) (K.state sink.new)
-        (lane_text frame.now core y high names.now tasks.now colours.now bars.now) result }
+        (lane_text frame.now labels.now figures.now row y high names.now tasks.now colours.now bars.now) result }
 {
     let share = per_mille(held_in(frame, bars), u64::from(span_of(frame)));
     put_lane_of(
-        sink, frame, core, y, high, share, names, tasks, colours, bars,
+        sink, frame, labels, figures, row, y, high, share, names, tasks, colours, bars,
     )
 }
 
 fn put_lane_of<K: Sink>(
     sink: &mut K,
     frame: &Frame,
-    core: u64,
+    labels: &[Name],
+    figures: &Figures,
+    row: u64,
     y: u32,
     high: u32,
     share: u64,
@@ -241,10 +268,11 @@ fn put_lane_of<K: Sink>(
     requires low { y < 2 ^ 31 }
     requires high { high ≤ 4000 }
     ensures { Writes (K.state sink.old) (K.state sink.new)
-        (lane_of frame.now core y high share names.now tasks.now colours.now bars.now) result }
+        (lane_of frame.now labels.now figures.now row y high share names.now tasks.now colours.now bars.now) result }
 {
-    put_label(sink, core, y, high, share)?;
+    put_label(sink, frame.by_vcpu, labels, row, y, high, share)?;
     put_body(sink, frame, y, high, names, tasks, colours, bars)?;
+    put_waits(sink, frame, y, high, figures, row)?;
     write_all(sink, b"</g>\n")
 }
 

@@ -1,5 +1,5 @@
 ghost use Rattle.std.specs.Prelude.{◌≡◌, ◌<◌, ◌≤◌, ◌-◌, ◌^◌};
-ghost use Rattle.tab_core.specs.declared.TheConstants.{MAX_CORES};
+ghost use Rattle.tab_core.specs.declared.TheConstants.{MAX_VCPUS};
 ghost use Rattle.view_chart.specs.Frames.{foot_of, height_of, letters_of, pitch_of, top_of, x_at};
 
 use crate::frame::Frame;
@@ -44,18 +44,18 @@ pub(crate) fn pitch_of(lanes: u32) -> u32
 // Where the lane of a number begins.
 #[tactic(auto, using(crate::proofs::Sizes::lane_offset))]
 pub(crate) fn top_of(lanes: u32, i: u32) -> u32
-    requires { i ≤ MAX_CORES }
+    requires { i ≤ MAX_VCPUS }
     ensures value { result ≡ top_of lanes i }
-    ensures small { result ≤ 163400 }
+    ensures small { result ≤ 1238600 }
 {
     9800 + i * pitch_of(lanes)
 }
 
 // Where the last lane ends.
 pub(crate) fn foot_of(lanes: u32) -> u32
-    requires { lanes ≤ MAX_CORES }
+    requires { lanes ≤ MAX_VCPUS }
     ensures value { result ≡ foot_of lanes }
-    ensures small { result ≤ 163400 }
+    ensures small { result ≤ 1238600 }
 {
     top_of(lanes, lanes)
 }

@@ -1,5 +1,5 @@
 ghost use Rattle.std.specs.Prelude.{◌≡◌, ◌<◌, ◌≤◌, ◌+◌, ◌^◌};
-ghost use Rattle.tab_core.specs.declared.TheConstants.{MAX_CORES};
+ghost use Rattle.tab_core.specs.declared.TheConstants.{MAX_VCPUS};
 ghost use Rattle.tab_io.specs.Sinks.{Writes};
 ghost use Rattle.tab_words.specs.Texts.{texts_below};
 ghost use Rattle.view_chart.specs.Charts.{begin_of, first_round, round_at, round_text, rounds_shown, rounds_text};
@@ -12,18 +12,13 @@ use tab_io::{Sink, WriteFault};
 use tab_words::{TextPiece, put_pieces};
 
 // Writes where the rounds of a run begin, if these are few, with lines through so many lanes.
-pub(crate) fn put_rounds<K: Sink>(
-    sink: &mut K,
-    frame: &Frame,
-    is_run: bool,
-    lanes: u32,
-) -> Result<(), WriteFault>
-    requires { lanes ≤ MAX_CORES }
+pub(crate) fn put_rounds<K: Sink>(sink: &mut K, frame: &Frame, lanes: u32) -> Result<(), WriteFault>
+    requires { lanes ≤ MAX_VCPUS }
     ensures { Writes (K.state sink.old) (K.state sink.new)
-        (rounds_text frame.now is_run (foot_of lanes)) result }
+        (rounds_text frame.now frame.now.is_run (foot_of lanes)) result }
 {
     let count = rounds_shown(frame);
-    if !is_run || count > 24 {
+    if !frame.is_run || count > 24 {
         return Ok(());
     }
     put_all(sink, frame, foot_of(lanes), count)
@@ -73,7 +68,7 @@ fn put_round<K: Sink>(sink: &mut K, x: u64, foot: u32, round: u64) -> Result<(),
         &[
             TextPiece::Text(b"<path class=\"round\" d=\"M"),
             TextPiece::Wide(x),
-            TextPiece::Text(b" 7000V"),
+            TextPiece::Text(b" 9300V"),
             TextPiece::Number(foot),
             TextPiece::Text(b"\"/><text x=\""),
             TextPiece::Wide(x + 500),

@@ -1,6 +1,6 @@
-ghost use Rattle.std.specs.Prelude.{◌≡◌, ◌<◌, ◌≤◌};
-ghost use Rattle.tab_core.specs.declared.TheConstants.{MAX_CORES};
-ghost use Rattle.view_chart.specs.Shown.{cores_in, frame_of, lanes_of, last_end, reach_of, shown_in, shows_nothing, whole_of};
+ghost use Rattle.std.specs.Prelude.{◌≡◌, ◌<◌, ◌≤◌, length};
+ghost use Rattle.tab_core.specs.declared.TheConstants.{MAX_CORES, MAX_VCPUS};
+ghost use Rattle.view_chart.specs.Shown.{cores_in, frame_of, lanes_of, last_end, reach_of, rows_in, shown_in, shows_nothing, whole_of};
 
 use crate::frame::{ChartOptions, Frame};
 use tab_core::ROUND;
@@ -76,20 +76,34 @@ pub(crate) fn frame_of(view: &View, options: &ChartOptions) -> Frame
         from: options.from,
         to: end_of(view, options),
         tick: options.tick_ns,
+        by_vcpu: options.by_vcpu,
+        is_run: view.is_run,
+    }
+}
+
+// How many cores or vCPUs could have a lane.
+fn rows_in(view: &View, options: &ChartOptions) -> u64
+    ensures value { result ≡ rows_in view.now options.now }
+    ensures few { view.now.cores ≤ MAX_CORES → length view.now.names.items ≤ MAX_VCPUS → result ≤ MAX_VCPUS }
+{
+    if options.by_vcpu {
+        view.names.len() as u64
+    } else {
+        u64::from(cores_in(view))
     }
 }
 
 // How many lanes there are.
-pub(crate) fn lanes_of(view: &View, options: &ChartOptions) -> u32
+pub(crate) fn lanes_of(view: &View, options: &ChartOptions) -> u64
     ensures value { result ≡ lanes_of view.now options.now }
-    ensures few { view.now.cores ≤ MAX_CORES → result ≤ MAX_CORES }
+    ensures few { view.now.cores ≤ MAX_CORES → length view.now.names.items ≤ MAX_VCPUS → result ≤ MAX_VCPUS }
 {
     let end = u64::from(options.last) + 1;
-    let all = end.min(u64::from(cores_in(view))) as u32;
-    all.saturating_sub(options.first)
+    let all = end.min(rows_in(view, options));
+    all.saturating_sub(u64::from(options.first))
 }
 
-// Whether nothing is shown: no tick, or no core.
+// Whether nothing is shown: no tick, or no lane.
 pub(crate) fn shows_nothing(view: &View, options: &ChartOptions) -> bool
     ensures { result ≡ shows_nothing options.now view.now }
 {

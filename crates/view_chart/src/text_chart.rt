@@ -1,4 +1,4 @@
-ghost use Rattle.std.specs.Prelude.{◌≡◌, ◌<◌, ◌≤◌, ◌+◌, ◌-◌, ◌++◌, ◌^◌, IfOk, IsErrOf, Ok, Err, [], ◌∷◌, length, true};
+ghost use Rattle.std.specs.Prelude.{◌≡◌, ◌<◌, ◌≤◌, ◌+◌, ◌-◌, ◌++◌, ◌^◌, IfOk, IsErrOf, Ok, Err, [], ◌∷◌, false, length, true};
 ghost use Rattle.tab_core.specs.declared.TheConstants.{MAX_CORES, MAX_VCPUS};
 ghost use Rattle.tab_io.specs.Sinks.{Writes};
 ghost use Rattle.tab_words.specs.Texts.{texts_below};
@@ -38,6 +38,7 @@ pub fn write_text_chart<K: Sink>(
 ) -> Result<(), ChartFault>
     requires cores { view.now.cores ≤ MAX_CORES }
     requires vcpus { length view.now.names.items ≤ MAX_VCPUS }
+    requires by_core { options.now.by_vcpu ≡ false }
     requires some { 0 < options.now.width }
     requires few { options.now.width ≤ 8000 }
     ensures ok { IfOk result (λ u. Writes (K.state sink.old) (K.state sink.new)
@@ -62,7 +63,6 @@ pub fn write_text_chart<K: Sink>(
         &frame,
         options.width,
         options.first,
-        view.is_run,
         cores_in(view),
         &view.names,
         &lanes,
@@ -79,19 +79,18 @@ fn put_text<K: Sink>(
     frame: &Frame,
     columns: u32,
     first: u32,
-    is_run: bool,
     cores: u32,
     names: &[Name],
     lanes: &[Lane],
 ) -> Result<(), WriteFault>
-    requires lanes { length lanes.now ≤ MAX_CORES }
+    requires lanes { length lanes.now ≤ MAX_VCPUS }
     requires vcpus { length names.now ≤ MAX_VCPUS }
     requires some { 0 < columns }
     requires few { columns ≤ 8000 }
     ensures { Writes (K.state sink.old) (K.state sink.new)
-        (text_of frame.now columns first is_run cores names.now lanes.now) result }
+        (text_of frame.now columns first cores names.now lanes.now) result }
 {
-    put_text_head(sink, frame, is_run, cores, names, lanes)?;
+    put_text_head(sink, frame, cores, names, lanes)?;
     put_lines(sink, frame, columns, names.len(), first, lanes)?;
     put_keys(sink, names)
 }
@@ -99,16 +98,15 @@ fn put_text<K: Sink>(
 fn put_text_head<K: Sink>(
     sink: &mut K,
     frame: &Frame,
-    is_run: bool,
     cores: u32,
     names: &[Name],
     lanes: &[Lane],
 ) -> Result<(), WriteFault>
-    requires { length lanes.now ≤ MAX_CORES }
+    requires { length lanes.now ≤ MAX_VCPUS }
     ensures { Writes (K.state sink.old) (K.state sink.new)
-        (head_lines (head_of frame.now is_run cores (length names.now) lanes.now)) result }
+        (head_lines (head_of frame.now cores (length names.now) lanes.now)) result }
 {
-    let head = head_of(frame, is_run, cores, names.len() as u64, lanes);
+    let head = head_of(frame, cores, names.len() as u64, lanes);
     put_head_lines(sink, &head)
 }
 
@@ -130,7 +128,7 @@ fn put_lines<K: Sink>(
     first: u32,
     lanes: &[Lane],
 ) -> Result<(), WriteFault>
-    requires lanes { length lanes.now ≤ MAX_CORES }
+    requires lanes { length lanes.now ≤ MAX_VCPUS }
     requires vcpus { vcpus ≤ MAX_VCPUS }
     requires some { 0 < columns }
     requires few { columns ≤ 8000 }
@@ -152,7 +150,7 @@ fn put_line_at<K: Sink>(
     lanes: &[Lane],
     i: usize,
 ) -> Result<(), WriteFault>
-    requires lanes { length lanes.now ≤ MAX_CORES }
+    requires lanes { length lanes.now ≤ MAX_VCPUS }
     requires there { i < length lanes.now }
     requires vcpus { vcpus ≤ MAX_VCPUS }
     requires some { 0 < columns }

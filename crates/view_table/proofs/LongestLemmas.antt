@@ -60,7 +60,7 @@ longest_reaches f (suc n) first last order low none = elim (split last n low) [
     split last n low = grind arith
 
 -- what is waited at a tick has no slot
-waited_is : (f : ℕ → Bool) (n : ℕ) → (waited f n ≤ n) × ((x : ℕ) → n - waited f n ≤ x → x < n → f x ≡ false)
+pub waited_is : (f : ℕ → Bool) (n : ℕ) → (waited f n ≤ n) × ((x : ℕ) → n - waited f n ≤ x → x < n → f x ≡ false)
 waited_is f zero = (omega (arith, waited-none f), λ x a b. absurd (omega (arith, b)))
 waited_is f (suc n) = elim (bool_cases (f n)) [
   | inl served ↦

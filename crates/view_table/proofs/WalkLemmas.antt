@@ -1,4 +1,5 @@
 -- Two rounds that are walked from segment to segment.
+use Rattle.std.specs.Prelude.{if◌then◌else◌}
 use Rattle.std.proofs.Common.{◌≡◌, ℕ, zero, suc, ◌+◌, ◌-◌, ◌*◌, ◌%◌, ◌<◌, ◌≤◌, ◌∙◌, ap, sym, min, max, ◌&&◌, ◌||◌, nat_le, nat_lt, Bool, true, false, List, [], ◌∷◌, drop, length, get_or, refl, arith, subst, ◌⊎◌, inl, inr}
 use Rattle.std.proofs.lemmas.Bool.Decides.{nat_tests}
 use Rattle.std.proofs.lemmas.List.{get_or-drop, length-drop}
@@ -6,8 +7,9 @@ use Rattle.tab_core.proofs.Lists.{drop_next}
 use Rattle.std.specs.List.{list_any}
 use Rattle.tab_core.specs.declared.TheConstants.{ROUND}
 use Rattle.view_doc.specs.declared.view.Stretch.{Stretch}
-use Rattle.view_table.specs.Inside.Walks.{AreByBegin, IsWalked, Rise, gives, is_due, next_end, next_wait}
-use Rattle.view_table.specs.Waits.{is_served, is_slot_of, longest, wait_of, waited}
+use Rattle.view_table.specs.Inside.Walks.{AreByBegin, IsWalked, Rise, gives, is_due, last_mark, next_end, next_mark, next_wait}
+use Rattle.view_table.specs.Waits.{EndsAt, is_served, is_slot_of, longest, wait_of, waited}
+use Rattle.view_table.proofs.LongestLemmas.{waited_is}
 use Rattle.view_table.proofs.WaitLemmas.{longest-zero, served_over, waited-zero, waited_over}
 
 -- no segment begins before this tick of the round
@@ -96,34 +98,67 @@ gives_none true more base from end x due high =
     ap (λ b. b || more) no
 gives_none false more base from end x due high = refl
 
+-- a wait that is longer than those before ends where the next slot begins
+marked_one : (served : ℕ → Bool) (end b wait mark : ℕ) → wait ≤ waited served mark → waited served end ≡ 0
+    → ((x : ℕ) → end ≤ x → x < b → served x ≡ false)
+    → max wait (b - end) ≤ waited served (if nat_lt wait (b - end) then b else mark)
+marked_one served end b wait mark marked met none = elim (order wait (b - end)) [
+  | inl more ↦
+      let over = waited_over served end (b - end) met (λ x low high. none x low (omega (arith, high))) in
+      let place : end + (b - end) ≡ b = omega (arith, more) in
+      let at_b : waited served b ≡ b - end = sym (ap (waited served) place) ∙ over.0 in
+      let test : nat_lt wait (b - end) ≡ true = grind (arith, nat_tests) in
+      rw test (omega (arith, at_b, more))
+  | inr less ↦
+      let test : nat_lt wait (b - end) ≡ false = grind (arith, nat_tests) in
+      rw test (omega (arith, marked, less))
+]
+  where
+    order : (a b : ℕ) → (a < b) ⊎ (b ≤ a)
+    order a b = grind arith
+
+-- and it isn't behind the rounds
+mark_early : (test : Bool) (b mark most : ℕ) → b ≤ most → mark ≤ most → (if test then b else mark) ≤ most
+mark_early true b mark most low early = low
+mark_early false b mark most low early = early
+
 -- a slot of the vCPU is walked
-walk_due : (served : ℕ → Bool) (s : Stretch) (rest : List Stretch) (v base end wait : ℕ) → is_due v s ≡ true
-    → AllBegin s.from rest → IsWalked served (s ∷ rest) v base end wait
+walk_due : (served : ℕ → Bool) (s : Stretch) (rest : List Stretch) (v base end wait mark : ℕ)
+    → is_due v s ≡ true → AllBegin s.from rest → IsWalked served (s ∷ rest) v base end wait mark
     → IsWalked served rest v base (max end (base + min s.end ROUND)) (max wait (base + s.from - end))
-walk_due served s rest v base end wait due all walked =
+    (if nat_lt wait (base + s.from - end) then base + s.from else mark)
+walk_due served s rest v base end wait mark due all walked =
     let parts = due_parts (is_slot_of v s.by) s.from s.end due in
     let more = λ (x : ℕ). list_any (gives v base x) rest in
+    let before : (x : ℕ) → end ≤ x → x < base + s.from → served x ≡ false =
+    λ x low high. walked.behind x low (omega (arith, high, parts.1))
+    ∙ none_gives v base x s.from (s ∷ rest) (omega arith, all) high in
     let past = past_one served end (base + s.from) (base + min s.end ROUND) wait walked.most walked.met
     (omega (arith, parts.1))
-    (λ x low high. walked.behind x low (omega (arith, high, parts.1))
-    ∙ none_gives v base x s.from (s ∷ rest) (omega arith, all) high)
+    before
     (λ x low there high. walked.behind x low (omega (arith, high))
     ∙ gives_it (is_slot_of v s.by) (more x) base s.from s.end x parts.0 there high) in
     record {
       within = omega (arith, walked.within);
       most = past.0;
       met = past.1;
+      marked = marked_one served end (base + s.from) wait mark walked.marked walked.met before;
+      early = mark_early (nat_lt wait (base + s.from - end)) (base + s.from) mark (base + ROUND)
+          (omega (arith, parts.1)) walked.early;
       behind = λ x low high. walked.behind x (omega (arith, low)) high
           ∙ gives_no_more (is_slot_of v s.by) (more x) base s.from s.end x (omega (arith, low)) high;
     }
 
 -- another segment changes nothing for the vCPU
-walk_other : (served : ℕ → Bool) (s : Stretch) (rest : List Stretch) (v base end wait : ℕ) → is_due v s ≡ false
-    → IsWalked served (s ∷ rest) v base end wait → IsWalked served rest v base end wait
-walk_other served s rest v base end wait due walked = record {
+walk_other : (served : ℕ → Bool) (s : Stretch) (rest : List Stretch) (v base end wait mark : ℕ)
+    → is_due v s ≡ false → IsWalked served (s ∷ rest) v base end wait mark
+    → IsWalked served rest v base end wait mark
+walk_other served s rest v base end wait mark due walked = record {
   within = walked.within;
   most = walked.most;
   met = walked.met;
+  marked = walked.marked;
+  early = walked.early;
   behind = λ x low high. walked.behind x low high
       ∙ gives_none (is_slot_of v s.by) (list_any (gives v base x) rest) base s.from s.end x due high;
 }
@@ -133,12 +168,13 @@ bool_cases true = inl refl
 bool_cases false = inr refl
 
 -- one segment is walked
-walk_one : (served : ℕ → Bool) (s : Stretch) (rest : List Stretch) (v base end wait : ℕ) → AllBegin s.from rest
-    → IsWalked served (s ∷ rest) v base end wait
+walk_one : (served : ℕ → Bool) (s : Stretch) (rest : List Stretch) (v base end wait mark : ℕ)
+    → AllBegin s.from rest → IsWalked served (s ∷ rest) v base end wait mark
     → IsWalked served rest v base (next_end v base s end) (next_wait v base s end wait)
-walk_one served s rest v base end wait all walked = elim (bool_cases (is_due v s)) [
-  | inl due ↦ rw due (walk_due served s rest v base end wait due all walked)
-  | inr due ↦ rw due (walk_other served s rest v base end wait due walked)
+    (next_mark v base s end wait mark)
+walk_one served s rest v base end wait mark all walked = elim (bool_cases (is_due v s)) [
+  | inl due ↦ rw due (walk_due served s rest v base end wait mark due all walked)
+  | inr due ↦ rw due (walk_other served s rest v base end wait mark due walked)
 ]
 
 -- what stands behind a segment of a list in order
@@ -149,15 +185,16 @@ all_begin from (s ∷ ss) d each =
     (each 0 (omega arith), all_begin from ss d (λ k low. each (suc k) (omega (arith, low))))
 
 -- one more segment of a list in order
-pub walk_step : (served : ℕ → Bool) (order : List Stretch) (i : ℕ) (s : Stretch) (v base end wait : ℕ)
-    (next waits : ℕ) → Rise order → i < length order → s ≡ get_or order i s
+pub walk_step : (served : ℕ → Bool) (order : List Stretch) (i : ℕ) (s : Stretch) (v base end wait mark : ℕ)
+    (next waits marks : ℕ) → Rise order → i < length order → s ≡ get_or order i s
     → next ≡ next_end v base s end → waits ≡ next_wait v base s end wait
-    → IsWalked served (drop i order) v base end wait → IsWalked served (drop (i + 1) order) v base next waits
-walk_step served order i s v base end wait next waits rise low here ends longer walked =
-    let at_s : IsWalked served (s ∷ drop (i + 1) order) v base end wait =
-    subst (λ ss. IsWalked served ss v base end wait) (drop_next order i s low here) walked in
+    → marks ≡ next_mark v base s end wait mark → IsWalked served (drop i order) v base end wait mark
+    → IsWalked served (drop (i + 1) order) v base next waits marks
+walk_step served order i s v base end wait mark next waits marks rise low here ends longer places walked =
+    let at_s : IsWalked served (s ∷ drop (i + 1) order) v base end wait mark =
+    subst (λ ss. IsWalked served ss v base end wait mark) (drop_next order i s low here) walked in
     let all : AllBegin s.from (drop (i + 1) order) = all_begin s.from (drop (i + 1) order) s behind in
-    rw (ends, longer) (walk_one served s (drop (i + 1) order) v base end wait all at_s)
+    rw (ends, longer, places) (walk_one served s (drop (i + 1) order) v base end wait mark all at_s)
   where
     behind : (k : ℕ) → k < length (drop (i + 1) order) → s.from ≤ (get_or (drop (i + 1) order) k s).from
     behind k within =
@@ -168,11 +205,13 @@ walk_step served order i s v base end wait next waits rise low here ends longer 
 
 -- before the first segment nothing was waited for
 pub walk_begin : (slots order : List Stretch) (v : ℕ) → AreByBegin slots order
-    → IsWalked (is_served slots v) order v 0 0 0
+    → IsWalked (is_served slots v) order v 0 0 0 0
 walk_begin slots order v are = record {
   within = omega arith;
   most = sym (longest-zero _);
   met = waited-zero _;
+  marked = omega arith;
+  early = omega arith;
   behind = λ x low high.
       let place : x % ROUND ≡ x = omega (arith, high) in
       sym (are.same v (x % ROUND)) ∙ any_same _ _ (λ s. first (is_slot_of v s.by) s.from s.end x place) order;
@@ -187,12 +226,15 @@ walk_begin slots order v are = record {
         rw (place, begins, ends) refl
 
 -- the second round begins behind the first
-pub walk_again : (slots order : List Stretch) (v end wait : ℕ) → AreByBegin slots order
-    → IsWalked (is_served slots v) [] v 0 end wait → IsWalked (is_served slots v) order v ROUND end wait
-walk_again slots order v end wait are walked = record {
+pub walk_again : (slots order : List Stretch) (v end wait mark : ℕ) → AreByBegin slots order
+    → IsWalked (is_served slots v) [] v 0 end wait mark
+    → IsWalked (is_served slots v) order v ROUND end wait mark
+walk_again slots order v end wait mark are walked = record {
   within = omega (arith, walked.within);
   most = walked.most;
   met = walked.met;
+  marked = walked.marked;
+  early = omega (arith, walked.early);
   behind = λ x low high. elim (order_of ROUND x) [
     | inl second ↦
         sym (are.same v (x % ROUND))
@@ -220,11 +262,26 @@ walk_again slots order v end wait are walked = record {
     any_none ss x early = none_gives v ROUND x 0 ss (all_zero ss) (omega (arith, early))
 
 -- and what is left of it is waited
-pub walk_end : (slots : List Stretch) (v end wait : ℕ) → IsWalked (is_served slots v) [] v ROUND end wait
-    → max wait (2 * ROUND - end) ≡ wait_of slots v
+pub walk_end : (slots : List Stretch) (v end wait mark : ℕ)
+    → IsWalked (is_served slots v) [] v ROUND end wait mark → max wait (2 * ROUND - end) ≡ wait_of slots v
 unfolding wait_of
-walk_end slots v end wait walked =
+walk_end slots v end wait mark walked =
     let over = waited_over (is_served slots v) end (2 * ROUND - end) walked.met
     (λ x low high. walked.behind x low (omega (arith, high, walked.within))) in
     let place : end + (2 * ROUND - end) ≡ 2 * ROUND = omega (arith, walked.within) in
     omega (arith, walked.most, over.1, ap (longest (is_served slots v)) place)
+
+-- such a wait ends at the mark
+pub walk_marked : (slots : List Stretch) (v end wait mark : ℕ)
+    → IsWalked (is_served slots v) [] v ROUND end wait mark
+    → EndsAt slots v (wait_of slots v) (last_mark end wait mark)
+walk_marked slots v end wait mark walked =
+    let longest_is = walk_end slots v end wait mark walked in
+    let marked = marked_one (is_served slots v) end (2 * ROUND) wait mark walked.marked walked.met
+    (λ x low high. walked.behind x low (omega (arith, high))) in
+    let is = waited_is (is_served slots v) (last_mark end wait mark) in record {
+      within = mark_early (nat_lt wait (2 * ROUND - end)) (2 * ROUND) mark (2 * ROUND) (omega arith)
+          (omega (arith, walked.early));
+      since = omega (arith, longest_is, marked, is.0);
+      unserved = λ x low high. is.1 x (omega (arith, longest_is, marked, low, is.0)) high;
+    }

@@ -4,7 +4,7 @@ use Rattle.tab_core.specs.declared.TheConstants.{MAX_CORES}
 use Rattle.view_doc.specs.declared.view.Stretch.{Stretch}
 use Rattle.view_doc.specs.declared.view.View.{View}
 use Rattle.view_table.specs.Loads.{stands_on}
-use Rattle.view_table.specs.Waits.{wait_of}
+use Rattle.view_table.specs.Waits.{EndsAt, wait_of}
 use Rattle.view_table.specs.declared.figures.Figures.{Figures}
 
 -- a row for each vCPU below the count, which says of each core whether the vCPU has a slot there
@@ -18,7 +18,13 @@ pub record AreWaits (slots : List Stretch) (count : ℕ) (waits : List ℕ) : Ty
   pub size : length waits ≡ count
   pub each : (v : ℕ) → v < count → slice_index waits v ≡ wait_of slots v
 
+-- a tick at which the longest wait of each vCPU below the count ends
+pub record AreMarks (slots : List Stretch) (count : ℕ) (marks : List ℕ) : Type 0 where
+  pub size : length marks ≡ count
+  pub each : (v : ℕ) → v < count → EndsAt slots v (wait_of slots v) (slice_index marks v)
+
 -- the figures of the vCPUs that a plan has lines for
 pub record AreFigures (view : View) (figures : Figures) : Type 0 where
   pub waits : AreWaits view.slots.items (length view.tasks.items) figures.waits.items
+  pub marks : AreMarks view.slots.items (length view.tasks.items) figures.marks.items
   pub stands : AreStands view.slots.items (length view.tasks.items) figures.stands.items

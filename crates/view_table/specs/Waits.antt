@@ -1,7 +1,7 @@
 -- How long a vCPU of a plan may wait for a slot, where the plan's round is repeated without an end.
 -- Source: the promise of a latency of the Tableau scheduler (M. Vanga, A. Gujarati, B. B. Brandenburg,
 -- EuroSys 2018), here over the segments of a text.
-use Rattle.std.specs.Prelude.{◌≡◌, ℕ, zero, suc, ◌*◌, ◌-◌, ◌%◌, ◌≤◌, ◌⊎◌, ◌==◌, ◌&&◌, Bool, false, nat_lt, nat_le, max, if◌then◌else◌, List}
+use Rattle.std.specs.Prelude.{◌≡◌, ℕ, zero, suc, ◌*◌, ◌-◌, ◌%◌, ◌<◌, ◌≤◌, ◌⊎◌, ◌==◌, ◌&&◌, Bool, false, nat_lt, nat_le, max, if◌then◌else◌, List}
 use Rattle.std.specs.List.{list_any}
 use Rattle.tab_core.specs.declared.TheConstants.{ROUND}
 use Rattle.view_doc.specs.declared.view.Stretch.{Stretch}
@@ -43,6 +43,12 @@ wait_of slots v = longest (is_served slots v) (2 * ROUND)
 pub record IsWait (slots : List Stretch) (v first last : ℕ) : Type 0 where
   pub order : first ≤ last
   pub unserved : (x : ℕ) → first ≤ x → x ≤ last → is_served slots v x ≡ false
+
+-- a wait of so many ticks ends right before this tick of the first two rounds
+pub record EndsAt (slots : List Stretch) (v ticks mark : ℕ) : Type 0 where
+  pub within : mark ≤ 2 * ROUND
+  pub since : ticks ≤ mark
+  pub unserved : (x : ℕ) → mark - ticks ≤ x → x < mark → is_served slots v x ≡ false
 
 -- no wait has more ticks, and where this isn't 0 some wait has as many
 pub record IsLongestWait (slots : List Stretch) (v ticks : ℕ) : Type 0 where

@@ -14,11 +14,13 @@ pub struct Figures {
     /// The longest wait of each vCPU, in ticks: the most ticks in a row without a slot, where the plan's
     /// round is repeated without an end. It is two rounds for a vCPU without a slot.
     pub waits: Vec<u32>,
+    /// A tick of two rounds at which such a wait ends, for each vCPU.
+    pub marks: Vec<u32>,
     /// A row for each vCPU, which says for each of 32 cores whether the vCPU has a slot there.
     pub stands: Vec<bool>,
 }
 
-/// The figures of a plan of at most 256 `vcpu` lines. Fails only for want of memory, of which it takes 40
+/// The figures of a plan of at most 256 `vcpu` lines. Fails only for want of memory, of which it takes 44
 /// bytes for each of these lines and a copy of the segments. It goes from segment to segment, which it
 /// puts in the order of their begins.
 pub fn figures_of(alloc: Global, view: &View) -> Result<Figures, NoMemory>
@@ -26,8 +28,10 @@ pub fn figures_of(alloc: Global, view: &View) -> Result<Figures, NoMemory>
     ensures { IfOk result (AreFigures view.now) }
 {
     let count = view.tasks.len();
+    let (waits, marks) = waits_of(alloc, &view.slots, count)?;
     Ok(Figures {
-        waits: waits_of(alloc, &view.slots, count)?,
+        waits,
+        marks,
         stands: stands_of(alloc, &view.slots, count)?,
     })
 }

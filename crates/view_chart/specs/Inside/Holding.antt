@@ -7,4 +7,4 @@ use Rattle.view_chart.specs.declared.frame.Bar.{Bar}
 
 -- the set has the vCPUs that have a bar
 abbrev pub AreHolders : List Bool → List Bar → Type 0
-AreHolders set bars = (v : ℕ) → v < MAX_VCPUS → has_vcpu set v ≡ list_any (λ bar. bar.vcpu == v) bars
+AreHolders set bars = (v : ℕ) → v < MAX_VCPUS → has_vcpu set v ≡ list_any (λ bar. bar.key == v) bars

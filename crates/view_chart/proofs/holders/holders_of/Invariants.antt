@@ -11,5 +11,5 @@ abbrev pub invariant-loop-bar : goal.invariant-loop-bar
 invariant-loop-bar l = record {
   size : length l.set ≡ MAX_VCPUS;
   members : (v : ℕ) → v < MAX_VCPUS
-      → has_vcpu l.set v ≡ list_any (λ (bar : Bar). bar.vcpu == v) (take l.bar-index l.bars);
+      → has_vcpu l.set v ≡ list_any (λ (bar : Bar). bar.key == v) (take l.bar-index l.bars);
 }

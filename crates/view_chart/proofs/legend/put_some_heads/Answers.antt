@@ -9,14 +9,14 @@ loop-v-init g c = none_written _ _ (tt {0})
 pub returns-in_err-put_head_at : goal.returns-in_err-put_head_at
 returns-in_err-put_head_at g c =
     let p = err_from_is_err_and c.from_residual.result c.from_residual.ensures.1 in
-    rw p.1 (next_broken _ _ _ (head_at c.args.foot) c.loop-v.v _ (tt {0}) _
+    rw p.1 (next_broken _ _ _ (head_at c.args.frame.now c.args.foot c.args.tasks.now) c.loop-v.v _ (tt {0}) _
     c.in_err-put_head_at.field-0.0 c.loop-v-test.true c.loop-v.invariant c.put_head_at.ensures
     c.in_err-put_head_at.was)
 
 pub loop-v-preserved : goal.loop-v-preserved
-loop-v-preserved g c = next_written _ _ _ (head_at c.args.foot) c.loop-v.v
+loop-v-preserved g c = next_written _ _ _ (head_at c.args.frame.now c.args.foot c.args.tasks.now) c.loop-v.v
     (tt {0}) c.in_ok-put_head_at.field-0 _ c.loop-v.invariant c.put_head_at.ensures c.in_ok-put_head_at.was
 
 pub returns : goal.returns
-returns g c = all_written _ _ (head_at c.args.foot) c.loop-v.v _ (tt {0})
+returns g c = all_written _ _ (head_at c.args.frame.now c.args.foot c.args.tasks.now) c.loop-v.v _ (tt {0})
     c.loop-v.auto.v-end c.loop-v-test.false c.loop-v.invariant

@@ -18,7 +18,7 @@ loop-bar-preserved c = record {
   count = grind (arith, common_steps, c.loop-bar.invariant.count);
   owned = λ v low.
       let was = c.loop-bar.invariant.owned v low in
-      elim (cases_eq v c.index-i.result) [
+      elim (cases_eq v c.from-i.result) [
         | inl same ↦ grind (
           arith,
           common_steps,
@@ -26,13 +26,12 @@ loop-bar-preserved c = record {
           was,
           same,
           c.loop-bar.invariant.count,
-          c.index-i.ensures,
+          c.from-i.ensures,
           c.overlap.ensures,
           c.min.ensures,
           c.edge_of-first.ensures,
           c.edge_of-last.ensures,
           c.width_at-wide.ensures,
-          c.bar-item.is,
         )
         | inr other ↦ grind (
           arith,
@@ -41,8 +40,7 @@ loop-bar-preserved c = record {
           was,
           other,
           c.loop-bar.invariant.count,
-          c.index-i.ensures,
-          c.bar-item.is,
+          c.from-i.ensures,
         )
       ];
 }

@@ -12,5 +12,5 @@ returns g c =
     c.tall_of.ensures c.put_head.ensures in
     subst (λ (h : Head). Writes {U = Unit {0}} (g.K.Sink.state c.args.sink.now)
     (g.K.Sink.state c.put_head.new.sink)
-    (head_text c.args.width (tall_of (length c.args.lanes.now) (length c.args.names.now)) h) c.put_head.result)
+    (head_text c.args.width (tall_of (length c.args.lanes.now) c.args.keys) h) c.put_head.result)
     c.head_of-head.ensures tall

@@ -14,8 +14,16 @@ returns-in_err-put_body g c =
     let at0 = left_behind _ _ _ _ _ _ _ _ _ (all_left _ _) refl c.put_label.ensures c.in_ok-put_label.was in
     rw p.1 (left_broken _ _ _ _ _ _ _ _ _ at0 refl c.put_body.ensures c.in_err-put_body.was)
 
+pub returns-in_err-put_waits : goal.returns-in_err-put_waits
+returns-in_err-put_waits g c =
+    let p = err_from_is_err_and c.from_residual-in_err-put_waits.result c.from_residual-in_err-put_waits.ensures.1 in
+    let at0 = left_behind _ _ _ _ _ _ _ _ _ (all_left _ _) refl c.put_label.ensures c.in_ok-put_label.was in
+    let at1 = left_behind _ _ _ _ _ _ _ _ _ at0 refl c.put_body.ensures c.in_ok-put_body.was in
+    rw p.1 (left_broken _ _ _ _ _ _ _ _ _ at1 refl c.put_waits.ensures c.in_err-put_waits.was)
+
 pub returns : goal.returns
 returns g c =
     let at0 = left_behind _ _ _ _ _ _ _ _ _ (all_left _ _) refl c.put_label.ensures c.in_ok-put_label.was in
     let at1 = left_behind _ _ _ _ _ _ _ _ _ at0 refl c.put_body.ensures c.in_ok-put_body.was in
-    left_last _ _ _ _ _ _ at1 c.write_all.ensures
+    let at2 = left_behind _ _ _ _ _ _ _ _ _ at1 refl c.put_waits.ensures c.in_ok-put_waits.was in
+    left_last _ _ _ _ _ _ at2 c.write_all.ensures

@@ -1,6 +1,6 @@
 use Rattle.std.proofs.lemmas.Result.{err_from_is_err_and}
 use Rattle.tab_io.proofs.SinkLemmas.{writes_broken, writes_then}
-use Rattle.view_chart.proofs.lane.put_two_lines.Goals as goal
+use Rattle.view_chart.proofs.labels.put_two_lines.Goals as goal
 
 pub returns-in_err-put_core : goal.returns-in_err-put_core
 returns-in_err-put_core g c =
