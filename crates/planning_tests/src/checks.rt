@@ -239,27 +239,35 @@ fn in_turn(alloc: Global, first: u32, changed: Option<u32>) -> Result<Vec<Part>,
     Ok(row)
 }
 
+// What the check says of such rows, each by its first vCPU and the tick that is changed.
+fn answer_in_turn(alloc: Global, ways: &[(bool, Option<u32>)]) -> Result<String, Fail> {
+    let mut rows = Vec::new(alloc);
+    for (first, changed) in ways {
+        rows.push(in_turn(alloc, u32::from(*first), *changed)?)?;
+    }
+    let mut parts = Vec::new(alloc);
+    for row in &rows {
+        parts.push(row.as_slice())?;
+    }
+    answer(alloc, [half(), forty()], &parts)
+}
+
 // So many segments are told apart by marks of their ticks, and clashes still by sweeps.
 #[test]
 fn single_cells(rt: HostRuntime) -> Result<(), Fail> {
-    let alloc = rt.alloc();
-    let one = in_turn(alloc, 0, None)?;
-    let other = in_turn(alloc, 1, None)?;
-    let late = in_turn(alloc, 1, Some(102_599))?;
-    let twice = in_turn(alloc, 1, Some(7))?;
-    let cases: [(&[&[Part]], &str); 3] = [
-        (&[one.as_slice(), other.as_slice()], "ok"),
+    let cases: [(&[(bool, Option<u32>)], &str); 3] = [
+        (&[(false, None), (true, None)], "ok"),
         (
-            &[one.as_slice(), late.as_slice()],
+            &[(false, None), (true, Some(102_599))],
             "vCPU 1 stands on cores 0 and 1 at tick 102599",
         ),
         (
-            &[other.as_slice(), late.as_slice(), twice.as_slice()],
+            &[(true, None), (true, Some(102_599)), (true, Some(7))],
             "vCPU 1 stands on cores 0 and 1 at tick 0",
         ),
     ];
-    for (rows, expected) in cases {
-        let said = answer(alloc, [half(), forty()], rows)?;
+    for (ways, expected) in cases {
+        let said = answer_in_turn(rt.alloc(), ways)?;
         assert_eq!(rt; said.as_str(), expected);
     }
     Ok(())
