@@ -6,7 +6,6 @@ ghost use Rattle.live_plan.specs.Inside.Working.{HasPlanned, HaveEnded, IsWorkin
 
 use crate::book::LiveBook;
 use crate::planner::{PlannerAnswer, planner_step};
-use crate::resting::Rests;
 use crate::site::Site;
 use crate::team::{Lead, Maker, Member};
 use crate::turning::{Progress, Roster, turn};
@@ -21,8 +20,7 @@ const PLANNER: u32 = 33;
 
 // Turns of a thread's members, and of the controller where the seat holds it, until all of them have finished, or none
 // got on for long, or none can get on since memory ran out.
-pub(crate) fn drive<R: Wait, G: Gate>(
-    rt: &R,
+pub(crate) fn drive<G: Gate>(
     site: &Site<'_, G>,
     seat: &mut RoundSeat,
     lead: &mut Lead,
@@ -42,16 +40,12 @@ pub(crate) fn drive<R: Wait, G: Gate>(
     for _ in 0..u64::MAX {
         match turn(site, seat, lead, members, &mut roster) {
             Progress::Moved => idle = 0,
-            Progress::Waits | Progress::Held => {
+            Progress::Waits => {
                 if idle >= PATIENCE {
                     return;
                 }
                 idle += 1;
-                site.rests.wait(rt, idle, spins);
-            }
-            Progress::Unmade => {
-                idle = idle.saturating_add(1);
-                site.rests.rest(rt, idle, spins);
+                give_way(idle, spins);
             }
             Progress::Stopped | Progress::Done => return,
         }
@@ -79,7 +73,7 @@ pub(crate) fn drive_on<R: Wait, G: Gate>(
     for _ in rt.forever() {
         match turn(site, seat, lead, members, &mut roster) {
             Progress::Moved => idle = 0,
-            Progress::Waits | Progress::Held | Progress::Unmade | Progress::Stopped => {
+            Progress::Waits | Progress::Stopped => {
                 idle = idle.saturating_add(1);
                 give_way(idle, spins);
             }
@@ -89,33 +83,13 @@ pub(crate) fn drive_on<R: Wait, G: Gate>(
     unreachable!()
 }
 
-// The planner's work.
-pub(crate) fn plan_all<R: Threads + Sync, G: Gate>(
-    rt: &R,
-    alloc: Global,
-    book: &LiveBook,
-    maker: Maker,
-    gate: &G,
-    rests: &Rests,
-) -> Maker
-    requires maker { IsMakerOf book.now maker }
-    ensures maker { IsMakerOf book.now result }
-    ensures planned { HasPlanned book.now result.planner }
-{
-    rests.begin();
-    let maker = plan_each(rt, alloc, book, maker, gate, rests);
-    rests.end();
-    maker
-}
-
 // The planner's steps, until it has finished.
-fn plan_each<R: Threads + Sync, G: Gate>(
+pub(crate) fn plan_all<R: Threads + Sync, G: Gate>(
     rt: &R,
     alloc: Global,
     book: &LiveBook,
     mut maker: Maker,
     gate: &G,
-    rests: &Rests,
 ) -> Maker
     requires maker { IsMakerOf book.now maker }
     ensures maker { IsMakerOf book.now result }
@@ -124,9 +98,7 @@ fn plan_each<R: Threads + Sync, G: Gate>(
     for told in 0..book.changes().len() + 1 {
         gate.pass(PLANNER, maker.steps);
         maker.steps = maker.steps.saturating_add(1);
-        let answer = planner_step(rt, alloc, book, &mut maker.planner, &mut maker.shelf);
-        rests.wake();
-        match answer {
+        match planner_step(rt, alloc, book, &mut maker.planner, &mut maker.shelf) {
             PlannerAnswer::Told { change: _ } => {}
             PlannerAnswer::Stopped { change: _ } => return maker,
             PlannerAnswer::Finished => return maker,

@@ -23,7 +23,6 @@ mod making;
 mod matching;
 mod plan_copy;
 mod planner;
-mod resting;
 mod seeking;
 mod shelf;
 mod site;

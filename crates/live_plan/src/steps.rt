@@ -20,18 +20,15 @@ use crate::stepping::live_core_step;
 use crate::team::{Lead, Member};
 use core_workers::{Gate, OUT};
 use round_words::RoundSeat;
-use tab_core::Actor;
 
 // the controller's number as an actor
 pub(crate) const CONTROLLER: u32 = 32;
 
-/// Where a core is after it ran on: its clock, or OUT if it has finished, whether memory ran out for a change, and
-/// whether it waits for the controller.
+/// Where a core is after it ran on: its clock, or OUT if it has finished, and whether memory ran out for a change.
 #[derive(Clone, Copy, Debug)]
 pub(crate) struct Reached {
     pub(crate) clock: u32,
     pub(crate) stopped: bool,
-    pub(crate) held: bool,
 }
 
 // Steps of the member, whose core has this number, while it runs and its clock is at most the limit.
@@ -56,31 +53,23 @@ pub(crate) fn run_member<G: Gate>(
     // a step that runs takes a tick at least
     for _ in clock..OUT {
         if clock > limit {
-            return at(clock, false, false);
+            return at(clock, false);
         }
         match step_member(site, seat, member, core) {
             LiveAnswer::Ran(_) => clock = member.actor.clock(),
-            LiveAnswer::Behind { who, tick: _ } => return at(clock, false, is_controller(who)),
-            LiveAnswer::NotMade { change: _ } => return at(clock, false, false),
-            LiveAnswer::Stopped { change: _ } => return at(clock, true, false),
-            LiveAnswer::Finished => return at(OUT, false, false),
+            LiveAnswer::Behind { who: _, tick: _ } => return at(clock, false),
+            LiveAnswer::NotMade { change: _ } => return at(clock, false),
+            LiveAnswer::Stopped { change: _ } => return at(clock, true),
+            LiveAnswer::Finished => return at(OUT, false),
         }
     }
-    at(clock, false, false)
+    at(clock, false)
 }
 
-fn at(clock: u32, stopped: bool, held: bool) -> Reached
+fn at(clock: u32, stopped: bool) -> Reached
     ensures { result.clock ≡ clock }
 {
-    Reached {
-        clock,
-        stopped,
-        held,
-    }
-}
-
-fn is_controller(who: Actor) -> bool {
-    matches!(who, Actor::Controller)
+    Reached { clock, stopped }
 }
 
 // A step of the member.

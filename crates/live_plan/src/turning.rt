@@ -20,11 +20,6 @@ pub(crate) enum Progress {
     Moved,
     /// Nobody got on, and somebody waits.
     Waits,
-    /// Nobody got on, and the core of least clock waits for the controller.
-    Held,
-    /// Nobody got on, and the controller, for which the core of least clock waits if there is one, waits for what is
-    /// made of a change.
-    Unmade,
     /// Nobody got on, and memory ran out for a change that somebody needs.
     Stopped,
     /// There is nothing left to do.
@@ -86,8 +81,8 @@ pub(crate) fn turn<G: Gate>(
     match step_lead(site, seat, lead) {
         LiveControl::Posted { count: _ } => Progress::Moved,
         LiveControl::Behind { core: _, tick: _ } => or_waits(cores),
-        LiveControl::NotMade { change: _ } => or_unmade(cores),
-        LiveControl::Stopped { change: _ } => outcome(cores == Progress::Moved, true, false),
+        LiveControl::NotMade { change: _ } => or_waits(cores),
+        LiveControl::Stopped { change: _ } => outcome(cores == Progress::Moved, true),
         LiveControl::Finished => {
             roster.posting = false;
             Progress::Moved
@@ -99,29 +94,17 @@ pub(crate) fn turn<G: Gate>(
 fn or_waits(cores: Progress) -> Progress
     ensures { result ≢ AreDone }
 {
-    outcome(cores == Progress::Moved, cores == Progress::Stopped, false)
+    outcome(cores == Progress::Moved, cores == Progress::Stopped)
 }
 
-// What a turn is in which the controller waits for what is made of a change.
-fn or_unmade(cores: Progress) -> Progress
-    ensures { result ≢ AreDone }
-{
-    match cores {
-        Progress::Held | Progress::Done => Progress::Unmade,
-        _ => or_waits(cores),
-    }
-}
-
-// What a turn is in which somebody got on or didn't, was stopped or wasn't, and is held by the controller or isn't.
-fn outcome(moved: bool, stopped: bool, held: bool) -> Progress
+// What a turn is in which somebody got on or didn't, and was stopped or wasn't.
+fn outcome(moved: bool, stopped: bool) -> Progress
     ensures { result ≢ AreDone }
 {
     if moved {
         Progress::Moved
     } else if stopped {
         Progress::Stopped
-    } else if held {
-        Progress::Held
     } else {
         Progress::Waits
     }
@@ -191,5 +174,5 @@ fn run_core<G: Gate>(
     let member = &mut members[place as usize];
     let reached = run_member(site, seat, member, core, limit);
     roster.ticks[place as usize] = reached.clock;
-    outcome(reached.clock != before, reached.stopped, reached.held)
+    outcome(reached.clock != before, reached.stopped)
 }

@@ -15,7 +15,6 @@ ghost use Rattle.live_plan.specs.Inside.Working.{HasPlanned, HaveEnded, IsHeld, 
 use crate::book::LiveBook;
 use crate::crew::LiveCrew;
 use crate::driving::{drive, drive_on, plan_all};
-use crate::resting::Rests;
 use crate::site::Site;
 use crate::team::{Lead, Maker, Member};
 use core_workers::{Gate, mask_from};
@@ -25,8 +24,7 @@ use std::sync::Wait;
 use std::thread::{Threads, join};
 
 // A thread's work that carries the upper cores: it owns the seat of its cores and what they keep, and gives both back.
-fn work_upper<R: Wait, G: Gate>(
-    rt: &R,
+fn work_upper<G: Gate>(
     site: &Site<'_, G>,
     mut seat: RoundSeat,
     first: u32,
@@ -42,13 +40,12 @@ fn work_upper<R: Wait, G: Gate>(
 {
     // it makes no step, since the seat doesn't hold the controller
     let mut lead = Lead::make(site.book);
-    drive(rt, site, &mut seat, &mut lead, first, &mut members, spins);
+    drive(site, &mut seat, &mut lead, first, &mut members, spins);
     (seat, members)
 }
 
 // The work of the thread that carries the lower cores and the controller.
-fn work_lower<R: Wait, G: Gate>(
-    rt: &R,
+fn work_lower<G: Gate>(
     site: &Site<'_, G>,
     mut seat: RoundSeat,
     mut members: Vec<Member>,
@@ -63,7 +60,7 @@ fn work_lower<R: Wait, G: Gate>(
     ensures count { length result.1.items ≡ length members.items }
     ensures room { vec_capacity result.1 ≡ vec_capacity members }
 {
-    drive(rt, site, &mut seat, &mut lead, 0, &mut members, spins);
+    drive(site, &mut seat, &mut lead, 0, &mut members, spins);
     (seat, members, lead)
 }
 
@@ -78,13 +75,12 @@ pub(crate) struct Cores {
 
 // The upper cores are worked on in a thread of their own where there is one, and the lower ones and the controller
 // beside it. Then the seats meet.
-fn work<R: Threads + Wait + Sync, G: Gate>(
+fn work<R: Threads, G: Gate>(
     rt: &R,
     board: &RoundBoard,
     book: &LiveBook,
     rounds: u32,
     gate: &G,
-    rests: &Rests,
     cores: Cores,
     spins: u32,
 ) -> Cores
@@ -109,7 +105,7 @@ fn work<R: Threads + Wait + Sync, G: Gate>(
     let ((own, mut upper), (mut seat, mut lower, lead)) = join(
         rt,
         move || -> (RoundSeat, Vec<Member>)
-            requires { IsSync R.row × IsSync G.row × IsSeatOf board.now own
+            requires { IsSync G.row × IsSeatOf board.now own
                 × IsWorker book.now rounds first upper.items (view_of own) }
             ensures { IsSeatOf board.entry.now result.0
                 × IsWorker book.entry.now rounds first result.1.items (view_of result.0)
@@ -117,13 +113,11 @@ fn work<R: Threads + Wait + Sync, G: Gate>(
                 × (length result.1.items ≡ length upper.items) }
         {
             work_upper(
-                rt,
                 &Site {
                     board,
                     book,
                     rounds,
                     gate,
-                    rests,
                 },
                 own,
                 first,
@@ -132,7 +126,7 @@ fn work<R: Threads + Wait + Sync, G: Gate>(
             )
         },
         move || -> (RoundSeat, Vec<Member>, Lead)
-            requires { IsSync R.row × IsSync G.row × IsSeatOf board.now seat
+            requires { IsSync G.row × IsSeatOf board.now seat
                 × IsHeld book.now rounds lower.items lead (view_of seat) }
             ensures { IsSeatOf board.entry.now result.0
                 × IsHeld book.entry.now rounds result.1.items result.2 (view_of result.0)
@@ -141,13 +135,11 @@ fn work<R: Threads + Wait + Sync, G: Gate>(
                 × (vec_capacity result.1 ≡ vec_capacity lower) }
         {
             work_lower(
-                rt,
                 &Site {
                     board,
                     book,
                     rounds,
                     gate,
-                    rests,
                 },
                 seat,
                 lower,
@@ -256,14 +248,12 @@ pub fn run_live<R: Threads + Wait + Sync, G: Gate>(
         upper,
         lead,
     };
-    let rests = Rests::new();
-    let rests = &rests;
     let (maker, cores) = join(
         rt,
         move || -> Maker
             requires { IsSync R.row × IsSync G.row × IsMakerOf book.now maker }
             ensures { IsMakerOf book.entry.now result × HasPlanned book.entry.now result.planner }
-        { plan_all(rt, alloc, book, maker, gate, rests) },
+        { plan_all(rt, alloc, book, maker, gate) },
         move || -> Cores
             requires { IsSync R.row × IsSync G.row × IsSeatOf board.now cores.seat
                 × HasRoom (length cores.lower.items) (length cores.upper.items) (vec_capacity cores.lower)
@@ -273,7 +263,7 @@ pub fn run_live<R: Threads + Wait + Sync, G: Gate>(
                 × SameActors (view_of cores.seat) (view_of result.seat)
                 × (length result.lower.items ≡ length cores.lower.items + length cores.upper.items)
                 × (result.upper.items ≡ []) × (vec_capacity cores.lower ≤ vec_capacity result.lower) }
-        { work(rt, board, book, rounds, gate, rests, cores, spins) },
+        { work(rt, board, book, rounds, gate, cores, spins) },
     );
     let stopped = maker.stopped_at(book);
     let site = Site {
@@ -281,7 +271,6 @@ pub fn run_live<R: Threads + Wait + Sync, G: Gate>(
         book,
         rounds,
         gate,
-        rests,
     };
     let Cores {
         seat,

@@ -38,8 +38,8 @@ join-own-requires-after_bounds g c κs within =
     (worker_upper b c.args.rounds lower upper c.args.cores.lead mask v named held (view_of c.part-own.result) c.part-own.ensures.given) in
     let rest : IsHeld b c.args.rounds lower c.args.cores.lead (view_of c.part-own.new.seat) =
     held_lower b c.args.rounds lower upper c.args.cores.lead mask v named held (view_of c.part-own.new.seat) c.part-own.ensures.kept in (
-      ((search rules, search rules, c.part-own.ensures.board.1, worker), search rules),
-      ((search rules, search rules, c.part-own.ensures.board.0, rest), search rules),
+      ((search rules, c.part-own.ensures.board.1, worker), search rules),
+      ((search rules, c.part-own.ensures.board.0, rest), search rules),
     )
 
 pub returns-clause-crew : goal.returns-clause-crew

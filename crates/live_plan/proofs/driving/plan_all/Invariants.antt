@@ -1,6 +1,6 @@
 use Rattle.std.proofs.Common.{◌≤◌}
 use Rattle.live_plan.specs.Crews.{IsMakerOf}
-use Rattle.live_plan.proofs.driving.plan_each.Given as goal
+use Rattle.live_plan.proofs.driving.plan_all.Given as goal
 
 abbrev pub invariant-loop-told : goal.invariant-loop-told
 invariant-loop-told g l = record {
