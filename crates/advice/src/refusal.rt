@@ -3,7 +3,7 @@ use script_doc::ScriptFault;
 use tab_core::{Actor, CoreNo, VcpuNo};
 
 /// What a core, or the controller, has to do next, or why there is nothing to do.
-#[derive(Clone, Copy, Debug, PartialEq, Eq)]
+#[derive(Clone, Copy, PartialEq, Eq)]
 pub enum Due {
     /// The core must see the posted count.
     See,
@@ -18,7 +18,7 @@ pub enum Due {
 }
 
 /// What a call refused, with what its line tells of the place.
-#[derive(Clone, Copy, Debug)]
+#[derive(Clone, Copy)]
 pub enum Refusal {
     /// The words are no command. The place is that of the first word with which none begins, from 0.
     Usage {

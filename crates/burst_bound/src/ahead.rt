@@ -12,7 +12,7 @@ use table_form::Course;
 
 // For each round the first one from which on the rounds up to it have its plan, and for each vCPU the least count
 // of first events from which on it is runnable.
-#[derive(Debug, Drop)]
+#[derive(Drop)]
 pub(crate) struct Ahead {
     pub(crate) since: Vec<u32>,
     pub(crate) ready: Vec<u32>,

@@ -36,7 +36,7 @@ pub(crate) fn bound_since(
 }
 
 // A budget, and the end of as many whole periods of it as some work needs.
-#[derive(Clone, Copy, Debug)]
+#[derive(Clone, Copy)]
 pub(crate) struct BudgetEnd {
     pub(crate) task: Periodic,
     pub(crate) end: u32,

@@ -11,7 +11,7 @@ ghost use Rattle.burst_bound.specs.Inside.Runs.{AreInPlace, AreRuns, IsBegun, Is
 const TICKS: u64 = 4_294_967_296;
 
 // The vCPU of this number ran from one tick up to another, on one core.
-#[derive(Clone, Copy, Debug)]
+#[derive(Clone, Copy)]
 pub(crate) struct RanPiece {
     pub(crate) vcpu: u32,
     pub(crate) from: u32,

@@ -26,7 +26,7 @@ use table_form::Course;
 /// No burst walks all stints: when each event is seen is found once for all of them, and what each vCPU ran is
 /// put in order once, and found by bisection. Contracts see
 /// the answers, and for how many rounds, stints and events there is room.
-#[derive(Debug, Drop)]
+#[derive(Drop)]
 pub struct BurstReport {
     runs: Runs,
     ahead: Ahead,

@@ -14,7 +14,7 @@ use tab_core::{CoreNo, NoMemory, Stint};
 use table_form::Course;
 
 // Where and when each vCPU ran: its pieces in order, and at how many ticks it ran before each.
-#[derive(Debug, Drop)]
+#[derive(Drop)]
 pub(crate) struct Runs {
     pub(crate) pieces: Vec<RanPiece>,
     pub(crate) before: Vec<u32>,

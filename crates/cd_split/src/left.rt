@@ -4,7 +4,7 @@ ghost use Rattle.tab_core.specs.Period.{IsPeriod};
 use tab_core::{CoreNo, Periodic, Piece, VcpuNo};
 
 // What is left of a vCPU while it is split: `rest` ticks of each period, in windows from `from` on.
-#[derive(Clone, Copy, Debug)]
+#[derive(Clone, Copy)]
 pub(crate) struct Left {
     pub(crate) vcpu: VcpuNo,
     pub(crate) period: u32,

@@ -7,7 +7,7 @@ use std::alloc::Global;
 use tab_core::{CoreNo, NoMemory};
 
 // A core and its load. The lower load comes first, and of equal ones the lower core.
-#[derive(Clone, Copy, Debug, PartialEq, Eq, PartialOrd, Ord)]
+#[derive(Clone, Copy, PartialEq, Eq, PartialOrd, Ord)]
 pub(crate) struct CoreLoad {
     pub(crate) load: u32,
     pub(crate) core: CoreNo,

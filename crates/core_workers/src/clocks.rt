@@ -21,7 +21,7 @@ pub const OUT: u32 = u32::MAX;
 
 /// By core number the clocks of those cores that are to go on, and OUT for each other. `posting` is whether the
 /// controller is to go on.
-#[derive(Debug, Drop)]
+#[derive(Drop)]
 pub(crate) struct Clocks {
     pub(crate) ticks: [u32; 32],
     pub(crate) posting: bool,
@@ -58,7 +58,7 @@ pub(crate) fn read_clocks<G: Gate>(
 }
 
 /// A core of least clock, and the least clock of the others, or OUT where none of them is to go on.
-#[derive(Clone, Copy, Debug)]
+#[derive(Clone, Copy)]
 pub struct Least {
     pub core: u32,
     pub next: u32,

@@ -27,7 +27,7 @@ use table_form::Course;
 pub const MOST_THREADS: u32 = 2;
 
 /// All actors of a run: one for each core, and the controller.
-#[derive(Debug, Drop)]
+#[derive(Drop)]
 pub struct Crew<'a> {
     pub(crate) course: &'a Course,
     pub(crate) team: Team,

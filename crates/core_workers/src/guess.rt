@@ -7,7 +7,7 @@ use crate::clocks::OUT;
 ///
 /// It is a tree of numbers `64 * clock + core`. Those of the cores stand from place 32 on, and at each place
 /// below that the lesser of the two at twice the place and behind it.
-#[derive(Debug, Drop)]
+#[derive(Drop)]
 pub(crate) struct Guess {
     places: [u64; 64],
     running: u32,

@@ -5,14 +5,14 @@ ghost use Rattle.core_workers.specs.Inside.Places.{ArePlaces, IsPlace};
 use crate::team::Deal;
 
 /// Where a core's member stands: in which of some groups, and at which place there.
-#[derive(Clone, Copy, Debug)]
+#[derive(Clone, Copy)]
 pub(crate) struct Place {
     pub(crate) group: u32,
     pub(crate) at: u32,
 }
 
 /// The same of each core by the deal, so that no step has to divide.
-#[derive(Debug, Drop)]
+#[derive(Drop)]
 pub(crate) struct Places {
     pub(crate) deal: Deal,
     pub(crate) groups: [u32; 32],

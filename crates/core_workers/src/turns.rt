@@ -19,7 +19,7 @@ use plan_switch::ControlAnswer;
 use round_words::RoundSeat;
 
 /// What became of a turn.
-#[derive(Clone, Copy, Debug, PartialEq, Eq)]
+#[derive(Clone, Copy, PartialEq, Eq)]
 pub(crate) enum Progress {
     /// Somebody got on.
     Moved,
@@ -30,7 +30,7 @@ pub(crate) enum Progress {
 }
 
 /// What turns go by: where the cores' members stand, the clocks, and a guess which core is the one of least clock.
-#[derive(Debug, Drop)]
+#[derive(Drop)]
 pub(crate) struct Roster {
     pub(crate) places: Places,
     pub(crate) clocks: Clocks,

@@ -12,7 +12,7 @@ use table_form::Course;
 pub const TRACE_LIMIT: u64 = 1_048_576;
 
 /// Why a run doesn't begin.
-#[derive(Clone, Copy, Debug, PartialEq, Eq)]
+#[derive(Clone, Copy, PartialEq, Eq)]
 pub enum RunFault {
     /// All stints are to be kept, for a trace or for bursts, and the bound on them is greater than `TRACE_LIMIT`.
     TraceTooLong { bound: u64 },

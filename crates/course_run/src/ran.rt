@@ -19,7 +19,7 @@ use table_form::Course;
 use trace_report::Report;
 
 /// A run that has been made: its actors, with the stints that they kept, and its report.
-#[derive(Debug, Drop)]
+#[derive(Drop)]
 pub struct Ran<'a> {
     pub(crate) crew: Crew<'a>,
     pub(crate) report: Report,

@@ -15,7 +15,7 @@ use tab_core::{CoreNo, NoMemory, Stint};
 use table_form::Course;
 
 /// Who takes a core's steps by a course. Contracts see the course and the state that it keeps.
-#[derive(Debug, Drop)]
+#[derive(Drop)]
 pub struct CoreActor<'a> {
     pub(crate) course: &'a Course,
     pub(crate) slices: CoreSlices,

@@ -19,7 +19,7 @@ use table_form::Outline;
 ///
 /// Contracts see the core, the count of rounds, how many stints are kept, the clock in ticks, the last shared
 /// pick, the account, the used count of each entered round, the kept stints, and for each core the clock that was heard last.
-#[derive(Debug, Drop)]
+#[derive(Drop)]
 pub struct CoreState {
     pub(crate) log: CoreLog,
     // a guess at the number of the span that comes next; nothing is claimed of it

@@ -6,7 +6,7 @@ use std::error::Error;
 use std::fmt;
 
 /// Why pieces have no row.
-#[derive(Clone, Copy, Debug, PartialEq, Eq, Hash)]
+#[derive(Clone, Copy, Debug, PartialEq, Eq)]
 pub enum EdfFault {
     /// The pieces don't fit. Of the overloaded intervals this is the one of least end, and of
     /// those the one of greatest begin; `demand` is what the jobs inside it cost, in ticks.

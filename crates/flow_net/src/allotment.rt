@@ -4,7 +4,7 @@ use crate::ticks::Ticks;
 use std::marker::Model;
 
 /// The marks that cut a round into intervals. Contracts see the list.
-#[derive(Debug, Drop)]
+#[derive(Drop)]
 pub struct Marks {
     items: Vec<u32>,
 }
@@ -34,7 +34,7 @@ impl Marks {
 }
 
 /// One list of ticks by vCPU number for each interval. Contracts see the list of lists.
-#[derive(Debug, Drop)]
+#[derive(Drop)]
 pub struct Rows {
     items: Vec<Ticks>,
 }
@@ -65,7 +65,7 @@ impl Rows {
 
 /// How many ticks each vCPU gets in each interval between neighbouring marks: 0, the round, and all
 /// multiples of the admitted vCPUs' periods between them.
-#[derive(Debug, Drop)]
+#[derive(Drop)]
 pub struct Allotment {
     pub marks: Marks,
     pub ticks: Rows,

@@ -13,7 +13,7 @@ use tab_core::ROUND;
 
 // An edge: from the source to a vCPU's job, from the vCPU's job at an interval to that interval, or
 // from an interval to the sink.
-#[derive(Clone, Copy, Debug)]
+#[derive(Clone, Copy)]
 pub(crate) enum Edge {
     ToJob { vcpu: usize, job: usize },
     ToInterval { vcpu: usize, interval: usize },

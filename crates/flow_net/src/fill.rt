@@ -39,7 +39,7 @@ fn hand_out(demands: &Demands, flow: &mut Flow, i: usize, v: usize)
 
 // What is kept of a vCPU from interval to interval: where its job ends, what that job lacks, and how
 // far it is behind the fluid schedule, times its period, and above that by one period.
-#[derive(Clone, Copy, Debug)]
+#[derive(Clone, Copy)]
 struct Watch {
     end: u32,
     lack: u32,
@@ -47,14 +47,14 @@ struct Watch {
 }
 
 // A vCPU that wants a tick of an interval, and how urgently.
-#[derive(Clone, Copy, Debug)]
+#[derive(Clone, Copy)]
 struct Wanting {
     class: usize,
     vcpu: usize,
 }
 
 // An interval, with its first tick and its length.
-#[derive(Clone, Copy, Debug)]
+#[derive(Clone, Copy)]
 struct Interval {
     number: usize,
     mark: u32,

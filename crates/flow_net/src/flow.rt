@@ -8,7 +8,7 @@ use crate::ticks::{Ticks, lower_at, raise_at};
 
 // A flow: for each interval the ticks of each vCPU and the room that is left, and for each vCPU
 // what each of its jobs lacks.
-#[derive(Debug, Drop)]
+#[derive(Drop)]
 pub(crate) struct Flow {
     pub(crate) rows: Vec<Ticks>,
     pub(crate) lacks: Vec<Ticks>,

@@ -27,7 +27,7 @@ use tab_core::{NoMemory, Steps, Tasks};
 ///
 /// Source: W. A. Horn, "Some simple scheduling algorithms", Naval Research Logistics Quarterly 21,
 /// 1974.
-#[derive(Debug, Drop)]
+#[derive(Drop)]
 pub struct Net {
     demands: Demands,
     flow: Flow,

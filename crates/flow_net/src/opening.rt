@@ -95,7 +95,7 @@ fn rooms_of(alloc: Global, demands: &Demands, rows: &Vec<Ticks>) -> Result<Vec<u
 }
 
 // The job of a vCPU that hasn't ended: where its period ends, and what it still lacks.
-#[derive(Clone, Copy, Debug)]
+#[derive(Clone, Copy)]
 struct Unended {
     end: u32,
     lack: u32,

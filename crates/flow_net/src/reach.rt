@@ -14,7 +14,7 @@ use tab_core::Steps;
 
 // An interval that was reached: a tick of this vCPU may move there, from the interval of the link
 // before number `back`, or as one that its job lacks where `back` is 0.
-#[derive(Clone, Copy, Debug)]
+#[derive(Clone, Copy)]
 pub(crate) struct Link {
     pub(crate) interval: usize,
     pub(crate) vcpu: usize,
@@ -23,7 +23,7 @@ pub(crate) struct Link {
 
 // What a search from a lacking job has reached: the intervals, how often each edge from a job to an
 // interval was read, and the links in the order in which they were found.
-#[derive(Debug, Drop)]
+#[derive(Drop)]
 pub(crate) struct Reach {
     pub(crate) near: Vec<bool>,
     pub(crate) scans: Vec<Ticks>,

@@ -4,7 +4,7 @@ ghost use Rattle.flow_net.specs.Rows.{IsPlace, row_at, ticks_at, with_ticks};
 use std::marker::Model;
 
 /// Ticks by number. Contracts see the list.
-#[derive(Debug, Drop)]
+#[derive(Drop)]
 pub struct Ticks {
     items: Vec<u32>,
 }

@@ -8,7 +8,7 @@ use std::error::Error;
 use std::fmt;
 
 /// A key of the document or of one of its vCPUs.
-#[derive(Clone, Copy, Debug, PartialEq, Eq, Hash)]
+#[derive(Clone, Copy, Debug, PartialEq, Eq)]
 pub enum Key {
     Format,
     TickNs,
@@ -52,7 +52,7 @@ impl Key {
 }
 
 /// Where a fault stands.
-#[derive(Clone, Copy, Debug, PartialEq, Eq, Hash)]
+#[derive(Clone, Copy, Debug, PartialEq, Eq)]
 pub struct Path {
     /// The number of the member of `vcpu`, from 0, or none for a key of the document.
     pub vcpu: Option<u32>,
@@ -92,7 +92,7 @@ impl fmt::Display for Path {
 }
 
 /// Why bytes aren't read as a host: the first fault in the order of the table of keys.
-#[derive(Clone, Copy, Debug, PartialEq, Eq, Hash)]
+#[derive(Clone, Copy, Debug, PartialEq, Eq)]
 pub enum HostFault {
     /// The bytes aren't a TOML document.
     NotToml,

@@ -19,7 +19,7 @@ use tab_core::{CoreNo, NoMemory};
 ///
 /// Contracts see what it keeps of its core's run, the core's slice table of the host's plan, and what plan it
 /// took last.
-#[derive(Debug, Drop)]
+#[derive(Drop)]
 pub struct LiveActor {
     pub(crate) core: u32,
     pub(crate) state: CoreState,

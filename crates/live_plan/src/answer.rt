@@ -1,7 +1,7 @@
 use tab_core::{Actor, Stint};
 
 /// What became of a live core's step.
-#[derive(Clone, Copy, Debug, PartialEq, Eq, Hash)]
+#[derive(Clone, Copy, PartialEq, Eq)]
 pub enum LiveAnswer {
     /// The core ran this stint.
     Ran(Stint),

@@ -17,7 +17,7 @@ use std::marker::Model;
 use tab_core::CoreNo;
 
 /// What became of a step of a live controller.
-#[derive(Clone, Copy, Debug, PartialEq, Eq, Hash)]
+#[derive(Clone, Copy, PartialEq, Eq)]
 pub enum LiveControl {
     /// So many events are posted now.
     Posted { count: u32 },
@@ -32,7 +32,7 @@ pub enum LiveControl {
 }
 
 /// Who posts the events of a live book. Contracts see what it keeps.
-#[derive(Debug, Drop)]
+#[derive(Drop)]
 pub struct LiveController {
     pub(crate) state: ControlState,
 }

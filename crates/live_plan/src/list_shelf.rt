@@ -8,7 +8,7 @@ use crate::made::Made;
 use crate::shelf::Shelf;
 
 /// The shelf in memory: at each change's place a value, or none.
-#[derive(Debug, Drop)]
+#[derive(Drop)]
 pub struct ListShelf<'a> {
     pub(crate) made: &'a [Option<Made>],
     pub(crate) looked: [bool; 15],

@@ -16,7 +16,7 @@ use tab_core::{Edit, Host, NoMemory};
 use table_form::Plan;
 
 /// What a change of reservations comes to.
-#[derive(Debug, Drop)]
+#[derive(Drop)]
 pub enum Found {
     /// The changed host has this plan, and these are the slice tables of its cores.
     Planned { plan: Plan, slices: Vec<SliceTable> },
@@ -39,7 +39,7 @@ impl Found {
 /// and what was found. Contracts see these.
 ///
 /// What was found is what the rules give for that host and those edits, or want of memory.
-#[derive(Debug, Drop)]
+#[derive(Drop)]
 pub struct Made {
     pub(crate) change: u32,
     pub(crate) host: Host,

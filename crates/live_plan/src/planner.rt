@@ -10,7 +10,7 @@ use std::thread::Threads;
 use tab_core::{Host, NoMemory};
 
 /// What became of a step of the planner.
-#[derive(Clone, Copy, Debug, PartialEq, Eq, Hash)]
+#[derive(Clone, Copy, PartialEq, Eq)]
 pub enum PlannerAnswer {
     /// It planned this change, and put what it found.
     Told { change: u32 },
@@ -23,7 +23,7 @@ pub enum PlannerAnswer {
 /// Who plans the changes of a live book, one after the other. Contracts see the values of those that are
 /// left, the last change first, the host that stands, the number of the next change, and whether memory ran
 /// out for one.
-#[derive(Debug, Drop)]
+#[derive(Drop)]
 pub struct LivePlanner {
     pub(crate) left: Vec<Box<Made>>,
     pub(crate) standing: Host,

@@ -11,7 +11,7 @@ use crate::taken::Taken;
 use slice_table::SliceTable;
 
 // Why the plan after a change isn't known: a look at the change missed, or memory ran out for it.
-#[derive(Clone, Copy, Debug)]
+#[derive(Clone, Copy)]
 pub(crate) enum Unmade {
     NotMade { change: u32 },
     Stopped { change: u32 },

@@ -25,7 +25,7 @@ use round_words::RoundSeat;
 pub(crate) const CONTROLLER: u32 = 32;
 
 /// Where a core is after it ran on: its clock, or OUT if it has finished, and whether memory ran out for a change.
-#[derive(Clone, Copy, Debug)]
+#[derive(Clone, Copy)]
 pub(crate) struct Reached {
     pub(crate) clock: u32,
     pub(crate) stopped: bool,

@@ -3,7 +3,7 @@ ghost use Rattle.std.specs.Prelude.{◌≡◌, None};
 /// What a core took last: after so many changes the plan of this one, or the host's own.
 ///
 /// The plans of a book never change, so a core looks for no change twice but for the one whose plan it uses.
-#[derive(Clone, Copy, Debug)]
+#[derive(Clone, Copy)]
 pub(crate) struct Taken {
     pub(crate) changes: u32,
     pub(crate) planned: Option<u32>,

@@ -14,7 +14,7 @@ use core_workers::{Gate, OUT, find_least};
 use round_words::RoundSeat;
 
 /// What became of a turn.
-#[derive(Clone, Copy, Debug, PartialEq, Eq)]
+#[derive(Clone, Copy, PartialEq, Eq)]
 pub(crate) enum Progress {
     /// Somebody got on.
     Moved,
@@ -28,7 +28,7 @@ pub(crate) enum Progress {
 
 /// What turns go by: the number of the first core, by place the clocks of those cores that are to go on, and OUT for
 /// each other, and whether the controller is to go on.
-#[derive(Debug, Drop)]
+#[derive(Drop)]
 pub(crate) struct Roster {
     pub(crate) first: u32,
     pub(crate) ticks: [u32; 32],

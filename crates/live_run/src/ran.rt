@@ -23,7 +23,7 @@ use tab_core::{Host, NoMemory};
 use trace_report::Report;
 
 /// A run that has been made: the script's book, what became of its changes, and the run's report.
-#[derive(Debug, Drop)]
+#[derive(Drop)]
 pub struct Ran {
     pub(crate) book: PlanBook,
     pub(crate) changes: Vec<(u32, Outcome)>,
@@ -39,7 +39,7 @@ impl Model for Ran {
 }
 
 /// Why there is no report of a run.
-#[derive(Debug, Drop)]
+#[derive(Drop)]
 pub enum LiveFault {
     /// The host has no plan, or memory ran out before the run began.
     NotBegun(BookFault),

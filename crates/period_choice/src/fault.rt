@@ -7,7 +7,7 @@ use std::fmt;
 use tab_core::VcpuNo;
 
 /// Why a host's vCPUs can't all be given a period.
-#[derive(Clone, Copy, Debug, PartialEq, Eq, Hash)]
+#[derive(Clone, Copy, Debug, PartialEq, Eq)]
 pub enum TaskFault {
     /// No period meets this vCPU's latency. It is the lowest such vCPU.
     NoPeriod { vcpu: VcpuNo },

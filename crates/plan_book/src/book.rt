@@ -8,7 +8,7 @@ use table_form::Course;
 
 /// The course of a script for a host, and the outcome of each change of reservations. Contracts
 /// see the course and the list of outcomes.
-#[derive(Debug, Drop)]
+#[derive(Drop)]
 pub struct PlanBook {
     course: Course,
     outcomes: Vec<Outcome>,

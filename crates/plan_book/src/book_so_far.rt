@@ -21,7 +21,7 @@ use table_form::Plan;
 
 // What is known after some events: the host, the plans up to its own, which is the last, the
 // runnable vCPUs, and the outcome of each change.
-#[derive(Debug, Drop)]
+#[derive(Drop)]
 pub(crate) struct BookSoFar {
     pub(crate) host: Host,
     pub(crate) plans: Vec<Plan>,

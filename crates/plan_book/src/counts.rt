@@ -6,7 +6,7 @@ use std::alloc::Global;
 use tab_core::{NoMemory, VcpuSet};
 
 // For each count of first events the number of the plan and the runnable vCPUs.
-#[derive(Debug, Drop)]
+#[derive(Drop)]
 pub(crate) struct Counts {
     pub(crate) numbers: Vec<u32>,
     pub(crate) runnable: Vec<VcpuSet>,

@@ -1,7 +1,7 @@
 use tab_core::VcpuNo;
 
 /// What became of a change of reservations.
-#[derive(Clone, Copy, Debug, PartialEq, Eq, Hash)]
+#[derive(Clone, Copy, Debug, PartialEq, Eq)]
 pub enum Outcome {
     /// The changed host has a plan. Host and plan are the new ones from then on.
     Planned,

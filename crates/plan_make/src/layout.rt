@@ -14,7 +14,7 @@ use tab_core::{CoreNo, Host, Tasks};
 use worst_fit::place;
 
 // Where the vCPUs of a host stand: the pieces on each core, and the home of each vCPU.
-#[derive(Debug, Drop)]
+#[derive(Drop)]
 pub(crate) struct Layout {
     pub(crate) cores: CorePieces,
     pub(crate) homes: Vec<Option<CoreNo>>,

@@ -2,7 +2,7 @@ ghost use Rattle.std.specs.Prelude.{◌≡◌, ℕ, slice_index};
 
 /// What is kept of a controller's run, apart from the outline: how many events are posted, and for each core the clock
 /// that was heard last.
-#[derive(Debug, Drop)]
+#[derive(Drop)]
 pub struct ControlState {
     pub(crate) posted: u32,
     pub(crate) known: [u32; 32],

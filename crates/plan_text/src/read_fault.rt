@@ -6,7 +6,7 @@ use std::error::Error;
 use std::fmt;
 
 /// Why a text isn't read as the text of a plan.
-#[derive(Clone, Copy, Debug, PartialEq, Eq, Hash)]
+#[derive(Clone, Copy, Debug, PartialEq, Eq)]
 pub enum ReadPlan {
     /// The first line with which no text for this host and these tasks begins, from 1, or one past
     /// the last where the text stops early.

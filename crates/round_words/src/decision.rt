@@ -3,7 +3,7 @@ ghost use Rattle.std.specs.Prelude.{◌≡◌, ◌≢◌, ◌<◌, ◌≤◌, �
 ghost use Rattle.round_words.specs.Rule.{decision_word};
 
 /// The two words of a core's exchange as it enters a round.
-#[derive(Clone, Copy, Debug, PartialEq, Eq)]
+#[derive(Clone, Copy, PartialEq, Eq)]
 pub struct DecisionWords {
     /// What the decision word holds where no core has entered the round: 0, or the word of four rounds
     /// before.

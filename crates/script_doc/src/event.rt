@@ -7,7 +7,7 @@ use tab_core::{Edit, MAX_ROUNDS, ROUND, VcpuNo};
 pub const MAX_WORK: u32 = MAX_ROUNDS * ROUND;
 
 /// The edits of one change, in the order in which they apply. Contracts see the list.
-#[derive(Debug, Drop)]
+#[derive(Drop)]
 pub struct Edits {
     items: Vec<Edit>,
 }
@@ -37,7 +37,7 @@ impl Edits {
 }
 
 /// What happens in an event.
-#[derive(Debug, Drop)]
+#[derive(Drop)]
 pub enum Act {
     /// The vCPU wants to run from now on.
     Wake(VcpuNo),
@@ -50,7 +50,7 @@ pub enum Act {
 }
 
 /// One event of a script.
-#[derive(Debug, Drop)]
+#[derive(Drop)]
 pub struct Event {
     /// When it happens, in ticks from the start of the run.
     pub tick: u32,

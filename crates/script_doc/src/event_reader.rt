@@ -15,7 +15,7 @@ use tab_words::{Words, read_number};
 use vcpu_names::Names;
 
 // Why a line isn't read as an event.
-#[derive(Clone, Copy, Debug, PartialEq, Eq)]
+#[derive(Clone, Copy, PartialEq, Eq)]
 pub(crate) enum LineFault {
     BadLine,
     UnknownName,

@@ -6,7 +6,7 @@ use std::marker::Model;
 
 /// The events of a run, whose ticks never fall: at most 65,535, of which at most 15 are changes of
 /// reservations. Contracts see the list.
-#[derive(Debug, Drop)]
+#[derive(Drop)]
 pub struct Script {
     events: Vec<Event>,
 }

@@ -8,7 +8,7 @@ use tab_core::{MAX_CHANGES, MAX_EVENTS};
 
 /// Why a text isn't read as a script: the first fault of the first line with one, whose number is
 /// from 1. The faults of one line come in the order of these variants.
-#[derive(Clone, Copy, Debug, PartialEq, Eq, Hash)]
+#[derive(Clone, Copy, Debug, PartialEq, Eq)]
 pub enum ScriptFault {
     /// The line isn't of the form of an event.
     BadLine { line: u32 },

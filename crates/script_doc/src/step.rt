@@ -1,7 +1,7 @@
 use tab_core::CoreNo;
 
 /// One step of the core machine.
-#[derive(Clone, Copy, Debug, PartialEq, Eq, Hash)]
+#[derive(Clone, Copy, Debug, PartialEq, Eq)]
 pub enum Step {
     /// The controller posts the next event.
     Post,

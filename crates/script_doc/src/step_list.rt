@@ -4,7 +4,7 @@ use crate::step::Step;
 use std::marker::Model;
 
 /// Steps in the order in which they are taken. Contracts see the list.
-#[derive(Debug, Drop)]
+#[derive(Drop)]
 pub struct StepSequence {
     items: Vec<Step>,
 }
@@ -34,7 +34,7 @@ impl StepSequence {
 }
 
 /// Numbers of lines, from 1. Contracts see the list.
-#[derive(Debug, Drop)]
+#[derive(Drop)]
 pub struct LineNumbers {
     items: Vec<u32>,
 }
@@ -63,7 +63,7 @@ impl LineNumbers {
 }
 
 /// Steps, and for each the number of the line that it stands on.
-#[derive(Debug, Drop)]
+#[derive(Drop)]
 pub struct StepList {
     pub steps: StepSequence,
     pub lines: LineNumbers,

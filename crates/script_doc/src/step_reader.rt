@@ -14,7 +14,7 @@ use std::fmt;
 use tab_words::{Lines, Words, read_core};
 
 /// Why a text isn't read as a list of steps.
-#[derive(Clone, Copy, Debug, PartialEq, Eq, Hash)]
+#[derive(Clone, Copy, Debug, PartialEq, Eq)]
 pub enum StepsFault {
     /// The line is no step, and it is the first such. Its number is from 1.
     BadLine { line: u32 },

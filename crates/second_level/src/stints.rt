@@ -13,7 +13,7 @@ use tab_core::{CoreNo, ROUND, Stint, VcpuNo, VcpuSet};
 use table_form::{Outline, Span};
 
 /// Where a stint begins.
-#[derive(Clone, Copy, Debug)]
+#[derive(Clone, Copy)]
 pub struct Begin {
     /// The core's clock, in ticks.
     pub from: u32,
@@ -26,7 +26,7 @@ pub struct Begin {
 }
 
 /// A stint that comes next, and what it leaves to the one after it.
-#[derive(Clone, Copy, Debug)]
+#[derive(Clone, Copy)]
 pub struct Next {
     pub stint: Stint,
     /// Whether the stint runs somebody other than the owner of its first tick.

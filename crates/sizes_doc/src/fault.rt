@@ -7,7 +7,7 @@ use std::fmt;
 use tab_core::MAX_VCPUS;
 
 /// A part of a size that isn't as it has to be.
-#[derive(Clone, Copy, Debug, PartialEq, Eq, Hash)]
+#[derive(Clone, Copy, Debug, PartialEq, Eq)]
 pub enum Part {
     /// The words are not NAME VMS x VCPUS SHARE LATENCY.
     Form,
@@ -30,7 +30,7 @@ impl fmt::Display for Part {
 }
 
 /// Why sizes aren't read, or make no host. Lines are numbered from 1.
-#[derive(Clone, Copy, Debug, PartialEq, Eq, Hash)]
+#[derive(Clone, Copy, Debug, PartialEq, Eq)]
 pub enum SizesFault {
     /// The line is no size, and it is the first such. This is its first bad part.
     BadSize { line: u32, part: Part },

@@ -4,7 +4,7 @@ ghost use Rattle.tab_core.specs.declared.TheConstants.{MAX_VCPUS};
 use tab_core::Reservation;
 
 /// So many VMs of one size: each has so many vCPUs, and each vCPU this reservation.
-#[derive(Clone, Copy, Debug)]
+#[derive(Clone, Copy)]
 pub struct Size<'a> {
     /// The line of the text that states it, from 1.
     pub line: u32,

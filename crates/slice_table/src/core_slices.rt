@@ -19,7 +19,7 @@ use table_form::{Course, Span};
 /// A core's slice tables, one for each plan of a course. Contracts see each as the list of its spans.
 ///
 /// It borrows no course, so it can go to another thread.
-#[derive(Debug, Drop)]
+#[derive(Drop)]
 pub struct CoreSlices {
     tables: Vec<SliceTable>,
 }

@@ -6,7 +6,7 @@ use tab_core::{VcpuNo, VcpuSet};
 use table_form::Spot;
 
 /// A span of a core's row, with both its sets.
-#[derive(Debug, Drop)]
+#[derive(Drop)]
 pub struct FullSpan {
     /// The vCPU whose slot it is, or none.
     pub owner: Option<VcpuNo>,

@@ -12,7 +12,7 @@ use table_form::{CoreTable, Course, Plan};
 
 /// For each row of a plan the vCPUs that own time there. Which rows matter to a core's spans is read off it, so that
 /// it is made once for all cores. Contracts see the sets, by core number.
-#[derive(Debug, Drop)]
+#[derive(Drop)]
 pub struct RowOwners {
     sets: Vec<VcpuSet>,
 }

@@ -10,7 +10,7 @@ use tab_core::{CoreNo, VcpuSet};
 use table_form::Plan;
 
 /// What a core's spans depend on beside its own row.
-#[derive(Debug, Drop)]
+#[derive(Drop)]
 pub(crate) struct Scope {
     pub core: CoreNo,
     /// The vCPUs whose home is the core.

@@ -22,7 +22,7 @@ use table_form::{Plan, Span, Spot};
 ///
 /// The round is cut into slices of the length of the shortest span, and for each slice the number of
 /// the first span that it meets is kept. Contracts see the list of the spans.
-#[derive(Debug, Drop)]
+#[derive(Drop)]
 pub struct SliceTable {
     spans: SpanList,
     slices: Vec<u32>,

@@ -11,7 +11,7 @@ use tab_core::{VcpuNo, VcpuSet};
 use table_form::{Span, Spot};
 
 /// A span with the number of its pair of sets.
-#[derive(Clone, Copy, Debug, Drop)]
+#[derive(Clone, Copy, Drop)]
 pub(crate) struct SpanEntry {
     pub owner: Option<VcpuNo>,
     pub end: u32,
@@ -19,14 +19,14 @@ pub(crate) struct SpanEntry {
 }
 
 /// The vCPUs away and the sharers of some spans.
-#[derive(Debug, Drop)]
+#[derive(Drop)]
 pub(crate) struct SetPair {
     pub away: VcpuSet,
     pub sharers: VcpuSet,
 }
 
 /// Spans in order, which share pairs of sets. Contracts see each with its sets.
-#[derive(Debug, Drop)]
+#[derive(Drop)]
 pub(crate) struct SpanList {
     entries: Vec<SpanEntry>,
     pairs: Vec<SetPair>,

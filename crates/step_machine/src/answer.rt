@@ -1,7 +1,7 @@
 use tab_core::Actor;
 
 /// What a core, or the controller, has to do next, or why there is nothing to do.
-#[derive(Clone, Copy, Debug, PartialEq, Eq, Hash)]
+#[derive(Clone, Copy, Debug, PartialEq, Eq)]
 pub enum Phase {
     /// The core must see the posted count.
     See,
@@ -16,7 +16,7 @@ pub enum Phase {
 }
 
 /// What became of a step.
-#[derive(Clone, Copy, Debug, PartialEq, Eq, Hash)]
+#[derive(Clone, Copy, Debug, PartialEq, Eq)]
 pub enum Answer {
     Done,
     /// The step is due, and waits: for a core, whose clock is at this tick, or for the controller,

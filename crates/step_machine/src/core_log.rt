@@ -1,7 +1,7 @@
 use tab_core::{Entry, Stint, VcpuNo};
 
 /// What is kept of a core. `last` is its last shared pick.
-#[derive(Debug, Drop)]
+#[derive(Drop)]
 pub(crate) struct CoreLog {
     pub(crate) clock: u32,
     pub(crate) seen: Option<u32>,

@@ -7,7 +7,7 @@ use std::error::Error;
 use std::fmt;
 
 /// Why a list of steps can't be replayed.
-#[derive(Clone, Copy, Debug, PartialEq, Eq, Hash)]
+#[derive(Clone, Copy, Debug, PartialEq, Eq)]
 pub enum ReplayFault {
     /// The first step that isn't done, by its place from 0, and its answer.
     Refused { place: u32, answer: Answer },

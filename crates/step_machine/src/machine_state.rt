@@ -1,7 +1,7 @@
 use crate::core_log::CoreLog;
 
 /// What is kept of a run: how many events are posted, the rounds' counts, and each core's log.
-#[derive(Debug, Drop)]
+#[derive(Drop)]
 pub(crate) struct MachineState {
     pub(crate) posted: u32,
     pub(crate) decided: Vec<u32>,

@@ -43,7 +43,7 @@ pub(crate) fn has_up_to(course: &Course, count: u32, clock: u32) -> bool
 }
 
 // A core whose clock is too low.
-#[derive(Clone, Copy, Debug)]
+#[derive(Clone, Copy)]
 pub(crate) struct Low {
     pub(crate) core: CoreNo,
     pub(crate) clock: u32,

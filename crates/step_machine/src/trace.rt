@@ -1,7 +1,7 @@
 use tab_core::{CoreNo, Entry, Stint};
 
 /// What a step made of a core.
-#[derive(Clone, Copy, Debug)]
+#[derive(Clone, Copy)]
 pub enum Made {
     /// The core entered a round.
     Entered { core: CoreNo, entry: Entry },
@@ -11,7 +11,7 @@ pub enum Made {
 
 /// What the steps of a run made, in their order, and how many events they posted. It no longer needs
 /// the course.
-#[derive(Debug, Drop)]
+#[derive(Drop)]
 pub struct Trace {
     pub made: Vec<Made>,
     pub posted: u32,

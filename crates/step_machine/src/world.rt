@@ -29,7 +29,7 @@ use table_form::Course;
 
 /// A run of the machine so far, with room for some more steps. Contracts see the course, the count
 /// of rounds, how many steps there is room for, the state, and what the steps made.
-#[derive(Debug, Drop)]
+#[derive(Drop)]
 pub struct World<'a> {
     course: &'a Course,
     slices: Vec<CoreSlices>,

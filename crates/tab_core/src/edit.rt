@@ -2,7 +2,7 @@ use crate::number::VcpuNo;
 use crate::reservation::Reservation;
 
 /// One part of a change of reservations.
-#[derive(Clone, Copy, Debug, PartialEq, Eq, Hash)]
+#[derive(Clone, Copy, Debug, PartialEq, Eq)]
 pub enum Edit {
     /// The vCPU has this reservation from now on, and is admitted if it wasn't.
     Set {

@@ -1,5 +1,5 @@
 /// A core's entry into a round.
-#[derive(Clone, Copy, Debug, PartialEq, Eq, Hash)]
+#[derive(Clone, Copy, Debug, PartialEq, Eq)]
 pub struct Entry {
     /// The round's number, from 0.
     pub round: u32,

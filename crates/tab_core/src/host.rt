@@ -4,7 +4,7 @@ ghost use Rattle.tab_core.specs.declared.TheConstants.{MAX_CORES, MAX_SLIVER, MA
 use crate::vcpu::Vcpus;
 
 /// A virtual machine host: its cores, the parameters of planning and running, and its vCPUs.
-#[derive(Debug, Drop)]
+#[derive(Drop)]
 pub struct Host {
     /// The length of a tick in nanoseconds, which no edit changes.
     pub tick_ns: u32,

@@ -11,7 +11,7 @@ use std::marker::Model;
 
 /// A vCPU's name: 1 to 32 bytes out of `a-z A-Z 0-9 _ - .`, other than the single byte `-`, which
 /// stands for an idle core in texts. Contracts see its bytes.
-#[derive(Debug, Drop)]
+#[derive(Drop)]
 pub struct Name {
     bytes: Vec<u8>,
 }
@@ -28,7 +28,7 @@ impl Model for Name {
 }
 
 /// Why bytes aren't made a name.
-#[derive(Clone, Copy, Debug, PartialEq, Eq, Hash)]
+#[derive(Clone, Copy, Debug, PartialEq, Eq)]
 pub enum NameFault {
     /// The bytes aren't of the form of a name.
     BadName,

@@ -5,7 +5,7 @@ use crate::{MAX_CORES, MAX_VCPUS};
 use std::marker::Model;
 
 /// The number of a vCPU: its place in the host, from 0. Contracts see it as that number.
-#[derive(Clone, Copy, Debug, PartialEq, Eq, PartialOrd, Ord, Hash)]
+#[derive(Clone, Copy, Debug, PartialEq, Eq, PartialOrd, Ord)]
 pub struct VcpuNo(pub u32);
 
 impl Model for VcpuNo {
@@ -29,7 +29,7 @@ impl VcpuNo {
 }
 
 /// The number of a core, from 0. Contracts see it as that number.
-#[derive(Clone, Copy, Debug, PartialEq, Eq, PartialOrd, Ord, Hash)]
+#[derive(Clone, Copy, Debug, PartialEq, Eq, PartialOrd, Ord)]
 pub struct CoreNo(pub u32);
 
 impl Model for CoreNo {

@@ -5,7 +5,7 @@ use crate::number::CoreNo;
 use std::marker::Model;
 
 /// An overloaded interval of a core: the jobs whose windows lie in it cost more than its ticks.
-#[derive(Clone, Copy, Debug, PartialEq, Eq, Hash)]
+#[derive(Clone, Copy, Debug, PartialEq, Eq)]
 pub struct Over {
     pub core: CoreNo,
     /// The interval's first tick.

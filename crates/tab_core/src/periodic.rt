@@ -5,7 +5,7 @@ ghost use Rattle.tab_core.specs.Period.{IsPeriod};
 use std::marker::Model;
 
 /// A vCPU's budget: `cost` ticks in every `period` ticks. The period is one of `PERIODS`.
-#[derive(Clone, Copy, Debug, PartialEq, Eq, Hash)]
+#[derive(Clone, Copy, PartialEq, Eq)]
 pub struct Periodic {
     pub cost: u32,
     pub period: u32,
@@ -15,7 +15,7 @@ pub struct Periodic {
 }
 
 /// The budget of each vCPU by its number, or none where it isn't admitted. Contracts see the list.
-#[derive(Debug, Drop)]
+#[derive(Drop)]
 pub struct Tasks {
     items: Vec<Option<Periodic>>,
 }

@@ -10,7 +10,7 @@ use std::marker::Model;
 ///
 /// Period number `k` of the round has a job with the window `[k * period + from, k * period + to)`.
 /// A vCPU that stands whole on a core is the piece of `from` 0 and `to` the period.
-#[derive(Clone, Copy, Debug, PartialEq, Eq, Hash)]
+#[derive(Clone, Copy, PartialEq, Eq)]
 pub struct Piece {
     pub vcpu: VcpuNo,
     pub core: CoreNo,
@@ -28,7 +28,7 @@ pub struct Piece {
 }
 
 /// Pieces in an order. Contracts see the list.
-#[derive(Debug, Drop)]
+#[derive(Drop)]
 pub struct Pieces {
     items: Vec<Piece>,
 }

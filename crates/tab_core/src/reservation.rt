@@ -4,7 +4,7 @@ ghost use Rattle.tab_core.specs.declared.TheConstants.{MAX_LATENCY_NS, WHOLE_PPM
 use crate::{MAX_LATENCY_NS, WHOLE_PPM};
 
 /// What an operator has sold for a vCPU.
-#[derive(Clone, Copy, Debug, PartialEq, Eq, Hash)]
+#[derive(Clone, Copy, Debug, PartialEq, Eq)]
 pub struct Reservation {
     /// The share of one core, in parts per million.
     pub share_ppm: u32,

@@ -5,7 +5,7 @@ ghost use Rattle.tab_core.specs.declared.TheConstants.{MAX_VCPUS};
 use crate::number::VcpuNo;
 
 /// One interval of execution of a core: the ticks from `from` up to, and without, `end`.
-#[derive(Clone, Copy, Debug, PartialEq, Eq, Hash)]
+#[derive(Clone, Copy, Debug, PartialEq, Eq)]
 pub struct Stint {
     pub from: u32,
     pub end: u32,

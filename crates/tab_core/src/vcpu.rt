@@ -9,7 +9,7 @@ use crate::vcpu_set::VcpuSet;
 use std::marker::Model;
 
 /// A vCPU of a host. It is admitted where it has a reservation.
-#[derive(Debug, Drop)]
+#[derive(Drop)]
 pub struct Vcpu {
     pub name: Name,
     pub reservation: Option<Reservation>,
@@ -20,7 +20,7 @@ pub struct Vcpu {
 }
 
 /// The vCPUs of a host by number, of which no two have one name. Contracts see the list.
-#[derive(Debug, Drop)]
+#[derive(Drop)]
 pub struct Vcpus {
     items: Vec<Vcpu>,
 }

@@ -9,7 +9,7 @@ use crate::number::VcpuNo;
 use std::marker::Model;
 
 /// A set of vCPUs, in 32 bytes. Contracts see 256 truth values, by vCPU number.
-#[derive(Debug, Drop)]
+#[derive(Drop)]
 pub struct VcpuSet {
     words: [u64; 4],
 }

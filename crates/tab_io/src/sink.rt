@@ -18,7 +18,7 @@ pub enum Put {
 }
 
 /// Not all was written: the sink failed, and its count of faults rose in this call.
-#[derive(Clone, Copy, Debug, PartialEq, Eq, Hash)]
+#[derive(Clone, Copy, Debug, PartialEq, Eq)]
 pub struct WriteFault;
 
 impl fmt::Display for WriteFault {

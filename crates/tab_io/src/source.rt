@@ -38,7 +38,7 @@ pub trait Source {
 }
 
 /// Why not all was read.
-#[derive(Clone, Copy, Debug, PartialEq, Eq, Hash)]
+#[derive(Clone, Copy, Debug, PartialEq, Eq)]
 pub enum ReadAll {
     /// The source failed, and its count of faults rose in this call.
     ReadFault,

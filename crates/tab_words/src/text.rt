@@ -6,7 +6,7 @@ use itoa::Buffer;
 use tab_io::{Sink, WriteFault, write_all};
 
 /// A piece of a text.
-#[derive(Clone, Copy, Debug)]
+#[derive(Clone, Copy)]
 pub enum TextPiece<'a> {
     /// These bytes.
     Text(&'a [u8]),

@@ -14,7 +14,7 @@ use tab_core::{CoreNo, VcpuNo};
 use table_form::Segments;
 
 // A vCPU that stands in the rows of two cores at one tick, of which `core` is the lower one.
-#[derive(Clone, Copy, Debug)]
+#[derive(Clone, Copy)]
 pub(crate) struct Clash {
     pub(crate) vcpu: VcpuNo,
     pub(crate) tick: u32,

@@ -8,7 +8,7 @@ use tab_core::{CoreNo, VcpuNo};
 
 /// Why tables are no plan. A bad shape comes before any other fault, and a vCPU on two cores before
 /// one that gets too little.
-#[derive(Clone, Copy, Debug, PartialEq, Eq, Hash)]
+#[derive(Clone, Copy, Debug, PartialEq, Eq)]
 pub enum CheckFault {
     /// The segments of this core make no row: the end at `place` isn't above the one before or is
     /// beyond the round, or there are only so many segments and the last falls short of the round.

@@ -7,7 +7,7 @@ use tab_core::{ROUND, VcpuNo};
 use table_form::Segment;
 
 // A vCPU that stands in two rows at one tick.
-#[derive(Clone, Copy, Debug)]
+#[derive(Clone, Copy)]
 pub(crate) struct Meeting {
     pub(crate) vcpu: VcpuNo,
     pub(crate) tick: u32,

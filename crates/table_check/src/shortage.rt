@@ -13,7 +13,7 @@ use tab_core::{NoMemory, Periodic, ROUND, VcpuNo};
 use table_form::Segments;
 
 // A vCPU that gets less than its cost in one of its periods.
-#[derive(Clone, Copy, Debug)]
+#[derive(Clone, Copy)]
 pub(crate) struct Shortage {
     pub(crate) vcpu: VcpuNo,
     pub(crate) period_no: u32,

@@ -10,7 +10,7 @@ use tab_core::VcpuSet;
 
 /// The events of a script by their ticks, and after each count of first events the plan and the
 /// set of runnable vCPUs. Contracts see these lists, and the cores, lag and quantum of the host.
-#[derive(Debug, Drop)]
+#[derive(Drop)]
 pub struct Course {
     outline: Outline,
     plans: Vec<Plan>,

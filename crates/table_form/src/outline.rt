@@ -6,7 +6,7 @@ use tab_core::VcpuSet;
 
 /// A course without its plans: the ticks of the events, after each count of first events the set of
 /// runnable vCPUs, and the cores, lag and quantum of the host. Contracts see these.
-#[derive(Debug, Drop)]
+#[derive(Drop)]
 pub struct Outline {
     cores: u32,
     lag: u32,

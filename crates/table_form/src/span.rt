@@ -2,7 +2,7 @@ use tab_core::{VcpuNo, VcpuSet};
 
 /// A span of a core's row: a stretch of places with one owner, at which the same vCPUs may share the
 /// time that the owner leaves.
-#[derive(Debug, Drop)]
+#[derive(Drop)]
 pub struct Span<'a> {
     /// The vCPU whose slot it is, or none.
     pub owner: Option<VcpuNo>,

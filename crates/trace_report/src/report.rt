@@ -17,7 +17,7 @@ use table_form::Course;
 ///
 /// All its memory is taken as it is made. Contracts see its three lists, its room for rounds, and how many
 /// cores' accounts were added since it was filled.
-#[derive(Debug, Drop)]
+#[derive(Drop)]
 pub struct Report {
     plans: Vec<RoundPlan>,
     vcpus: Vec<VcpuTicks>,

@@ -2,7 +2,7 @@ ghost use Rattle.std.specs.Prelude.{◌≡◌};
 ghost use Rattle.trace_report.specs.ReportViews.{no_core_ticks, no_vcpu_ticks};
 
 /// What a report tells of a vCPU, in ticks of the whole run.
-#[derive(Clone, Copy, Debug, PartialEq, Eq)]
+#[derive(Clone, Copy, PartialEq, Eq)]
 pub struct VcpuTicks {
     /// How many are offered to it.
     pub offered: u64,
@@ -15,7 +15,7 @@ pub struct VcpuTicks {
 }
 
 /// What a report tells of a core, in ticks of the whole run.
-#[derive(Clone, Copy, Debug, PartialEq, Eq)]
+#[derive(Clone, Copy, PartialEq, Eq)]
 pub struct CoreTicks {
     /// How many it ran vCPUs in their slots.
     pub slots: u64,

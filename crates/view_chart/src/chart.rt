@@ -21,7 +21,7 @@ use view_doc::View;
 use view_table::Figures;
 
 /// Why a view isn't drawn.
-#[derive(Clone, Copy, Debug, PartialEq, Eq, Hash)]
+#[derive(Clone, Copy, Debug, PartialEq, Eq)]
 pub enum ChartFault {
     /// No tick or no core is shown.
     Nothing,

@@ -1,5 +1,5 @@
 /// What is shown of a view, and how.
-#[derive(Clone, Copy, Debug)]
+#[derive(Clone, Copy)]
 pub struct ChartOptions {
     /// Whether each vCPU has a lane, with boxes by core; else each core has one, with boxes by vCPU.
     pub by_vcpu: bool,

@@ -8,7 +8,7 @@ use tab_core::Name;
 use tab_words::Words;
 
 // What stands at a place of a report's line.
-#[derive(Clone, Copy, Debug, PartialEq, Eq)]
+#[derive(Clone, Copy, PartialEq, Eq)]
 pub(crate) enum Blank {
     // This word.
     This(&'static [u8]),

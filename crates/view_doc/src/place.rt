@@ -11,7 +11,7 @@ use crate::statement::Statement;
 use tab_core::{CoreNo, ROUND};
 
 /// Where a text is, by the lines so far.
-#[derive(Clone, Copy, Debug, PartialEq, Eq)]
+#[derive(Clone, Copy, PartialEq, Eq)]
 pub enum Place {
     /// Before the first line.
     Start,

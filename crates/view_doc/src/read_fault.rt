@@ -6,7 +6,7 @@ use std::error::Error;
 use std::fmt;
 
 /// Why a text isn't read.
-#[derive(Clone, Copy, Debug, PartialEq, Eq, Hash)]
+#[derive(Clone, Copy, Debug, PartialEq, Eq)]
 pub enum ReadView {
     /// The first line that may not stand where it stands, from 1, or one past the last where the text
     /// stops early.

@@ -1,7 +1,7 @@
 use tab_core::CoreNo;
 
 // Whoever has the ticks of a line, by the name in it.
-#[derive(Clone, Copy, Debug, PartialEq, Eq)]
+#[derive(Clone, Copy, PartialEq, Eq)]
 pub(crate) enum Holder<'a> {
     Nobody,
     Slot(&'a [u8]),
@@ -9,7 +9,7 @@ pub(crate) enum Holder<'a> {
 }
 
 // What a line says.
-#[derive(Clone, Copy, Debug, PartialEq, Eq)]
+#[derive(Clone, Copy, PartialEq, Eq)]
 pub(crate) enum Statement<'a> {
     // A plan begins.
     Head {

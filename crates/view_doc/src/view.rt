@@ -41,7 +41,7 @@ pub struct Entry {
 }
 
 /// What a text shows.
-#[derive(Debug, Drop)]
+#[derive(Drop)]
 pub struct View {
     /// How many cores the plan has, and 0 where there is no plan.
     pub cores: u32,

@@ -8,7 +8,7 @@ use tab_io::{Sink, WriteFault, write_all};
 use tab_words::{TextPiece, put_pieces};
 
 // A cell of a table: a text or a number in a column of a width.
-#[derive(Clone, Copy, Debug)]
+#[derive(Clone, Copy)]
 pub(crate) enum Cell<'a> {
     // As it is.
     Text(&'a [u8]),

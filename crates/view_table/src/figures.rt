@@ -9,7 +9,7 @@ use tab_core::{MAX_CORES, NoMemory};
 use view_doc::{Stretch, Use, View};
 
 /// What is worked out of a plan before its tables are written, for each of its `vcpu` lines.
-#[derive(Debug, Drop)]
+#[derive(Drop)]
 pub struct Figures {
     /// The longest wait of each vCPU, in ticks: the most ticks in a row without a slot, where the plan's
     /// round is repeated without an end. It is two rounds for a vCPU without a slot.

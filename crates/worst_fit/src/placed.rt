@@ -5,7 +5,7 @@ use std::marker::Model;
 use tab_core::{CoreNo, VcpuNo};
 
 /// The core of each vCPU by its number, or none where it stands on none. Contracts see the list.
-#[derive(Debug, Drop)]
+#[derive(Drop)]
 pub struct PlacedCores {
     items: Vec<Option<CoreNo>>,
 }
@@ -40,7 +40,7 @@ impl PlacedCores {
 
 /// The vCPUs that no core has room for, in the order in which they were tried. Contracts see the
 /// list.
-#[derive(Debug, Drop)]
+#[derive(Drop)]
 pub struct LeftOver {
     items: Vec<VcpuNo>,
 }
@@ -69,7 +69,7 @@ impl LeftOver {
 }
 
 /// Where the vCPUs of a host stand, and who is left over.
-#[derive(Debug, Drop)]
+#[derive(Drop)]
 pub struct Placed {
     pub core_of: PlacedCores,
     pub left: LeftOver,

@@ -9,7 +9,7 @@ use std::fmt;
 use tab_core::VcpuNo;
 
 /// Why a host has no whole-host plan.
-#[derive(Clone, Copy, Debug, PartialEq, Eq, Hash)]
+#[derive(Clone, Copy, Debug, PartialEq, Eq)]
 pub enum WholeFault {
     /// No period meets this vCPU's latency. It is the lowest such vCPU.
     NoPeriod { vcpu: VcpuNo },

@@ -10,7 +10,7 @@ use tab_core::{CoreNo, NoMemory, Periodic};
 use table_form::{CoreTable, Segment};
 
 // The core with most of a vCPU's cells so far, and how many it has there.
-#[derive(Clone, Copy, Debug)]
+#[derive(Clone, Copy)]
 pub(crate) struct Most {
     pub(crate) core: u32,
     pub(crate) cells: u32,

@@ -12,7 +12,7 @@ use tab_core::{NoMemory, VcpuNo};
 use table_form::{CoreTable, RowBuilder};
 
 // How far an interval's ticks are laid: those of the vCPUs before `vcpu`, and so many of it.
-#[derive(Clone, Copy, Debug)]
+#[derive(Clone, Copy)]
 pub(crate) struct Laid {
     pub(crate) vcpu: usize,
     pub(crate) ticks: u32,

@@ -125,7 +125,7 @@ fn run_sections<R: Threads + Wait + Sync, K: Sink, G: Gate>(
 }
 
 // A run that hasn't begun: its book, and what became of the changes.
-#[derive(Debug, Drop)]
+#[derive(Drop)]
 pub(crate) struct Prepared {
     pub(crate) host: Host,
     pub(crate) script: Script,
