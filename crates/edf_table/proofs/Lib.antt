@@ -11,6 +11,7 @@ pub mod Misses
 pub mod OverloadsLemmas
 pub mod Pieces
 pub mod Repeats
+pub mod RepetitionLemmas
 pub mod Shorter
 pub mod Starts
 pub mod Steps

@@ -100,7 +100,7 @@ IsShifted ps gs hs s = (i : ℕ) (d : Piece) → i < length ps
     → get_or hs i 0 ≡ s / (get_or ps i d).period * (get_or ps i d).cost + get_or gs i 0
 
 -- so the same pieces are ready
-ready_alike : (ps : List Piece) (gs hs : List ℕ) (s x i : ℕ) (d : Piece) → IsCommon ps (length ps) s
+pub ready_alike : (ps : List Piece) (gs hs : List ℕ) (s x i : ℕ) (d : Piece) → IsCommon ps (length ps) s
     → IsShifted ps gs hs s → i < length ps
     → is_ready (get_or ps i d) (get_or hs i 0) (s + x) ≡ is_ready (get_or ps i d) (get_or gs i 0) x
 ready_alike ps gs hs s x i d common shifted i-in =
@@ -108,7 +108,7 @@ ready_alike ps gs hs s x i d common shifted i-in =
     ∙ ready_shift (get_or ps i d) (get_or gs i 0) s x (common i d i-in)
 
 -- and the same one is the most urgent
-urgent_alike : (ps : List Piece) (gs hs : List ℕ) (s x i : ℕ) → IsCommon ps (length ps) s
+pub urgent_alike : (ps : List Piece) (gs hs : List ℕ) (s x i : ℕ) → IsCommon ps (length ps) s
     → IsShifted ps gs hs s → IsMostUrgent ps gs x (length ps) i
     → IsMostUrgent ps hs (s + x) (length ps) i
 urgent_alike ps gs hs s x i common shifted urgent = record {
@@ -217,7 +217,7 @@ abbrev Urgent : List Piece → List ℕ → ℕ → ℕ → Type 0
 Urgent ps gs tick n = ((i : ℕ) × IsMostUrgent ps gs tick n i)
     ⊎ ((k : ℕ) (d : Piece) → k < n → is_ready (get_or ps k d) (get_or gs k 0) tick ≡ false)
 
-some_urgent : (ps : List Piece) (gs : List ℕ) (tick n : ℕ) → n ≤ length ps → Urgent ps gs tick n
+pub some_urgent : (ps : List Piece) (gs : List ℕ) (tick n : ℕ) → n ≤ length ps → Urgent ps gs tick n
 some_urgent ps gs tick zero le = inr (λ k d lt. absurd (omega arith))
 some_urgent ps gs tick (suc n) le =
     let p = some_piece ps n (omega arith) in
@@ -291,7 +291,7 @@ shifted_run ps gs hs s i in_gs in_hs shifted k d k-in = elim (cases_eq k i) [
 ]
 
 -- the shifted simulation meets what is due by the next tick
-met_again : (ps : List Piece) (s x : ℕ) → IsCommon ps (length ps) s → MetBefore (jobs_of ps) (x + 1)
+pub met_again : (ps : List Piece) (s x : ℕ) → IsCommon ps (length ps) s → MetBefore (jobs_of ps) (x + 1)
     → x ≤ ROUND → (now : Alike ps s x) → MetBefore (jobs_of ps) (s + x + 1)
 met_again ps s x common met within now =
     met_more_any ps now.second (s + x) now.counted_again now.met
@@ -336,7 +336,7 @@ alike_more ps s x apart common met lt now =
     ]
 
 -- and so many
-alike_along : (ps : List Piece) (s n : ℕ) → DistinctVcpus ps → IsCommon ps (length ps) s
+pub alike_along : (ps : List Piece) (s n : ℕ) → DistinctVcpus ps → IsCommon ps (length ps) s
     → MetBefore (jobs_of ps) (n + 1) → s + n ≤ ROUND → Alike ps s 0 → Alike ps s n
 alike_along ps s zero apart common met le now = now
 alike_along ps s (suc n) apart common met le now =
@@ -418,7 +418,7 @@ anew_start ps apart = record {
 }
 
 -- and after the shift as at the begin
-alike_start : (ps : List Piece) (s : ℕ) → DistinctVcpus ps → Anew ps s → Alike ps s 0
+pub alike_start : (ps : List Piece) (s : ℕ) → DistinctVcpus ps → Anew ps s → Alike ps s 0
 alike_start ps s apart anew =
     let at : s ≡ s + 0 = omega arith in
     record {
@@ -459,7 +459,7 @@ anew_more ps s h apart common some lt met le anew =
     }
 
 -- at k multiples of a part of the round
-anew_at : (ps : List Piece) (h k : ℕ) → DistinctVcpus ps → IsCommon ps (length ps) h → 0 < h → h < ROUND
+pub anew_at : (ps : List Piece) (h k : ℕ) → DistinctVcpus ps → IsCommon ps (length ps) h → 0 < h → h < ROUND
     → MetBefore (jobs_of ps) (h + 1) → k * h ≤ ROUND → Anew ps (k * h)
 anew_at ps h zero apart common some lt met le =
     let none : 0 ≡ 0 * h = omega arith in subst (Anew ps) none (anew_start ps apart)

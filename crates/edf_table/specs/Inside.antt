@@ -1,2 +1,3 @@
 -- What the code keeps on its way. No reader of a public contract needs these.
 pub mod Progress
+pub mod Repetition

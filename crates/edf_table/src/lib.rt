@@ -11,6 +11,7 @@ mod fit;
 mod laws;
 mod light;
 mod overload;
+mod row;
 mod simulation;
 mod turn;
 mod window;

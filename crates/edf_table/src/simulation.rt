@@ -6,12 +6,13 @@ ghost use Rattle.table_form.specs.Planning.Jobs.{jobs_of};
 ghost use Rattle.edf_table.specs.Overloads.{IsEdfFault};
 ghost use Rattle.table_form.specs.Planning.Windows.{DistinctVcpus, KeepsToWindows, ServesWindows};
 
+use crate::common::common_period;
 use crate::fault::EdfFault;
 use crate::fit::find_overload;
-use crate::turn::{NO_TICKS, first_windows, next_event, run_turn};
+use crate::row::{first_segments, repeated};
 use std::alloc::{AllocError, Global};
-use tab_core::{Over, Piece, ROUND, VcpuNo};
-use table_form::{CoreTable, RowBuilder};
+use tab_core::{Over, Piece};
+use table_form::CoreTable;
 
 /// The row of one core's pieces by earliest deadline first, exactly where they fit.
 ///
@@ -49,16 +50,8 @@ pub fn build_row(alloc: Global, pieces: &[Piece]) -> Result<CoreTable, AllocErro
     ensures windows { IfOk result (λ row. ServesWindows pieces.now row) }
     ensures inside { IfOk result (λ row. KeepsToWindows pieces.now row) }
 {
-    let mut windows = first_windows(pieces);
-    let mut given = NO_TICKS;
-    let mut row = RowBuilder::new(alloc);
-    let mut tick = 0;
-    let mut event = 0;
-    while tick < ROUND {
-        event = next_event(pieces, &mut windows, tick, event);
-        let turn = run_turn(pieces, &windows, &mut given, tick, event);
-        row.push_run(turn.owner, turn.end - tick)?;
-        tick = turn.end;
-    }
-    Ok(row.finish())
+    let common = common_period(pieces);
+    let first = first_segments(alloc, pieces, common)?;
+    let row = repeated(alloc, first, common)?;
+    Ok(row)
 }

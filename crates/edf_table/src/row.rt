@@ -1,0 +1,82 @@
+ghost use Rattle.std.specs.Prelude.{◌≡◌, ◌+◌, ◌*◌, ◌/◌, ◌<◌, ◌≤◌, ◌++◌, IfOk, OnOk, length, map};
+ghost use Rattle.tab_core.specs.declared.TheConstants.{ROUND};
+ghost use Rattle.table_form.specs.Planning.Demand.{Fits};
+ghost use Rattle.table_form.specs.Planning.EdfRow.{edf_cells, owner_of};
+ghost use Rattle.table_form.specs.Planning.Jobs.{jobs_of};
+ghost use Rattle.table_form.specs.Planning.Windows.{DistinctVcpus};
+ghost use Rattle.table_form.specs.Tables.Rows.{RisesTo, cells_from};
+ghost use Rattle.table_form.specs.Tables.Segments.{AreMaximal, segment_view};
+ghost use Rattle.edf_table.specs.Inside.Progress.{MetBefore};
+ghost use Rattle.edf_table.specs.Inside.Repetition.{so_often};
+
+use crate::turn::{NO_TICKS, first_windows, next_event, run_turn};
+use std::alloc::{AllocError, Global};
+use tab_core::{Piece, ROUND};
+use table_form::{CoreTable, RowBuilder, Segment, push_segment};
+
+// The maximal segments of the ticks below `end`, of pieces that fit.
+pub(crate) fn first_segments(
+    alloc: Global,
+    pieces: &[Piece],
+    end: u32,
+) -> Result<Vec<Segment>, AllocError>
+    requires distinct { DistinctVcpus pieces.now }
+    requires fits { Fits (jobs_of pieces.now) }
+    requires in_round { end ≤ ROUND }
+    ensures maximal { IfOk result (λ segments. AreMaximal 0 (map segment_view segments.items) end) }
+    ensures cells { IfOk result (λ segments. cells_from 0 segments.items
+        ≡ map owner_of (edf_cells (jobs_of pieces.now) end)) }
+    ensures met { IfOk result (λ _. MetBefore (jobs_of pieces.now) (end + 1)) }
+{
+    let mut windows = first_windows(pieces);
+    let mut given = NO_TICKS;
+    let mut segments = Vec::new(alloc);
+    let mut tick = 0;
+    let mut event = 0;
+    while tick < end {
+        event = next_event(pieces, &mut windows, tick, event);
+        let turn = run_turn(pieces, &windows, &mut given, tick, event.min(end));
+        let segment = Segment {
+            owner: turn.owner,
+            end: turn.end,
+        };
+        push_segment(&mut segments, segment)?;
+        tick = turn.end;
+    }
+    Ok(segments)
+}
+
+// Appends the cells of segments, the first of which begins at tick 0.
+fn push_all(row: &mut RowBuilder, segments: &[Segment]) -> Result<(), AllocError>
+    requires rises { RisesTo 0 segments.now (length (cells_from 0 segments.now)) }
+    requires room { length row.old + length (cells_from 0 segments.now) ≤ ROUND }
+    ensures { OnOk result (row.new ≡ row.old ++ cells_from 0 segments.now) }
+{
+    let mut start = 0;
+    for segment in segments {
+        row.push_run(segment.owner, segment.end - start)?;
+        start = segment.end;
+    }
+    Ok(())
+}
+
+// The row in which the cells of these segments, one for each of so many ticks, come again and again.
+pub(crate) fn repeated(
+    alloc: Global,
+    segments: Vec<Segment>,
+    ticks: u32,
+) -> Result<CoreTable, AllocError>
+    requires maximal { AreMaximal 0 (map segment_view segments.items) ticks }
+    requires some { 0 < ticks }
+    requires whole { ROUND / ticks * ticks ≡ ROUND }
+    ensures { IfOk result (λ row. row ≡ so_often (ROUND / ticks) (cells_from 0 segments.items)) }
+{
+    if ticks == ROUND {
+        return Ok(CoreTable::of_maximal(segments));
+    }
+    let mut row = RowBuilder::new(alloc);
+    for _ in 0..ROUND / ticks {
+        push_all(&mut row, &segments)?;
+    }
+    Ok(row.finish())
+}
