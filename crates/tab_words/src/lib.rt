@@ -6,6 +6,7 @@
 #![tactic(auto)]
 
 mod command;
+mod digits;
 mod line;
 mod line_block;
 mod number;

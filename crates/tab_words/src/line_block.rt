@@ -4,6 +4,7 @@ ghost use Rattle.tab_words.specs.Blocks.{PutsBehind};
 ghost use Rattle.tab_words.specs.Pieces.{piece_text, spaced};
 ghost use Rattle.tab_words.specs.Texts.{line_of};
 
+use crate::digits::push_number;
 use crate::text::{TextPiece, put_piece};
 use arrayvec::{ArrayVec, CapacityError};
 use itoa::Buffer;
@@ -144,6 +145,10 @@ fn gather_number<const N: usize>(bytes: &mut ArrayVec<u8, N>, n: u64) -> Result<
     ensures ok { OnOk result (bytes.new.items ≡ bytes.old.items ++ decimal n) }
     ensures err { OnErr result (bytes.new.items ≡ bytes.old.items) }
 {
+    if n < 1_000_000 && 6 <= bytes.remaining_capacity() {
+        push_number(bytes, n as u32);
+        return Ok(());
+    }
     let mut buffer = Buffer::new();
     gather_bytes(bytes, buffer.format(n).as_bytes())
 }
