@@ -72,11 +72,11 @@ impl SliceTable {
         })
     }
 
-    /// What the place of the core's row shows: `Plan::spot`, in at most three steps.
+    /// What the place of the core's row shows: `Plan::spot`, in three steps.
     pub fn look_up<L: Ledger>(&self, tick: u32, steps: &mut Steps<L>) -> Spot
         requires { tick < ROUND }
         ensures spot { (plan : PlanView) (c : ℕ) → IsTableOf plan c self.now → IsSpot plan c tick result }
-        ensures steps { steps.new ≤ steps.old + 3 }
+        ensures steps { steps.new ≡ steps.old + 3 }
     {
         let number = self.number_at(tick, steps);
         self.spans.spot(number)
@@ -89,7 +89,7 @@ impl SliceTable {
         ensures within { result.end ≤ ROUND }
         ensures span { (plan : PlanView) (c : ℕ) → IsTableOf plan c self.now
             → IsSpan plan c tick result.owner result.sharers.now result.end }
-        ensures steps { steps.new ≤ steps.old + 3 }
+        ensures steps { steps.new ≡ steps.old + 3 }
     {
         let number = self.number_at(tick, steps);
         self.numbered(number, tick)
@@ -134,7 +134,7 @@ impl SliceTable {
         requires { tick < ROUND }
         ensures holds { HoldsTick (ends_of self.now) result tick }
         ensures small { result < 2 ^ 32 }
-        ensures steps { steps.new ≤ steps.old + 3 }
+        ensures steps { steps.new ≡ steps.old + 3 }
     {
         steps.tell();
         let slice = (tick / self.size) as usize;
