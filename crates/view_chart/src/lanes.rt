@@ -1,8 +1,9 @@
-ghost use Rattle.std.specs.Prelude.{◌≡◌, ◌<◌, ◌≤◌, ◌*◌, ◌-◌, ◌^◌, IfOk, flat_map, length, max, min, option_to_list};
+ghost use Rattle.std.specs.Prelude.{◌≡◌, ◌<◌, ◌≤◌, ◌+◌, ◌*◌, ◌-◌, ◌^◌, ◌==◌, ◌++◌, IfOk, OnOk, [], ◌∷◌, if◌then◌else◌, length, max, min, replicate};
 ghost use Rattle.std.specs.List.{sum_by};
 ghost use Rattle.tab_core.specs.declared.TheConstants.{MAX_VCPUS};
 ghost use Rattle.view_chart.specs.Charts.{lanes_below, share_in};
-ghost use Rattle.view_chart.specs.Shown.{bars_in, has_it, held_bars, held_in, is_on, key_of, lane_bars};
+ghost use Rattle.view_chart.specs.Inside.Filling.{HaveMore, use_of};
+ghost use Rattle.view_chart.specs.Shown.{bars_in, held_in, key_of};
 
 use crate::frame::{Bar, Frame};
 use crate::marks::per_mille;
@@ -33,6 +34,16 @@ impl Lane {
     {
         &self.bars
     }
+
+    // Puts a bar behind the others.
+    fn push(&mut self, bar: Bar) -> Result<(), NoMemory>
+        ensures { OnOk result (self.new ≡ self.old ++ bar ∷ []) }
+    {
+        match self.bars.push(bar) {
+            Ok(()) => Ok(()),
+            Err(_) => Err(AllocError),
+        }
+    }
 }
 
 // The lanes of so many cores or vCPUs from one on.
@@ -47,9 +58,22 @@ pub(crate) fn lanes_from(
     ensures lanes { IfOk result (λ lanes. lanes.items ≡ lanes_below frame.now stretches.now first count) }
     ensures count { IfOk result (λ lanes. length lanes.items ≡ count) }
 {
+    let mut lanes = empty_lanes(alloc, count)?;
+    for stretch in stretches {
+        put_stretch(&mut lanes, frame, first, stretch)?;
+    }
+    Ok(lanes)
+}
+
+// So many lanes without a bar.
+fn empty_lanes(alloc: Global, count: u64) -> Result<Vec<Lane>, NoMemory>
+    ensures { IfOk result (λ lanes. lanes.items ≡ replicate count []) }
+{
     let mut lanes = Vec::new(alloc);
-    for i in 0..count {
-        let lane = lane_of(alloc, frame, stretches, u64::from(first) + i)?;
+    for _ in 0..count {
+        let lane = Lane {
+            bars: Vec::new(alloc),
+        };
         if lanes.push(lane).is_err() {
             return Err(AllocError);
         }
@@ -57,66 +81,58 @@ pub(crate) fn lanes_from(
     Ok(lanes)
 }
 
-// The lane of a core or vCPU.
-fn lane_of(alloc: Global, frame: &Frame, stretches: &[Stretch], row: u64) -> Result<Lane, NoMemory>
-    ensures { IfOk result (λ lane. lane ≡ lane_bars frame.now stretches.now row) }
-{
-    let mut bars = Vec::new(alloc);
-    for stretch in stretches {
-        if let Some(bar) = bar_in(frame, row, stretch)
-            && bars.push(bar).is_err()
-        {
-            return Err(AllocError);
-        }
-    }
-    Ok(Lane { bars })
-}
-
-// The bar of a stretch on a lane, if it has ticks there.
-fn bar_in(frame: &Frame, row: u64, stretch: &Stretch) -> Option<Bar>
-    ensures { option_to_list result ≡ bars_in frame.now row stretch.now }
-{
-    let begins = stretch.from < frame.to;
-    let stays = frame.from < stretch.end;
-    if is_on(frame.by_vcpu, row, stretch) && begins && stays {
-        held_bar(frame, stretch)
-    } else {
-        None
-    }
-}
-
-// Whether a stretch is on the lane of a core, or of a vCPU.
-fn is_on(by_vcpu: bool, row: u64, stretch: &Stretch) -> bool
-    ensures { result ≡ is_on by_vcpu row stretch.now }
-{
-    if by_vcpu {
-        has_it(&stretch.by, row)
-    } else {
-        u64::from(stretch.core.0) == row
-    }
-}
-
-// Whether the vCPU of a number has a stretch.
-fn has_it(by: &Use, row: u64) -> bool
-    ensures { result ≡ has_it by.now row }
-{
-    match *by {
-        Use::Idle => false,
-        Use::Slot(vcpu) | Use::Shared(vcpu) => u64::from(vcpu.0) == row,
-    }
-}
-
-// The ticks of a stretch that are shown, if a vCPU has them.
-fn held_bar(frame: &Frame, stretch: &Stretch) -> Option<Bar>
-    ensures { option_to_list result ≡ held_bars frame.now stretch.now stretch.now.by }
+// Puts the bar of a stretch on the one lane where it has ticks, if somebody has them and they are shown.
+fn put_stretch(
+    lanes: &mut [Lane],
+    frame: &Frame,
+    first: u32,
+    stretch: &Stretch,
+) -> Result<(), NoMemory>
+    ensures { OnOk result (HaveMore (λ i. bars_in frame.now (first + i) stretch.now) lanes.old lanes.new) }
 {
     match stretch.by {
-        Use::Idle => None,
-        Use::Slot(vcpu) => Some(cut_bar(frame, stretch, vcpu, false)),
-        Use::Shared(vcpu) => Some(cut_bar(frame, stretch, vcpu, true)),
+        Use::Idle => Ok(()),
+        Use::Slot(vcpu) => put_held(lanes, frame, first, stretch, vcpu, false),
+        Use::Shared(vcpu) => put_held(lanes, frame, first, stretch, vcpu, true),
     }
 }
 
+// Puts the bar of a stretch that a vCPU has, if its ticks are shown.
+fn put_held(
+    lanes: &mut [Lane],
+    frame: &Frame,
+    first: u32,
+    stretch: &Stretch,
+    vcpu: VcpuNo,
+    shared: bool,
+) -> Result<(), NoMemory>
+    requires { stretch.now.by ≡ use_of vcpu shared }
+    ensures { OnOk result (HaveMore (λ i. bars_in frame.now (first + i) stretch.now) lanes.old lanes.new) }
+{
+    if stretch.from >= frame.to || stretch.end <= frame.from {
+        return Ok(());
+    }
+    // (on a core's lane the key is the vCPU, and on a vCPU's the core: the lane is the other of the two)
+    let row = key_of(!frame.by_vcpu, stretch, vcpu);
+    put_bar(lanes, first, row, cut_bar(frame, stretch, vcpu, shared))
+}
+
+// Puts a bar on the lane of a core or vCPU, if that is one of them.
+fn put_bar(lanes: &mut [Lane], first: u32, row: u8, bar: Bar) -> Result<(), NoMemory>
+    ensures { OnOk result (HaveMore (λ i. if first + i == row then bar ∷ [] else []) lanes.old lanes.new) }
+{
+    let row = u32::from(row);
+    if row < first {
+        return Ok(());
+    }
+    let i = (row - first) as usize;
+    if i >= lanes.len() {
+        return Ok(());
+    }
+    lanes[i].push(bar)
+}
+
+// The ticks of a stretch that are shown, as a bar.
 fn cut_bar(frame: &Frame, stretch: &Stretch, vcpu: VcpuNo, shared: bool) -> Bar
     ensures from { result.from ≡ max stretch.now.from frame.now.from }
     ensures end { result.end ≡ min stretch.now.end frame.now.to }

@@ -1,10 +1,12 @@
-use Rattle.std.proofs.Common.{◌≡◌, length}
-use Rattle.view_chart.specs.Charts.{lanes_below}
+use Rattle.std.proofs.Common.{◌≡◌, ◌+◌, ◌<◌, ℕ, [], length, take}
+use Rattle.std.specs.Prelude.{slice_index_or}
+use Rattle.view_chart.specs.Shown.{lane_bars}
 use Rattle.view_chart.proofs.lanes.lanes_from.Given as goal
 
--- the lanes so far
-abbrev pub invariant-loop-i : goal.invariant-loop-i
-invariant-loop-i l = record {
-  lanes : l.lanes.items ≡ lanes_below l.frame l.stretches l.first l.i;
-  count : length l.lanes.items ≡ l.i;
+-- each lane has the bars of the stretches so far
+abbrev pub invariant-loop-stretch : goal.invariant-loop-stretch
+invariant-loop-stretch l = record {
+  count : length l.lanes.items ≡ l.count;
+  bars : (i : ℕ) → i < l.count
+      → slice_index_or l.lanes.items i [] ≡ lane_bars l.frame (take l.stretch-index l.stretches) (l.first + i);
 }
