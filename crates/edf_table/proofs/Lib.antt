@@ -6,6 +6,7 @@ pub mod Few
 pub mod First
 pub mod Inside
 pub mod Kept
+pub mod Keys
 pub mod LoadLemmas
 pub mod Misses
 pub mod OverloadsLemmas

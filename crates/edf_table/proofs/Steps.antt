@@ -1,15 +1,15 @@
 -- What the counts of ticks say after one tick more.
 use Rattle.std.proofs.Common.{◌≡◌, ◌≢◌, ℕ, zero, suc, ◌+◌, ◌-◌, ◌*◌, ◌/◌, ◌<◌, ◌≤◌, min, Bool, true, false, cond, eqb, List, [], ◌∷◌, length, get_or, set, replicate, Option, Some, None, refl, ap, subst, sym, ◌∙◌, inl, inr, arith, add-one, length-set, get_or-set_same, get_or-set_other}
 use Rattle.std.proofs.Math.Nat.{mul-le-mul_left}
-use Rattle.std.proofs.lemmas.List.{length-replicate, get_or-replicate, get_or_past, length-map}
+use Rattle.std.proofs.lemmas.List.{length-replicate, get_or-replicate, get_or_past}
 use Rattle.std.proofs.Common.{map}
-use Rattle.edf_table.proofs.Cells.{length-edf_cells, edf_cells-zero}
+use Rattle.edf_table.proofs.Cells.{edf_cells-zero}
 use Rattle.std.proofs.lemmas.Bool.{cases_eq, cases_lt, and_from, eq-eqb, ne_eqb, and_left, and_right}
 use Rattle.std.proofs.lemmas.Option.{slice_get-get_or}
 use Rattle.tab_core.specs.declared.TheConstants.{ROUND}
 use Rattle.tab_core.specs.declared.piece.Piece.{Piece}
 use Rattle.table_form.specs.Planning.Jobs.{Job, job_of, subtask_of, jobs_of}
-use Rattle.table_form.specs.Planning.EdfRow.{is_run_of, is_same_job, edf_cells, edf_row, owner_of}
+use Rattle.table_form.specs.Planning.EdfRow.{is_run_of, is_same_job, edf_cells, owner_of}
 use Rattle.edf_table.specs.Inside.Progress.{IsCounted, MetBefore, IsMostUrgent, ServedBelow, cell, had, window_no, is_ready}
 use Rattle.table_form.specs.Planning.Windows.{DistinctVcpus}
 use Rattle.edf_table.proofs.Counts.{had-suc, had-zero, had_le_had}
@@ -205,17 +205,6 @@ idle_cell_any [] gs tick counted met lt unready = none_of_none (edf_cells (jobs_
 idle_cell_any (p ∷ ps) gs tick counted met lt unready =
     idle_cell (p ∷ ps) gs tick p counted met lt (λ i i-in. unready i p i-in)
 
--- a row of cells by earliest deadline first has as many as there were ticks
-pub row_length : (js : List Job) (row : List (Option ℕ)) (tick : ℕ)
-    → row ≡ map owner_of (edf_cells js tick) → length row ≡ tick
-row_length js row tick e = ap length e ∙ length-map (edf_cells js tick) owner_of ∙ length-edf_cells js tick
-
 -- the builder's row begins empty, as the definition's
 pub row_start : (js : List Job) (row : List (Option ℕ)) → row ≡ [] → row ≡ map owner_of (edf_cells js 0)
 row_start js row e = rw (edf_cells-zero js) e
-
--- the whole row
-pub row_at_end : (js : List Job) (row : List (Option ℕ)) (tick : ℕ)
-    → row ≡ map owner_of (edf_cells js tick) → tick ≡ ROUND → row ≡ edf_row js
-unfolding edf_row
-row_at_end js row tick row_is end = row_is ∙ ap (λ n. map owner_of (edf_cells js n)) end

@@ -8,7 +8,7 @@ ghost use Rattle.table_form.specs.Planning.Windows.{DistinctVcpus};
 use crate::common::common_period;
 use crate::light::are_unsplit_and_light;
 use crate::overload::last_overload;
-use crate::turn::{NO_TICKS, any_missed, first_windows, next_event, run_turn};
+use crate::turn::{NO_TICKS, NONE_READY, any_missed, first_windows, next_event, run_turn};
 use tab_core::{Over, Piece};
 
 // The first tick at which a window ends without its cost. Where there is none up to a multiple of
@@ -24,14 +24,15 @@ fn first_miss(pieces: &[Piece]) -> Option<u32>
     let common = common_period(pieces);
     let mut windows = first_windows(pieces);
     let mut given = NO_TICKS;
+    let mut keys = NONE_READY;
     let mut tick = 0;
     let mut event = 0;
     while tick < common {
         if any_missed(pieces, &windows, &given, tick) {
             return Some(tick);
         }
-        event = next_event(pieces, &mut windows, tick, event);
-        tick = run_turn(pieces, &windows, &mut given, tick, event).end;
+        event = next_event(pieces, &mut windows, &mut keys, tick, event);
+        tick = run_turn(pieces, &windows, &mut given, &mut keys, tick, event).end;
     }
     if any_missed(pieces, &windows, &given, tick) {
         Some(tick)

@@ -1,8 +1,8 @@
-ghost use Rattle.std.specs.Prelude.{◌≡◌, ◌+◌, ◌<◌, ◌≤◌, false, nat_lt, true};
-ghost use Rattle.tab_core.specs.declared.TheConstants.{ROUND};
-ghost use Rattle.edf_table.specs.Inside.Progress.{IsDueFirst, IsKept, IsMissedAt, IsServedAt, due_at, is_ready};
+ghost use Rattle.std.specs.Prelude.{◌≡◌, ◌+◌, ◌*◌, ◌<◌, ◌≤◌, false, true};
+ghost use Rattle.tab_core.specs.declared.TheConstants.{MAX_VCPUS, ROUND};
+ghost use Rattle.edf_table.specs.Inside.Progress.{IsKept, IsMissedAt, IsServedAt};
 
-use tab_core::Piece;
+use tab_core::{MAX_VCPUS, Piece, ROUND};
 
 // Where a piece stands between two begins of its windows.
 #[derive(Clone, Copy)]
@@ -32,6 +32,8 @@ pub(crate) fn begun(piece: &Piece, window: Window) -> Window
     requires in_round { window.next < ROUND }
     ensures kept { IsKept piece.now (window.next + 1) result.next result }
     ensures later { window.next < result.next }
+    ensures more { window.goal < result.goal }
+    ensures low { result.due ≤ 2 * ROUND }
 {
     Window {
         next: window.next + piece.period,
@@ -40,22 +42,15 @@ pub(crate) fn begun(piece: &Piece, window: Window) -> Window
     }
 }
 
-// Whether a window has begun that the ticks given so far don't cover.
-pub(crate) fn is_ready_at(piece: &Piece, window: Window, given: u32, tick: u32) -> bool
-    requires { IsKept piece.now (tick + 1) (tick + 1) window }
-    ensures ready { result ≡ is_ready piece.now given tick }
-    ensures some { result ≡ true → 0 < window.goal }
-{
-    given < window.goal
-}
+// The key of a piece that isn't ready. It is above those of all that are.
+pub(crate) const NOT_READY: u32 = u32::MAX;
 
-// The end of the window that began last, where one has begun.
-fn deadline_at(piece: &Piece, window: Window, tick: u32) -> u32
-    requires kept { IsKept piece.now (tick + 1) (tick + 1) window }
-    requires some { 0 < window.goal }
-    ensures { result ≡ due_at piece.now tick }
+// The key of a ready piece: by the end of its window, and where two end together by its vCPU.
+pub(crate) fn key_of(piece: &Piece, window: Window) -> u32
+    requires { window.due ≤ 2 * ROUND }
+    ensures { result ≡ window.due * MAX_VCPUS + piece.now.vcpu }
 {
-    window.due
+    window.due * MAX_VCPUS + piece.vcpu.0
 }
 
 // Whether a window ends at the tick that wasn't given its cost.
@@ -65,17 +60,4 @@ pub(crate) fn has_missed(piece: &Piece, window: Window, given: u32, tick: u32) -
     ensures missed { result ≡ true → IsMissedAt piece.now given tick }
 {
     window.due == tick && given < window.goal
-}
-
-// Whether the first piece is due before the second, or with it and of a lower vCPU.
-pub(crate) fn is_due_before(a: &Piece, of_a: Window, b: &Piece, of_b: Window, tick: u32) -> bool
-    requires kept { IsKept a.now (tick + 1) (tick + 1) of_a }
-    requires others { IsKept b.now (tick + 1) (tick + 1) of_b }
-    requires some { 0 < of_a.goal }
-    requires other { 0 < of_b.goal }
-    ensures before { result ≡ true → IsDueFirst tick a.now b.now }
-    ensures after { result ≡ false → IsDueFirst tick b.now a.now }
-{
-    let (due, other) = (deadline_at(a, of_a, tick), deadline_at(b, of_b, tick));
-    due < other || due == other && a.vcpu.0 < b.vcpu.0
 }

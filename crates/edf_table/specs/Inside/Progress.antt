@@ -1,7 +1,7 @@
 -- What the simulation keeps from tick to tick, and the search for the overload from begin to begin.
 use Rattle.std.specs.List.{sum_by}
-use Rattle.std.specs.Prelude.{◌==◌, if◌then◌else◌, ◌≡◌, ℕ, ◌+◌, ◌-◌, ◌*◌, ◌/◌, ◌<◌, ◌≤◌, ◌&&◌, ◌⊎◌, Bool, true, nat_le, nat_lt, min, List, [], ◌∷◌, length, slice_index, slice_index_or, Option, MatchOption, false}
-use Rattle.tab_core.specs.declared.TheConstants.{ROUND}
+use Rattle.std.specs.Prelude.{◌==◌, if◌then◌else◌, ◌≡◌, ℕ, ◌+◌, ◌-◌, ◌*◌, ◌/◌, ◌^◌, ◌<◌, ◌≤◌, ◌&&◌, ◌⊎◌, Bool, true, nat_le, nat_lt, min, List, [], ◌∷◌, length, slice_index, slice_index_or, Option, MatchOption}
+use Rattle.tab_core.specs.declared.TheConstants.{MAX_VCPUS, ROUND}
 use Rattle.tab_core.specs.declared.piece.Piece.{Piece}
 use Rattle.table_form.specs.Planning.Jobs.{Job, job_of, subtask_of, jobs_of}
 use Rattle.table_form.specs.Planning.Demand.{IsOverloaded}
@@ -57,13 +57,6 @@ pub record IsMostUrgent (ps : List Piece) (given : List ℕ) (tick n i : ℕ) : 
       → is_ready (slice_index_or ps k d) (slice_index given k) tick ≡ true →
       IsDueFirst tick (slice_index_or ps i d) (slice_index_or ps k d)
 
--- the most urgent of the first n pieces, or none of them is ready
-abbrev pub IsUrgentBelow : List Piece → List ℕ → ℕ → ℕ → Option ℕ → Type 0
-IsUrgentBelow ps given tick n best =
-    MatchOption best
-    ((k : ℕ) (d : Piece) → k < n → is_ready (slice_index_or ps k d) (slice_index given k) tick ≡ false)
-    (λ i. IsMostUrgent ps given tick n i)
-
 -- the piece's window that ends at the tick, if one does, was given its cost
 abbrev pub IsServedAt : Piece → ℕ → ℕ → Type 0
 IsServedAt p given tick = (k : ℕ) → k * p.period + p.to ≡ tick → (k + 1) * p.cost ≤ given
@@ -105,6 +98,28 @@ pub record IsKept (p : Piece) (bound event : ℕ) (w : Window) : Type 0 where
 abbrev pub AreKept : List Piece → List Window → ℕ → ℕ → ℕ → Type 0
 AreKept ps ws n bound event = (i : ℕ) (d : Piece) (v : Window) → i < n
     → IsKept (slice_index_or ps i d) bound event (slice_index_or ws i v)
+
+-- the key of a piece that isn't ready
+abbrev pub not_ready : ℕ
+not_ready = 2 ^ 32 - 1
+
+-- while its window lacks ticks the piece has a key: by the end of the window, and at ties by the vCPU
+pub record IsKeyed (p : Piece) (given : ℕ) (w : Window) (key : ℕ) : Type 0 where
+  pub within : given ≤ w.goal
+  pub ready : given < w.goal → key ≡ w.due * MAX_VCPUS + p.vcpu
+  pub done : w.goal ≤ given → key ≡ not_ready
+
+-- so it is of each piece
+abbrev pub AreKeyed : List Piece → List ℕ → List Window → List ℕ → Type 0
+AreKeyed ps gs ws ks = (i : ℕ) (d : Piece) (v : Window) → i < length ps
+    → IsKeyed (slice_index_or ps i d) (slice_index gs i) (slice_index_or ws i v) (slice_index ks i)
+
+-- none of the first n keys is less than the one at the place, or than that of no ready piece
+abbrev pub IsLeastKey : List ℕ → ℕ → Option ℕ → Type 0
+IsLeastKey ks n place =
+    MatchOption place
+    ((k : ℕ) → k < n → not_ready ≤ slice_index ks k)
+    (λ i. (i < n) × (slice_index ks i < not_ready) × ((k : ℕ) → k < n → slice_index ks i ≤ slice_index ks k))
 
 -- of the first n pieces none has a window that begins at a tick above `from` and below `tick`
 abbrev pub NoBegin : List Piece → ℕ → ℕ → ℕ → Type 0

@@ -1,8 +1,11 @@
-use Rattle.std.proofs.Common.{◌+◌, length, arith}
+use Rattle.std.proofs.Common.{ℕ, ◌+◌, length, arith}
+use Rattle.std.proofs.lemmas.List.{length-replicate}
 use Rattle.tab_core.specs.declared.TheConstants.{MAX_VCPUS}
 use Rattle.tab_core.proofs.Periods.{period_facts}
+use Rattle.edf_table.specs.Inside.Progress.{not_ready}
 use Rattle.edf_table.proofs.Few.{few_pieces}
 use Rattle.edf_table.proofs.Kept.{all_kept_later}
+use Rattle.edf_table.proofs.Keys.{keyed_start}
 use Rattle.edf_table.proofs.Misses.{all_met_fits, first_end}
 use Rattle.edf_table.proofs.Repeats.{all_met}
 use Rattle.edf_table.proofs.Steps.{counted_start, met_more_any}
@@ -17,6 +20,13 @@ loop-tick-init c = record {
   in_round = omega arith;
   enough = c.first_windows-windows.ensures.enough;
   kept = c.first_windows-windows.ensures.kept;
+  a_key_each = omega (
+    arith,
+    length-replicate {A = ℕ} MAX_VCPUS not_ready,
+    few_pieces c.args.pieces.now c.requires,
+  );
+  keyed = keyed_start c.args.pieces.now c.first_windows-windows.result MAX_VCPUS
+      c.first_windows-windows.ensures.kept (few_pieces c.args.pieces.now c.requires);
   counted = counted_start c.args.pieces.now MAX_VCPUS (few_pieces c.args.pieces.now c.requires);
   met = λ j a lt. absurd (omega arith);
 }
@@ -46,6 +56,13 @@ loop-tick-preserved c = record {
   kept = all_kept_later c.args.pieces.now c.next_event-event.new.windows (length c.args.pieces.now)
       (c.loop-tick.tick + 1) c.run_turn-tick.result.end c.next_event-event.result c.next_event-event.result
       c.next_event-event.ensures.kept (omega (arith, c.run_turn-tick.ensures.later)) (omega arith);
+  a_key_each = omega (
+    arith,
+    c.next_event-event.ensures.a_key_each,
+    c.run_turn-tick.ensures.a_key_each,
+    c.loop-tick.invariant.a_key_each,
+  );
+  keyed = c.run_turn-tick.ensures.keyed;
   counted = c.run_turn-tick.ensures.counted;
   met = c.run_turn-tick.ensures.met;
 }
@@ -73,3 +90,7 @@ returns-else-any_missed-2-clause-none c =
     all_met_fits c.args.pieces.now c.requires
     (all_met c.args.pieces.now common c.requires c.common_period-common.ensures.common
     (omega (arith, facts.at_least)) (omega (arith, facts.whole)) (λ j a lt. met j a (omega arith)))
+
+pub run_turn-tick-requires-clause-keyed : goal.run_turn-tick-requires-clause-keyed
+run_turn-tick-requires-clause-keyed c =
+    c.next_event-event.ensures.keyed c.loop-tick.given c.loop-tick.invariant.keyed

@@ -1,4 +1,5 @@
-use Rattle.std.proofs.Common.{◌+◌, ◌-◌, ◌≡◌, [], ◌∷◌, ap, length, map, subst, sym, ◌∙◌, arith}
+use Rattle.std.proofs.Common.{ℕ, ◌+◌, ◌-◌, ◌≡◌, [], ◌∷◌, ap, length, map, subst, sym, ◌∙◌, arith}
+use Rattle.std.proofs.lemmas.List.{length-replicate}
 use Rattle.tab_core.specs.declared.TheConstants.{MAX_VCPUS}
 use Rattle.table_form.proofs.AppendingLemmas.{cells_appended, maximal_appended}
 use Rattle.table_form.proofs.RowLemmas.{cells-nil}
@@ -6,10 +7,11 @@ use Rattle.table_form.specs.Planning.EdfRow.{edf_cells, owner_of}
 use Rattle.table_form.specs.Planning.Jobs.{jobs_of}
 use Rattle.table_form.specs.Tables.Rows.{cells_from}
 use Rattle.table_form.specs.Tables.Segments.{AreMaximal, put_before, segment_view}
-use Rattle.edf_table.specs.Inside.Progress.{GoesTo, IsCounted, MetBefore}
+use Rattle.edf_table.specs.Inside.Progress.{GoesTo, IsCounted, MetBefore, not_ready}
 use Rattle.edf_table.proofs.Calm.{row_along}
 use Rattle.edf_table.proofs.Few.{few_pieces}
 use Rattle.edf_table.proofs.Kept.{all_kept_later}
+use Rattle.edf_table.proofs.Keys.{keyed_start}
 use Rattle.edf_table.proofs.Misses.{fits_met}
 use Rattle.edf_table.proofs.Steps.{counted_start, row_start}
 use Rattle.edf_table.proofs.row.first_segments.Goals as goal
@@ -24,6 +26,13 @@ loop-tick-init c = record {
   within = omega arith;
   enough = c.first_windows-windows.ensures.enough;
   kept = c.first_windows-windows.ensures.kept;
+  a_key_each = omega (
+    arith,
+    length-replicate {A = ℕ} MAX_VCPUS not_ready,
+    few_pieces c.args.pieces.now c.requires.distinct,
+  );
+  keyed = keyed_start c.args.pieces.now c.first_windows-windows.result MAX_VCPUS
+      c.first_windows-windows.ensures.kept (few_pieces c.args.pieces.now c.requires.distinct);
   counted = counted_start c.args.pieces.now MAX_VCPUS (few_pieces c.args.pieces.now c.requires.distinct);
   met = λ j a lt. absurd (omega arith);
   maximal = rw c.new-segments.ensures.items (omega arith);
@@ -64,6 +73,13 @@ loop-tick-preserved c =
       kept = all_kept_later c.args.pieces.now c.next_event-event.new.windows (length c.args.pieces.now)
           (c.loop-tick.tick + 1) end c.next_event-event.result c.next_event-event.result
           c.next_event-event.ensures.kept (omega (arith, some)) (omega arith);
+      a_key_each = omega (
+        arith,
+        c.next_event-event.ensures.a_key_each,
+        c.run_turn-turn.ensures.a_key_each,
+        c.loop-tick.invariant.a_key_each,
+      );
+      keyed = c.run_turn-turn.ensures.keyed;
       counted = c.run_turn-turn.ensures.counted;
       met = c.run_turn-turn.ensures.met;
       maximal = subst (AreMaximal 0 (map segment_view new)) at
@@ -85,3 +101,7 @@ returns-clause-met c =
     (subst (IsCounted c.args.pieces.now c.loop-tick.given) end c.loop-tick.invariant.counted)
     (subst (MetBefore (jobs_of c.args.pieces.now)) end c.loop-tick.invariant.met) c.requires.fits
     (omega arith)
+
+pub run_turn-turn-requires-clause-keyed : goal.run_turn-turn-requires-clause-keyed
+run_turn-turn-requires-clause-keyed c =
+    c.next_event-event.ensures.keyed c.loop-tick.given c.loop-tick.invariant.keyed

@@ -4,7 +4,7 @@ use Rattle.table_form.specs.Planning.EdfRow.{edf_cells, owner_of}
 use Rattle.table_form.specs.Planning.Jobs.{jobs_of}
 use Rattle.table_form.specs.Tables.Rows.{cells_from}
 use Rattle.table_form.specs.Tables.Segments.{AreMaximal, segment_view}
-use Rattle.edf_table.specs.Inside.Progress.{AreKept, IsCounted, MetBefore}
+use Rattle.edf_table.specs.Inside.Progress.{AreKept, AreKeyed, IsCounted, MetBefore}
 use Rattle.edf_table.proofs.row.first_segments.Given as goal
 
 abbrev pub invariant-loop-tick : goal.invariant-loop-tick
@@ -14,6 +14,8 @@ invariant-loop-tick l = record {
   within : l.tick ≤ l.end;
   enough : length l.pieces ≤ length l.windows;
   kept : AreKept l.pieces l.windows (length l.pieces) l.tick l.event;
+  a_key_each : length l.pieces ≤ length l.keys;
+  keyed : AreKeyed l.pieces l.given l.windows l.keys;
   counted : IsCounted l.pieces l.given l.tick;
   met : MetBefore (jobs_of l.pieces) l.tick;
   maximal : AreMaximal 0 (map segment_view l.segments.items) l.tick;
