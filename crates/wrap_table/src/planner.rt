@@ -1,4 +1,4 @@
-ghost use Rattle.std.specs.Prelude.{◌≡◌, ℕ, ◌+◌, ◌*◌, ◌≤◌, IfErr, IfOk, IsErr, IsErrOf, List, Option, map};
+ghost use Rattle.std.specs.Prelude.{◌≡◌, ◌≢◌, ℕ, ◌+◌, ◌*◌, ◌≤◌, IfErr, IfOk, IsErr, IsErrOf, List, Option, map};
 ghost use Rattle.tab_core.specs.declared.TheConstants.{ROUND};
 ghost use Rattle.tab_core.specs.declared.periodic.Periodic.{Periodic};
 ghost use Rattle.table_form.specs.Tables.Plans.{IsPlanFor};
@@ -26,7 +26,7 @@ use table_form::Plan;
 /// and one whose demands don't fit has no allotment of ticks to its vCPUs.
 ///
 /// The call tells at most two steps for each edge of the flow network, for each pair of an admitted
-/// vCPU and an interval.
+/// vCPU and an interval, and none where it answers `NoPeriod` or `NoFit`.
 ///
 /// Sources: W. A. Horn, "Some simple scheduling algorithms", Naval Research Logistics Quarterly 21,
 /// 1974, and R. McNaughton, "Scheduling with deadlines and loss functions", Management Science 6,
@@ -50,6 +50,7 @@ pub fn plan_whole<L: Ledger>(
     ensures cost { (tasks : List (Option Periodic)) (marks : List ℕ) → AreTasksOf host.now tasks
         → AreMarks (map period_of_task tasks) marks → (let l = load_of_tasks tasks marks host.now.cores in
         steps.new ≤ steps.old + 2 * (admitted l * l.count) * edges l) }
+    ensures untold { IfErr result (λ fault. fault ≢ WholeFault.NoMemory → steps.new ≡ steps.old) }
 {
     let tasks = tasks_of(alloc, host)?;
     let demand = demand_sum(tasks.items());
