@@ -1,4 +1,4 @@
-ghost use Rattle.std.specs.Prelude.{◌≤◌};
+ghost use Rattle.std.specs.Prelude.{◌≡◌, ◌⊎◌};
 ghost use Rattle.core_workers.specs.declared.patience.TheConstants.{SPINS};
 
 use std::hint::spin_loop;
@@ -10,10 +10,10 @@ pub const PATIENCE: u32 = 10_000_000;
 // how many turns in a row a thread that has a processor of its own tries before it lets others have it
 const SPINS: u32 = 64;
 
-/// How many turns in a row each of so many threads tries before it lets others have its processor, at most 64: none
-/// where they may not all have one of their own.
+/// How many turns in a row each of so many threads tries before it lets others have its processor: 64, or none where
+/// they may not all have one of their own.
 pub fn spins_of<R: Threads>(rt: &R, threads: usize) -> u32
-    ensures { result ≤ SPINS }
+    ensures { (result ≡ 0) ⊎ (result ≡ SPINS) }
 {
     if threads < processors(rt) { SPINS } else { 0 }
 }
