@@ -71,6 +71,7 @@ pub(crate) const REPLAY_SVG: &str =
 <path fill=\"#ffffff\" d=\"M0 0H116000V32100H0z\"/>
 <text x=\"4000\" y=\"3000\" font-size=\"1800\" class=\"label\">Run of 3 cores, 2 vCPUs</text>
 <text x=\"4000\" y=\"5000\" font-size=\"1100\" class=\"dim\">Ticks 0 to 102600: 102.6 ms, of which vCPUs have 16.6 %.</text>
+<path fill=\"#9aa5b5\" d=\"M89300 2100h1600v900h-1600z\"/><text x=\"91300\" y=\"3000\" font-size=\"900\" class=\"dim\">in a slot</text><path fill=\"#9aa5b5\" class=\"sh\" d=\"M96500 2460h1600v540h-1600z\"/><text x=\"98500\" y=\"3000\" font-size=\"900\" class=\"dim\">besides its slots (shared)</text>
 <path class=\"lane\" d=\"M9400 9800H112000V13800H9400zM9400 14600H112000V18600H9400zM9400 19400H112000V23400H9400z\"/>
 <path class=\"grid\" d=\"M9400 9300V24500M19400 9300V24500M29400 9300V24500M39400 9300V24500M49400 9300V24500M59400 9300V24500M69400 9300V24500M79400 9300V24500M89400 9300V24500M99400 9300V24500M109400 9300V24500\"/>
 <text x=\"9400\" y=\"8900\" font-size=\"1000\" class=\"dim\" text-anchor=\"middle\">0</text>
@@ -276,6 +277,7 @@ pub(crate) const STINTS_SVG: &str =
 <path fill=\"#ffffff\" d=\"M0 0H116000V22500H0z\"/>
 <text x=\"4000\" y=\"3000\" font-size=\"1800\" class=\"label\">Run of 3 cores, 2 vCPUs, by vCPU</text>
 <text x=\"4000\" y=\"5000\" font-size=\"1100\" class=\"dim\">Ticks 0 to 102600: 102.6 ms. The lanes are the vCPUs', the boxes the cores'.</text>
+<path fill=\"#9aa5b5\" d=\"M89300 2100h1600v900h-1600z\"/><text x=\"91300\" y=\"3000\" font-size=\"900\" class=\"dim\">in a slot</text><path fill=\"#9aa5b5\" class=\"sh\" d=\"M96500 2460h1600v540h-1600z\"/><text x=\"98500\" y=\"3000\" font-size=\"900\" class=\"dim\">besides its slots (shared)</text>
 <path class=\"lane\" d=\"M9400 9800H112000V13800H9400z\"/>
 <path class=\"grid\" d=\"M9400 9300V14900M19400 9300V14900M29400 9300V14900M39400 9300V14900M49400 9300V14900M59400 9300V14900M69400 9300V14900M79400 9300V14900M89400 9300V14900M99400 9300V14900M109400 9300V14900\"/>
 <text x=\"9400\" y=\"8900\" font-size=\"1000\" class=\"dim\" text-anchor=\"middle\">0</text>

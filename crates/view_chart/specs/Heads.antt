@@ -56,9 +56,14 @@ unfoldable pub title_begin : ℕ → List ℕ
 title_begin tall = codes "<path fill=\"#ffffff\" d=\"M0 0H116000V" ++ (decimal tall
     ++ codes "H0z\"/>\n<text x=\"4000\" y=\"3000\" font-size=\"1800\" class=\"label\">")
 
+-- where it ends; of a run with a key, right of the title, that tells slots from shared time
+abbrev pub head_end : Bool → List ℕ
+head_end false = codes "</text>\n"
+head_end true = codes "</text>\n<path fill=\"#9aa5b5\" d=\"M89300 2100h1600v900h-1600z\"/><text x=\"91300\" y=\"3000\" font-size=\"900\" class=\"dim\">in a slot</text><path fill=\"#9aa5b5\" class=\"sh\" d=\"M96500 2460h1600v540h-1600z\"/><text x=\"98500\" y=\"3000\" font-size=\"900\" class=\"dim\">besides its slots (shared)</text>\n"
+
 -- the head of a picture that is so wide in pixels and so tall in units
 abbrev pub head_text : ℕ → ℕ → Head → List ℕ
 head_text width tall h = svg_begin width (width * tall / 116000) tall
     ++ (title_text h ++ (codes "</title>\n<desc id=\"d\">" ++ (sub_text h ++ (style_text ++ (title_begin tall
     ++ (title_text h ++ (codes "</text>\n<text x=\"4000\" y=\"5000\" font-size=\"1100\" class=\"dim\">"
-    ++ (sub_text h ++ codes "</text>\n"))))))))
+    ++ (sub_text h ++ head_end h.is_run))))))))

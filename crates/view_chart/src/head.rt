@@ -1,6 +1,6 @@
 ghost use Rattle.std.specs.Prelude.{◌≡◌, ◌<◌, ◌≤◌, ◌*◌, ◌/◌};
 ghost use Rattle.tab_io.specs.Sinks.{Writes};
-ghost use Rattle.view_chart.specs.Heads.{head_text, kind_word, lanes_note, lanes_word, share_text, style_text, sub_end, sub_text, svg_begin, ticks_text, title_begin, title_of, title_text};
+ghost use Rattle.view_chart.specs.Heads.{head_end, head_text, kind_word, lanes_note, lanes_word, share_text, style_text, sub_end, sub_text, svg_begin, ticks_text, title_begin, title_of, title_text};
 
 use crate::marks::plural;
 use tab_io::{Sink, WriteFault, write_all};
@@ -42,7 +42,25 @@ pub(crate) fn put_head<K: Sink>(
         b"</text>\n<text x=\"4000\" y=\"5000\" font-size=\"1100\" class=\"dim\">",
     )?;
     put_sub(sink, head)?;
-    write_all(sink, b"</text>\n")
+    put_head_end(sink, head.is_run)
+}
+
+// Writes where it ends.
+fn put_head_end<K: Sink>(sink: &mut K, is_run: bool) -> Result<(), WriteFault>
+    ensures { Writes (K.state sink.old) (K.state sink.new) (head_end is_run) result }
+{
+    write_all(sink, head_end(is_run))
+}
+
+// Where it ends; of a run with a key that tells slots from shared time.
+fn head_end(is_run: bool) -> &'static [u8]
+    ensures { result.now ≡ head_end is_run }
+{
+    if is_run {
+        b"</text>\n<path fill=\"#9aa5b5\" d=\"M89300 2100h1600v900h-1600z\"/><text x=\"91300\" y=\"3000\" font-size=\"900\" class=\"dim\">in a slot</text><path fill=\"#9aa5b5\" class=\"sh\" d=\"M96500 2460h1600v540h-1600z\"/><text x=\"98500\" y=\"3000\" font-size=\"900\" class=\"dim\">besides its slots (shared)</text>\n"
+    } else {
+        b"</text>\n"
+    }
 }
 
 // Writes where the picture begins.

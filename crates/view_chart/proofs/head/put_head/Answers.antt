@@ -95,4 +95,4 @@ returns g c =
     let at6 = left_behind _ _ _ _ _ _ _ _ _ at5 refl c.put_title-2.ensures c.in_ok-put_title-2.was in
     let at7 = left_behind _ _ _ _ _ _ _ _ _ at6 refl c.write_all-2.ensures c.in_ok-write_all-2.was in
     let at8 = left_behind _ _ _ _ _ _ _ _ _ at7 refl c.put_sub-2.ensures c.in_ok-put_sub-2.was in
-    left_last _ _ _ _ _ _ at8 c.write_all-3.ensures
+    left_last _ _ _ _ _ _ at8 c.put_head_end.ensures
