@@ -1,9 +1,9 @@
 ghost use Rattle.std.specs.Prelude.{◌≡◌, ◌<◌, ◌≤◌, ◌||◌, ◌^◌, ℕ, Bool, List, IfOk, false, length, slice_get};
 ghost use Rattle.tab_core.specs.VcpuSets.{has_vcpu};
 ghost use Rattle.tab_core.specs.declared.TheConstants.{MAX_CORES, MAX_VCPUS};
-ghost use Rattle.view_chart.specs.Colours.{any_below, colours_below, colours_of, core_names, core_tones, first_free, has_foot, is_home, is_split, is_taken, meets, next_colour, runs_on, stands_at, stands_on, tone, tones_below, tones_of, twice_below};
+ghost use Rattle.view_chart.specs.Colours.{any_below, colours_below, colours_of, core_names, core_tones, first_free, has_foot, is_home, is_split, is_taken, next_colour, runs_on, stands_at, stands_on, tone, tones_below, tones_of, twice_below};
 ghost use Rattle.view_chart.specs.Shown.{has_it};
-ghost use Rattle.view_chart.specs.Inside.Standing.{AreOn};
+ghost use Rattle.view_chart.specs.Inside.Standing.{AreMet, AreOn};
 
 use std::alloc::{AllocError, Global};
 use tab_core::{MAX_CORES, MAX_VCPUS, NoMemory, VcpuNo, VcpuSet};
@@ -107,36 +107,53 @@ fn next_colour(sets: &[VcpuSet], vcpus: usize, colours: &[u32], v: VcpuNo) -> u3
     if vcpus <= 12 {
         return v.0;
     }
+    let met = met_by(sets, v);
     for k in 0..12 {
-        if !is_taken(sets, colours, v, k) {
+        if !is_taken(&met, colours, v, k) {
             return k;
         }
     }
     v.0 % 12
 }
 
-// Whether a lower vCPU that it meets has the colour.
-fn is_taken(sets: &[VcpuSet], colours: &[u32], v: VcpuNo, k: u32) -> bool
-    requires sets { length sets.now ≡ MAX_CORES }
-    requires lower { length colours.now ≡ v }
-    ensures { (on : ℕ → ℕ → Bool) → AreOn sets.now on → result ≡ is_taken on colours.now v k }
+// Whether a lower one of the vCPUs that a vCPU meets has the colour.
+fn is_taken(met: &VcpuSet, colours: &[u32], v: VcpuNo, k: u32) -> bool
+    requires { length colours.now ≡ v }
+    ensures { (on : ℕ → ℕ → Bool) → AreMet met.now on v → result ≡ is_taken on colours.now v k }
 {
     let mut taken = false;
     for u in 0..v.0 {
-        taken = taken || (colours[u as usize] == k && meets(sets, VcpuNo(u), v));
+        taken = taken || (colours[u as usize] == k && met.has(VcpuNo(u)));
     }
     taken
 }
 
-// Whether two stand on one core.
-fn meets(sets: &[VcpuSet], u: VcpuNo, v: VcpuNo) -> bool
+// The vCPUs that stand on a core with one.
+fn met_by(sets: &[VcpuSet], v: VcpuNo) -> VcpuSet
     requires { length sets.now ≡ MAX_CORES }
-    ensures { (on : ℕ → ℕ → Bool) → AreOn sets.now on → result ≡ meets on u v }
+    ensures { (on : ℕ → ℕ → Bool) → AreOn sets.now on → AreMet result on v }
 {
-    let mut met = false;
+    let mut met = VcpuSet::empty();
     for core in 0..MAX_CORES {
         let set = &sets[core as usize];
-        met = met || (set.has(u) && set.has(v));
+        if set.has(v) {
+            put_all(&mut met, set);
+        }
     }
     met
+}
+
+// Puts the members of another set.
+#[tactic(auto, using(crate::proofs::ColourLemmas::member_put))]
+fn put_all(set: &mut VcpuSet, other: &VcpuSet)
+    requires { length set.old ≡ MAX_VCPUS }
+    ensures size { length set.new ≡ MAX_VCPUS }
+    ensures members { (u : ℕ) → u < MAX_VCPUS
+        → has_vcpu set.new u ≡ (has_vcpu set.old u || has_vcpu other.now u) }
+{
+    for u in 0..MAX_VCPUS {
+        if other.has(VcpuNo(u)) {
+            set.put(VcpuNo(u));
+        }
+    }
 }
