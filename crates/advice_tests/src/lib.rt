@@ -1,5 +1,5 @@
-//! The tests of the advice on refusals, which stand apart since a crate with tests is proved twice, with
-//! them and without.
+//! The tests of the advice on refusals that no case can show: refusals and inputs that are no call's, and
+//! values inside.
 #![tactic(auto)]
 
 #[cfg(test)]
@@ -10,5 +10,3 @@ mod kept_bytes;
 mod line_advice;
 #[cfg(test)]
 mod samples;
-#[cfg(test)]
-mod word_advice;

@@ -14,11 +14,7 @@ const LINES: &str = "0 wake web\n\nplan a\n# c\nvcpu db period 34200 cost 9 home
 #[test]
 fn tells_of_a_line(rt: HostRuntime) -> Result<(), Fail> {
     // the refusal of a line of the second or of the third section, and the advice
-    let cases: [(Refusal, &str); 9] = [
-        (
-            Refusal::Script(ScriptFault::BadLine { line: 3 }),
-            "tableau: script line 3, 'plan a': wanted is TICK wake NAME, TICK block NAME, TICK burst NAME WORK, or TICK change and edits,\ntableau: each set NAME PPM NS or leave NAME; a tick is a whole number (5 ms are 4995), a comment\ntableau: has a line of its own, and lines end in LF alone\n",
-        ),
+    let cases: [(Refusal, &str); 7] = [
         (
             Refusal::Script(ScriptFault::UnknownName { line: 1 }),
             "tableau: script line 1, '0 wake web': its name is no vCPU's of the host;\ntableau: name the vCPU there, with admitted = false where it has no reservation yet\n",
@@ -40,10 +36,6 @@ fn tells_of_a_line(rt: HostRuntime) -> Result<(), Fail> {
             "tableau: script line 2, '': a script has at most 15 changes;\ntableau: leave some out, or join the edits of several in one\n",
         ),
         // 25 percent of 11,400 ticks, which 20 ms allow, are 2,850, and 50 of 34,200 are 17,100
-        (
-            Refusal::BadPlanLine { line: 1 },
-            "tableau: plan line 1 is '0 wake web'; was the host changed since the plan was made?\ntableau: wanted is plan cores 1 vcpus 2\n",
-        ),
         (
             Refusal::BadPlanLine { line: 3 },
             "tableau: plan line 3 is 'plan a'; was the host changed since the plan was made?\ntableau: wanted is vcpu db period 34200 cost 17100 home CORE\n",
@@ -164,27 +156,8 @@ fn tells_what_tables_break(rt: HostRuntime) -> Result<(), Fail> {
 }
 
 #[test]
-fn tells_of_sections_and_ends(rt: HostRuntime) -> Result<(), Fail> {
-    let one = |wanted| Refusal::BadSections { found: 1, wanted };
-    let cases: [Case<'_>; 8] = [
-        (
-            "check",
-            "cores = 1%%\nplan\n",
-            one(2),
-            "tableau: 2 texts are wanted, a line %% between each two: a host and a plan text for check, a host and a script for run; here are 1\ntableau: line 1, 'cores = 1%%', isn't exactly %%; the line before may lack its line feed, or this one end in CR LF\n",
-        ),
-        (
-            "replay 1",
-            "cores = 1\r\n%%\r\nsee\n",
-            one(3),
-            "tableau: 3 texts are wanted, a line %% between each two: a host, a script and a list of steps; here are 1\ntableau: line 2, '%%?', isn't exactly %%; the line before may lack its line feed, or this one end in CR LF\n",
-        ),
-        (
-            "run 1",
-            "cores = 1\n",
-            one(2),
-            "tableau: 2 texts are wanted, a line %% between each two: a host and a plan text for check, a host and a script for run; here are 1\n",
-        ),
+fn tells_of_ends(rt: HostRuntime) -> Result<(), Fail> {
+    let cases: [Case<'_>; 5] = [
         (
             "plan",
             "",
