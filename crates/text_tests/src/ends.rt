@@ -1,3 +1,4 @@
+use std::alloc::{AllocError, Global};
 use std::io;
 use std::io::{ErrorKind, Read, Write};
 use std::test::Fail;
@@ -6,27 +7,39 @@ use tab_io::{
     write_all,
 };
 
+// The bytes, the reads that fail, the limit, and the bytes or the fault.
+const READS: [(&[u8], &[u32], usize, Result<&[u8], ReadAll>); 8] = [
+    (b"", &[], 0, Ok(b"")),
+    (b"abc", &[], 3, Ok(b"abc")),
+    (b"abc", &[2], 4, Ok(b"abc")),
+    (b"abc", &[], 2, Err(ReadAll::TooLong { limit: 2 })),
+    (b"a", &[], 0, Err(ReadAll::TooLong { limit: 0 })),
+    (b"abc", &[0], 3, Err(ReadAll::ReadFault)),
+    (b"abc", &[1], 3, Err(ReadAll::ReadFault)),
+    (b"abc", &[1], 2, Err(ReadAll::TooLong { limit: 2 })),
+];
+
+// Whether so much is read of a source of the bytes, of which these reads fail.
+fn is_read_as(
+    alloc: Global,
+    bytes: &[u8],
+    fails: &[u32],
+    limit: usize,
+    expected: &Result<&[u8], ReadAll>,
+) -> Result<bool, AllocError> {
+    let mut source = MemSource::of(alloc, bytes, fails)?;
+    match (read_all(alloc, &mut source, limit), expected) {
+        (Ok(read), Ok(expected)) => Ok(read.as_slice() == *expected),
+        (Err(fault), Err(expected)) => Ok(fault == *expected),
+        _ => Ok(false),
+    }
+}
+
 #[test]
 fn reads_all_up_to_the_limit(rt: HostRuntime) -> Result<(), Fail> {
-    // the bytes, the reads that fail, the limit, and the bytes or the fault
-    let cases: [(&[u8], &[u32], usize, Result<&[u8], ReadAll>); 8] = [
-        (b"", &[], 0, Ok(b"")),
-        (b"abc", &[], 3, Ok(b"abc")),
-        (b"abc", &[2], 4, Ok(b"abc")),
-        (b"abc", &[], 2, Err(ReadAll::TooLong { limit: 2 })),
-        (b"a", &[], 0, Err(ReadAll::TooLong { limit: 0 })),
-        (b"abc", &[0], 3, Err(ReadAll::ReadFault)),
-        (b"abc", &[1], 3, Err(ReadAll::ReadFault)),
-        (b"abc", &[1], 2, Err(ReadAll::TooLong { limit: 2 })),
-    ];
-    for (bytes, fails, limit, expected) in cases {
-        let mut source = MemSource::of(rt.alloc(), bytes, fails)?;
-        match (read_all(rt.alloc(), &mut source, limit), expected) {
-            (Ok(read), Ok(expected)) => assert_eq!(rt; read.as_slice(), expected),
-            (read, expected) => {
-                assert_eq!(rt; read.err(), expected.err(), "of {bytes:?} up to {limit}");
-            }
-        }
+    for (bytes, fails, limit, expected) in &READS {
+        let good = is_read_as(rt.alloc(), bytes, fails, *limit, expected)?;
+        assert!(rt; good, "of {bytes:?} up to {limit}");
     }
     Ok(())
 }
@@ -72,18 +85,19 @@ fn adapts_a_reader(rt: HostRuntime) {
     assert_eq!(rt; room, *b"dec");
 }
 
+const WORDINGS: [(ReadAll, &str); 3] = [
+    (ReadAll::ReadFault, "the input failed"),
+    (
+        ReadAll::TooLong { limit: 7 },
+        "the input has more than 7 bytes",
+    ),
+    (ReadAll::NoMemory, "out of memory"),
+];
+
 #[test]
 fn names_what_is_wrong(rt: HostRuntime) -> Result<(), Fail> {
-    let cases = [
-        (ReadAll::ReadFault, "the input failed"),
-        (
-            ReadAll::TooLong { limit: 7 },
-            "the input has more than 7 bytes",
-        ),
-        (ReadAll::NoMemory, "out of memory"),
-    ];
-    for (fault, text) in cases {
-        assert_eq!(rt; fault.to_string(rt.alloc())?.as_str(), text);
+    for (fault, text) in &WORDINGS {
+        assert_eq!(rt; fault.to_string(rt.alloc())?.as_str(), *text);
     }
     Ok(())
 }
@@ -111,39 +125,50 @@ impl<'a> Write for Narrow<'a> {
     }
 }
 
+// How much a write takes, the answer, and the bytes then.
+const NARROW: [(usize, Result<(), WriteFault>, &[u8]); 4] = [
+    (1, Ok(()), b"abcde"),
+    (2, Ok(()), b"abcde"),
+    (9, Ok(()), b"abcde"),
+    (0, Err(WriteFault), b""),
+];
+
+// What a sink of so narrow writes answers to five bytes and to two finishes.
+fn write_narrow(bytes: &mut Vec<u8>, most: usize) -> (Result<(), WriteFault>, [Put; 2]) {
+    let mut sink = StdSink::of(Narrow {
+        bytes,
+        most,
+        flushes: 0,
+    });
+    let answer = write_all(&mut sink, b"abcde");
+    let first = sink.finish();
+    (answer, [first, sink.finish()])
+}
+
 #[test]
 fn writes_all_in_short_writes(rt: HostRuntime) -> Result<(), Fail> {
-    // how much a write takes, the answer, and the bytes then
-    let cases: [(usize, Result<(), WriteFault>, &[u8]); 4] = [
-        (1, Ok(()), b"abcde"),
-        (2, Ok(()), b"abcde"),
-        (9, Ok(()), b"abcde"),
-        (0, Err(WriteFault), b""),
-    ];
-    for (most, expected, bytes) in cases {
+    for (most, expected, bytes) in &NARROW {
         let mut taken = Vec::new(rt.alloc());
-        let mut sink = StdSink::of(Narrow {
-            bytes: &mut taken,
-            most,
-            flushes: 0,
-        });
-        assert_eq!(rt;
-            write_all(&mut sink, b"abcde"),
-            expected,
-            "at {most} a write"
-        );
-        assert_eq!(rt; sink.finish(), Put::Took(0));
-        assert_eq!(rt; sink.finish(), Put::Failed);
-        assert_eq!(rt; taken.as_slice(), bytes, "at {most} a write");
+        let (answer, ends) = write_narrow(&mut taken, *most);
+        assert_eq!(rt; answer, *expected, "at {most} a write");
+        assert_eq!(rt; ends, [Put::Took(0), Put::Failed]);
+        assert_eq!(rt; taken.as_slice(), *bytes, "at {most} a write");
     }
     Ok(())
 }
 
+// What two writes of two bytes answer in room for three.
+fn write_twice(alloc: Global) -> Result<([Result<(), WriteFault>; 2], MemSink), AllocError> {
+    let mut sink = MemSink::with_room(alloc, 3)?;
+    let first = write_all(&mut sink, b"ab");
+    let second = write_all(&mut sink, b"cd");
+    Ok(([first, second], sink))
+}
+
 #[test]
 fn a_fault_leaves_a_front(rt: HostRuntime) -> Result<(), Fail> {
-    let mut sink = MemSink::with_room(rt.alloc(), 3)?;
-    assert_eq!(rt; write_all(&mut sink, b"ab"), Ok(()));
-    assert_eq!(rt; write_all(&mut sink, b"cd"), Err(WriteFault));
+    let (answers, sink) = write_twice(rt.alloc())?;
+    assert_eq!(rt; answers, [Ok(()), Err(WriteFault)]);
     assert_eq!(rt; sink.bytes(), b"abc".as_slice());
     assert_eq!(rt;
         WriteFault.to_string(rt.alloc())?.as_str(),
@@ -156,46 +181,68 @@ const FAILED: Got = Got::Failed;
 
 const END: Got = Got::End;
 
+const THREE: Got = Got::Bytes(3);
+
+const ONE: Got = Got::Bytes(1);
+
+// The listed reads, and what five reads of room for three give of seven bytes.
+const LISTED: [(&[u32], [Got; 5]); 7] = [
+    (&[], [THREE, THREE, ONE, END, END]),
+    (&[0], [FAILED, THREE, THREE, ONE, END]),
+    (&[1], [THREE, FAILED, THREE, ONE, END]),
+    (&[2], [THREE, THREE, FAILED, ONE, END]),
+    (&[3], [THREE, THREE, ONE, FAILED, END]),
+    (&[4, 0], [FAILED, THREE, THREE, ONE, FAILED]),
+    (&[0, 1, 2, 3, 4], [FAILED, FAILED, FAILED, FAILED, FAILED]),
+];
+
+fn five_reads(alloc: Global, fails: &[u32]) -> Result<[Got; 5], AllocError> {
+    let mut source = MemSource::of(alloc, b"abcdefg", fails)?;
+    let mut room = [0; 3];
+    let mut gave = [END; 5];
+    for got in &mut gave {
+        *got = source.read(&mut room);
+    }
+    Ok(gave)
+}
+
 #[test]
 fn fails_at_exactly_the_listed_reads(rt: HostRuntime) -> Result<(), Fail> {
-    let (three, one) = (Got::Bytes(3), Got::Bytes(1));
-    // the listed reads, and what five reads of room for three give of seven bytes
-    let cases: [(&[u32], [Got; 5]); 7] = [
-        (&[], [three, three, one, END, END]),
-        (&[0], [FAILED, three, three, one, END]),
-        (&[1], [three, FAILED, three, one, END]),
-        (&[2], [three, three, FAILED, one, END]),
-        (&[3], [three, three, one, FAILED, END]),
-        (&[4, 0], [FAILED, three, three, one, FAILED]),
-        (&[0, 1, 2, 3, 4], [FAILED, FAILED, FAILED, FAILED, FAILED]),
-    ];
-    for (fails, expected) in cases {
-        let mut source = MemSource::of(rt.alloc(), b"abcdefg", fails)?;
-        let mut room = [0; 3];
-        for got in expected {
-            assert_eq!(rt; source.read(&mut room), got, "with {fails:?}");
-        }
+    for (fails, expected) in &LISTED {
+        assert_eq!(rt; five_reads(rt.alloc(), fails)?, *expected, "with {fails:?}");
     }
     Ok(())
 }
 
+const TWO: Put = Put::Took(2);
+
+const NO_ROOM: Put = Put::Failed;
+
+// The room, what three writes of two bytes take, and the bytes then.
+const FILLED: [(usize, [Put; 3], &[u8]); 4] = [
+    (0, [NO_ROOM, NO_ROOM, NO_ROOM], b""),
+    (3, [TWO, Put::Took(1), NO_ROOM], b"aba"),
+    (5, [TWO, TWO, Put::Took(1)], b"ababa"),
+    (6, [TWO, TWO, TWO], b"ababab"),
+];
+
+// What three writes of two bytes take, and whether the sink is finished then.
+fn fill(alloc: Global, room: usize) -> Result<([Put; 3], Put, MemSink), AllocError> {
+    let mut sink = MemSink::with_room(alloc, room)?;
+    let mut took = [NO_ROOM; 3];
+    for put in &mut took {
+        *put = sink.write(b"ab");
+    }
+    Ok((took, sink.finish(), sink))
+}
+
 #[test]
 fn takes_what_fits_in_its_room(rt: HostRuntime) -> Result<(), Fail> {
-    let (two, one) = (Put::Took(2), Put::Took(1));
-    // the room, what three writes of two bytes take, and the bytes then
-    let cases: [(usize, [Put; 3], &[u8]); 4] = [
-        (0, [Put::Failed, Put::Failed, Put::Failed], b""),
-        (3, [two, one, Put::Failed], b"aba"),
-        (5, [two, two, one], b"ababa"),
-        (6, [two, two, two], b"ababab"),
-    ];
-    for (room, expected, bytes) in cases {
-        let mut sink = MemSink::with_room(rt.alloc(), room)?;
-        for put in expected {
-            assert_eq!(rt; sink.write(b"ab"), put, "with room for {room}");
-        }
-        assert_eq!(rt; sink.finish(), Put::Took(0), "with room for {room}");
-        assert_eq!(rt; sink.bytes(), bytes, "with room for {room}");
+    for (room, expected, bytes) in &FILLED {
+        let (took, end, sink) = fill(rt.alloc(), *room)?;
+        assert_eq!(rt; took, *expected, "with room for {room}");
+        assert_eq!(rt; end, Put::Took(0), "with room for {room}");
+        assert_eq!(rt; sink.bytes(), *bytes, "with room for {room}");
     }
     Ok(())
 }

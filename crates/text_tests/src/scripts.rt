@@ -24,6 +24,24 @@ fn edits_in(event: &Event) -> &[Edit] {
     }
 }
 
+const EDITS: [Edit; 3] = [
+    Edit::Leave { vcpu: VcpuNo(0) },
+    Edit::Set {
+        vcpu: VcpuNo(1),
+        reservation: Reservation {
+            share_ppm: 1,
+            latency_ns: 1_000_000_000_000,
+        },
+    },
+    Edit::Set {
+        vcpu: VcpuNo(0),
+        reservation: Reservation {
+            share_ppm: 1_000_000,
+            latency_ns: 0,
+        },
+    },
+];
+
 #[test]
 fn reads_events_of_known_vcpus(rt: HostRuntime) -> Result<(), Fail> {
     let host = two_vcpus(rt.alloc())?;
@@ -37,24 +55,7 @@ fn reads_events_of_known_vcpus(rt: HostRuntime) -> Result<(), Fail> {
     assert!(rt; matches!(first.act, Act::Wake(VcpuNo(1))));
     assert!(rt; matches!(second.act, Act::Block(VcpuNo(0))));
     assert_eq!(rt; (first.tick, second.tick, third.tick), (0, 0, 102_599));
-    let edits = [
-        Edit::Leave { vcpu: VcpuNo(0) },
-        Edit::Set {
-            vcpu: VcpuNo(1),
-            reservation: Reservation {
-                share_ppm: 1,
-                latency_ns: 1_000_000_000_000,
-            },
-        },
-        Edit::Set {
-            vcpu: VcpuNo(0),
-            reservation: Reservation {
-                share_ppm: 1_000_000,
-                latency_ns: 0,
-            },
-        },
-    ];
-    assert_eq!(rt; edits_in(third), edits.as_slice());
+    assert_eq!(rt; edits_in(third), EDITS.as_slice());
     Ok(())
 }
 
@@ -66,90 +67,130 @@ fn burst_in(event: &Event) -> Option<(VcpuNo, u32)> {
     }
 }
 
+// A line, and its tick, vCPU and work.
+const BURSTS: [(&[u8], u32, (VcpuNo, u32)); 3] = [
+    (b"0 burst a 1", 0, (VcpuNo(1), 1)),
+    (b" 7  burst b 60000 ", 7, (VcpuNo(0), 60_000)),
+    (
+        b"102599 burst a 1026000000",
+        102_599,
+        (VcpuNo(1), 1_026_000_000),
+    ),
+];
+
 #[test]
 fn reads_bursts_of_known_vcpus(rt: HostRuntime) -> Result<(), Fail> {
     let host = two_vcpus(rt.alloc())?;
-    // a line, and what it says
-    let cases: [(&[u8], u32, (VcpuNo, u32)); 3] = [
-        (b"0 burst a 1", 0, (VcpuNo(1), 1)),
-        (b" 7  burst b 60000 ", 7, (VcpuNo(0), 60_000)),
-        (
-            b"102599 burst a 1026000000",
-            102_599,
-            (VcpuNo(1), 1_026_000_000),
-        ),
-    ];
-    for (line, tick, burst) in cases {
+    for (line, tick, burst) in &BURSTS {
         assert!(rt; line.len() < 100);
         let script = read_script(rt.alloc(), line, &host, 1)?;
         let [event] = script.events() else {
             return Err(Fail::from("one event"));
         };
-        assert_eq!(rt; event.tick, tick, "of {line:?}");
-        assert_eq!(rt; burst_in(event), Some(burst), "of {line:?}");
+        assert_eq!(rt;
+            (event.tick, burst_in(event)),
+            (*tick, Some(*burst)),
+            "of {line:?}"
+        );
     }
     Ok(())
 }
 
+// A text, and its fault in a run of one round.
+const FAULTS: [(&[u8], ScriptFault); 45] = [
+    (b"102600 wake a", ScriptFault::LateEvent { line: 1 }),
+    (b"5 wake x", ScriptFault::UnknownName { line: 1 }),
+    (b"5 wake a\n4 block a", ScriptFault::OutOfOrder { line: 2 }),
+    (b"5 wake", ScriptFault::BadLine { line: 1 }),
+    (b"5", ScriptFault::BadLine { line: 1 }),
+    (b"wake a", ScriptFault::BadLine { line: 1 }),
+    (b"5 wake a b", ScriptFault::BadLine { line: 1 }),
+    (b"5 Wake a", ScriptFault::BadLine { line: 1 }),
+    (b"05 wake a", ScriptFault::BadLine { line: 1 }),
+    (b"4294967296 wake a", ScriptFault::BadLine { line: 1 }),
+    (b"4294967295 wake a", ScriptFault::LateEvent { line: 1 }),
+    (b"5 wake a\r", ScriptFault::BadLine { line: 1 }),
+    (b"5\twake a", ScriptFault::BadLine { line: 1 }),
+    (b" # x", ScriptFault::BadLine { line: 1 }),
+    (b"5 wake -", ScriptFault::BadLine { line: 1 }),
+    (b"5 wake a\x00", ScriptFault::BadLine { line: 1 }),
+    (
+        b"5 wake abcdefghijklmnopqrstuvwxyz0123456",
+        ScriptFault::BadLine { line: 1 },
+    ),
+    (
+        b"5 wake abcdefghijklmnopqrstuvwxyz012345",
+        ScriptFault::UnknownName { line: 1 },
+    ),
+    (b"5 change", ScriptFault::BadLine { line: 1 }),
+    (b"5 change leave", ScriptFault::BadLine { line: 1 }),
+    (b"5 change leave a b", ScriptFault::BadLine { line: 1 }),
+    (b"5 change set a 1", ScriptFault::BadLine { line: 1 }),
+    (b"5 change set a 0 1", ScriptFault::BadLine { line: 1 }),
+    (
+        b"5 change set a 1000001 1",
+        ScriptFault::BadLine { line: 1 },
+    ),
+    (
+        b"5 change set a 1 1000000000001",
+        ScriptFault::BadLine { line: 1 },
+    ),
+    (b"5 change set a 1 01", ScriptFault::BadLine { line: 1 }),
+    (
+        b"5 change set x 1 1 leave",
+        ScriptFault::BadLine { line: 1 },
+    ),
+    (
+        b"5 change set x 1 1 leave a",
+        ScriptFault::UnknownName { line: 1 },
+    ),
+    (
+        b"5 change leave a set x 1 1",
+        ScriptFault::UnknownName { line: 1 },
+    ),
+    (b"5 burst a", ScriptFault::BadLine { line: 1 }),
+    (b"5 burst a 0", ScriptFault::BadLine { line: 1 }),
+    (b"5 burst a 1026000001", ScriptFault::BadLine { line: 1 }),
+    (b"5 burst a 01", ScriptFault::BadLine { line: 1 }),
+    (b"5 burst a -1", ScriptFault::BadLine { line: 1 }),
+    (b"5 burst 1", ScriptFault::BadLine { line: 1 }),
+    (b"5 burst a 1 1", ScriptFault::BadLine { line: 1 }),
+    (b"5 burst x 0", ScriptFault::BadLine { line: 1 }),
+    (
+        b"5 burst x 1026000000",
+        ScriptFault::UnknownName { line: 1 },
+    ),
+    (
+        b"5 burst a 1\n4 burst a 1",
+        ScriptFault::OutOfOrder { line: 2 },
+    ),
+    (b"102600 burst a 1", ScriptFault::LateEvent { line: 1 }),
+    (
+        b"\n#\n7 wake a\n6 wake x\n6",
+        ScriptFault::UnknownName { line: 4 },
+    ),
+    (b"102600 wake a\n5", ScriptFault::LateEvent { line: 1 }),
+    (
+        b"7 wake a\n200000 wake a\n",
+        ScriptFault::LateEvent { line: 2 },
+    ),
+    (
+        b"7 wake a\n6 wake a\n200000 wake a",
+        ScriptFault::OutOfOrder { line: 2 },
+    ),
+    (
+        b"7 wake a\n7 wake b\nwake\n",
+        ScriptFault::BadLine { line: 3 },
+    ),
+];
+
 #[test]
 fn names_the_first_fault_of_the_first_line_with_one(rt: HostRuntime) -> Result<(), Fail> {
     let host = two_vcpus(rt.alloc())?;
-    let bad = |line| ScriptFault::BadLine { line };
-    let unknown = |line| ScriptFault::UnknownName { line };
-    let order = |line| ScriptFault::OutOfOrder { line };
-    let late = |line| ScriptFault::LateEvent { line };
-    // a text, and its fault in a run of one round
-    let cases: [(&[u8], ScriptFault); 45] = [
-        (b"102600 wake a", late(1)),
-        (b"5 wake x", unknown(1)),
-        (b"5 wake a\n4 block a", order(2)),
-        (b"5 wake", bad(1)),
-        (b"5", bad(1)),
-        (b"wake a", bad(1)),
-        (b"5 wake a b", bad(1)),
-        (b"5 Wake a", bad(1)),
-        (b"05 wake a", bad(1)),
-        (b"4294967296 wake a", bad(1)),
-        (b"4294967295 wake a", late(1)),
-        (b"5 wake a\r", bad(1)),
-        (b"5\twake a", bad(1)),
-        (b" # x", bad(1)),
-        (b"5 wake -", bad(1)),
-        (b"5 wake a\x00", bad(1)),
-        (b"5 wake abcdefghijklmnopqrstuvwxyz0123456", bad(1)),
-        (b"5 wake abcdefghijklmnopqrstuvwxyz012345", unknown(1)),
-        (b"5 change", bad(1)),
-        (b"5 change leave", bad(1)),
-        (b"5 change leave a b", bad(1)),
-        (b"5 change set a 1", bad(1)),
-        (b"5 change set a 0 1", bad(1)),
-        (b"5 change set a 1000001 1", bad(1)),
-        (b"5 change set a 1 1000000000001", bad(1)),
-        (b"5 change set a 1 01", bad(1)),
-        (b"5 change set x 1 1 leave", bad(1)),
-        (b"5 change set x 1 1 leave a", unknown(1)),
-        (b"5 change leave a set x 1 1", unknown(1)),
-        (b"5 burst a", bad(1)),
-        (b"5 burst a 0", bad(1)),
-        (b"5 burst a 1026000001", bad(1)),
-        (b"5 burst a 01", bad(1)),
-        (b"5 burst a -1", bad(1)),
-        (b"5 burst 1", bad(1)),
-        (b"5 burst a 1 1", bad(1)),
-        (b"5 burst x 0", bad(1)),
-        (b"5 burst x 1026000000", unknown(1)),
-        (b"5 burst a 1\n4 burst a 1", order(2)),
-        (b"102600 burst a 1", late(1)),
-        (b"\n#\n7 wake a\n6 wake x\n6", unknown(4)),
-        (b"102600 wake a\n5", late(1)),
-        (b"7 wake a\n200000 wake a\n", late(2)),
-        (b"7 wake a\n6 wake a\n200000 wake a", order(2)),
-        (b"7 wake a\n7 wake b\nwake\n", bad(3)),
-    ];
-    for (text, expected) in cases {
+    for (text, expected) in &FAULTS {
         assert!(rt; text.len() < 100);
         let fault = read_script(rt.alloc(), text, &host, 1).err();
-        assert_eq!(rt; fault, Some(expected), "of {text:?}");
+        assert_eq!(rt; fault, Some(*expected), "of {text:?}");
     }
     Ok(())
 }
@@ -163,126 +204,152 @@ fn lines_of(alloc: Global, line: &[u8], count: u32) -> Result<Vec<u8>, AllocErro
     Ok(text)
 }
 
+// The fault of a script of so many lines, if it has one.
+fn fault_of_lines(
+    alloc: Global,
+    host: &Host,
+    line: &[u8],
+    count: u32,
+) -> Result<Option<ScriptFault>, Fail> {
+    let text = lines_of(alloc, line, count)?;
+    if text.len() >= 4_194_304 {
+        return Err(Fail::from("a long script"));
+    }
+    Ok(read_script(alloc, &text, host, 1).err())
+}
+
+// A line, how many of it are taken, and the fault of one more.
+const LIMITS: [(&[u8], u32, ScriptFault); 2] = [
+    (
+        b"0 wake a\n",
+        65_535,
+        ScriptFault::TooManyEvents { line: 65_536 },
+    ),
+    (
+        b"0 change leave b\n",
+        15,
+        ScriptFault::TooManyChanges { line: 16 },
+    ),
+];
+
 #[test]
 fn refuses_the_first_event_or_change_too_many(rt: HostRuntime) -> Result<(), Fail> {
     let host = two_vcpus(rt.alloc())?;
-    // a line, how many of it are taken, and the fault of one more
-    let cases: [(&[u8], u32, ScriptFault); 2] = [
-        (
-            b"0 wake a\n",
-            65_535,
-            ScriptFault::TooManyEvents { line: 65_536 },
-        ),
-        (
-            b"0 change leave b\n",
-            15,
-            ScriptFault::TooManyChanges { line: 16 },
-        ),
-    ];
-    for (line, count, expected) in cases {
-        for (more, fault) in [(0, None), (1, Some(expected))] {
-            let text = lines_of(rt.alloc(), line, count + more)?;
-            assert!(rt; text.len() < 4_194_304);
-            let result = read_script(rt.alloc(), &text, &host, 1);
-            assert_eq!(rt; result.err(), fault, "of {count} lines and {more} more");
-        }
+    for (line, count, expected) in &LIMITS {
+        let few = fault_of_lines(rt.alloc(), &host, line, *count)?;
+        assert_eq!(rt; few, None, "of {count} lines");
+        let many = fault_of_lines(rt.alloc(), &host, line, count.saturating_add(1))?;
+        assert_eq!(rt; many, Some(*expected), "of {count} lines and one more");
     }
     Ok(())
 }
 
+// A fault, and its cause as a refusal words it.
+const WORDINGS: [(ScriptFault, &str); 7] = [
+    (ScriptFault::BadLine { line: 1 }, "script line 1"),
+    (
+        ScriptFault::UnknownName { line: 2 },
+        "unknown name in script line 2",
+    ),
+    (
+        ScriptFault::OutOfOrder { line: 3 },
+        "script line 3 goes back",
+    ),
+    (
+        ScriptFault::LateEvent { line: 4 },
+        "script line 4 is past the run",
+    ),
+    (
+        ScriptFault::TooManyEvents { line: 5 },
+        "more than 65535 events at script line 5",
+    ),
+    (
+        ScriptFault::TooManyChanges { line: 6 },
+        "more than 15 changes at script line 6",
+    ),
+    (ScriptFault::NoMemory, "want of memory"),
+];
+
 #[test]
 fn words_each_fault(rt: HostRuntime) -> Result<(), Fail> {
-    // a fault, and its cause as a refusal words it
-    let cases = [
-        (ScriptFault::BadLine { line: 1 }, "script line 1"),
-        (
-            ScriptFault::UnknownName { line: 2 },
-            "unknown name in script line 2",
-        ),
-        (
-            ScriptFault::OutOfOrder { line: 3 },
-            "script line 3 goes back",
-        ),
-        (
-            ScriptFault::LateEvent { line: 4 },
-            "script line 4 is past the run",
-        ),
-        (
-            ScriptFault::TooManyEvents { line: 5 },
-            "more than 65535 events at script line 5",
-        ),
-        (
-            ScriptFault::TooManyChanges { line: 6 },
-            "more than 15 changes at script line 6",
-        ),
-        (ScriptFault::NoMemory, "want of memory"),
-    ];
-    for (fault, expected) in cases {
+    for (fault, expected) in &WORDINGS {
         let text = format!(in rt.alloc(); "{fault}")?;
-        assert_eq!(rt; text.as_str(), expected);
+        assert_eq!(rt; text.as_str(), *expected);
     }
     Ok(())
 }
+
+const STEPS: [Step; 4] = [
+    Step::See(CoreNo(0)),
+    Step::Decide(CoreNo(31)),
+    Step::Run(CoreNo(7)),
+    Step::Post,
+];
 
 #[test]
 fn reads_steps_with_the_numbers_of_their_lines(rt: HostRuntime) -> Result<(), Fail> {
     let text = b"see 0\n\n# see 9\ndecide   31\n   \n  run 7 \n#\npost";
     let list = read_steps(rt.alloc(), text, 32)?;
-    let steps = [
-        Step::See(CoreNo(0)),
-        Step::Decide(CoreNo(31)),
-        Step::Run(CoreNo(7)),
-        Step::Post,
-    ];
-    assert_eq!(rt; list.steps.items(), steps.as_slice());
+    assert_eq!(rt; list.steps.items(), STEPS.as_slice());
     assert_eq!(rt; list.lines.items(), [1, 4, 6, 8].as_slice());
     Ok(())
 }
 
+// A text for two cores, and the number of its first bad line.
+const BAD_STEPS: [(&[u8], u32); 18] = [
+    (b"pos\npost\npost", 1),
+    (b"post\n\n#\nposts\nx", 4),
+    (b"see 0\nrun 1\nrun", 3),
+    (b"post 0", 1),
+    (b"post post", 1),
+    (b"see 2", 1),
+    (b"see 4294967296", 1),
+    (b"see 00", 1),
+    (b"see 01", 1),
+    (b"see -1", 1),
+    (b"decide 0 1", 1),
+    (b"run 0 #", 1),
+    (b"post\r\npost", 1),
+    (b"see\t0", 1),
+    (b"\t", 1),
+    (b"post\n # x", 2),
+    (b"post\n\x00", 2),
+    (b"POST", 1),
+];
+
 #[test]
 fn names_the_first_line_that_is_no_step(rt: HostRuntime) {
-    // a text for two cores, and the number of its first bad line
-    let cases: [(&[u8], u32); 18] = [
-        (b"pos\npost\npost", 1),
-        (b"post\n\n#\nposts\nx", 4),
-        (b"see 0\nrun 1\nrun", 3),
-        (b"post 0", 1),
-        (b"post post", 1),
-        (b"see 2", 1),
-        (b"see 4294967296", 1),
-        (b"see 00", 1),
-        (b"see 01", 1),
-        (b"see -1", 1),
-        (b"decide 0 1", 1),
-        (b"run 0 #", 1),
-        (b"post\r\npost", 1),
-        (b"see\t0", 1),
-        (b"\t", 1),
-        (b"post\n # x", 2),
-        (b"post\n\x00", 2),
-        (b"POST", 1),
-    ];
-    for (text, line) in cases {
+    for (text, line) in &BAD_STEPS {
         let fault = read_steps(rt.alloc(), text, 2).err();
-        assert_eq!(rt; fault, Some(StepsFault::BadLine { line }), "of {text:?}");
+        assert_eq!(rt;
+            fault,
+            Some(StepsFault::BadLine { line: *line }),
+            "of {text:?}"
+        );
     }
+}
+
+const WORDED: [ScriptFault; 6] = [
+    ScriptFault::BadLine { line: 1 },
+    ScriptFault::UnknownName { line: 2 },
+    ScriptFault::OutOfOrder { line: 30 },
+    ScriptFault::LateEvent { line: 4 },
+    ScriptFault::TooManyEvents { line: 65_536 },
+    ScriptFault::TooManyChanges { line: 17 },
+];
+
+// Whether the line that is written of the fault has the words that it is displayed by.
+fn is_worded(alloc: Global, fault: &ScriptFault) -> Result<bool, AllocError> {
+    let mut sink = MemSink::with_room(alloc, 100)?;
+    let answer = put_script_fault(&mut sink, fault);
+    let line = format!(in alloc; "refused: {fault}\n")?;
+    Ok(answer.is_ok() && sink.bytes() == line.as_bytes())
 }
 
 #[test]
 fn lines_have_the_words_of_display(rt: HostRuntime) -> Result<(), Fail> {
-    let faults = [
-        ScriptFault::BadLine { line: 1 },
-        ScriptFault::UnknownName { line: 2 },
-        ScriptFault::OutOfOrder { line: 30 },
-        ScriptFault::LateEvent { line: 4 },
-        ScriptFault::TooManyEvents { line: 65_536 },
-        ScriptFault::TooManyChanges { line: 17 },
-    ];
-    for fault in faults {
-        let mut sink = MemSink::with_room(rt.alloc(), 100)?;
-        assert_eq!(rt; put_script_fault(&mut sink, &fault), Ok(()));
-        let line = format!(in rt.alloc(); "refused: {fault}\n")?;
-        assert_eq!(rt; sink.bytes(), line.as_bytes());
+    for fault in &WORDED {
+        assert!(rt; is_worded(rt.alloc(), fault)?, "of {fault}");
     }
     Ok(())
 }
