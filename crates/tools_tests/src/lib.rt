@@ -1,5 +1,5 @@
-//! The tests of the crates of the companion program, which stand apart since a crate with tests is
-//! proved twice, with them and without.
+//! The tests of the crates of the companion program that no case can show: values inside, small rooms, and
+//! each public function once.
 #![tactic(auto)]
 
 #[cfg(test)]
