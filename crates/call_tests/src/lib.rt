@@ -1,5 +1,5 @@
-//! The tests of the top call, which stand apart since a crate with tests is proved twice, with them
-//! and without.
+//! The tests of the top call that no case can show: failing reads, small rooms, held actors and runs
+//! that the machine's own steps lead to their end.
 #![tactic(auto)]
 
 #[cfg(test)]

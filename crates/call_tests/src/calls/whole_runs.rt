@@ -2,7 +2,8 @@
 ghost use Rattle.std.specs.Prelude.{◌≡◌, ◌<◌, ◌≤◌, length};
 ghost use Rattle.table_form.specs.Running.Courses.{FitsRounds};
 
-use super::call_with;
+use super::{SPLIT, call_with};
+use core_workers::FreeGate;
 use host_doc::read_host;
 use plan_book::make_book;
 use script_doc::{Step, read_script};
@@ -97,27 +98,19 @@ fn ends_whole<R: Threads + Wait + Sync>(
     };
     let (input, lines) = input_of(alloc, host, script, &steps)?;
     let words = format!(in alloc; "replay {rounds}")?;
-    let called = call_with(rt, alloc, words.as_str(), input.as_bytes(), ROOM)?;
+    let called = call_with(
+        rt,
+        alloc,
+        words.as_str(),
+        input.as_str(),
+        &[],
+        ROOM,
+        &FreeGate,
+    )?;
     let text = called.sink.bytes();
     let found = text.iter().filter(|byte| **byte == b'\n').count();
     Ok(called.exit == 0 && found == lines.saturating_add(1) && text.ends_with(last.as_bytes()))
 }
-
-// Three vCPUs on two cores, of which c is split, with stints of at most 1,000 ticks.
-const SPLIT: &str = "cores = 2
-[[vcpu]]
-name = \"a\"
-share_ppm = 600000
-latency_ns = 100000000
-[[vcpu]]
-name = \"b\"
-share_ppm = 600000
-latency_ns = 100000000
-[[vcpu]]
-name = \"c\"
-share_ppm = 600000
-latency_ns = 100000000
-";
 
 // Blocks, changes of which one is refused, and wakes up to the run's end.
 const BUSY: &str = "0 block b
