@@ -1,44 +1,59 @@
-ghost use Rattle.std.specs.Prelude.{◌<◌, ◌≤◌, IfOk};
+ghost use Rattle.std.specs.Prelude.{◌<◌, ◌≤◌, IfOk, length};
+ghost use Rattle.tab_core.specs.declared.TheConstants.{MAX_CORES, MAX_VCPUS};
 
 use crate::fault::Fault;
 use crate::input::view_of;
+use crate::output::{finish, output_of};
 use clap::ArgMatches;
-use std::io;
-use std::io::BufWriter;
 use tab_core::{MAX_CORES, MAX_TICK_NS, MAX_VCPUS, TICK_NS};
-use tab_io::{Put, Sink, StdSink};
-use view_chart::{ChartOptions, write_chart, write_text_chart};
+use view_chart::{ChartOptions, TextOptions, write_chart, write_text_chart};
+use view_doc::View;
 use view_table::figures_of;
 
 /// Does `chart`: it reads a text and draws it.
 pub(crate) fn chart(rt: &HostRuntime, matches: &ArgMatches<'_>) -> Result<(), Fault> {
+    if matches.get_flag("text") {
+        put_text(rt, matches)
+    } else {
+        put_picture(rt, matches)
+    }
+}
+
+// Draws it as a text.
+fn put_text(rt: &HostRuntime, matches: &ArgMatches<'_>) -> Result<(), Fault> {
+    let options = text_options_of(matches)?;
+    let view = drawn_view_of(rt, matches)?;
+    let mut sink = output_of(rt)?;
+    write_text_chart(rt.alloc(), &mut sink, &view, &options)?;
+    finish(&mut sink)
+}
+
+// Draws it as a picture.
+fn put_picture(rt: &HostRuntime, matches: &ArgMatches<'_>) -> Result<(), Fault> {
     let options = options_of(matches)?;
+    let view = drawn_view_of(rt, matches)?;
+    let figures = figures_of(rt.alloc(), &view)?;
+    let mut sink = output_of(rt)?;
+    write_chart(rt.alloc(), &mut sink, &view, &figures, &options)?;
+    finish(&mut sink)
+}
+
+// What the text shows, if it isn't too much to be drawn.
+fn drawn_view_of(rt: &HostRuntime, matches: &ArgMatches<'_>) -> Result<View, Fault>
+    ensures cores { IfOk result (λ view. view.cores ≤ MAX_CORES) }
+    ensures vcpus { IfOk result (λ view. length view.names.items ≤ MAX_VCPUS) }
+    ensures tasks { IfOk result (λ view. length view.tasks.items ≤ MAX_VCPUS) }
+{
     let view = view_of(rt, matches)?;
-    let Ok(writer) = BufWriter::new(rt.alloc(), io::writer(rt)) else {
-        return Err(Fault::NoMemory);
-    };
-    let mut sink = StdSink::of(writer);
     let most = MAX_VCPUS as usize;
     if view.cores > MAX_CORES || view.names.len() > most || view.tasks.len() > most {
         return Err(Fault::TooMany);
     }
-    if matches.get_flag("text") && !options.by_vcpu {
-        write_text_chart(rt.alloc(), &mut sink, &view, &options)?;
-    } else {
-        let figures = figures_of(rt.alloc(), &view)?;
-        write_chart(rt.alloc(), &mut sink, &view, &figures, &options)?;
-    }
-    match sink.finish() {
-        Put::Took(_) => Ok(()),
-        Put::Failed => Err(Fault::WriteFault),
-    }
+    Ok(view)
 }
 
-// What the words ask for.
-fn options_of(matches: &ArgMatches<'_>) -> Result<ChartOptions, Fault>
-    ensures some { IfOk result (λ options. 0 < options.width) }
-    ensures few { IfOk result (λ options. options.width ≤ 8000) }
-{
+// What the words ask for of a picture.
+fn options_of(matches: &ArgMatches<'_>) -> Result<ChartOptions, Fault> {
     let by_vcpu = matches.get_str("by") == Some("vcpu");
     let (first, last) = lanes_of(matches, by_vcpu)?;
     Ok(ChartOptions {
@@ -47,24 +62,43 @@ fn options_of(matches: &ArgMatches<'_>) -> Result<ChartOptions, Fault>
         last,
         from: matches.get_one::<u32>("from").unwrap_or(0),
         to: matches.get_one::<u32>("to"),
-        width: width_of(matches)?,
-        tick_ns: matches
-            .get_one::<u32>("tick")
-            .unwrap_or(TICK_NS)
-            .min(MAX_TICK_NS) as u16,
+        width: width_of(matches, 1160, 200)?,
+        tick_ns: tick_of(matches),
     })
 }
 
-// The width in pixels, or of a text in columns.
-fn width_of(matches: &ArgMatches<'_>) -> Result<u32, Fault>
+// What they ask for of a text.
+fn text_options_of(matches: &ArgMatches<'_>) -> Result<TextOptions, Fault>
+    ensures some { IfOk result (λ options. 0 < options.columns) }
+    ensures few { IfOk result (λ options. options.columns ≤ 8000) }
+{
+    if matches.get_str("by") == Some("vcpu") {
+        return Err(Fault::TextByVcpu);
+    }
+    let (first, last) = lanes_of(matches, false)?;
+    Ok(TextOptions {
+        first,
+        last,
+        from: matches.get_one::<u32>("from").unwrap_or(0),
+        to: matches.get_one::<u32>("to"),
+        columns: width_of(matches, 76, 1)?,
+        tick_ns: tick_of(matches),
+    })
+}
+
+// Nanoseconds of a tick.
+fn tick_of(matches: &ArgMatches<'_>) -> u16 {
+    matches
+        .get_one::<u32>("tick")
+        .unwrap_or(TICK_NS)
+        .min(MAX_TICK_NS) as u16
+}
+
+// The width, which is this where the words say none, and so much at least.
+fn width_of(matches: &ArgMatches<'_>, usual: u32, least: u32) -> Result<u32, Fault>
     ensures some { IfOk result (λ width. 0 < width) }
     ensures few { IfOk result (λ width. width ≤ 8000) }
 {
-    let (usual, least) = if matches.get_flag("text") {
-        (76, 1)
-    } else {
-        (1160, 200)
-    };
     let width = matches.get_one::<u32>("width").unwrap_or(usual);
     if width < least {
         return Err(Fault::TooNarrow);

@@ -41,7 +41,7 @@ fn chart_command<'a>(alloc: Global) -> Result<Command<'a>, AllocError> {
     Command::new(alloc, "chart")
         .about("Draws a plan, replay or trace as a picture, in SVG or as a text")
         .arg(file_arg(alloc))?
-        .arg(text_arg(alloc)?)?
+        .arg(text_arg(alloc))?
         .arg(by)?
         .arg(cores)?
         .arg(vcpus)?
@@ -71,12 +71,11 @@ fn number_arg<'a>(alloc: Global, name: &'a str, value: &'a str, help: &'a str) -
 }
 
 // Whether a text is written.
-fn text_arg<'a>(alloc: Global) -> Result<Arg<'a>, AllocError> {
+fn text_arg<'a>(alloc: Global) -> Arg<'a> {
     Arg::new(alloc, "text")
         .long("text")
         .action(ArgAction::SetTrue)
-        .help("A text for terminals, of lanes of cores, in place of a picture")
-        .conflicts_with("by")
+        .help("A text for terminals, by core, in place of a picture")
 }
 
 // How wide a picture or a text is.

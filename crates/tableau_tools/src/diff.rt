@@ -3,12 +3,11 @@ ghost use Rattle.tab_core.specs.declared.TheConstants.{MAX_VCPUS};
 
 use crate::fault::Fault;
 use crate::input::input_of;
+use crate::output::{finish, output_of};
 use crate::plan::plan_of;
 use clap::ArgMatches;
-use std::io;
-use std::io::BufWriter;
 use tab_core::TICK_NS;
-use tab_io::{MemSink, Put, Sink, StdSink, write_all};
+use tab_io::{MemSink, write_all};
 use view_doc::View;
 use view_table::{figures_of, write_diff};
 
@@ -42,13 +41,7 @@ fn put_differences(rt: &HostRuntime, old: &View, new: &View, tick_ns: u32) -> Re
 
 // Writes a text to standard output.
 fn put_text(rt: &HostRuntime, text: &[u8]) -> Result<(), Fault> {
-    let Ok(writer) = BufWriter::new(rt.alloc(), io::writer(rt)) else {
-        return Err(Fault::NoMemory);
-    };
-    let mut sink = StdSink::of(writer);
+    let mut sink = output_of(rt)?;
     write_all(&mut sink, text)?;
-    match sink.finish() {
-        Put::Took(_) => Ok(()),
-        Put::Failed => Err(Fault::WriteFault),
-    }
+    finish(&mut sink)
 }

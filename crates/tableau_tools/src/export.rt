@@ -1,26 +1,19 @@
 use crate::fault::Fault;
 use crate::input::view_of;
+use crate::output::{finish, output_of};
 use clap::ArgMatches;
-use std::io;
-use std::io::BufWriter;
 use tab_core::{MAX_TICK_NS, TICK_NS};
-use tab_io::{Put, Sink, StdSink, WriteFault};
+use tab_io::{Sink, WriteFault};
 use view_doc::View;
 use view_export::{write_chrome, write_csv, write_json};
 
 /// Does `export`: it reads a text and writes it in the format that the words name.
 pub(crate) fn export(rt: &HostRuntime, matches: &ArgMatches<'_>) -> Result<(), Fault> {
     let view = view_of(rt, matches)?;
-    let Ok(writer) = BufWriter::new(rt.alloc(), io::writer(rt)) else {
-        return Err(Fault::NoMemory);
-    };
-    let mut sink = StdSink::of(writer);
+    let mut sink = output_of(rt)?;
     let tick_ns = matches.get_one::<u32>("tick").unwrap_or(TICK_NS);
     put_view(&mut sink, matches.get_str("FORMAT"), &view, tick_ns)?;
-    match sink.finish() {
-        Put::Took(_) => Ok(()),
-        Put::Failed => Err(Fault::WriteFault),
-    }
+    finish(&mut sink)
 }
 
 // Writes the view in a format.

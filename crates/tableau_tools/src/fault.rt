@@ -35,6 +35,8 @@ pub(crate) enum Fault {
     BadLanes,
     #[error("--cores chooses lanes of cores, and --vcpus those of --by vcpu")]
     OtherLanes,
+    #[error("a text has lines of cores: --text doesn't go with --by vcpu")]
+    TextByVcpu,
     #[error("a picture is 200 to 8000 pixels wide")]
     TooNarrow,
     #[error("no tick or no lane is to be drawn")]

@@ -3,14 +3,12 @@ ghost use Rattle.tab_core.specs.declared.TheConstants.{MAX_CORES};
 
 use crate::fault::Fault;
 use crate::input::input_of;
+use crate::output::{finish, output_of};
 use clap::ArgMatches;
 use host_gen::write_host;
 use sizes_doc::{host_of_sizes, read_sizes};
 use std::alloc::Global;
-use std::io;
-use std::io::BufWriter;
 use tab_core::{Host, MAX_CORES};
-use tab_io::{Put, Sink, StdSink};
 
 // The most bytes of sizes that are taken from words.
 const ROOM: usize = 1_048_576;
@@ -68,13 +66,7 @@ fn host_from(alloc: Global, text: &[u8], cores: u32) -> Result<Host, Fault>
 fn put_host(rt: &HostRuntime, host: &Host) -> Result<(), Fault>
     requires { All (λ vcpu. IsSome vcpu.reservation) host.now.vcpus }
 {
-    let Ok(writer) = BufWriter::new(rt.alloc(), io::writer(rt)) else {
-        return Err(Fault::NoMemory);
-    };
-    let mut sink = StdSink::of(writer);
+    let mut sink = output_of(rt)?;
     write_host(&mut sink, host)?;
-    match sink.finish() {
-        Put::Took(_) => Ok(()),
-        Put::Failed => Err(Fault::WriteFault),
-    }
+    finish(&mut sink)
 }

@@ -11,6 +11,7 @@ mod export;
 mod fault;
 mod host;
 mod input;
+mod output;
 mod plan;
 mod sections;
 mod table;

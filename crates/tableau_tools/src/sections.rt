@@ -2,11 +2,10 @@ ghost use Rattle.std.specs.Prelude.{◌<◌, ◌^◌, length};
 
 use crate::fault::Fault;
 use crate::input::input_of;
+use crate::output::{finish, output_of};
 use clap::ArgMatches;
 use section_join::{first_cut, lacks_feed, returns_in, write_mended, write_separator};
-use std::io;
-use std::io::BufWriter;
-use tab_io::{Put, Sink, StdSink, WriteFault};
+use tab_io::{Sink, WriteFault};
 
 /// Does `sections`: it writes files as the sections of one text, and tells what it mended.
 pub(crate) fn sections(rt: &HostRuntime, matches: &ArgMatches<'_>) -> Result<(), Fault> {
@@ -24,15 +23,9 @@ pub(crate) fn sections(rt: &HostRuntime, matches: &ArgMatches<'_>) -> Result<(),
         tell_mended(rt, path, &text);
         texts.push(text)?;
     }
-    let Ok(writer) = BufWriter::new(rt.alloc(), io::writer(rt)) else {
-        return Err(Fault::NoMemory);
-    };
-    let mut sink = StdSink::of(writer);
+    let mut sink = output_of(rt)?;
     put_texts(&mut sink, texts.as_slice())?;
-    match sink.finish() {
-        Put::Took(_) => Ok(()),
-        Put::Failed => Err(Fault::WriteFault),
-    }
+    finish(&mut sink)
 }
 
 // Tells on standard error what is mended in a file.

@@ -3,12 +3,10 @@ ghost use Rattle.tab_core.specs.declared.TheConstants.{MAX_CORES, MAX_VCPUS};
 
 use crate::fault::Fault;
 use crate::input::input_of;
+use crate::output::{finish, output_of};
 use crate::plan::{host_of, plan_of};
 use clap::ArgMatches;
-use std::io;
-use std::io::BufWriter;
 use tab_core::{TICK_NS, Vcpu};
-use tab_io::{Put, Sink, StdSink};
 use tab_words::cut_sections;
 use view_doc::View;
 use view_table::{figures_of, write_table, write_vm_table};
@@ -45,16 +43,10 @@ fn put_tables(
     requires vcpus { length view.now.tasks.items ≤ MAX_VCPUS }
 {
     let figures = figures_of(rt.alloc(), view)?;
-    let Ok(writer) = BufWriter::new(rt.alloc(), io::writer(rt)) else {
-        return Err(Fault::NoMemory);
-    };
-    let mut sink = StdSink::of(writer);
+    let mut sink = output_of(rt)?;
     match by {
         Some("vm") => write_vm_table(&mut sink, host, view, &figures, tick_ns)?,
         _ => write_table(&mut sink, host, view, &figures, tick_ns)?,
     }
-    match sink.finish() {
-        Put::Took(_) => Ok(()),
-        Put::Failed => Err(Fault::WriteFault),
-    }
+    finish(&mut sink)
 }

@@ -1,6 +1,6 @@
 -- A view as a text for terminals: a line for each core, in it a letter for each column of ticks, and below them the
 -- vCPUs' letters.
-use Rattle.std.specs.Prelude.{ℕ, zero, suc, ◌+◌, ◌-◌, ◌/◌, ◌%◌, ◌==◌, ◌&&◌, ◌||◌, ◌++◌, nat_le, nat_lt, Bool, List, [], ◌∷◌, codes, decimal, if◌then◌else◌, length, min, slice_index_or}
+use Rattle.std.specs.Prelude.{ℕ, zero, suc, ◌+◌, ◌-◌, ◌/◌, ◌%◌, ◌==◌, ◌&&◌, ◌||◌, ◌++◌, nat_le, nat_lt, Bool, false, List, [], ◌∷◌, codes, decimal, if◌then◌else◌, length, min, slice_index_or}
 use Rattle.std.specs.List.{sum_by}
 use Rattle.tab_words.specs.Texts.{texts_below}
 use Rattle.vcpu_names.specs.Names.{name_at}
@@ -12,6 +12,7 @@ use Rattle.view_chart.specs.Shown.{cores_in, frame_of, held_in}
 use Rattle.view_chart.specs.declared.frame.Bar.{Bar}
 use Rattle.view_chart.specs.declared.frame.ChartOptions.{ChartOptions}
 use Rattle.view_chart.specs.declared.frame.Frame.{Frame}
+use Rattle.view_chart.specs.declared.frame.TextOptions.{TextOptions}
 use Rattle.view_chart.specs.declared.head.Head.{Head}
 use Rattle.view_doc.specs.declared.view.View.{View}
 
@@ -93,7 +94,19 @@ text_of f columns first cores names lanes = head_lines (head_of f cores (length 
     ++ (texts_below (line_at f columns (length names) first lanes) (length lanes)
     ++ texts_below (key_at names) (length names))
 
+-- a text has the lanes and ticks of a picture by core
+abbrev pub by_core : TextOptions → ChartOptions
+by_core options = record {
+  by_vcpu = false;
+  first = options.first;
+  last = options.last;
+  from = options.from;
+  to = options.to;
+  width = options.columns;
+  tick_ns = options.tick_ns;
+}
+
 -- the text of a view
-abbrev pub text_chart : ChartOptions → View → List ℕ
-text_chart options view = text_of (frame_of view options) options.width options.first (cores_in view)
-    view.names.items (chart_lanes view options)
+abbrev pub text_chart : TextOptions → View → List ℕ
+text_chart options view = text_of (frame_of view (by_core options)) options.columns options.first (cores_in view)
+    view.names.items (chart_lanes view (by_core options))

@@ -28,6 +28,6 @@ mod tones;
 mod waits;
 
 pub use chart::{ChartFault, write_chart};
-pub use frame::ChartOptions;
+pub use frame::{ChartOptions, TextOptions};
 pub use laws::{a_column_stays_in_its_lane, colours_of_a_lane_differ, no_slot_vanishes};
 pub use text_chart::write_text_chart;

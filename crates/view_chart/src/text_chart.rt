@@ -1,15 +1,15 @@
-ghost use Rattle.std.specs.Prelude.{◌≡◌, ◌<◌, ◌≤◌, ◌+◌, ◌-◌, ◌++◌, ◌^◌, IfOk, IsErrOf, Ok, Err, [], ◌∷◌, false, length, true};
+ghost use Rattle.std.specs.Prelude.{◌≡◌, ◌<◌, ◌≤◌, ◌+◌, ◌-◌, ◌++◌, ◌^◌, IfOk, IsErrOf, Ok, Err, [], ◌∷◌, length, true};
 ghost use Rattle.tab_core.specs.declared.TheConstants.{MAX_CORES, MAX_VCPUS};
 ghost use Rattle.tab_io.specs.Sinks.{Writes};
 ghost use Rattle.tab_words.specs.Texts.{texts_below};
 ghost use Rattle.vcpu_names.specs.Names.{name_at as name_of};
 ghost use Rattle.view_chart.specs.Charts.{head_of};
 ghost use Rattle.view_chart.specs.Shown.{shows_nothing};
-ghost use Rattle.view_chart.specs.TextCharts.{cell_at, gap_before, gap_behind, head_lines, key_at, key_gap, key_name, letter_of, line_at, line_begin, line_end, line_of, text_chart, text_of};
+ghost use Rattle.view_chart.specs.TextCharts.{by_core, cell_at, gap_before, gap_behind, head_lines, key_at, key_gap, key_name, letter_of, line_at, line_begin, line_end, line_of, text_chart, text_of};
 ghost use Rattle.view_chart.specs.declared.chart.ChartFault.TheVariants as fault;
 
 use crate::chart::ChartFault;
-use crate::frame::{Bar, ChartOptions, Frame};
+use crate::frame::{Bar, ChartOptions, Frame, TextOptions};
 use crate::head::{Head, put_sub, put_title};
 use crate::lanes::{Lane, held_in, lanes_from};
 use crate::letters::{letter_at, letter_of};
@@ -25,7 +25,7 @@ use tab_words::{TextPiece, put_pieces};
 use view_doc::View;
 
 /// Draws a view of at most 32 cores and 256 vCPUs as a text: a line for each core, in it a letter for each
-/// column, and below the letters' vCPUs. The options' width is the count of columns.
+/// column, and below the letters' vCPUs.
 ///
 /// A column's letter is that of the vCPU that has the most of its ticks, and a dot where nobody had more.
 /// A fault of writing leaves a front of the text in the sink; nothing is written where there is no memory,
@@ -34,34 +34,34 @@ pub fn write_text_chart<K: Sink>(
     alloc: Global,
     sink: &mut K,
     view: &View,
-    options: &ChartOptions,
+    options: &TextOptions,
 ) -> Result<(), ChartFault>
     requires cores { view.now.cores ≤ MAX_CORES }
     requires vcpus { length view.now.names.items ≤ MAX_VCPUS }
-    requires by_core { options.now.by_vcpu ≡ false }
-    requires some { 0 < options.now.width }
-    requires few { options.now.width ≤ 8000 }
+    requires some { 0 < options.now.columns }
+    requires few { options.now.columns ≤ 8000 }
     ensures ok { IfOk result (λ u. Writes (K.state sink.old) (K.state sink.new)
         (text_chart options.now view.now) (Ok u)) }
     ensures broken { IsErrOf result fault.Write → Writes {U = Unit {0}} (K.state sink.old) (K.state sink.new)
         (text_chart options.now view.now) (Err (record {})) }
-    ensures nothing { IsErrOf result fault.Nothing → shows_nothing options.now view.now ≡ true }
-    ensures nothing_due { shows_nothing options.now view.now ≡ true → IsErrOf result fault.Nothing }
+    ensures nothing { IsErrOf result fault.Nothing → shows_nothing (by_core options.now) view.now ≡ true }
+    ensures nothing_due { shows_nothing (by_core options.now) view.now ≡ true → IsErrOf result fault.Nothing }
     ensures unwritten { IsErrOf result fault.NoMemory → sink.new ≡ sink.old }
     ensures unwritten_nothing { IsErrOf result fault.Nothing → sink.new ≡ sink.old }
 {
-    if shows_nothing(view, options) {
+    let chosen = by_core(options);
+    if shows_nothing(view, &chosen) {
         return Err(ChartFault::Nothing);
     }
-    let count = lanes_of(view, options);
-    let frame = frame_of(view, options);
+    let count = lanes_of(view, &chosen);
+    let frame = frame_of(view, &chosen);
     let Ok(lanes) = lanes_from(alloc, &frame, shown_in(view), options.first, count) else {
         return Err(ChartFault::NoMemory);
     };
     let written = put_text(
         sink,
         &frame,
-        options.width,
+        options.columns,
         options.first,
         cores_in(view),
         &view.names,
@@ -70,6 +70,21 @@ pub fn write_text_chart<K: Sink>(
     match written {
         Ok(()) => Ok(()),
         Err(WriteFault) => Err(ChartFault::Write),
+    }
+}
+
+// The lanes and ticks of the text, as those of a picture.
+fn by_core(options: &TextOptions) -> ChartOptions
+    ensures { result ≡ by_core options.now }
+{
+    ChartOptions {
+        by_vcpu: false,
+        first: options.first,
+        last: options.last,
+        from: options.from,
+        to: options.to,
+        width: options.columns,
+        tick_ns: options.tick_ns,
     }
 }
 
