@@ -56,11 +56,11 @@ all_part waits from n t k within all u lt =
     same_test waits (from + (t + u)) (from + t + u) true (omega arith) (all (t + u) (omega arith))
 
 -- a run, its begin named otherwise
-all_at : (waits : ℕ → Bool) (a b n : ℕ) → a ≡ b → AllWait waits a n → AllWait waits b n
+pub all_at : (waits : ℕ → Bool) (a b n : ℕ) → a ≡ b → AllWait waits a n → AllWait waits b n
 all_at waits a b n e all t lt = same_test waits (a + t) (b + t) true (omega (arith, e)) (all t lt)
 
 -- a run that ends a stretch is no longer than its tail
-at_end : (waits offered : ℕ → Bool) (from : ℕ) (w : Stretch) (t n : ℕ) → Tells waits offered from w
+pub at_end : (waits offered : ℕ → Bool) (from : ℕ) (w : Stretch) (t n : ℕ) → Tells waits offered from w
     → t + n ≡ w.ticks → AllWait waits (from + t) n → n ≤ w.tail
 at_end waits offered from w t n tells at all = elim (cases_lt w.tail n) [
   | inr le ↦ le
@@ -72,7 +72,7 @@ at_end waits offered from w t n tells at all = elim (cases_lt w.tail n) [
 ]
 
 -- and one that begins it no longer than its lead
-at_begin : (waits offered : ℕ → Bool) (from : ℕ) (w : Stretch) (n : ℕ) → Tells waits offered from w
+pub at_begin : (waits offered : ℕ → Bool) (from : ℕ) (w : Stretch) (n : ℕ) → Tells waits offered from w
     → n ≤ w.ticks → AllWait waits from n → n ≤ w.lead
 at_begin waits offered from w n tells within all = elim (cases_lt w.lead n) [
   | inr le ↦ le

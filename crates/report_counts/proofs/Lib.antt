@@ -1,5 +1,6 @@
 pub mod JoinLemmas
 pub mod OneReport
+pub mod RepeatLemmas
 pub mod ReportLemmas
 pub mod RunLemmas
 pub mod StretchLemmas

@@ -1,66 +1,106 @@
--- What the rounds of a run tell, one by one.
-use Rattle.std.proofs.Common.{◌≡◌, ℕ, suc, ◌+◌, ◌*◌, ◌/◌, ◌%◌, ◌<◌, ◌≤◌, List, Some, refl, arith}
-use Rattle.std.specs.Prelude.{slice_get}
-use Rattle.tab_core.specs.declared.TheConstants.{MAX_ROUNDS, ROUND}
-use Rattle.table_form.specs.Running.Courses.{CourseView, plan_after}
+-- What the rounds of a run tell, one by one and those of one plan together.
+use Rattle.std.proofs.Common.{◌≡◌, ℕ, zero, suc, ◌+◌, ◌*◌, ◌/◌, ◌%◌, ◌<◌, ◌≤◌, Bool, List, Some, refl, ap, sym, subst, arith}
+use Rattle.std.specs.Prelude.{slice_get, slice_index_or}
+use Rattle.tab_core.specs.declared.TheConstants.{ROUND}
+use Rattle.table_form.specs.Running.Courses.{CourseView, no_plan, plan_after}
 use Rattle.table_form.specs.Running.Offered.{is_offered, some_row_has}
 use Rattle.table_form.specs.Tables.Plans.{PlanView}
 use Rattle.report_counts.specs.declared.stretch.Stretch.{Stretch}
-use Rattle.report_counts.specs.Inside.Tells.{IsToldRound, Tells, waits_at, waits_in}
+use Rattle.report_counts.specs.Inside.Repeats.{HasSamePlan, repeated}
 use Rattle.report_counts.specs.Inside.Sweeps.{EndsBy}
+use Rattle.report_counts.specs.Inside.Tells.{IsToldRound, Tells, waits_at, waits_in}
 use Rattle.report_counts.specs.Stretches.{joined, no_ticks}
 use Rattle.report_counts.proofs.StretchLemmas.{tells_moved, tells_wait}
 use Rattle.report_counts.proofs.JoinLemmas.{tells_both}
 
--- the stretch tells of the first r rounds
-pub record IsToldRun (course : CourseView) (decided : List ℕ) (v r : ℕ) (w : Stretch) : Type 0 where
-  pub tells : Tells (waits_at course decided v) (is_offered course decided v) 0 w
-  pub whole : w.ticks ≡ r * ROUND
+-- the stretch tells of the rounds from `first` up to `end`
+pub record IsToldRun (course : CourseView) (decided : List ℕ) (v first end : ℕ) (w : Stretch) : Type 0 where
+  pub tells : Tells (waits_at course decided v) (is_offered course decided v) (first * ROUND) w
+  pub whole : first * ROUND + w.ticks ≡ end * ROUND
 
 -- of no round
-pub told_none : (course : CourseView) (decided : List ℕ) (v : ℕ) → IsToldRun course decided v 0 no_ticks
-told_none course decided v = record {
-  tells = tells_wait (waits_at course decided v) (is_offered course decided v) 0 0
+pub told_none : (course : CourseView) (decided : List ℕ) (v first : ℕ)
+    → IsToldRun course decided v first first no_ticks
+told_none course decided v first = record {
+  tells = tells_wait (waits_at course decided v) (is_offered course decided v) (first * ROUND) 0
       (λ t lt. absurd (omega arith)) (λ t lt. absurd (omega arith));
   whole = omega arith;
 }
 
--- a round more
-pub told_more : (course : CourseView) (decided : List ℕ) (v r count : ℕ) (w round : Stretch)
-    → slice_get decided r ≡ Some count → IsToldRun course decided v r w
-    → IsToldRound (plan_after course count) v round → IsToldRun course decided v (suc r) (joined w round)
-told_more course decided v r count w round at run is = record {
-  tells = tells_both (waits_at course decided v) (is_offered course decided v) 0 w round run.tells
-      (tells_moved (waits_in (plan_after course count) v) (some_row_has (plan_after course count).rows v) 0
-      (waits_at course decided v) (is_offered course decided v) (0 + w.ticks) round
+-- of one, by its plan
+pub told_one : (course : CourseView) (decided : List ℕ) (v r count : ℕ) (round : Stretch)
+    → slice_get decided r ≡ Some count → IsToldRound (plan_after course count) v round
+    → IsToldRun course decided v r (suc r) round
+told_one course decided v r count round at is = record {
+  tells = tells_moved (waits_in (plan_after course count) v) (some_row_has (plan_after course count).rows v) 0
+      (waits_at course decided v) (is_offered course decided v) (r * ROUND) round
       (λ t lt. waits_here t (omega (arith, lt, is.whole)))
-      (λ t lt. offered_here t (omega (arith, lt, is.whole))) is.tells);
-  whole = omega (arith, run.whole, is.whole);
+      (λ t lt. offered_here t (omega (arith, lt, is.whole))) is.tells;
+  whole = omega (arith, is.whole);
 }
   where
     waits_here : (t : ℕ) → t < ROUND
-        → waits_at course decided v (0 + w.ticks + t) ≡ waits_in (plan_after course count) v (0 + t)
+        → waits_at course decided v (r * ROUND + t) ≡ waits_in (plan_after course count) v (0 + t)
     waits_here t lt =
-        let round_is : (0 + w.ticks + t) / ROUND ≡ r = omega (arith, run.whole) in
-        let place : (0 + w.ticks + t) % ROUND ≡ 0 + t = omega (arith, run.whole) in
+        let round_is : (r * ROUND + t) / ROUND ≡ r = omega arith in
+        let place : (r * ROUND + t) % ROUND ≡ 0 + t = omega arith in
         rw (round_is, place, at) refl
 
     offered_here : (t : ℕ) → t < ROUND
-        → is_offered course decided v (0 + w.ticks + t) ≡ some_row_has
+        → is_offered course decided v (r * ROUND + t) ≡ some_row_has
         (plan_after course count).rows v (0 + t)
     offered_here t lt =
-        let round_is : (0 + w.ticks + t) / ROUND ≡ r = omega (arith, run.whole) in
-        let place : (0 + w.ticks + t) % ROUND ≡ 0 + t = omega (arith, run.whole) in
+        let round_is : (r * ROUND + t) / ROUND ≡ r = omega arith in
+        let place : (r * ROUND + t) % ROUND ≡ 0 + t = omega arith in
         rw (round_is, place, at) refl
 
--- such a stretch can be lengthened by a round more
-pub ends_run : (course : CourseView) (decided : List ℕ) (v r : ℕ) (w : Stretch)
-    → IsToldRun course decided v r w
-    → r ≤ MAX_ROUNDS → EndsBy (MAX_ROUNDS * ROUND) w
-ends_run course decided v r w told le = record {
+-- of some rounds and then the next
+pub told_both : (course : CourseView) (decided : List ℕ) (v first r end : ℕ) (a b : Stretch)
+    → IsToldRun course decided v first r a → IsToldRun course decided v r end b
+    → IsToldRun course decided v first end (joined a b)
+told_both course decided v first r end a b before next = record {
+  tells = tells_both waits offered (first * ROUND) a b before.tells
+      (subst (λ (from : ℕ). Tells waits offered from b) (sym before.whole) next.tells);
+  whole = omega (arith, before.whole, next.whole);
+}
+  where
+    waits : ℕ → Bool
+    waits = waits_at course decided v
+
+    offered : ℕ → Bool
+    offered = is_offered course decided v
+
+-- of n rounds that each give the same
+pub told_repeated : (course : CourseView) (decided : List ℕ) (v first n end : ℕ) (round : Stretch)
+    → end ≡ first + n
+    → ((r : ℕ) → first ≤ r → r < end → IsToldRun course decided v r (suc r) round)
+    → IsToldRun course decided v first end (repeated round n)
+unfolding repeated
+told_repeated course decided v first zero end round at each =
+    let e : first ≡ end = omega (arith, at) in
+    subst (λ (r : ℕ). IsToldRun course decided v first r no_ticks) e (told_none course decided v first)
+told_repeated course decided v first (suc n) end round at each =
+    let e : suc (first + n) ≡ end = omega (arith, at) in
+    told_both course decided v first (first + n) end (repeated round n) round
+    (told_repeated course decided v first n (first + n) round refl (λ r low lt. each r low (omega arith)))
+    (subst (λ (r : ℕ). IsToldRun course decided v (first + n) r round) e
+    (each (first + n) (omega arith) (omega arith)))
+
+-- rounds of the same plan give the same
+pub told_alike : (course : CourseView) (decided : List ℕ) (v r q count other : ℕ) (round : Stretch)
+    → slice_get decided r ≡ Some count → slice_get decided q ≡ Some other → HasSamePlan course decided r q
+    → IsToldRound (plan_after course count) v round → IsToldRun course decided v q (suc q) round
+told_alike course decided v r q count other round at at' same is =
+    let plan : plan_after course count ≡ plan_after course other =
+    ap (λ (k : ℕ). slice_index_or course.plans k no_plan) (same count other at at') in
+    told_one course decided v q other round at' (subst (λ (p : PlanView). IsToldRound p v round) plan is)
+
+-- what is told of the first r rounds can be lengthened
+pub ends_run : (course : CourseView) (decided : List ℕ) (v r most : ℕ) (w : Stretch)
+    → IsToldRun course decided v 0 r w → r ≤ most → EndsBy (most * ROUND) w
+ends_run course decided v r most w told le = record {
   small = told.tells.small;
-  before =
-      omega (arith, told.whole);
+  before = omega (arith, told.whole);
 }
 
 -- and so can that of a round

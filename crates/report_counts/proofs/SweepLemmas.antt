@@ -9,7 +9,7 @@ use Rattle.table_form.specs.Running.Offered.{some_row_has}
 use Rattle.table_form.specs.Tables.Plans.{PlanView}
 use Rattle.table_form.specs.Tables.Rows.{Row}
 use Rattle.table_form.specs.Tables.Serves.{Apart, OwnersHaveTasks, flat, has_task, is_cell_of, owner_at}
-use Rattle.table_form.proofs.OfferedLemmas.{cell_is, row_has}
+use Rattle.table_form.proofs.OfferedLemmas.{cell_is}
 use Rattle.report_counts.specs.declared.stretch.Stretch.{Stretch}
 use Rattle.report_counts.specs.Inside.Sweeps.{IsToldTo, closed, swept}
 use Rattle.report_counts.specs.Inside.Tells.{IsToldRound, waits_in}

@@ -1,6 +1,7 @@
-ghost use Rattle.std.specs.Prelude.{◌≡◌, ◌<◌, ◌≤◌, ◌*◌, ℕ, false, Some, length, slice_get};
+ghost use Rattle.std.specs.Prelude.{◌≡◌, ◌<◌, ◌≤◌, ◌-◌, ◌*◌, ℕ, Some, length, slice_get};
 ghost use Rattle.tab_core.specs.declared.TheConstants.{MAX_ROUNDS, MAX_VCPUS, ROUND};
-ghost use Rattle.report_counts.specs.Inside.Sweeps.{EndsBy, HasPlanOfLast, IsDescribed, IsDescribedBefore};
+ghost use Rattle.report_counts.specs.Inside.Repeats.{HasSamePlan, IsSound, repeated};
+ghost use Rattle.report_counts.specs.Inside.Sweeps.{EndsBy};
 ghost use Rattle.report_counts.specs.Reports.{IsReported};
 ghost use Rattle.report_counts.specs.Stretches.{joined, stretch_at};
 
@@ -24,45 +25,46 @@ pub fn count_waits(course: &Course, used: &[u32], round: &mut [Stretch], run: &m
         (stretch_at run.new v).offered (stretch_at run.new v).most }
 {
     clear(run);
-    for r in 0..used.len() {
-        describe_round(course, used, r, round);
-        append(run, round);
-    }
-}
-
-// Describes the plan of round r, where it isn't that of the round before.
-fn describe_round(course: &Course, used: &[u32], r: usize, round: &mut [Stretch])
-    requires counts { (r count : ℕ) → slice_get used.now r ≡ Some count → count ≤ length course.now.ticks }
-    requires within { r < length used.now }
-    requires size { length round.old ≡ MAX_VCPUS }
-    requires last { IsDescribedBefore course.now used.now r round.old }
-    ensures size { length round.new ≡ MAX_VCPUS }
-    ensures told { IsDescribed course.now used.now r round.new }
-{
-    if is_new_plan(course, used, r) {
+    let mut r = 0;
+    'counting: while r < used.len() {
+        let end = plan_lasts_to(course, used, r);
         describe(course.plan_after(used[r]), round);
+        append(run, round, (end - r) as u32);
+        r = end;
     }
 }
 
-// Round r has another plan than the round before, or there is none before.
-fn is_new_plan(course: &Course, used: &[u32], r: usize) -> bool
+// The first round behind r that has another plan than r, or how many rounds there are.
+fn plan_lasts_to(course: &Course, used: &[u32], r: usize) -> usize
     requires counts { (r count : ℕ) → slice_get used.now r ≡ Some count → count ≤ length course.now.ticks }
     requires within { r < length used.now }
-    ensures { result ≡ false → HasPlanOfLast course.now used.now r }
+    ensures after { r < result }
+    ensures within { result ≤ length used.now }
+    ensures same { (q : ℕ) → r ≤ q → q < result → HasSamePlan course.now used.now r q }
 {
-    r == 0 || course.plan_number(used[r]) != course.plan_number(used[r - 1])
+    let number = course.plan_number(used[r]);
+    for q in r + 1..used.len() {
+        if course.plan_number(used[q]) != number {
+            return q;
+        }
+    }
+    used.len()
 }
 
-// Lengthens each stretch of the run by what the round gives.
-fn append(run: &mut [Stretch], round: &[Stretch])
+// Lengthens each stretch of the run by what so many rounds give that are all alike.
+fn append(run: &mut [Stretch], round: &[Stretch], rounds: u32)
     requires size { length run.old ≡ length round.now }
-    requires fits { (v : ℕ) → v < length run.old → EndsBy (MAX_ROUNDS * ROUND) (stretch_at run.old v) }
+    requires some { 0 < rounds }
+    requires few { rounds ≤ MAX_ROUNDS }
+    requires fits { (v : ℕ) → v < length run.old
+        → EndsBy ((MAX_ROUNDS - rounds) * ROUND) (stretch_at run.old v) }
     requires round { (v : ℕ) → v < length run.old → EndsBy ROUND (stretch_at round.now v) }
+    requires sound { (v : ℕ) → v < length run.old → IsSound (stretch_at round.now v) }
     ensures size { length run.new ≡ length run.old }
     ensures joined { (v : ℕ) → v < length run.old
-        → stretch_at run.new v ≡ joined (stretch_at run.old v) (stretch_at round.now v) }
+        → stretch_at run.new v ≡ joined (stretch_at run.old v) (repeated (stretch_at round.now v) rounds) }
 {
     for v in 0..run.len() {
-        run[v] = run[v].then(round[v]);
+        run[v] = run[v].then(round[v].times(rounds));
     }
 }

@@ -2,7 +2,8 @@
 //! rounds that begin with another plan.
 //!
 //! A plan is swept once over its rows' segments, for all vCPUs at the same time, and only where its number
-//! isn't that of the round before. Each round costs one join of stretches for each vCPU.
+//! isn't that of the round before. The rounds in a row of one plan cost one join of stretches for each vCPU,
+//! however many they are.
 #![tactic(auto)]
 
 mod counting;

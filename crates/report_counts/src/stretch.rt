@@ -1,4 +1,5 @@
-ghost use Rattle.std.specs.Prelude.{◌≡◌, ◌+◌, ◌<◌, ◌≤◌, ◌^◌};
+ghost use Rattle.std.specs.Prelude.{◌≡◌, ◌+◌, ◌*◌, ◌<◌, ◌≤◌, ◌^◌};
+ghost use Rattle.report_counts.specs.Inside.Repeats.{IsSound, repeated};
 ghost use Rattle.report_counts.specs.Stretches.{
   IsSmall,
   all_offered,
@@ -97,6 +98,36 @@ impl Stretch {
             lead,
             tail,
             most: max(max(self.most, next.most), self.tail + next.lead),
+        }
+    }
+
+    // This stretch so many times in a row, as alike rounds give it. All seams are alike, too.
+    pub(crate) fn times(self, rounds: u32) -> Stretch
+        requires sound { IsSound self }
+        requires some { 0 < rounds }
+        requires fits { self.ticks * rounds < 2 ^ 32 }
+        ensures { result ≡ repeated self rounds }
+    {
+        let ticks = self.ticks * rounds;
+        let offered = self.offered * rounds;
+        if self.lead == self.ticks {
+            Stretch {
+                ticks,
+                offered,
+                lead: ticks,
+                tail: ticks,
+                most: ticks,
+            }
+        } else if rounds == 1 {
+            self
+        } else {
+            Stretch {
+                ticks,
+                offered,
+                lead: self.lead,
+                tail: self.tail,
+                most: max(self.most, self.tail + self.lead),
+            }
         }
     }
 

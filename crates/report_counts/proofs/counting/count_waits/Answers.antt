@@ -1,55 +1,79 @@
-use Rattle.std.proofs.Common.{◌≡◌, ℕ, suc, ◌+◌, Some, sym, subst, ◌∙◌, arith}
+use Rattle.std.proofs.Common.{◌≡◌, ℕ, ◌-◌, ◌<◌, ◌≤◌, length, Some, sym, subst, ◌∙◌, arith}
 use Rattle.std.specs.Prelude.{slice_get, slice_index_or}
 use Rattle.std.proofs.lemmas.Option.{slice_get-get_or}
 use Rattle.table_form.specs.Running.Courses.{plan_after}
+use Rattle.table_form.specs.Tables.Plans.{PlanView}
+use Rattle.report_counts.specs.declared.stretch.Stretch.{Stretch}
+use Rattle.report_counts.specs.Inside.Repeats.{repeated}
+use Rattle.report_counts.specs.Inside.Tells.{IsToldRound}
 use Rattle.report_counts.specs.Stretches.{stretch_at}
-use Rattle.report_counts.proofs.RunLemmas.{IsToldRun, told_none, told_more, ends_round}
+use Rattle.report_counts.proofs.RepeatLemmas.{round_sound}
 use Rattle.report_counts.proofs.ReportLemmas.{reported}
+use Rattle.report_counts.proofs.RunLemmas.{IsToldRun, ends_round, ends_run, told_alike, told_both, told_none, told_repeated}
 use Rattle.report_counts.proofs.counting.count_waits.Goals as goal
 
-pub loop-r-init : goal.loop-r-init
-loop-r-init c = record {
+pub counting-init : goal.counting-init
+counting-init c = record {
   round_size = c.requires.round;
   run_size = c.clear.ensures.size ∙ c.requires.run;
-  told = λ v lt. subst (IsToldRun c.args.course.now c.args.used.now v 0) (sym (c.clear.ensures.none v))
-      (told_none c.args.course.now c.args.used.now v);
-  last = λ q before. absurd (omega (arith, before));
+  within = omega arith;
+  told = λ v lt. subst (IsToldRun c.args.course.now c.args.used.now v 0 0) (sym (c.clear.ensures.none v))
+      (told_none c.args.course.now c.args.used.now v 0);
 }
+
+pub plan_after-requires : goal.plan_after-requires
+plan_after-requires c = c.requires.counts c.counting.r (slice_index_or c.args.used.now c.counting.r 0)
+    (slice_get-get_or c.args.used.now c.counting.r 0 c.counting-test.true)
+
+pub append-requires-clause-sound : goal.append-requires-clause-sound
+append-requires-clause-sound c = λ v lt.
+    round_sound _ v (stretch_at c.describe.new.stretches v)
+    (c.describe.ensures.told v (omega (arith, lt, c.counting.invariant.run_size)))
 
 pub append-requires-clause-round : goal.append-requires-clause-round
 append-requires-clause-round c = λ v lt.
-    let r = c.loop-r.r in
-    let at = slice_get-get_or c.args.used.now r 0 c.loop-r-test.true in
-    ends_round (plan_after c.args.course.now (slice_index_or c.args.used.now r 0)) v
-    (stretch_at c.describe_round.new.round v)
-    (c.describe_round.ensures.told v (slice_index_or c.args.used.now r 0)
-    (omega (arith, lt, c.loop-r.invariant.run_size)) at)
+    ends_round _ v (stretch_at c.describe.new.stretches v)
+    (c.describe.ensures.told v (omega (arith, lt, c.counting.invariant.run_size)))
 
-pub loop-r-preserved : goal.loop-r-preserved
-loop-r-preserved c =
-    let r = c.loop-r.r in
+pub append-requires-clause-fits : goal.append-requires-clause-fits
+append-requires-clause-fits c = λ v lt.
+    let end = c.plan_lasts_to-end.ensures.within in
+    ends_run c.args.course.now c.args.used.now v c.counting.r _ (stretch_at c.counting.run v)
+    (c.counting.invariant.told v (omega (arith, lt, c.counting.invariant.run_size)))
+    (omega (arith, end, c.requires.few, c.plan_lasts_to-end.ensures.after))
+
+pub counting-preserved : goal.counting-preserved
+counting-preserved c =
+    let r = c.counting.r in
+    let end = c.plan_lasts_to-end.result in
     let course = c.args.course.now in
     let used = c.args.used.now in
     let count : ℕ = slice_index_or used r 0 in
-    let at : slice_get used r ≡ Some count = slice_get-get_or used r 0 c.loop-r-test.true in
-    let next : suc r ≡ r + 1 = omega arith in
+    let at : slice_get used r ≡ Some count = slice_get-get_or used r 0 c.counting-test.true in
+    let low : r < end = c.plan_lasts_to-end.ensures.after in
+    let high : end ≤ length used = c.plan_lasts_to-end.ensures.within in
     record {
-      round_size = c.describe_round.ensures.size;
-      run_size = c.append.ensures.size ∙ c.loop-r.invariant.run_size;
+      round_size = c.describe.ensures.size;
+      run_size = c.append.ensures.size ∙ c.counting.invariant.run_size;
+      within = high;
       told = λ v lt.
-          let more = told_more course used v r count (stretch_at c.loop-r.run v)
-          (stretch_at c.describe_round.new.round v) at
-          (c.loop-r.invariant.told v lt) (c.describe_round.ensures.told v count lt at) in
-          let is = c.append.ensures.joined v (omega (arith, lt, c.loop-r.invariant.run_size)) in
-          subst (λ (k : ℕ). IsToldRun course used v k (stretch_at c.append.new.run v)) next
-          (subst (IsToldRun course used v (suc r)) (sym is) more);
-      last = λ q before v n lt at'.
-          let same : q ≡ r = omega (arith, before) in
-          c.describe_round.ensures.told v n lt (subst (λ (k : ℕ). slice_get used k ≡ Some n) same at');
+          let round : Stretch = stretch_at c.describe.new.stretches v in
+          let told : IsToldRound (plan_after course count) v round =
+          subst (λ (plan : PlanView). IsToldRound plan v round) c.plan_after.ensures.plan
+          (c.describe.ensures.told v lt) in
+          let rounds = told_repeated course used v r (end - r) end round (omega (arith, low)) (λ q from to.
+          let other : ℕ = slice_index_or used q 0 in
+          let at_q : slice_get used q ≡ Some other = slice_get-get_or used q 0 (omega (arith, to, high)) in
+          told_alike course used v r q count other round at at_q
+          (c.plan_lasts_to-end.ensures.same q from to) told) in
+          let is = c.append.ensures.joined v (omega (arith, lt, c.counting.invariant.run_size)) in
+          subst (IsToldRun course used v 0 end) (sym is)
+          (told_both course used v 0 r end (stretch_at c.counting.run v) (repeated round (end - r))
+          (c.counting.invariant.told v lt) rounds);
     }
 
 pub returns-clause-reported : goal.returns-clause-reported
 returns-clause-reported c = λ v lt.
-    let told = c.loop-r.invariant.told v lt in
-    reported c.args.course.now c.args.used.now v (stretch_at c.loop-r.run v) told.tells
-    (omega (arith, told.whole, c.loop-r-test.false, c.loop-r.auto.r-end))
+    let told = c.counting.invariant.told v lt in
+    reported c.args.course.now c.args.used.now v (stretch_at c.counting.run v) told.tells
+    (omega (arith, told.whole, c.counting-test.false, c.counting.invariant.within))
