@@ -41,6 +41,7 @@ fn plan_lasts_to(course: &Course, used: &[u32], r: usize) -> usize
     ensures after { r < result }
     ensures within { result ≤ length used.now }
     ensures same { (q : ℕ) → r ≤ q → q < result → HasSamePlan course.now used.now r q }
+    ensures other { result < length used.now → HasSamePlan course.now used.now r result → ⊥ }
 {
     let number = course.plan_number(used[r]);
     for q in r + 1..used.len() {
