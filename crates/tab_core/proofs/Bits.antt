@@ -2,7 +2,8 @@
 use Rattle.std.proofs.Common.{◌≡◌, ◌≢◌, ◌∙◌, ℕ, zero, suc, ◌+◌, ◌-◌, ◌*◌, ◌/◌, ◌%◌, ◌<◌, ◌≤◌, ◌^◌, ◌↔◌, Bool, false, true, eqb, not, ◌&&◌, List, [], ◌∷◌, length, get_or, set, replicate, refl, sym, ap, arith, inl, inr, w64, bit_and, bit_or, get_or-set_other, length-append}
 use Rattle.std.proofs.lemmas.List.{same_lists, get_or_past, get_or-replicate, length-replicate}
 use Rattle.std.proofs.lemmas.Bool.{cases_eq, cases_lt}
-use Rattle.std.proofs.lemmas.Nat.{shr-shr}
+use Rattle.std.proofs.lemmas.Nat.{shr-shr, le_or_l, le_or_r}
+use Rattle.std.proofs.Math.Nat.{eq-zero-or-pos}
 use Rattle.std.specs.Prelude.{IsTrue, min}
 use Rattle.std.proofs.Math.ListN.{length-set}
 use Rattle.std.proofs.lemmas.Bool.Decides.{nat_tests}
@@ -239,6 +240,48 @@ none_common a b from at both v nothing are below q low lt = elim (cases_lt v at)
       let zero_bit : bit_at both i.0 ≡ 0 = ap (λ n. bit_at n i.0) nothing ∙ bit_at-zero i.0 in
       omega (arith, one, zero_bit)
 ]
+
+-- a word with a bit of both tells of a common member
+some_common : (a b : List ℕ) (at both : ℕ) → 0 < both → both < 2 ^ 64 → AreCommon a b at both
+    → (v : ℕ) × IsInBoth (members_of a) (members_of b) v
+some_common a b at both some fits are =
+    let t = trailing_zeros w64 both in
+    let lowest = bit_at-trailing_zeros w64 both some fits in
+    (at + t, ((are t lowest.0).0 lowest.1).1)
+
+-- so does what four words come to, if it isn't 0
+pub common_of_words : (a b : List ℕ) (x y z w : ℕ) → x < 2 ^ 64 → y < 2 ^ 64 → z < 2 ^ 64 → w < 2 ^ 64
+    → AreCommon a b 0 x → AreCommon a b 64 y → AreCommon a b 128 z → AreCommon a b 192 w
+    → bit_or (bit_or x y) (bit_or z w) ≢ 0 → (v : ℕ) × IsInBoth (members_of a) (members_of b) v
+common_of_words a b x y z w fits_x fits_y fits_z fits_w are_x are_y are_z are_w some =
+    elim (eq-zero-or-pos x) [
+      | inr pos ↦ some_common a b 0 x pos fits_x are_x
+      | inl no_x ↦ elim (eq-zero-or-pos y) [
+        | inr pos ↦ some_common a b 64 y pos fits_y are_y
+        | inl no_y ↦ elim (eq-zero-or-pos z) [
+          | inr pos ↦ some_common a b 128 z pos fits_z are_z
+          | inl no_z ↦ elim (eq-zero-or-pos w) [
+            | inr pos ↦ some_common a b 192 w pos fits_w are_w
+            | inl no_w ↦ absurd (some (rw (no_x, no_y, no_z, no_w) refl))
+          ]
+        ]
+      ]
+    ]
+
+-- and where it is 0, nobody is common
+pub none_of_words : (a b : List ℕ) (x y z w v : ℕ) → AreCommon a b 0 x → AreCommon a b 64 y
+    → AreCommon a b 128 z → AreCommon a b 192 w → bit_or (bit_or x y) (bit_or z w) ≡ 0
+    → IsInBoth (members_of a) (members_of b) v → ⊥
+none_of_words a b x y z w v are_x are_y are_z are_w none q =
+    let low : bit_or x y ≡ 0 = omega (arith, none, le_or_l (bit_or x y) (bit_or z w)) in
+    let high : bit_or z w ≡ 0 = omega (arith, none, le_or_r (bit_or x y) (bit_or z w)) in
+    let Below : ℕ → Type 0 = λ to. (v : ℕ) → IsInBoth (members_of a) (members_of b) v → 0 ≤ v → v < to → ⊥ in
+    let first : Below 64 = λ v. none_common a b 0 0 x v (omega (arith, low, le_or_l x y)) are_x
+    (λ v q le lt. omega (arith, lt)) in
+    let second : Below 128 = λ v. none_common a b 0 64 y v (omega (arith, low, le_or_r x y)) are_y first in
+    let third : Below 192 = λ v. none_common a b 0 128 z v (omega (arith, high, le_or_l z w)) are_z second in
+    none_common a b 0 192 w v (omega (arith, high, le_or_r z w)) are_w third q (omega arith)
+    (member_low a v q.one)
 
 -- the words of one set less the bits of another
 abbrev pub less : List ℕ → List ℕ → List ℕ

@@ -76,6 +76,14 @@ impl VcpuSet {
         }
     }
 
+    /// Whether some vCPU is a member of both sets.
+    #[inline(always)]
+    pub fn meets(&self, other: &VcpuSet) -> bool
+        ensures { IsTrue result ↔ ((vcpu : ℕ) × IsInBoth self.now other.now vcpu) }
+    {
+        words_meet(&self.words, &other.words)
+    }
+
     /// The least member of both sets that is `from` or more, if there is one.
     pub fn first_common(&self, other: &VcpuSet, from: u32) -> Option<VcpuNo>
         requires { from ≤ MAX_VCPUS }
@@ -118,6 +126,15 @@ fn bits_without(a: &[u64; 4], b: &[u64; 4]) -> [u64; 4]
         ≡ (has_vcpu (members_of a.now) vcpu && not (has_vcpu (members_of b.now) vcpu)) }
 {
     [a[0] & !b[0], a[1] & !b[1], a[2] & !b[2], a[3] & !b[3]]
+}
+
+// Whether some bit is in both, found without a branch for each word.
+fn words_meet(a: &[u64; 4], b: &[u64; 4]) -> bool
+    ensures { IsTrue result ↔ ((v : ℕ) × IsInBoth (members_of a.now) (members_of b.now) v) }
+{
+    let low = common_from(a, b, 0) | common_from(a, b, 64);
+    let high = common_from(a, b, 128) | common_from(a, b, 192);
+    low | high != 0
 }
 
 // The least bit of both from one on, by words: the bits below it are shifted out of the first.
