@@ -119,109 +119,121 @@ fn forty() -> Option<Periodic> {
     })
 }
 
+const GOOD: &[Part] = &[(51_300, A), (102_600, IDLE)];
+
+const LATE: &[Part] = &[(51_299, IDLE), (51_300, A), (102_600, IDLE)];
+
+const LAST: &[Part] = &[(102_599, IDLE), (102_600, A)];
+
+// Rows, and what the check says of them for half of each round.
+const OF_ONE_TASK: [(&[&[Part]], &str); 16] = [
+    (
+        &[&[(51_299, A), (102_600, IDLE)]],
+        "vCPU 0 has 51299 of 51300 ticks in period 0",
+    ),
+    (&[GOOD], "ok"),
+    (
+        &[&[(20_000, A), (51_300, A), (60_000, IDLE), (102_600, IDLE)]],
+        "ok",
+    ),
+    (
+        &[
+            &[(30_000, A), (102_600, IDLE)],
+            &[(30_000, IDLE), (51_300, A), (102_600, IDLE)],
+        ],
+        "ok",
+    ),
+    (
+        &[&[(51_300, A), (102_599, IDLE)]],
+        "core 0 has a bad end at segment 2",
+    ),
+    (&[&[]], "core 0 has a bad end at segment 0"),
+    (
+        &[&[(0, A), (102_600, A)]],
+        "core 0 has a bad end at segment 0",
+    ),
+    (
+        &[&[(51_300, A), (51_300, IDLE), (102_600, IDLE)]],
+        "core 0 has a bad end at segment 1",
+    ),
+    (
+        &[&[(51_300, A), (51_200, IDLE), (102_600, IDLE)]],
+        "core 0 has a bad end at segment 1",
+    ),
+    (
+        &[&[(51_300, A), (102_601, IDLE)]],
+        "core 0 has a bad end at segment 1",
+    ),
+    (
+        &[GOOD, &[(9, A), (9, IDLE)], &[]],
+        "core 1 has a bad end at segment 1",
+    ),
+    (
+        &[&[(51_299, A), (102_600, IDLE)], GOOD, &[(9, A)]],
+        "core 2 has a bad end at segment 1",
+    ),
+    (
+        &[GOOD, LATE],
+        "vCPU 0 stands on cores 0 and 1 at tick 51299",
+    ),
+    (
+        &[LAST, &[(7, A), (102_600, IDLE)], LAST],
+        "vCPU 0 stands on cores 0 and 2 at tick 102599",
+    ),
+    (
+        &[LAST, LAST, &[(7, A), (102_600, IDLE)], GOOD],
+        "vCPU 0 stands on cores 2 and 3 at tick 0",
+    ),
+    (
+        &[LAST, LAST],
+        "vCPU 0 stands on cores 0 and 1 at tick 102599",
+    ),
+];
+
 #[test]
 fn one_task(rt: HostRuntime) -> Result<(), Fail> {
-    let good: &[Part] = &[(51_300, A), (102_600, IDLE)];
-    let late: &[Part] = &[(51_299, IDLE), (51_300, A), (102_600, IDLE)];
-    let last: &[Part] = &[(102_599, IDLE), (102_600, A)];
-    let cases: [(&[&[Part]], &str); 16] = [
-        (
-            &[&[(51_299, A), (102_600, IDLE)]],
-            "vCPU 0 has 51299 of 51300 ticks in period 0",
-        ),
-        (&[good], "ok"),
-        (
-            &[&[(20_000, A), (51_300, A), (60_000, IDLE), (102_600, IDLE)]],
-            "ok",
-        ),
-        (
-            &[
-                &[(30_000, A), (102_600, IDLE)],
-                &[(30_000, IDLE), (51_300, A), (102_600, IDLE)],
-            ],
-            "ok",
-        ),
-        (
-            &[&[(51_300, A), (102_599, IDLE)]],
-            "core 0 has a bad end at segment 2",
-        ),
-        (&[&[]], "core 0 has a bad end at segment 0"),
-        (
-            &[&[(0, A), (102_600, A)]],
-            "core 0 has a bad end at segment 0",
-        ),
-        (
-            &[&[(51_300, A), (51_300, IDLE), (102_600, IDLE)]],
-            "core 0 has a bad end at segment 1",
-        ),
-        (
-            &[&[(51_300, A), (51_200, IDLE), (102_600, IDLE)]],
-            "core 0 has a bad end at segment 1",
-        ),
-        (
-            &[&[(51_300, A), (102_601, IDLE)]],
-            "core 0 has a bad end at segment 1",
-        ),
-        (
-            &[good, &[(9, A), (9, IDLE)], &[]],
-            "core 1 has a bad end at segment 1",
-        ),
-        (
-            &[&[(51_299, A), (102_600, IDLE)], good, &[(9, A)]],
-            "core 2 has a bad end at segment 1",
-        ),
-        (
-            &[good, late],
-            "vCPU 0 stands on cores 0 and 1 at tick 51299",
-        ),
-        (
-            &[last, &[(7, A), (102_600, IDLE)], last],
-            "vCPU 0 stands on cores 0 and 2 at tick 102599",
-        ),
-        (
-            &[last, last, &[(7, A), (102_600, IDLE)], good],
-            "vCPU 0 stands on cores 2 and 3 at tick 0",
-        ),
-        (
-            &[last, last],
-            "vCPU 0 stands on cores 0 and 1 at tick 102599",
-        ),
-    ];
-    for (rows, expected) in cases {
+    for (rows, expected) in &OF_ONE_TASK {
         let said = answer(rt.alloc(), [half(), None], rows)?;
-        assert_eq!(rt; said.as_str(), expected, "at {rows:?}");
+        assert_eq!(rt; said.as_str(), *expected, "at {rows:?}");
     }
     Ok(())
 }
 
+const FIRST_HALF: &[Part] = &[(51_300, A), (102_600, IDLE)];
+
+const FIRST_A: &[Part] = &[(1, A), (102_600, IDLE)];
+
+const FIRST_B: &[Part] = &[(1, B), (102_600, IDLE)];
+
+const OF_TWO_TASKS: [(&[&[Part]], &str); 6] = [
+    (
+        &[FIRST_A, FIRST_B, FIRST_B, FIRST_A],
+        "vCPU 0 stands on cores 0 and 3 at tick 0",
+    ),
+    (&[FIRST_HALF, &[(51_340, B), (102_600, IDLE)]], "ok"),
+    (
+        &[FIRST_HALF, &[(51_339, B), (102_600, IDLE)]],
+        "vCPU 1 has 39 of 40 ticks in period 1",
+    ),
+    (
+        &[FIRST_HALF, &[(51_260, IDLE), (51_340, B), (102_600, IDLE)]],
+        "ok",
+    ),
+    (
+        &[FIRST_HALF, &[(51_261, IDLE), (51_339, B), (102_600, IDLE)]],
+        "vCPU 1 has 39 of 40 ticks in period 0",
+    ),
+    (
+        &[FIRST_A, FIRST_B],
+        "vCPU 0 has 1 of 51300 ticks in period 0",
+    ),
+];
+
 #[test]
 fn two_tasks(rt: HostRuntime) -> Result<(), Fail> {
-    let a: &[Part] = &[(51_300, A), (102_600, IDLE)];
-    let first_a: &[Part] = &[(1, A), (102_600, IDLE)];
-    let first_b: &[Part] = &[(1, B), (102_600, IDLE)];
-    let cases: [(&[&[Part]], &str); 6] = [
-        (
-            &[first_a, first_b, first_b, first_a],
-            "vCPU 0 stands on cores 0 and 3 at tick 0",
-        ),
-        (&[a, &[(51_340, B), (102_600, IDLE)]], "ok"),
-        (
-            &[a, &[(51_339, B), (102_600, IDLE)]],
-            "vCPU 1 has 39 of 40 ticks in period 1",
-        ),
-        (&[a, &[(51_260, IDLE), (51_340, B), (102_600, IDLE)]], "ok"),
-        (
-            &[a, &[(51_261, IDLE), (51_339, B), (102_600, IDLE)]],
-            "vCPU 1 has 39 of 40 ticks in period 0",
-        ),
-        (
-            &[first_a, first_b],
-            "vCPU 0 has 1 of 51300 ticks in period 0",
-        ),
-    ];
-    for (rows, expected) in cases {
+    for (rows, expected) in &OF_TWO_TASKS {
         let said = answer(rt.alloc(), [half(), forty()], rows)?;
-        assert_eq!(rt; said.as_str(), expected, "at {rows:?}");
+        assert_eq!(rt; said.as_str(), *expected, "at {rows:?}");
     }
     Ok(())
 }
@@ -252,23 +264,25 @@ fn answer_in_turn(alloc: Global, ways: &[(bool, Option<u32>)]) -> Result<String,
     answer(alloc, [half(), forty()], &parts)
 }
 
+// The rows, each by its first vCPU and the tick that is changed, and what is said of them.
+const WAYS: [(&[(bool, Option<u32>)], &str); 3] = [
+    (&[(false, None), (true, None)], "ok"),
+    (
+        &[(false, None), (true, Some(102_599))],
+        "vCPU 1 stands on cores 0 and 1 at tick 102599",
+    ),
+    (
+        &[(true, None), (true, Some(102_599)), (true, Some(7))],
+        "vCPU 1 stands on cores 0 and 1 at tick 0",
+    ),
+];
+
 // So many segments are told apart by marks of their ticks, and clashes still by sweeps.
 #[test]
 fn single_cells(rt: HostRuntime) -> Result<(), Fail> {
-    let cases: [(&[(bool, Option<u32>)], &str); 3] = [
-        (&[(false, None), (true, None)], "ok"),
-        (
-            &[(false, None), (true, Some(102_599))],
-            "vCPU 1 stands on cores 0 and 1 at tick 102599",
-        ),
-        (
-            &[(true, None), (true, Some(102_599)), (true, Some(7))],
-            "vCPU 1 stands on cores 0 and 1 at tick 0",
-        ),
-    ];
-    for (ways, expected) in cases {
+    for (ways, expected) in &WAYS {
         let said = answer_in_turn(rt.alloc(), ways)?;
-        assert_eq!(rt; said.as_str(), expected);
+        assert_eq!(rt; said.as_str(), *expected);
     }
     Ok(())
 }

@@ -52,13 +52,20 @@ fn an_overload(rt: HostRuntime) {
     assert_eq!(rt; simulate(rt.alloc(), &pieces).err(), Some(miss));
 }
 
+// The owners and the ends of the first segments.
+const FULL_BEGIN: [(Option<u32>, u32); 4] = [
+    (Some(0), 50),
+    (Some(1), 80),
+    (Some(0), 150),
+    (Some(1), 180),
+];
+
 #[test]
 fn a_full_core(rt: HostRuntime) -> Result<(), Fail> {
     let pieces = around(70);
     assert_eq!(rt; find_overload(&pieces), None);
     let row = simulate(rt.alloc(), &pieces)?;
-    let begin = [(Some(0), 50), (Some(1), 80), (Some(0), 150), (Some(1), 180)];
-    assert!(rt; begins_with(&row, &begin));
+    assert!(rt; begins_with(&row, &FULL_BEGIN));
     Ok(())
 }
 
@@ -101,20 +108,21 @@ fn three_periods() -> [Piece; 3]
     ]
 }
 
+const WHOLE_BEGIN: [(Option<u32>, u32); 7] = [
+    (Some(0), 2850),
+    (Some(1), 11_400),
+    (Some(0), 14_250),
+    (Some(1), 22_800),
+    (Some(0), 25_650),
+    (Some(2), 30_780),
+    (None, 34_200),
+];
+
 #[test]
 fn whole_periods(rt: HostRuntime) -> Result<(), Fail> {
     let row = simulate(rt.alloc(), &quarters())?;
     assert_eq!(rt; row.segments().len(), 36);
     let row = simulate(rt.alloc(), &three_periods())?;
-    let begin = [
-        (Some(0), 2850),
-        (Some(1), 11_400),
-        (Some(0), 14_250),
-        (Some(1), 22_800),
-        (Some(0), 25_650),
-        (Some(2), 30_780),
-        (None, 34_200),
-    ];
-    assert!(rt; begins_with(&row, &begin));
+    assert!(rt; begins_with(&row, &WHOLE_BEGIN));
     Ok(())
 }

@@ -58,22 +58,23 @@ fn all_show<L: Ledger>(
     Ok(true)
 }
 
+const SPLIT: [Shown<'static>; 9] = [
+    (1, 0, Some(1), &[2], &[], 41_040),
+    (1, 41_039, Some(1), &[2], &[], 41_040),
+    (1, 41_040, Some(1), &[], &[2], 61_560),
+    (1, 61_559, Some(1), &[], &[2], 61_560),
+    (1, 61_560, Some(2), &[], &[1], 82_080),
+    (1, 82_080, None, &[], &[1, 2], 102_600),
+    (1, 102_599, None, &[], &[1, 2], 102_600),
+    (0, 41_039, Some(2), &[], &[0], 41_040),
+    (0, 41_040, Some(0), &[], &[], 102_600),
+];
+
 #[test]
 fn a_split_vcpu_is_away_from_its_home(rt: HostRuntime) -> Result<(), Fail> {
     let host = host_with(rt.alloc(), 2, 30, [patient(600_000); 3])?;
     let made = plan(&rt, rt.alloc(), &host)?;
-    let expected: [Shown; 9] = [
-        (1, 0, Some(1), &[2], &[], 41_040),
-        (1, 41_039, Some(1), &[2], &[], 41_040),
-        (1, 41_040, Some(1), &[], &[2], 61_560),
-        (1, 61_559, Some(1), &[], &[2], 61_560),
-        (1, 61_560, Some(2), &[], &[1], 82_080),
-        (1, 82_080, None, &[], &[1, 2], 102_600),
-        (1, 102_599, None, &[], &[1, 2], 102_600),
-        (0, 41_039, Some(2), &[], &[0], 41_040),
-        (0, 41_040, Some(0), &[], &[], 102_600),
-    ];
-    assert!(rt; all_show::<Brand>(rt.alloc(), &made, &expected, Blank::new(1))?);
+    assert!(rt; all_show::<Brand>(rt.alloc(), &made, &SPLIT, Blank::new(1))?);
     Ok(())
 }
 
@@ -88,6 +89,15 @@ fn busy(share_ppm: u32, latency_ns: u64) -> Option<Reservation>
     })
 }
 
+const MEETING: [Shown<'static>; 6] = [
+    (0, 25_649, Some(0), &[], &[1, 2], 25_650),
+    (0, 28_500, Some(2), &[], &[0, 1], 30_780),
+    (0, 30_779, Some(2), &[], &[0, 1], 30_780),
+    (0, 30_780, None, &[], &[0, 1, 2], 34_200),
+    (0, 31_349, None, &[], &[0, 1, 2], 34_200),
+    (0, 102_599, None, &[], &[0, 1, 2], 102_600),
+];
+
 #[test]
 fn a_slice_meets_two_spans(rt: HostRuntime) -> Result<(), Fail> {
     let web = busy(250_000, 20_000_000);
@@ -95,15 +105,7 @@ fn a_slice_meets_two_spans(rt: HostRuntime) -> Result<(), Fail> {
     let batch = busy(100_000, 100_000_000);
     let host = host_with(rt.alloc(), 1, 30, [web, db, batch])?;
     let made = plan(&rt, rt.alloc(), &host)?;
-    let expected: [Shown; 6] = [
-        (0, 25_649, Some(0), &[], &[1, 2], 25_650),
-        (0, 28_500, Some(2), &[], &[0, 1], 30_780),
-        (0, 30_779, Some(2), &[], &[0, 1], 30_780),
-        (0, 30_780, None, &[], &[0, 1, 2], 34_200),
-        (0, 31_349, None, &[], &[0, 1, 2], 34_200),
-        (0, 102_599, None, &[], &[0, 1, 2], 102_600),
-    ];
-    assert!(rt; all_show::<Brand>(rt.alloc(), &made, &expected, Blank::new(1))?);
+    assert!(rt; all_show::<Brand>(rt.alloc(), &made, &MEETING, Blank::new(1))?);
     Ok(())
 }
 
@@ -211,111 +213,116 @@ const C: Option<u32> = Some(2);
 
 const D: Option<u32> = Some(3);
 
+const FIRST: Option<u32> = Some(0);
+
+const SECOND: Option<u32> = Some(1);
+
+const THIRD: Option<u32> = Some(2);
+
+// The homes of four vCPUs, and the rows of cores.
+const PLANS: [([Option<u32>; 4], &[&[Part]]); 7] = [
+    // idle cores
+    ([None; 4], &[&[(102_600, IDLE)], &[(102_600, IDLE)]]),
+    // spans of one tick at both ends of the round, and a sliver
+    (
+        [FIRST, FIRST, None, None],
+        &[&[
+            (1, A),
+            (2, B),
+            (3, A),
+            (60_000, IDLE),
+            (60_029, B),
+            (102_599, IDLE),
+            (102_600, A),
+        ]],
+    ),
+    // a vCPU that is away in the middle of a slot, over the end of one, and at the round's end
+    (
+        [FIRST, FIRST, FIRST, SECOND],
+        &[
+            &[(50_000, A), (90_000, B), (102_600, A)],
+            &[
+                (20_000, D),
+                (25_000, C),
+                (48_000, IDLE),
+                (55_000, C),
+                (100_000, D),
+                (102_600, C),
+            ],
+        ],
+    ),
+    // changes of other rows that don't concern the core: a vCPU at home elsewhere, and one that
+    // is away goes from one row to the next
+    (
+        [FIRST, FIRST, SECOND, THIRD],
+        &[
+            &[(51_300, A), (102_600, IDLE)],
+            &[(10_000, C), (30_000, B), (102_600, C)],
+            &[
+                (29_999, D),
+                (30_000, IDLE),
+                (40_000, B),
+                (70_000, D),
+                (102_600, IDLE),
+            ],
+        ],
+    ),
+    // two away at once, coming and going one at a time and together
+    (
+        [FIRST, FIRST, FIRST, FIRST],
+        &[
+            &[(40_000, A), (80_000, IDLE), (102_600, B)],
+            &[
+                (10_000, IDLE),
+                (20_000, C),
+                (30_000, IDLE),
+                (60_000, C),
+                (102_600, IDLE),
+            ],
+            &[(15_000, D), (25_000, IDLE), (60_000, D), (102_600, IDLE)],
+        ],
+    ),
+    // a core without slots, whose vCPUs stand elsewhere
+    (
+        [FIRST, FIRST, SECOND, None],
+        &[
+            &[(102_600, IDLE)],
+            &[(60_000, A), (102_600, C)],
+            &[(60_000, B), (102_599, A), (102_600, B)],
+        ],
+    ),
+    // segments of one owner, and many spans
+    (
+        [FIRST, SECOND, FIRST, SECOND],
+        &[
+            &[
+                (100, A),
+                (200, A),
+                (300, C),
+                (400, D),
+                (500, A),
+                (600, C),
+                (700, IDLE),
+                (102_600, C),
+            ],
+            &[
+                (50, B),
+                (150, D),
+                (350, B),
+                (450, B),
+                (550, D),
+                (650, IDLE),
+                (750, A),
+                (102_600, B),
+            ],
+        ],
+    ),
+];
+
 #[test]
 fn tables_agree_with_plans(rt: HostRuntime) -> Result<(), Fail> {
-    let first = Some(0);
-    let second = Some(1);
-    let third = Some(2);
-    let cases: [([Option<u32>; 4], &[&[Part]]); 7] = [
-        // idle cores
-        ([None; 4], &[&[(102_600, IDLE)], &[(102_600, IDLE)]]),
-        // spans of one tick at both ends of the round, and a sliver
-        (
-            [first, first, None, None],
-            &[&[
-                (1, A),
-                (2, B),
-                (3, A),
-                (60_000, IDLE),
-                (60_029, B),
-                (102_599, IDLE),
-                (102_600, A),
-            ]],
-        ),
-        // a vCPU that is away in the middle of a slot, over the end of one, and at the round's end
-        (
-            [first, first, first, second],
-            &[
-                &[(50_000, A), (90_000, B), (102_600, A)],
-                &[
-                    (20_000, D),
-                    (25_000, C),
-                    (48_000, IDLE),
-                    (55_000, C),
-                    (100_000, D),
-                    (102_600, C),
-                ],
-            ],
-        ),
-        // changes of other rows that don't concern the core: a vCPU at home elsewhere, and one that
-        // is away goes from one row to the next
-        (
-            [first, first, second, third],
-            &[
-                &[(51_300, A), (102_600, IDLE)],
-                &[(10_000, C), (30_000, B), (102_600, C)],
-                &[
-                    (29_999, D),
-                    (30_000, IDLE),
-                    (40_000, B),
-                    (70_000, D),
-                    (102_600, IDLE),
-                ],
-            ],
-        ),
-        // two away at once, coming and going one at a time and together
-        (
-            [first, first, first, first],
-            &[
-                &[(40_000, A), (80_000, IDLE), (102_600, B)],
-                &[
-                    (10_000, IDLE),
-                    (20_000, C),
-                    (30_000, IDLE),
-                    (60_000, C),
-                    (102_600, IDLE),
-                ],
-                &[(15_000, D), (25_000, IDLE), (60_000, D), (102_600, IDLE)],
-            ],
-        ),
-        // a core without slots, whose vCPUs stand elsewhere
-        (
-            [first, first, second, None],
-            &[
-                &[(102_600, IDLE)],
-                &[(60_000, A), (102_600, C)],
-                &[(60_000, B), (102_599, A), (102_600, B)],
-            ],
-        ),
-        // segments of one owner, and many spans
-        (
-            [first, second, first, second],
-            &[
-                &[
-                    (100, A),
-                    (200, A),
-                    (300, C),
-                    (400, D),
-                    (500, A),
-                    (600, C),
-                    (700, IDLE),
-                    (102_600, C),
-                ],
-                &[
-                    (50, B),
-                    (150, D),
-                    (350, B),
-                    (450, B),
-                    (550, D),
-                    (650, IDLE),
-                    (750, A),
-                    (102_600, B),
-                ],
-            ],
-        ),
-    ];
-    for (homes, rows) in cases {
-        let made = plan_of(rt.alloc(), homes, rows)?;
+    for (homes, rows) in &PLANS {
+        let made = plan_of(rt.alloc(), *homes, rows)?;
         assert!(rt;
             agrees_at_ends::<Brand>(rt.alloc(), &made, Blank::new(1))?,
             "at {rows:?}"

@@ -113,16 +113,24 @@ fn is_without_room(
     (over.core.0, over.from, over.to, over.demand) == expected
 }
 
+const SPLIT_ROW: [(Option<u32>, u32); 3] = [(Some(1), 61_560), (Some(2), 82_080), (None, 102_600)];
+
 #[test]
 fn the_third_vcpu_is_split(rt: HostRuntime) -> Result<(), Fail> {
     let host = host_with(rt.alloc(), 2, 30, [patient(600_000); 3])?;
     let made = plan(&rt, rt.alloc(), &host)?;
     assert!(rt; has_homes(&made, &[0, 1, 1]));
     assert!(rt; core_has(&made, 0, &[(Some(2), 41_040), (Some(0), 102_600)]));
-    let second = [(Some(1), 61_560), (Some(2), 82_080), (None, 102_600)];
-    assert!(rt; core_has(&made, 1, &second));
+    assert!(rt; core_has(&made, 1, &SPLIT_ROW));
     Ok(())
 }
+
+const SHARED_ROW: [(Option<u32>, u32); 4] = [
+    (Some(2), 10_260),
+    (Some(0), 71_820),
+    (Some(2), 82_080),
+    (None, 102_600),
+];
 
 #[test]
 fn nobody_is_split_at_the_bound(rt: HostRuntime) -> Result<(), Fail> {
@@ -130,13 +138,7 @@ fn nobody_is_split_at_the_bound(rt: HostRuntime) -> Result<(), Fail> {
     let host = host_with(rt.alloc(), 2, 30, [large, large, small])?;
     let made = plan(&rt, rt.alloc(), &host)?;
     assert!(rt; has_homes(&made, &[0, 1, 0]));
-    let first = [
-        (Some(2), 10_260),
-        (Some(0), 71_820),
-        (Some(2), 82_080),
-        (None, 102_600),
-    ];
-    assert!(rt; core_has(&made, 0, &first));
+    assert!(rt; core_has(&made, 0, &SHARED_ROW));
     assert!(rt; core_has(&made, 1, &[(Some(1), 61_560), (None, 102_600)]));
     Ok(())
 }
@@ -232,24 +234,26 @@ fn row_is(plan: &Plan, count: usize, first: &[(Option<u32>, u32)], gap: u32) -> 
     }
 }
 
+const APART: [(Option<u32>, u32); 4] = [
+    (Some(1), 10),
+    (Some(0), 100),
+    (Some(1), 110),
+    (Some(0), 200),
+];
+
+const JOINED: [(Option<u32>, u32); 4] = [
+    (Some(1), 10),
+    (Some(0), 190),
+    (Some(1), 210),
+    (Some(0), 390),
+];
+
 // 180 ticks are 180,180 ns, the latency of vCPU 1.
 #[test]
 fn slivers_are_joined_up_to_the_latency(rt: HostRuntime) -> Result<(), Fail> {
-    let apart = [
-        (Some(1), 10),
-        (Some(0), 100),
-        (Some(1), 110),
-        (Some(0), 200),
-    ];
     let made = half_and_often(&rt, rt.alloc(), 10)?;
-    assert!(rt; row_is(&made, 2052, &apart, 90));
-    let joined = [
-        (Some(1), 10),
-        (Some(0), 190),
-        (Some(1), 210),
-        (Some(0), 390),
-    ];
+    assert!(rt; row_is(&made, 2052, &APART, 90));
     let made = half_and_often(&rt, rt.alloc(), 11)?;
-    assert!(rt; row_is(&made, 1482, &joined, 180));
+    assert!(rt; row_is(&made, 1482, &JOINED, 180));
     Ok(())
 }

@@ -25,33 +25,36 @@ fn a_set_has_what_was_put(rt: HostRuntime) {
     assert_eq!(rt; size_of::<VcpuSet>(), 32);
 }
 
+const LONG: [u8; 33] = [b'x'; 33];
+
+// Bytes, and whether they are a name.
+const NAMES: [(&[u8], bool); 9] = [
+    (b"a", true),
+    (b"Web-1.front_end", true),
+    (&LONG, false),
+    (b"", false),
+    (b"-", false),
+    (b"--", true),
+    (b"a b", false),
+    (b"a\0", false),
+    (b"\xc3\xa4", false),
+];
+
+// Whether the bytes are a name, which has them then, or none.
+fn is_read_as(alloc: Global, bytes: &[u8], good: bool) -> Result<bool, NameFault> {
+    match Name::of(alloc, bytes) {
+        Ok(name) => Ok(good && name.bytes() == bytes),
+        Err(NameFault::BadName) => Ok(!good),
+        Err(fault) => Err(fault),
+    }
+}
+
 #[test]
 fn names(rt: HostRuntime) -> Result<(), Fail> {
-    let long = [b'x'; 33];
-    let cases: [(&[u8], bool); 10] = [
-        (b"a", true),
-        (b"Web-1.front_end", true),
-        (&long[..32], true),
-        (&long, false),
-        (b"", false),
-        (b"-", false),
-        (b"--", true),
-        (b"a b", false),
-        (b"a\0", false),
-        (b"\xc3\xa4", false),
-    ];
-    for (bytes, good) in cases {
-        match Name::of(rt.alloc(), bytes) {
-            Ok(name) => {
-                assert!(rt; good, "{bytes:?} is no name");
-                assert_eq!(rt; name.bytes(), bytes);
-            }
-            Err(fault) => {
-                assert!(rt; !good, "{bytes:?} is a name");
-                assert_eq!(rt; fault, NameFault::BadName);
-            }
-        }
+    for (bytes, good) in &NAMES {
+        assert!(rt; is_read_as(rt.alloc(), bytes, *good)?, "of {bytes:?}");
     }
+    assert!(rt; is_read_as(rt.alloc(), &LONG[..32], true)?);
     Ok(())
 }
 
@@ -117,22 +120,23 @@ fn one_vcpu_host(alloc: Global) -> Result<Host, NameFault>
     })
 }
 
+// Whether the host is that one with this reservation.
+fn is_one_vcpu_host(host: &Host, reservation: Option<Reservation>) -> bool {
+    let [vcpu] = host.vcpus.items() else {
+        return false;
+    };
+    vcpu.name.bytes() == b"a".as_slice()
+        && vcpu.reservation == reservation
+        && vcpu.runnable
+        && vcpu.capped
+        && (host.tick_ns, host.cores) == (2002, 2)
+        && (host.lag, host.sliver, host.quantum) == (3, 4, 5)
+}
+
 #[test]
 fn a_copy_has_the_same_vcpus(rt: HostRuntime) -> Result<(), Fail> {
     let copy = one_vcpu_host(rt.alloc())?.copy(rt.alloc())?;
-    assert_eq!(rt;
-        (
-            copy.tick_ns,
-            copy.cores,
-            copy.lag,
-            copy.sliver,
-            copy.quantum
-        ),
-        (2002, 2, 3, 4, 5)
-    );
-    assert_eq!(rt; copy.vcpus.items()[0].name.bytes(), b"a".as_slice());
-    assert!(rt; copy.vcpus.items()[0].runnable);
-    assert!(rt; copy.vcpus.items()[0].capped);
+    assert!(rt; is_one_vcpu_host(&copy, None));
     Ok(())
 }
 
@@ -158,25 +162,18 @@ fn departure() -> Edit
     Edit::Leave { vcpu: VcpuNo(0) }
 }
 
+// The host after a departure, and after one that is taken back, which both follow on an admission.
+fn edited(alloc: Global) -> Result<(Host, Host), Fail> {
+    let host = one_vcpu_host(alloc)?;
+    let gone = host.edited(alloc, &[admission(), departure()])?;
+    let back = host.edited(alloc, &[admission(), departure(), admission()])?;
+    Ok((gone, back))
+}
+
 #[test]
 fn the_last_edit_prevails(rt: HostRuntime) -> Result<(), Fail> {
-    let host = one_vcpu_host(rt.alloc())?;
-    let gone = host.edited(rt.alloc(), &[admission(), departure()])?;
-    let back = host.edited(rt.alloc(), &[admission(), departure(), admission()])?;
-    assert_eq!(rt; gone.vcpus.items()[0].reservation, None);
-    assert_eq!(rt; back.vcpus.items()[0].reservation, Some(half()));
-    assert_eq!(rt; back.vcpus.items()[0].name.bytes(), b"a".as_slice());
-    assert!(rt; back.vcpus.items()[0].runnable);
-    assert!(rt; back.vcpus.items()[0].capped);
-    assert_eq!(rt;
-        (
-            back.tick_ns,
-            back.cores,
-            back.lag,
-            back.sliver,
-            back.quantum
-        ),
-        (2002, 2, 3, 4, 5)
-    );
+    let (gone, back) = edited(rt.alloc())?;
+    assert!(rt; is_one_vcpu_host(&gone, None));
+    assert!(rt; is_one_vcpu_host(&back, Some(half())));
     Ok(())
 }

@@ -152,17 +152,18 @@ fn nine_ticks_are_no_cut(rt: HostRuntime) -> Result<(), Fail> {
     Ok(())
 }
 
+const CUTS: [(u32, u32, u32, u32); 4] = [
+    (3, 0, 226, 226),
+    (1, 226, 266, 40),
+    (2, 266, 426, 160),
+    (0, 426, 1900, 274),
+];
+
 #[test]
 fn several_cuts(rt: HostRuntime) -> Result<(), Fail> {
     let whole = four_periods();
     let pieces = split_beside(rt.alloc(), &whole, of_1900(700))?;
-    let expected = [
-        (3, 0, 226, 226),
-        (1, 226, 266, 40),
-        (2, 266, 426, 160),
-        (0, 426, 1900, 274),
-    ];
-    assert!(rt; is_split_into(&pieces, &expected));
+    assert!(rt; is_split_into(&pieces, &CUTS));
     let fault = split_beside(rt.alloc(), &whole, of_1900(1600))
         .err()
         .ok_or("there is no room")?;
