@@ -56,13 +56,13 @@ pub(crate) fn enter(
     ensures count { slice_get used.new.items (clock / ROUND) ≡ Some result }
 {
     seat.shown();
-    let rounds = used.len() as u32;
-    if rounds * ROUND == clock {
+    let rounds = used.len();
+    if rounds as u32 * ROUND == clock {
         let count = board.decide(seat, CoreNo(core));
         used.push_reserved(count);
         return count;
     }
-    used[rounds as usize - 1]
+    used[rounds - 1]
 }
 
 // The begin of a step, on what a state keeps inside.
