@@ -1,4 +1,5 @@
-ghost use Rattle.std.specs.Prelude.{◌≡◌};
+ghost use Rattle.std.specs.Prelude.{◌≡◌, Some};
+ghost use Rattle.sizes_doc.specs.Faults.{bad_part_words, fault_words};
 ghost use Rattle.sizes_doc.specs.declared.fault.SizesFault.TheVariants.{NoMemory};
 
 use std::alloc::{AllocError, AllocFailed};
@@ -18,6 +19,8 @@ pub enum Part {
 }
 
 impl fmt::Display for Part {
+    ghost output = { λ part. Some (bad_part_words part) };
+
     fn fmt<W: fmt::Write>(&self, f: &mut fmt::Formatter<W>) -> fmt::Result {
         match self {
             Part::Form => write!(f, "it isn't NAME VMS x VCPUS SHARE LATENCY"),
@@ -44,6 +47,8 @@ pub enum SizesFault {
 }
 
 impl fmt::Display for SizesFault {
+    ghost output = { λ fault. Some (fault_words fault) };
+
     fn fmt<W: fmt::Write>(&self, f: &mut fmt::Formatter<W>) -> fmt::Result {
         match self {
             SizesFault::BadSize { line, part } => write!(f, "size {line}: {part}"),
