@@ -27,6 +27,12 @@ def host(cores, vcpus, **keys):
     return "\n".join(head + parts) + "\n"
 
 
+def drawn(name, kind="toml"):
+    """A text of bench/hosts: hosts drawn at random, and a script with 15 changes of one of them."""
+    with open(os.path.join(os.path.dirname(os.path.abspath(__file__)), "hosts", f"{name}.{kind}")) as file:
+        return file.read()
+
+
 def plan_of(text):
     """The plan text's lines, and each core's segments as (end, owner)."""
     told = subprocess.run([PROGRAM, "plan"], input=text, capture_output=True, text=True, check=True)
@@ -71,6 +77,23 @@ def checks():
             out += [f"{min(at, end)} {owner}" for at in range(begin + ticks, end + ticks, ticks)]
             begin = end
     write("pieces.check", text + "%%\n" + "\n".join(out + ["end"]) + "\n")
+    # one vCPU to a core, in every other cell of its row, and vCPUs on all of 32 cores in turn
+    write("cells4.check", rows_of(4, 500_000, 102_600, [[str(core), "-"] for core in range(4)], 1))
+    turns = [[str((first + core) % 32) for first in range(32)] for core in range(32)]
+    write("check32.check", rows_of(32, 28_125, 51_300, turns, 10))
+
+
+def rows_of(cores, share, period, owners, ticks):
+    """A host of one vCPU to a core, and tables in which a core's owners follow one another in turns of some ticks."""
+    cost = -(-share * period // 1_000_000)
+    vcpus = [(f"v{core}", share, 102_702_600) for core in range(cores)]
+    out = [f"plan cores {cores} vcpus {cores}"]
+    out += [f"vcpu v{core} period {period} cost {cost} home {core}" for core in range(cores)]
+    for core, row in enumerate(owners):
+        names = ["-" if owner == "-" else f"v{owner}" for owner in row]
+        out.append(f"core {core}")
+        out += [f"{begin + ticks} {names[begin // ticks % len(names)]}" for begin in range(0, ROUND, ticks)]
+    return host(cores, vcpus) + "%%\n" + "\n".join(out + ["end"]) + "\n"
 
 
 def steps_of(rows, lag, rounds, room):
@@ -124,6 +147,10 @@ def runs():
     for words in ("run_100", "run_100_live"):
         write(f"changes32.{words}", usual + "%%\n" + changes)
     write("generated32.run_1000", generated(1, 32, 256) + "%%\n")
+    script = drawn("usual32", "script")
+    write("drawn-usual32.run_100", drawn("usual32") + "%%\n")
+    for words in ("run_100", "run_100_live"):
+        write(f"drawn-changes32.{words}", drawn("usual32") + "%%\n" + script)
     write("cores4.run_10000", host(4, [(f"v{n}", 100_000, 20_000_000) for n in range(32)]) + "%%\n")
     write("core1.run_10000", "cores = 1\n%%\n")
     few = [(f"v{n}", 400_000, 102_702_600) for n in range(64)]
@@ -141,6 +168,8 @@ def runs():
 
 def wholes():
     write("generated32.plan_whole", generated(1, 32, 256))
+    for name in ("full", "whole"):
+        write(f"drawn-{name}.plan_whole", drawn(name))
     # demands of exactly 32 rounds, in periods of 25 ticks times a divisor
     write("full32.plan_whole", host(32, [(f"v{n}", 640_000, 200_000 + n * 900_000) for n in range(50)]))
     # periods of a hundred ticks or so: a million segments
