@@ -25,8 +25,9 @@ use Rattle.core_workers.specs.declared.team.Member.{Member}
 use Rattle.core_workers.specs.declared.team.Team.{Team}
 use Rattle.core_workers.specs.Groups.{CrewView, actor_in, actor_of, cores_view, crew_of, deal_of, member_of, team_view}
 use Rattle.core_workers.specs.Crews.{AllAgree, CoresAgree, IsActorOf, IsCrew, IsSameAt, IsSameCrew, SameActors}
-use Rattle.core_workers.specs.Inside.Teams.{CoresGoOn, GoesOn, IsMemberOf, IsTeam, IsWholeTeam}
+use Rattle.core_workers.specs.Inside.Teams.{CoresGoOn, GoesOn, IsMemberOf, IsTeam, IsWholeTeam, PartsGoOn}
 use Rattle.core_workers.proofs.GroupLemmas.{changed, changed_here, changed_other, found}
+use Rattle.core_workers.proofs.PartsLemmas.{parts_more}
 
 -- the same actor
 
@@ -160,6 +161,7 @@ pub cores_twice : (x y z : CrewView) (u v w : View) → CoresGoOn x u y v → Co
 cores_twice x y z u v w s t = record {
   same = crew_more x y z s.same t.same;
   actors = actors_twice u v w s.actors t.actors;
+  parts = parts_more u v w s.parts t.parts;
   control = t.control ∙ s.control;
   agree = t.agree;
 }
@@ -227,8 +229,8 @@ module _ (course : CourseView) (rounds : ℕ) (deal : Deal) (groups : List Group
   pub there_changed : (d : ℕ) → d ≢ c → actor_of crew' d ≡ actor_of crew d
   there_changed d ne = ap actor_in (changed_other deal groups c m n old at is d ne)
 
-  pub cores_changed : (v w : View) → CoresAgree crew v → ChangesOnly v w c → AgreesWith course n.state w → CoresGoOn crew v crew' w
-  cores_changed v w agree changes agrees = record {
+  pub cores_changed : (v w : View) → CoresAgree crew v → ChangesOnly v w c → PartsGoOn v w → AgreesWith course n.state w → CoresGoOn crew v crew' w
+  cores_changed v w agree changes parts agrees = record {
     same = record {
       course = refl;
       rounds = refl;
@@ -237,6 +239,7 @@ module _ (course : CourseView) (rounds : ℕ) (deal : Deal) (groups : List Group
           (λ ne. subst (IsSameAt (actor_of crew d)) (sym (there_changed d ne)) (at_same (actor_of crew d)));
     };
     actors = actors_step v w c changes;
+    parts = parts;
     control = changes.parts controller (λ e. omega (arith, e, small_core crew c m.state of_team (ap actor_in at)));
     agree = λ d b now has. dite (ℕ_discrete d c)
         (λ e. subst (λ (x : StateView). AgreesWith course x w) (same_as (actor_of crew' c) n.state b here_changed (subst (λ (i : ℕ). actor_of crew' i ≡ Some b) e now)) agrees)

@@ -1,11 +1,10 @@
 -- A core of a team, found by its place, that ran on.
-use Rattle.std.proofs.Common.{◌≡◌, ◌≢◌, ℕ, ◌+◌, ◌/◌, ◌-◌, ◌*◌, ◌<◌, ◌≤◌, true, inr, List, [], length, Some, sym, ap, ◌∙◌, subst, arith, get_or}
+use Rattle.std.proofs.Common.{◌≡◌, ◌≢◌, ℕ, ◌+◌, ◌/◌, ◌-◌, ◌<◌, true, inr, List, [], length, Some, sym, ap, ◌∙◌, subst, arith, get_or}
 use Rattle.std.specs.Prelude.{slice_get, slice_index, slice_set}
 use Rattle.std.specs.Vec.{with_item}
 use Rattle.std.proofs.lemmas.List.{get_or-set_same, get_or-set_other, set-get_or}
 use mathlib.Core.Logic.{dite}
 use native.Mathlib.Decide.{ℕ_discrete}
-use Rattle.tab_core.specs.declared.TheConstants.{ROUND}
 use Rattle.table_form.specs.Running.Courses.{CourseView}
 use Rattle.round_words.specs.declared.view.View.{View}
 use Rattle.round_words.specs.Changes.{ChangesOnly}
@@ -21,8 +20,9 @@ use Rattle.core_workers.specs.Groups.{CrewView, actor_of, cores_view, member_of}
 use Rattle.core_workers.specs.Crews.{CoresAgree}
 use Rattle.core_workers.specs.Inside.Clocks.{AreTicks, IsClockOf, ticks_left}
 use Rattle.core_workers.specs.Inside.Places.{IsPlace}
-use Rattle.core_workers.specs.Inside.Teams.{CoresGoOn, IsManned, IsTeam}
-use Rattle.core_workers.specs.Inside.Turns.{RunsOn, WaitsFor}
+use Rattle.core_workers.specs.Inside.Teams.{CoresGoOn, IsManned, IsTeam, PartsGoOn}
+use Rattle.core_workers.specs.Inside.Turns.{RunsOn}
+use Rattle.core_workers.specs.Waiting.{CoreWaits}
 use Rattle.core_workers.proofs.CrewLemmas.{cores_changed, crew_is, here_changed, member, small_core, team_changed, there_changed}
 use Rattle.core_workers.proofs.GroupLemmas.{changed, changed_placed, group_placed, member_placed}
 use Rattle.core_workers.proofs.TurnLemmas.{going_on, in_run, ran_further, ran_waits, ticks_ran}
@@ -58,7 +58,8 @@ module _ (course : CourseView) (rounds : ℕ) (deal : Deal) (groups : List Group
 
   -- and after it ran on
   module _ (n : Member) (answer : ℕ) (w : View) (same : IsSameCore now.state n.state) (slices : n.slices ≡ now.slices)
-      (changes : ChangesOnly v w now.state.core) (agrees : AgreesWith course n.state w) (runs : RunsOn course now.state answer n.state w) where
+      (changes : ChangesOnly v w now.state.core) (agrees : AgreesWith course n.state w) (parts : PartsGoOn v w)
+      (runs : RunsOn course now.state v answer n.state w) where
     abbrev old : Group
     old = get_or groups place.group group
 
@@ -85,7 +86,7 @@ module _ (course : CourseView) (rounds : ℕ) (deal : Deal) (groups : List Group
         (team_changed course rounds deal groups c found_member.0 n old team found_member.1 old_is same_member (slices ∙ ap (λ (m : Member). m.slices) now_is))
 
     cores_then : CoresGoOn crew v (cores_view course rounds deal (changed deal groups c found_member.0 n old)) w
-    cores_then = cores_changed course rounds deal groups c found_member.0 n old team found_member.1 old_is same_member v w agree changes_core agrees
+    cores_then = cores_changed course rounds deal groups c found_member.0 n old team found_member.1 old_is same_member v w agree changes_core parts agrees
 
     pub cores_ran : CoresGoOn crew v (cores_view course rounds deal by_place) w
     cores_ran = subst (λ (gs : List Group). CoresGoOn crew v (cores_view course rounds deal gs) w) is_changed cores_then
@@ -111,11 +112,8 @@ module _ (course : CourseView) (rounds : ℕ) (deal : Deal) (groups : List Group
     pub ticks_stay : answer ≡ slice_index ticks c → AreTicks (cores_view course rounds deal by_place) w ticks
     ticks_stay same_clock = subst (AreTicks (cores_view course rounds deal by_place) w) (ap (slice_set ticks c) same_clock ∙ set-get_or ticks c _) ticks_now
 
-    pub waits : answer ≡ slice_index ticks c → (slice_index ticks c ≤ rounds * ROUND) × WaitsFor course (slice_index ticks c) w
-    waits same_clock = (
-      omega (arith, there.4, (in_run crew v c there.1 (crew_is course rounds (record { posted = 0; known = [] }) deal groups team) agree there.2 there.3).0),
-      ran_waits crew crew v w ticks c answer now.state n.state there.0 clock_now same_clock runs,
-    )
+    pub waits : answer ≡ slice_index ticks c → CoreWaits course c v w
+    waits same_clock = subst (λ (i : ℕ). CoreWaits course i v w) core_is (ran_waits crew crew v w ticks c answer now.state n.state there.0 clock_now same_clock runs)
 
 -- the clocks of one core more
 pub read_more : (crew : CrewView) (v : View) (ticks : List ℕ) (c clock : ℕ) → c < length ticks → ((d : ℕ) → d < c → IsClockOf crew v d (slice_index ticks d)) → IsClockOf crew v c clock

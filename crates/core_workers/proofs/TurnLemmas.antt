@@ -1,17 +1,16 @@
 -- A turn: a core of least clock runs on, then the controller makes a step.
-use Rattle.std.proofs.Common.{◌≡◌, ◌≢◌, ◌⊎◌, ℕ, suc, ◌+◌, ◌-◌, ◌*◌, ◌<◌, ◌≤◌, Bool, true, false, inl, inr, List, length, Some, refl, sym, ap, ap₂, ◌∙◌, subst, arith}
+use Rattle.std.proofs.Common.{◌≡◌, ◌≢◌, ◌⊎◌, ℕ, suc, ◌+◌, ◌-◌, ◌*◌, ◌<◌, ◌≤◌, Bool, true, false, true≢false, inl, inr, List, length, Some, refl, sym, ap, ap₂, ◌∙◌, subst, arith}
 use Rattle.std.specs.Prelude.{slice_set, slice_index, if◌then◌else◌}
 use Rattle.std.proofs.lemmas.List.{get_or-set_same, get_or-set_other, length-set}
 use Rattle.std.proofs.lemmas.List.Sums.{sum_by-set}
 use mathlib.Core.Logic.{dite}
 use native.Mathlib.Decide.{ℕ_discrete}
 use Rattle.tab_core.specs.declared.TheConstants.{ROUND}
-use Rattle.table_form.specs.Running.Courses.{CourseView, IsCourse, tick_at}
-use Rattle.round_words.specs.declared.view.Part.{Part}
+use Rattle.table_form.specs.Running.Courses.{CourseView}
 use Rattle.round_words.specs.declared.view.View.{View}
 use Rattle.round_words.specs.Changes.{ChangesOnly}
 use Rattle.round_words.specs.Views.{controller, holds, part}
-use Rattle.dispatch_core.specs.States.{AgreesWith, IsSameCore, StateView}
+use Rattle.dispatch_core.specs.States.{IsSameCore, StateView}
 use Rattle.plan_switch.specs.Controllers as controllers
 use Rattle.plan_switch.specs.declared.answer.ControlAnswer.TheVariants as control
 use Rattle.plan_switch.specs.declared.state.ControlState.{ControlState}
@@ -25,28 +24,15 @@ use Rattle.core_workers.specs.declared.team.Deal.{Deal}
 use Rattle.core_workers.specs.declared.team.Group.{Group}
 use Rattle.core_workers.specs.declared.team.Lead.{Lead}
 use Rattle.core_workers.specs.Groups.{CrewView, actor_of, cores_view, crew_view}
-use Rattle.core_workers.specs.Crews.{AllAgree, CoresAgree, HasFinished, HasPosted, HeldFinished, HoldsAll, IsCrew}
+use Rattle.core_workers.specs.Crews.{AllAgree, CoresAgree, CoresFinished, HasFinished, HasPosted, IsCrew}
 use Rattle.core_workers.specs.Inside.Clocks.{AreClocks, AreTicks, IsClockOf, left_of, ticks_left}
-use Rattle.core_workers.specs.Inside.Teams.{CoresGoOn, GoesOn, IsTeam}
-use Rattle.core_workers.specs.Inside.Turns.{CoresTold, IsRoster, LacksNext, LeadStep, LeadWaits, LeastWaits, RosterGoesOn, RunsOn, TurnTold, WaitsFor, unless_moved}
+use Rattle.core_workers.specs.Inside.Teams.{CoresGoOn, GoesOn, IsTeam, PartsGoOn}
+use Rattle.core_workers.specs.Inside.Turns.{CoresTold, IsRoster, LeadStep, LeastStuck, RosterGoesOn, RunsOn, TurnTold, unless_moved}
+use Rattle.core_workers.specs.Waiting.{AreAtRest, CoreWaits, LeadWaits, LeastWaits}
 use Rattle.core_workers.proofs.CrewLemmas.{agrees_others, all_on, at_same, crew_is, on_twice, same_as}
+use Rattle.core_workers.proofs.PartsLemmas.{lead_since, parts_more, stuck_since, stuck_stays, waits_since}
 
 -- a core runs on
-
--- who waits at a clock still waits when core c, which is at that clock, has made a step
-pub waits_on : (course : CourseView) (v w : View) (c clock : ℕ) → c ≢ controller → ChangesOnly v w c → (part v c).clock ≡ clock → WaitsFor course clock v → WaitsFor course clock w
-waits_on course v w c clock away changes at waits = elim waits [
-  | inl lacks ↦ inl (λ has. subst (λ (p : Part). LacksNext course (length p.floors) clock) (sym (changes.parts controller (λ e. away (sym e))))
-      (lacks (sym (changes.actors controller) ∙ has)))
-  | inr low ↦ inr (
-    low.0,
-    low.1,
-    λ has. let was : holds v low.0 ≡ true = sym (changes.actors low.0) ∙ has in
-        dite (ℕ_discrete low.0 c)
-        (λ e. absurd (omega (arith, low.2 was, ap (λ (i : ℕ). (part v i).clock) e, at)))
-        (λ ne. omega (arith, low.2 was, ap (λ (p : Part). p.clock) (changes.parts low.0 ne))),
-  )
-]
 
 -- a clock of the crew is at most the run's end, and less than OUT
 pub in_run : (crew : CrewView) (v : View) (c : ℕ) (a : StateView) → IsCrew crew → CoresAgree crew v → actor_of crew c ≡ Some a → holds v c ≡ true → (a.clock ≤ crew.rounds * ROUND) × (a.clock < OUT)
@@ -56,16 +42,12 @@ in_run crew v c a is agree at has =
     (le, omega (arith, le, is.fits.few_rounds))
 
 -- the core stops behind another, at its clock
-pub stops_behind : (course : CourseView) (a b n : StateView) (v w : View) (clock : ℕ) → IsCourse course → AgreesWith course b v → IsSameCore b n → ChangesOnly v w b.core → clock ≡ b.clock → a.clock ≤ clock
-    → (n.clock ≡ b.clock) × WaitsFor course b.clock v → RunsOn course a clock n w
-stops_behind course a b n v w clock kept agrees same changes is on step = inr (
+pub stops_behind : (course : CourseView) (a b n : StateView) (u v w : View) (clock : ℕ) → IsSameCore a b → PartsGoOn u v → clock ≡ b.clock → a.clock ≤ clock
+    → (n.clock ≡ b.clock) × CoreWaits course b.core v w → RunsOn course a u clock n w
+stops_behind course a b n u v w clock same parts is on step = inr (
   is ∙ sym step.0,
   dite (ℕ_discrete clock a.clock)
-      (λ e. inr (
-        e,
-        subst (λ (k : ℕ). WaitsFor course k w) (sym is)
-            (waits_on course v w b.core b.clock (λ c. omega (arith, c, agrees.stands.core.0, agrees.stands.of_outline.cores_are, kept.form.outline.few_cores)) changes (sym agrees.stands.clock) step.1),
-      ))
+      (λ e. inr (e, waits_since course u v w parts a.core (subst (λ (c : ℕ). CoreWaits course c v w) same.core step.1)))
       (λ ne. inl (omega (arith, ne, on))),
 )
 
@@ -87,7 +69,7 @@ going_on crew v ticks c are lt on = elim (are.each c lt) [
 module _ (crew crew' : CrewView) (v w : View) (ticks : List ℕ) (c answer : ℕ) (a b : StateView) where
   -- the clocks after core c ran on
   pub ticks_ran : IsCrew crew' → AreTicks crew v ticks → CoresGoOn crew v crew' w → c < 32 → actor_of crew' c ≡ Some b → ((d : ℕ) → d ≢ c → actor_of crew' d ≡ actor_of crew d) → holds v c ≡ true
-      → RunsOn crew.course a answer b w → AreTicks crew' w (slice_set ticks c answer)
+      → RunsOn crew.course a v answer b w → AreTicks crew' w (slice_set ticks c answer)
   ticks_ran is are on small at rest has runs = record {
     size = length-set ticks c answer ∙ are.size;
     each = λ d lt. dite (ℕ_discrete d c)
@@ -107,7 +89,7 @@ module _ (crew crew' : CrewView) (v w : View) (ticks : List ℕ) (c answer : ℕ
       ]
 
   -- it got on, or waits
-  pub ran_further : slice_index ticks c < OUT → slice_index ticks c ≡ a.clock → c < length ticks → answer ≢ slice_index ticks c → RunsOn crew.course a answer b w → ticks_left (slice_set ticks c answer) < ticks_left ticks
+  pub ran_further : slice_index ticks c < OUT → slice_index ticks c ≡ a.clock → c < length ticks → answer ≢ slice_index ticks c → RunsOn crew.course a v answer b w → ticks_left (slice_set ticks c answer) < ticks_left ticks
   ran_further less is inside moved runs = by_less (elim runs [
     | inl out ↦ omega (arith, out.0, less)
     | inr ran ↦ elim ran.1 [ inl more ↦ omega (arith, more, is) | inr here ↦ absurd (moved (here.0 ∙ sym is)) ]
@@ -116,12 +98,12 @@ module _ (crew crew' : CrewView) (v w : View) (ticks : List ℕ) (c answer : ℕ
       by_less : slice_index ticks c < answer → ticks_left (slice_set ticks c answer) < ticks_left ticks
       by_less more = let s = sum_by-set (λ (k : ℕ). OUT - k) ticks c answer 0 inside in omega (arith, s, more, less)
 
-  pub ran_waits : slice_index ticks c < OUT → slice_index ticks c ≡ a.clock → answer ≡ slice_index ticks c → RunsOn crew.course a answer b w → WaitsFor crew.course (slice_index ticks c) w
+  pub ran_waits : slice_index ticks c < OUT → slice_index ticks c ≡ a.clock → answer ≡ slice_index ticks c → RunsOn crew.course a v answer b w → CoreWaits crew.course a.core v w
   ran_waits less is same runs = elim runs [
     | inl out ↦ absurd (omega (arith, out.0, same, less))
     | inr ran ↦ elim ran.1 [
       | inl more ↦ absurd (omega (arith, more, same, is))
-      | inr here ↦ subst (λ (k : ℕ). WaitsFor crew.course k w) same here.1
+      | inr here ↦ here.1
     ]
   ]
 
@@ -131,67 +113,40 @@ module _ (crew crew' : CrewView) (v w : View) (ticks : List ℕ) (c answer : ℕ
 abbrev pub with_control : CrewView → ControlState → CrewView
 with_control crew n = record crew { control = n }
 
--- a controller that doesn't post has posted all, or a core is too low for it
-abbrev pub LeadStands : CrewView → Type 0
-LeadStands crew = HasPosted crew
-    ⊎ ((crew.control.posted < length crew.course.ticks) × (d : ℕ) × (d < crew.course.cores)
-    × ((a : StateView) → actor_of crew d ≡ Some a → a.clock + crew.course.lag < tick_at crew.course crew.control.posted))
+-- those who are held are at rest after a turn in which nobody got on
+module _ (crew : CrewView) (clocks : Clocks) (v w : View) (is : IsCrew crew) (agree : AllAgree crew w) (are : AreClocks crew w clocks) where
+  -- an actor is at its part's clock
+  clock_of : (d : ℕ) (a : StateView) → actor_of crew d ≡ Some a → holds w d ≡ true → a.clock ≡ (part w d).clock
+  clock_of d a at has = (agree.cores d a at has).stands.clock ∙ ap (λ (i : ℕ). (part w i).clock) (is.each d a at).core
 
-lead_stands : (crew : CrewView) (v : View) → IsCrew crew → AllAgree crew v → HoldsAll crew v → LeadWaits crew.course crew.control.posted v → LeadStands crew
-lead_stands crew v is agree all waits = inr (
-  waits.some,
-  waits.core,
-  waits.within,
-  λ a at.
-      let has : holds v waits.core ≡ true = all.cores waits.core waits.within in
-      let clock : a.clock ≡ (part v waits.core).clock = (agree.cores waits.core a at has).stands.clock ∙ ap (λ (i : ℕ). (part v i).clock) (is.each waits.core a at).core in
-      omega (arith, waits.low has, clock),
-)
-
-module _ (crew : CrewView) (v : View) (clocks : Clocks) (is : IsCrew crew) (agree : AllAgree crew v) (are : AreClocks crew v clocks) (all : HoldsAll crew v) where
-  -- no core is at a lower clock than the least one that is stuck
-  none_below : (clock : ℕ) → clock ≤ crew.rounds * ROUND → ((d : ℕ) → d < crew.course.cores → clock ≤ slice_index clocks.ticks d)
-      → (d : ℕ) → d < crew.course.cores → ((a : StateView) → actor_of crew d ≡ Some a → a.clock < clock) → ⊥
-  none_below clock le least d lt low = elim (are.cores.each d lt) [
-    | inl out ↦ (let x = out.1 (all.cores d lt) in omega (arith, low x.0 x.1, x.2, le, ap (λ (r : ℕ). r * ROUND) (is.each d x.0 x.1).rounds_is))
-    | inr at ↦ omega (arith, low at.1 at.2, at.4, least d lt)
-  ]
-
-  -- a core's actor is at its part's clock
-  clock_of : (d : ℕ) → d < crew.course.cores → (a : StateView) → actor_of crew d ≡ Some a → a.clock ≡ (part v d).clock
-  clock_of d lt a at = (agree.cores d a at (all.cores d lt)).stands.clock ∙ ap (λ (i : ℕ). (part v i).clock) (is.each d a at).core
-
-  -- so where the view holds all parts, the core or the controller gets on
-  pub nobody : LeadStands crew → LeastWaits crew.course crew.rounds clocks.ticks v → ⊥
-  nobody stands stuck = elim stuck.2 [
-    | inr low ↦ none_below stuck.0 stuck.1 stuck.3 low.0 low.1 (λ a at. omega (arith, low.2 (all.cores low.0 low.1), clock_of low.0 low.1 a at))
-    | inl lacks ↦ (let next = lacks all.control in
-        let posted : crew.control.posted ≡ length (part v controller).floors = (agree.control all.control).posted in
-        let one : LacksNext crew.course crew.control.posted stuck.0 = subst (λ (n : ℕ). LacksNext crew.course n stuck.0) (sym posted) next in
-        elim stands [
-          | inl over ↦ omega (arith, one.some, over)
-          | inr low ↦ none_below stuck.0 stuck.1 stuck.3 low.1 low.2 (λ a at. omega (arith, low.3 a at, one.due))
-        ])
-  ]
-
-  -- nor does the controller wait once all cores have finished
-  pub none_low : ((d : ℕ) → d < crew.course.cores → slice_index clocks.ticks d ≡ OUT) → LeadStands crew → HasPosted crew
-  none_low out stands = elim stands [
-    | inl posted ↦ posted
-    | inr low ↦ elim (are.cores.each low.1 low.2) [
-      | inl done ↦ (let x = done.1 (all.cores low.1 low.2) in absurd (omega (arith, low.3 x.0 x.1, x.2, is.fits.in_run crew.control.posted low.0, ap (λ (r : ℕ). r * ROUND) (is.each low.1 x.0 x.1).rounds_is)))
-      | inr at ↦ absurd (omega (arith, at.0, out low.1 low.2))
-    ]
-  ]
-
-pub all_finished : (crew : CrewView) (v : View) (clocks : Clocks) → IsCrew crew → AreClocks crew v clocks → ((d : ℕ) → d < crew.course.cores → slice_index clocks.ticks d ≡ OUT) → clocks.posting ≡ false → HeldFinished crew v
-all_finished crew v clocks is are out over = record {
-  cores = λ c a at has. elim (are.cores.each c (is.each c a at).within) [
+  all_finished : ((d : ℕ) → d < crew.course.cores → slice_index clocks.ticks d ≡ OUT) → CoresFinished crew w
+  all_finished out c a at has = elim (are.cores.each c (is.each c a at).within) [
     | inl done ↦ (let x = done.1 has in subst HasFinished (same_as (actor_of crew c) x.0 a x.1 at) x.2)
     | inr on ↦ absurd (omega (arith, on.0, out c (is.each c a at).within))
-  ];
-  control = λ has. are.over over has;
-}
+  ]
+
+  least_waits : LeastStuck crew.course clocks.ticks v w → LeastWaits crew.course v w
+  least_waits stuck =
+      let here = going_on crew w clocks.ticks stuck.core are.cores stuck.within stuck.on in
+      let cores : w.cores ≡ crew.course.cores = (agree.cores stuck.core here.1 here.2 here.3).stands.of_outline.cores_are in
+      let clock = clock_of stuck.core here.1 here.2 here.3 in
+      let within = (in_run crew w stuck.core here.1 is agree.cores here.2 here.3).0 in record {
+        core = stuck.core;
+        held = (omega (arith, stuck.within, cores), here.3);
+        least = λ d held. (let lt : d < crew.course.cores = omega (arith, held.0, cores) in elim (are.cores.each d lt) [
+          | inl out ↦ (let x = out.1 held.1 in
+              omega (arith, clock, within, clock_of d x.0 x.1 held.1, x.2, ap (λ (r : ℕ). r * ROUND) (is.each d x.0 x.1).rounds_is))
+          | inr on ↦ omega (arith, clock, here.4, stuck.least d lt, on.4, clock_of d on.1 on.2 held.1)
+        ]);
+        waits = stuck.waits;
+      }
+
+  pub at_rest : ((d : ℕ) → d < crew.course.cores → slice_index clocks.ticks d ≡ OUT) ⊎ LeastStuck crew.course clocks.ticks v w
+      → (clocks.posting ≡ false) ⊎ LeadWaits crew.course crew.control.posted v w → AreAtRest crew v w
+  at_rest cores control = record {
+    cores = elim cores [ inl out ↦ inl (all_finished out) | inr stuck ↦ inr (least_waits stuck) ];
+    control = λ has. elim control [ inl over ↦ inl (are.over over has) | inr waits ↦ inr waits ];
+  }
 
 module _ (crew : CrewView) (n : ControlState) (v w : View) where
   pub on_lead : IsCrew crew → AllAgree crew v → ChangesOnly v w controller → controllers.AgreesWith crew.course n w → GoesOn crew v (with_control crew n) w
@@ -220,16 +175,17 @@ module _ (crew : CrewView) (n : ControlState) (v w : View) where
 pub lead_view : (course : CourseView) (lead lead' : Lead) (deal : Deal) (groups : List Group) → lead'.rounds ≡ lead.rounds → with_control (crew_view course lead deal groups) lead'.control ≡ crew_view course lead' deal groups
 lead_view course lead lead' deal groups rounds = cc
 
-pub all_held : (crew crew' : CrewView) (u v : View) → GoesOn crew u crew' v → HoldsAll crew u → HoldsAll crew' v
-all_held crew crew' u v on all = record {
-  cores = λ d lt. on.actors.actors d ∙ all.cores d (subst (λ (k : CourseView). d < k.cores) on.same.course lt);
-  control = on.actors.actors controller ∙ all.control;
-}
+-- what came of the cores' part of a turn that began some steps before
+pub told_more : (course : CourseView) (ticks : List ℕ) (u v : View) (p : Progress) (ticks' : List ℕ) (w : View) → PartsGoOn u v
+    → CoresTold course ticks v p ticks' w → CoresTold course ticks u p ticks' w
+told_more course ticks u v Moved ticks' w on told = told
+told_more course ticks u v Waits ticks' w on told = (told.0, stuck_since course u v w on ticks' told.1)
+told_more course ticks u v Done ticks' w on told = told
 
 -- the cores' part leaves the controller's part of what is to be done
-module _ (crew crew' : CrewView) (u v : View) (clocks clocks' : Clocks) (course : crew'.course ≡ crew.course) (rounds : crew'.rounds ≡ crew.rounds)
+module _ (crew crew' : CrewView) (u v : View) (clocks clocks' : Clocks) (course : crew'.course ≡ crew.course)
     (control : crew'.control ≡ crew.control) (posting : clocks'.posting ≡ clocks.posting) where
-  ticks_less : (p : Progress) → CoresTold crew.course crew.rounds clocks.ticks p clocks'.ticks v → ticks_left clocks'.ticks ≤ ticks_left clocks.ticks
+  ticks_less : (p : Progress) → CoresTold crew.course clocks.ticks u p clocks'.ticks v → ticks_left clocks'.ticks ≤ ticks_left clocks.ticks
   ticks_less Moved told = omega (arith, told)
   ticks_less Waits told = told.0
   ticks_less Done told = told.0
@@ -238,42 +194,44 @@ module _ (crew crew' : CrewView) (u v : View) (clocks clocks' : Clocks) (course 
       ≡ (length crew.course.ticks - crew.control.posted) + (if clocks.posting then 1 else 0)
   rest_same = ap₂ (λ (n k : ℕ). n + k) (ap₂ (λ (k : CourseView) (s : ControlState). length k.ticks - s.posted) course control) (ap (λ (b : Bool). if b then 1 else 0) posting)
 
-  cores_less : (p : Progress) → CoresTold crew.course crew.rounds clocks.ticks p clocks'.ticks v → left_of crew' clocks' ≤ left_of crew clocks
+  cores_less : (p : Progress) → CoresTold crew.course clocks.ticks u p clocks'.ticks v → left_of crew' clocks' ≤ left_of crew clocks
   cores_less p told = omega (arith, ticks_less p told, rest_same)
 
-  waits_here : LeastWaits crew.course crew.rounds clocks'.ticks v → LeastWaits crew'.course crew'.rounds clocks'.ticks v
-  waits_here waits = subst (λ (k : CourseView). LeastWaits k crew'.rounds clocks'.ticks v) (sym course) (subst (λ (n : ℕ). LeastWaits crew.course n clocks'.ticks v) (sym rounds) waits)
+  stuck_here : LeastStuck crew.course clocks'.ticks u v → LeastStuck crew'.course clocks'.ticks u v
+  stuck_here stuck = subst (λ (k : CourseView). LeastStuck k clocks'.ticks u v) (sym course) stuck
 
   all_out : ((d : ℕ) → d < crew.course.cores → slice_index clocks'.ticks d ≡ OUT) → (d : ℕ) → d < crew'.course.cores → slice_index clocks'.ticks d ≡ OUT
   all_out out d lt = out d (subst (λ (k : CourseView). d < k.cores) course lt)
 
-  pub told_over : IsCrew crew' → GoesOn crew u crew' v → AreClocks crew' v clocks' → clocks'.posting ≡ false → (p : Progress) → CoresTold crew.course crew.rounds clocks.ticks p clocks'.ticks v → TurnTold crew clocks u p crew' clocks' v
+  pub told_over : IsCrew crew' → GoesOn crew u crew' v → AreClocks crew' v clocks' → clocks'.posting ≡ false → (p : Progress) → CoresTold crew.course clocks.ticks u p clocks'.ticks v → TurnTold crew clocks u p crew' clocks' v
   told_over is on are over Moved told = omega (arith, told, rest_same)
-  told_over is on are over Waits told = (
-    cores_less Waits told,
-    λ all. let held = all_held crew crew' u v on all in nobody crew' v clocks' is on.agree are held (inl (are.over over held.control)) (waits_here told.1),
-  )
-  told_over is on are over Done told = all_finished crew' v clocks' is are (all_out told.1) over
+  told_over is on are over Waits told = (cores_less Waits told, at_rest crew' clocks' u v is on.agree are (inr (stuck_here told.1)) (inl over))
+  told_over is on are over Done told = at_rest crew' clocks' u v is on.agree are (inl (all_out told.1)) (inl over)
 
-  pub told_posted : (n : ControlState) → (p : Progress) → CoresTold crew.course crew.rounds clocks.ticks p clocks'.ticks v → (crew'.control.posted < length crew'.course.ticks) × (n.posted ≡ suc crew'.control.posted) → left_of (with_control crew' n) clocks' < left_of crew clocks
+  pub told_posted : (n : ControlState) → (p : Progress) → CoresTold crew.course clocks.ticks u p clocks'.ticks v → (crew'.control.posted < length crew'.course.ticks) × (n.posted ≡ suc crew'.control.posted) → left_of (with_control crew' n) clocks' < left_of crew clocks
   told_posted n p told posted = omega (arith, cores_less p told, posted.0, posted.1)
 
-  pub told_done : (n : ControlState) → (p : Progress) → CoresTold crew.course crew.rounds clocks.ticks p clocks'.ticks v → n.posted ≡ crew'.control.posted → clocks'.posting ≡ true
+  pub told_done : (n : ControlState) → (p : Progress) → CoresTold crew.course clocks.ticks u p clocks'.ticks v → n.posted ≡ crew'.control.posted → clocks'.posting ≡ true
       → left_of (with_control crew' n) (record { ticks = clocks'.ticks; posting = false }) < left_of crew clocks
   told_done n p told same on = let one : ◌≡◌ {A = ℕ} (if clocks'.posting then 1 else 0) 1 = ap (λ (b : Bool). if b then 1 else 0) on in omega (arith, cores_less p told, same, one)
 
-  pub told_behind : (n : ControlState) (w : View) → IsCrew crew' → GoesOn crew u crew' v → AreClocks crew' v clocks' → LeadWaits crew'.course crew'.control.posted v → n.posted ≡ crew'.control.posted → (p : Progress) → CoresTold crew.course crew.rounds clocks.ticks p clocks'.ticks v
-      → TurnTold crew clocks u (unless_moved p) (with_control crew' n) clocks' w
-  told_behind n w is on are waits same Moved told = omega (arith, told, rest_same, same)
-  told_behind n w is on are waits same Waits told = (
-    omega (arith, cores_less Waits told, same),
-    λ all. let held = all_held crew crew' u v on all in nobody crew' v clocks' is on.agree are held (lead_stands crew' v is on.agree held waits) (waits_here told.1),
-  )
-  told_behind n w is on are waits same Done told = (
-    omega (arith, cores_less Done told, same),
-    λ all. let held = all_held crew crew' u v on all in
-        let posted = none_low crew' v clocks' is on.agree are held (all_out told.1) (lead_stands crew' v is on.agree held waits) in omega (arith, posted, waits.some),
-  )
+  -- the controller waits after the cores
+  module _ (n : ControlState) (w : View) (is : IsCrew (with_control crew' n)) (agree : AllAgree (with_control crew' n) w) (are : AreClocks (with_control crew' n) w clocks')
+      (changes : ChangesOnly v w controller) (floors : length (part w controller).floors ≡ length (part v controller).floors) (parts : PartsGoOn u v)
+      (same : n.posted ≡ crew'.control.posted) (waits : LeadWaits crew'.course crew'.control.posted v w) where
+    lead_waits : LeadWaits crew'.course n.posted u w
+    lead_waits = subst (λ (k : ℕ). LeadWaits crew'.course k u w) (sym same) (lead_since crew'.course u v w parts crew'.control.posted waits)
+
+    pub told_behind : (p : Progress) → CoresTold crew.course clocks.ticks u p clocks'.ticks v → TurnTold crew clocks u (unless_moved p) (with_control crew' n) clocks' w
+    told_behind Moved told = omega (arith, told, rest_same, same)
+    told_behind Waits told = (
+      omega (arith, cores_less Waits told, same),
+      at_rest (with_control crew' n) clocks' u w is agree are (inr (stuck_stays crew'.course u v w is.course_kept changes floors clocks'.ticks (stuck_here told.1))) (inr lead_waits),
+    )
+    told_behind Done told = (
+      omega (arith, cores_less Done told, same),
+      at_rest (with_control crew' n) clocks' u w is agree are (inl (all_out told.1)) (inr lead_waits),
+    )
 
 module _ (course : CourseView) (lead lead' : Lead) (deal : Deal) (groups : List Group) (u w : View) (same : lead'.rounds ≡ lead.rounds) where
   pub lead_goes : IsCrew (crew_view course lead deal groups) → AllAgree (crew_view course lead deal groups) u → ChangesOnly u w controller → controllers.AgreesWith course lead'.control w
@@ -331,12 +289,11 @@ module _ (course : CourseView) (rounds : ℕ) (lead : Lead) (roster roster' : Ro
   is_mid : IsCrew mid
   is_mid = crew_is course lead.rounds lead.control deal groups' (subst (λ (r : ℕ). IsTeam course r deal groups') (sym rounds_are) team)
 
-  module _ (p : Progress) (told : CoresTold course rounds clocks.ticks p clocks'.ticks u) where
-    told_mid : CoresTold course lead.rounds clocks.ticks p clocks'.ticks u
-    told_mid = subst (λ (r : ℕ). CoresTold course r clocks.ticks p clocks'.ticks u) (sym rounds_are) told
+  pub parts_cores : PartsGoOn v u
+  parts_cores = goes.parts
 
-    pub turn_over : clocks'.posting ≡ false → TurnTold crew clocks v p mid clocks' u
-    turn_over over = told_over crew mid v u clocks clocks' refl refl refl posting is_mid goes_cores clocks_cores over p told_mid
+  pub turn_over : (p : Progress) → CoresTold course clocks.ticks v p clocks'.ticks u → clocks'.posting ≡ false → TurnTold crew clocks v p mid clocks' u
+  turn_over p told over = told_over crew mid v u clocks clocks' refl refl posting is_mid goes_cores clocks_cores over p told
 
   module _ (lead' : Lead) (w : View) (same : lead'.rounds ≡ lead.rounds) (changes : ChangesOnly u w controller) where
     abbrev crew' : CrewView
@@ -348,15 +305,23 @@ module _ (course : CourseView) (rounds : ℕ) (lead : Lead) (roster roster' : Ro
     pub clocks_turn : (goes_on : Bool) → clocks'.posting ≡ true → (goes_on ≡ false → lead'.control.posted ≡ length course.ticks) → AreClocks crew' w (record { ticks = clocks'.ticks; posting = goes_on })
     clocks_turn goes_on was over = lead_clocks course lead lead' deal groups' u w same clocks' goes_on clocks_cores was changes over
 
-    module _ (p : Progress) (told : CoresTold course rounds clocks.ticks p clocks'.ticks u) where
-      pub turn_posted : (count : ℕ) → LeadStep course lead.control.posted u (control.Posted count) lead'.control.posted → left_of crew' clocks' < left_of crew clocks
+    pub parts_turn : PartsGoOn u w → PartsGoOn v w
+    parts_turn on = parts_more v u w parts_cores on
+
+    module _ (p : Progress) (told : CoresTold course clocks.ticks v p clocks'.ticks u) where
+      pub turn_posted : (count : ℕ) → LeadStep course lead.control.posted u (control.Posted count) lead'.control.posted w → left_of crew' clocks' < left_of crew clocks
       turn_posted count step = subst (λ (k : CrewView). left_of k clocks' < left_of crew clocks) (lead_view course lead lead' deal groups' same)
-          (told_posted crew mid v u clocks clocks' refl refl refl posting lead'.control p (told_mid p told) step)
+          (told_posted crew mid v u clocks clocks' refl refl posting lead'.control p told step)
 
-      pub turn_behind : (core tick : ℕ) → LeadStep course lead.control.posted u (control.Behind core tick) lead'.control.posted → TurnTold crew clocks v (unless_moved p) crew' clocks' w
-      turn_behind core tick step = subst (λ (k : CrewView). TurnTold crew clocks v (unless_moved p) k clocks' w) (lead_view course lead lead' deal groups' same)
-          (told_behind crew mid v u clocks clocks' refl refl refl posting lead'.control w is_mid goes_cores clocks_cores step.1 step.0 p (told_mid p told))
+      pub turn_behind : (core tick : ℕ) → controllers.AgreesWith course lead'.control w → clocks'.posting ≡ true
+          → LeadStep course lead.control.posted u (control.Behind core tick) lead'.control.posted w → TurnTold crew clocks v (unless_moved p) crew' clocks' w
+      turn_behind core tick agrees was step = subst (λ (k : CrewView). TurnTold crew clocks v (unless_moved p) k clocks' w) (lead_view course lead lead' deal groups' same)
+          (told_behind crew mid v u clocks clocks' refl refl posting lead'.control w
+          (crew_is course lead.rounds lead'.control deal groups' (subst (λ (r : ℕ). IsTeam course r deal groups') (sym rounds_are) team))
+          (on_lead mid lead'.control u w is_mid goes_cores.agree changes agrees).agree
+          (clocks_lead mid lead'.control u w clocks' clocks'.posting clocks_cores was changes (λ off. absurd (true≢false (sym was ∙ off))))
+          changes (sym agrees.posted ∙ (step.0 ∙ (goes_cores.agree.control (clocks_cores.some was)).posted)) goes.parts step.0 step.1 p told)
 
-      pub turn_done : LeadStep course lead.control.posted u control.Finished lead'.control.posted → clocks'.posting ≡ true → left_of crew' (record { ticks = clocks'.ticks; posting = false }) < left_of crew clocks
+      pub turn_done : LeadStep course lead.control.posted u control.Finished lead'.control.posted w → clocks'.posting ≡ true → left_of crew' (record { ticks = clocks'.ticks; posting = false }) < left_of crew clocks
       turn_done step was = subst (λ (k : CrewView). left_of k (record { ticks = clocks'.ticks; posting = false }) < left_of crew clocks) (lead_view course lead lead' deal groups' same)
-          (told_done crew mid v u clocks clocks' refl refl refl posting lead'.control p (told_mid p told) step.0 was)
+          (told_done crew mid v u clocks clocks' refl refl posting lead'.control p told step.0 was)

@@ -62,9 +62,13 @@ HasFinished a = a.clock ≡ a.rounds * ROUND
 abbrev pub HasPosted : CrewView → Type 0
 HasPosted crew = crew.control.posted ≡ length crew.course.ticks
 
+-- the cores whose parts the view holds have finished
+abbrev pub CoresFinished : CrewView → View → Type 0
+CoresFinished crew v = (c : ℕ) (a : StateView) → actor_of crew c ≡ Some a → holds v c ≡ true → HasFinished a
+
 -- those whose parts the view holds have finished
 pub record HeldFinished (crew : CrewView) (v : View) : Type 0 where
-  pub cores : (c : ℕ) (a : StateView) → actor_of crew c ≡ Some a → holds v c ≡ true → HasFinished a
+  pub cores : CoresFinished crew v
   pub control : holds v controller ≡ true → HasPosted crew
 
 -- the same board, and parts of the same actors

@@ -7,6 +7,7 @@ ghost use Rattle.round_words.specs.Seats.{view_of, IsSeatOf};
 ghost use Rattle.slice_table.specs.Owners.{AreCourseOwners};
 ghost use Rattle.core_workers.specs.Crews.{AllAgree, HeldFinished, HoldsAll, IsCrew, IsFresh, IsSameCrew, IsWhole, SameActors};
 ghost use Rattle.core_workers.specs.Groups.{actor_of};
+ghost use Rattle.core_workers.specs.Waiting.{AreAtRest};
 ghost use Rattle.core_workers.specs.Inside.Making.{AreGroups, AreMembers};
 
 use crate::driving::drive_team;
@@ -175,8 +176,11 @@ fn make_group(
 /// controller makes a step, until it has posted all. The gate is passed before each step, also before the one that
 /// finds that its actor has finished.
 ///
-/// Each actor agrees with its part, which it does again afterwards. Where the seat holds all parts, every actor has
-/// finished at the end.
+/// Each actor agrees with its part, which it does again afterwards. At the end the actors that the seat holds are at
+/// rest. Its cores have finished, or one of least clock among them waits: the last that it did, in this call, was to
+/// find an event that is due not posted, or another core's clock too low for its next stint. The controller, if the
+/// seat holds it, has posted all events, or so waits for a core. Where the seat holds all parts, every actor has
+/// finished.
 pub fn drive<G: Gate>(board: &RoundBoard, seat: &mut RoundSeat, crew: &mut Crew<'_>, gate: &G)
     requires board { IsSeatOf board.now seat.old }
     requires agree { AllAgree crew.old (view_of seat.old) }
@@ -184,6 +188,7 @@ pub fn drive<G: Gate>(board: &RoundBoard, seat: &mut RoundSeat, crew: &mut Crew<
     ensures agree { AllAgree crew.new (view_of seat.new) }
     ensures same { IsSameCrew crew.old crew.new }
     ensures actors { SameActors (view_of seat.old) (view_of seat.new) }
+    ensures rests { AreAtRest crew.new (view_of seat.old) (view_of seat.new) }
     ensures finished { HoldsAll crew.old (view_of seat.old) → HeldFinished crew.new (view_of seat.new) }
 {
     drive_team(board, seat, crew.course, &mut crew.team, gate);

@@ -1,8 +1,9 @@
 ghost use Rattle.std.specs.Prelude.{◌≡◌};
 ghost use Rattle.round_words.specs.Seats.{view_of, IsSeatOf};
-ghost use Rattle.core_workers.specs.Crews.{AllAgree, HeldFinished, HoldsAll};
+ghost use Rattle.core_workers.specs.Crews.{AllAgree};
 ghost use Rattle.core_workers.specs.Groups.{crew_view, team_view};
 ghost use Rattle.core_workers.specs.Inside.Teams.{GoesOn, IsManned, IsSameShape, IsTeam, IsTeamKept};
+ghost use Rattle.core_workers.specs.Waiting.{AreAtRest};
 
 use crate::clocks::read_clocks;
 use crate::gate::Gate;
@@ -34,8 +35,8 @@ pub(crate) fn drive_groups<G: Gate>(
     ensures team { IsTeam site.now.course.now site.now.rounds deal groups.new }
     ensures goes { GoesOn (crew_view site.now.course.now lead.old deal groups.old) (view_of seat.old)
         (crew_view site.now.course.now lead.new deal groups.new) (view_of seat.new) }
-    ensures finished { HoldsAll (crew_view site.now.course.now lead.old deal groups.old) (view_of seat.old)
-        → HeldFinished (crew_view site.now.course.now lead.new deal groups.new) (view_of seat.new) }
+    ensures rests { AreAtRest (crew_view site.now.course.now lead.new deal groups.new) (view_of seat.old)
+        (view_of seat.new) }
 {
     let places = Places::of(deal, site.course.cores());
     let clocks = read_clocks(site, seat, &places, groups);
@@ -74,8 +75,7 @@ pub(crate) fn drive_team<G: Gate>(
     ensures kept { IsTeamKept course.now team.new }
     ensures goes { GoesOn (team_view course.now team.old) (view_of seat.old) (team_view course.now team.new)
         (view_of seat.new) }
-    ensures finished { HoldsAll (team_view course.now team.old) (view_of seat.old)
-        → HeldFinished (team_view course.now team.new) (view_of seat.new) }
+    ensures rests { AreAtRest (team_view course.now team.new) (view_of seat.old) (view_of seat.new) }
     ensures shape { IsSameShape team.old team.new }
 {
     let site = Site {

@@ -6,6 +6,7 @@ ghost use Rattle.round_words.specs.Views.{controller as the_controller};
 ghost use Rattle.slice_table.specs.CoreSlices.{AreSlicesOf};
 ghost use Rattle.dispatch_core.specs.States.{AgreesWith, IsSameCore};
 ghost use Rattle.plan_switch.specs.Controllers.{AgreesWith as LeadAgrees};
+ghost use Rattle.core_workers.specs.Inside.Teams.{PartsGoOn};
 ghost use Rattle.core_workers.specs.Inside.Turns.{CoreStep, LeadStep, RunsOn};
 
 use crate::clocks::OUT;
@@ -38,7 +39,9 @@ pub(crate) fn run_member<G: Gate>(
     ensures agrees { AgreesWith site.now.course.now member.new.state (view_of seat.new) }
     ensures same { IsSameCore member.old.state member.new.state }
     ensures changes { ChangesOnly (view_of seat.old) (view_of seat.new) member.old.state.core }
-    ensures runs { RunsOn site.now.course.now member.old.state result member.new.state (view_of seat.new) }
+    ensures parts { PartsGoOn (view_of seat.old) (view_of seat.new) }
+    ensures runs { RunsOn site.now.course.now member.old.state (view_of seat.old) result member.new.state
+        (view_of seat.new) }
 {
     let mut clock = member.state.clock();
     'running: while clock <= limit {
@@ -67,7 +70,9 @@ fn step_member<G: Gate>(
     ensures agrees { AgreesWith site.now.course.now member.new.state (view_of seat.new) }
     ensures same { IsSameCore member.old.state member.new.state }
     ensures changes { ChangesOnly (view_of seat.old) (view_of seat.new) member.old.state.core }
-    ensures step { CoreStep site.now.course.now member.old.state (view_of seat.old) result member.new.state }
+    ensures parts { PartsGoOn (view_of seat.old) (view_of seat.new) }
+    ensures step { CoreStep site.now.course.now member.old.state (view_of seat.old) result member.new.state
+        (view_of seat.new) }
 {
     site.gate.pass(core, member.steps);
     member.steps = member.steps.saturating_add(1);
@@ -92,7 +97,9 @@ pub(crate) fn step_lead<G: Gate>(
     ensures agrees { LeadAgrees site.now.course.now lead.new.control (view_of seat.new) }
     ensures same { lead.new.rounds ≡ lead.old.rounds }
     ensures changes { ChangesOnly (view_of seat.old) (view_of seat.new) the_controller }
-    ensures step { LeadStep site.now.course.now lead.old.control.posted (view_of seat.old) result lead.new.control.posted }
+    ensures parts { PartsGoOn (view_of seat.old) (view_of seat.new) }
+    ensures step { LeadStep site.now.course.now lead.old.control.posted (view_of seat.old) result lead.new.control.posted
+        (view_of seat.new) }
 {
     site.gate.pass(CONTROLLER, lead.steps);
     lead.steps = lead.steps.saturating_add(1);

@@ -5,7 +5,7 @@ ghost use Rattle.core_workers.specs.Groups.{crew_view};
 ghost use Rattle.core_workers.specs.declared.clocks.TheConstants.{OUT as THE_OUT};
 ghost use Rattle.core_workers.specs.Inside.Clocks.{AreClocks};
 ghost use Rattle.core_workers.specs.Inside.Places.{ArePlaces};
-ghost use Rattle.core_workers.specs.Inside.Teams.{GoesOn, IsTeam};
+ghost use Rattle.core_workers.specs.Inside.Teams.{GoesOn, IsTeam, PartsGoOn};
 ghost use Rattle.core_workers.specs.Inside.Turns.{CoresTold, GuessTold, IsRoster, RosterGoesOn, RunTold, TurnTold, unless_moved};
 
 use crate::clocks::{Clocks, OUT, find_least};
@@ -62,6 +62,7 @@ pub(crate) fn turn<G: Gate>(
         (view_of seat.new) }
     ensures clocks { AreClocks (crew_view site.now.course.now lead.new roster.old.places.deal groups.new)
         (view_of seat.new) roster.new.clocks }
+    ensures parts { PartsGoOn (view_of seat.old) (view_of seat.new) }
     ensures told { TurnTold (crew_view site.now.course.now lead.old roster.old.places.deal groups.old)
         roster.old.clocks (view_of seat.old) result
         (crew_view site.now.course.now lead.new roster.old.places.deal groups.new) roster.new.clocks
@@ -103,7 +104,7 @@ fn turn_cores<G: Gate>(
     ensures roster { IsRoster site.now.course.now site.now.rounds groups.new roster.new (view_of seat.new) }
     ensures goes { RosterGoesOn site.now.course.now site.now.rounds groups.old roster.old (view_of seat.old)
         groups.new roster.new (view_of seat.new) }
-    ensures told { CoresTold site.now.course.now site.now.rounds roster.old.clocks.ticks result
+    ensures told { CoresTold site.now.course.now roster.old.clocks.ticks (view_of seat.old) result
         roster.new.clocks.ticks (view_of seat.new) }
 {
     if turn_guessed(site, seat, groups, roster) {
@@ -153,7 +154,7 @@ fn turn_least<G: Gate>(
     ensures roster { IsRoster site.now.course.now site.now.rounds groups.new roster.new (view_of seat.new) }
     ensures goes { RosterGoesOn site.now.course.now site.now.rounds groups.old roster.old (view_of seat.old)
         groups.new roster.new (view_of seat.new) }
-    ensures told { CoresTold site.now.course.now site.now.rounds roster.old.clocks.ticks result
+    ensures told { CoresTold site.now.course.now roster.old.clocks.ticks (view_of seat.old) result
         roster.new.clocks.ticks (view_of seat.new) }
 {
     let lag = site.course.lag();
@@ -191,7 +192,7 @@ fn run_core<G: Gate>(
     ensures roster { IsRoster site.now.course.now site.now.rounds groups.new roster.new (view_of seat.new) }
     ensures goes { RosterGoesOn site.now.course.now site.now.rounds groups.old roster.old (view_of seat.old)
         groups.new roster.new (view_of seat.new) }
-    ensures told { RunTold site.now.course.now site.now.rounds core roster.old.clocks.ticks result
+    ensures told { RunTold site.now.course.now core roster.old.clocks.ticks (view_of seat.old) result
         roster.new.clocks.ticks (view_of seat.new) }
 {
     let place = roster.places.of_core(core);

@@ -12,6 +12,7 @@ use Rattle.core_workers.specs.declared.team.Team.{Team}
 use Rattle.core_workers.specs.Crews.{AllAgree, CoresAgree, IsSameCrew, IsWhole, SameActors}
 use Rattle.core_workers.specs.Groups.{CrewView, actor_of, deal_of, member_of, team_view, worker_view}
 use Rattle.core_workers.specs.Numbers.{NamesFrom}
+use Rattle.core_workers.specs.Waiting.{IsOn}
 
 -- the member is that of core c, in a run of the course
 pub record IsMemberOf (course : CourseView) (rounds c : ℕ) (m : Member) : Type 0 where
@@ -43,10 +44,15 @@ pub record GoesOn (crew : CrewView) (v : View) (crew' : CrewView) (w : View) : T
   pub actors : SameActors v w
   pub agree : AllAgree crew' w
 
+-- each actor's part, maybe some steps on
+abbrev pub PartsGoOn : View → View → Type 0
+PartsGoOn v w = (a : ℕ) → IsOn (part v a) (part w a)
+
 -- the same of steps of cores alone: the controller's part is as before
 pub record CoresGoOn (crew : CrewView) (v : View) (crew' : CrewView) (w : View) : Type 0 where
   pub same : IsSameCrew crew crew'
   pub actors : SameActors v w
+  pub parts : PartsGoOn v w
   pub control : part w controller ≡ part v controller
   pub agree : CoresAgree crew' w
 

@@ -1,10 +1,10 @@
-use Rattle.std.proofs.Common.{◌≡◌, ◌≤◌, ◌+◌, ◌*◌}
+use Rattle.std.proofs.Common.{◌≡◌, ◌≤◌, ◌+◌, ◌*◌, ◌⊎◌}
 use Rattle.round_words.specs.Seats.{view_of, IsSeatOf}
-use Rattle.core_workers.specs.Crews.{HoldsAll}
 use Rattle.core_workers.specs.Groups.{crew_view}
 use Rattle.core_workers.specs.Inside.Clocks.{AreClocks, left_of}
 use Rattle.core_workers.specs.Inside.Places.{ArePlaces}
-use Rattle.core_workers.specs.Inside.Teams.{GoesOn, IsTeam}
+use Rattle.core_workers.specs.Inside.Teams.{GoesOn, IsTeam, PartsGoOn}
+use Rattle.core_workers.specs.Waiting.{AreAtRest}
 use Rattle.core_workers.proofs.driving.drive_groups.Given as goal
 
 abbrev pub invariant-driving : goal.invariant-driving
@@ -16,8 +16,9 @@ invariant-driving g l = record {
   team : IsTeam l.fn.site.course.now l.fn.site.rounds l.roster.places.deal l.groups;
   goes : GoesOn (crew_view l.fn.site.course.now l.fn.lead l.fn.deal l.fn.groups) (view_of l.fn.seat) (crew_view l.fn.site.course.now l.lead l.roster.places.deal l.groups) (view_of l.seat);
   clocks : AreClocks (crew_view l.fn.site.course.now l.lead l.roster.places.deal l.groups) (view_of l.seat) l.roster.clocks;
+  parts : PartsGoOn (view_of l.fn.seat) (view_of l.seat);
   few : l.left ≤ 10000000;
-  patient : HoldsAll (crew_view l.fn.site.course.now l.fn.lead l.fn.deal l.fn.groups) (view_of l.fn.seat) → l.left ≡ 10000000;
+  rests : (l.left ≡ 10000000) ⊎ AreAtRest (crew_view l.fn.site.course.now l.lead l.roster.places.deal l.groups) (view_of l.fn.seat) (view_of l.seat);
 }
 
 abbrev pub decreases-driving : goal.decreases-driving

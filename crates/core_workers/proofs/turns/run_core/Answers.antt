@@ -16,27 +16,28 @@ run_member-reached-requires-clause-limit g c κs within =
 pub returns-clause-told : goal.returns-clause-told
 returns-clause-told g c = further c.args.site.now.course.now c.args.site.now.rounds c.args.roster.now.places.deal c.args.groups.now c.args.core c.of_core-place.result c.index_mut-member.result.now _ c.index-groups-place.result (view_of c.args.seat.now) c.args.roster.now.clocks.ticks
     c.requires.roster.team c.requires.roster.agree c.requires.roster.ticks c.requires.core c.requires.on (c.of_core-place.ensures c.args.site.now.course.now.cores c.requires.core c.requires.roster.places) c.index_mut-member.ensures.value
-    c.run_member-reached.new.member c.run_member-reached.result (view_of c.run_member-reached.new.seat) c.run_member-reached.ensures.same c.run_member-reached.ensures.slices c.run_member-reached.ensures.changes c.run_member-reached.ensures.agrees c.run_member-reached.ensures.runs c.if-reached-roster.false
+    c.run_member-reached.new.member c.run_member-reached.result (view_of c.run_member-reached.new.seat) c.run_member-reached.ensures.same c.run_member-reached.ensures.slices c.run_member-reached.ensures.changes c.run_member-reached.ensures.agrees c.run_member-reached.ensures.parts c.run_member-reached.ensures.runs c.if-reached-roster.false
 
 pub returns-then-reached-roster-clause-told : goal.returns-then-reached-roster-clause-told
-returns-then-reached-roster-clause-told g c =
-    let w = waits c.args.site.now.course.now c.args.site.now.rounds c.args.roster.now.places.deal c.args.groups.now c.args.core c.of_core-place.result c.index_mut-member.result.now _ c.index-groups-place.result (view_of c.args.seat.now) c.args.roster.now.clocks.ticks
-    c.requires.roster.team c.requires.roster.agree c.requires.roster.ticks c.requires.core c.requires.on (c.of_core-place.ensures c.args.site.now.course.now.cores c.requires.core c.requires.roster.places) c.index_mut-member.ensures.value
-    c.run_member-reached.new.member c.run_member-reached.result (view_of c.run_member-reached.new.seat) c.run_member-reached.ensures.same c.run_member-reached.ensures.slices c.run_member-reached.ensures.changes c.run_member-reached.ensures.agrees c.run_member-reached.ensures.runs c.if-reached-roster.true in
-    (refl, w.0, w.1)
+returns-then-reached-roster-clause-told g c = (
+  refl,
+  waits c.args.site.now.course.now c.args.site.now.rounds c.args.roster.now.places.deal c.args.groups.now c.args.core c.of_core-place.result c.index_mut-member.result.now _ c.index-groups-place.result (view_of c.args.seat.now) c.args.roster.now.clocks.ticks
+      c.requires.roster.team c.requires.roster.agree c.requires.roster.ticks c.requires.core c.requires.on (c.of_core-place.ensures c.args.site.now.course.now.cores c.requires.core c.requires.roster.places) c.index_mut-member.ensures.value
+      c.run_member-reached.new.member c.run_member-reached.result (view_of c.run_member-reached.new.seat) c.run_member-reached.ensures.same c.run_member-reached.ensures.slices c.run_member-reached.ensures.changes c.run_member-reached.ensures.agrees c.run_member-reached.ensures.parts c.run_member-reached.ensures.runs c.if-reached-roster.true,
+)
 
 pub returns-then-reached-roster-clause-roster : goal.returns-then-reached-roster-clause-roster
 returns-then-reached-roster-clause-roster g c = record {
   places = c.requires.roster.places;
   team = team_ran c.args.site.now.course.now c.args.site.now.rounds c.args.roster.now.places.deal c.args.groups.now c.args.core c.of_core-place.result c.index_mut-member.result.now _ c.index-groups-place.result (view_of c.args.seat.now) c.args.roster.now.clocks.ticks
       c.requires.roster.team c.requires.roster.agree c.requires.roster.ticks c.requires.core c.requires.on (c.of_core-place.ensures c.args.site.now.course.now.cores c.requires.core c.requires.roster.places) c.index_mut-member.ensures.value
-      c.run_member-reached.new.member c.run_member-reached.result (view_of c.run_member-reached.new.seat) c.run_member-reached.ensures.same c.run_member-reached.ensures.slices c.run_member-reached.ensures.changes c.run_member-reached.ensures.agrees c.run_member-reached.ensures.runs;
+      c.run_member-reached.new.member c.run_member-reached.result (view_of c.run_member-reached.new.seat) c.run_member-reached.ensures.same c.run_member-reached.ensures.slices c.run_member-reached.ensures.changes c.run_member-reached.ensures.agrees c.run_member-reached.ensures.parts c.run_member-reached.ensures.runs;
   agree = (cores_ran c.args.site.now.course.now c.args.site.now.rounds c.args.roster.now.places.deal c.args.groups.now c.args.core c.of_core-place.result c.index_mut-member.result.now _ c.index-groups-place.result (view_of c.args.seat.now) c.args.roster.now.clocks.ticks
       c.requires.roster.team c.requires.roster.agree c.requires.roster.ticks c.requires.core c.requires.on (c.of_core-place.ensures c.args.site.now.course.now.cores c.requires.core c.requires.roster.places) c.index_mut-member.ensures.value
-      c.run_member-reached.new.member c.run_member-reached.result (view_of c.run_member-reached.new.seat) c.run_member-reached.ensures.same c.run_member-reached.ensures.slices c.run_member-reached.ensures.changes c.run_member-reached.ensures.agrees c.run_member-reached.ensures.runs).agree;
+      c.run_member-reached.new.member c.run_member-reached.result (view_of c.run_member-reached.new.seat) c.run_member-reached.ensures.same c.run_member-reached.ensures.slices c.run_member-reached.ensures.changes c.run_member-reached.ensures.agrees c.run_member-reached.ensures.parts c.run_member-reached.ensures.runs).agree;
   ticks = ticks_stay c.args.site.now.course.now c.args.site.now.rounds c.args.roster.now.places.deal c.args.groups.now c.args.core c.of_core-place.result c.index_mut-member.result.now _ c.index-groups-place.result (view_of c.args.seat.now) c.args.roster.now.clocks.ticks
       c.requires.roster.team c.requires.roster.agree c.requires.roster.ticks c.requires.core c.requires.on (c.of_core-place.ensures c.args.site.now.course.now.cores c.requires.core c.requires.roster.places) c.index_mut-member.ensures.value
-      c.run_member-reached.new.member c.run_member-reached.result (view_of c.run_member-reached.new.seat) c.run_member-reached.ensures.same c.run_member-reached.ensures.slices c.run_member-reached.ensures.changes c.run_member-reached.ensures.agrees c.run_member-reached.ensures.runs c.if-reached-roster.true;
+      c.run_member-reached.new.member c.run_member-reached.result (view_of c.run_member-reached.new.seat) c.run_member-reached.ensures.same c.run_member-reached.ensures.slices c.run_member-reached.ensures.changes c.run_member-reached.ensures.agrees c.run_member-reached.ensures.parts c.run_member-reached.ensures.runs c.if-reached-roster.true;
 }
 
 pub returns-then-reached-roster-clause-goes : goal.returns-then-reached-roster-clause-goes
@@ -45,7 +46,7 @@ returns-then-reached-roster-clause-goes g c = record {
   posting = refl;
   goes = cores_ran c.args.site.now.course.now c.args.site.now.rounds c.args.roster.now.places.deal c.args.groups.now c.args.core c.of_core-place.result c.index_mut-member.result.now _ c.index-groups-place.result (view_of c.args.seat.now) c.args.roster.now.clocks.ticks
       c.requires.roster.team c.requires.roster.agree c.requires.roster.ticks c.requires.core c.requires.on (c.of_core-place.ensures c.args.site.now.course.now.cores c.requires.core c.requires.roster.places) c.index_mut-member.ensures.value
-      c.run_member-reached.new.member c.run_member-reached.result (view_of c.run_member-reached.new.seat) c.run_member-reached.ensures.same c.run_member-reached.ensures.slices c.run_member-reached.ensures.changes c.run_member-reached.ensures.agrees c.run_member-reached.ensures.runs;
+      c.run_member-reached.new.member c.run_member-reached.result (view_of c.run_member-reached.new.seat) c.run_member-reached.ensures.same c.run_member-reached.ensures.slices c.run_member-reached.ensures.changes c.run_member-reached.ensures.agrees c.run_member-reached.ensures.parts c.run_member-reached.ensures.runs;
 }
 
 pub returns-clause-roster : goal.returns-clause-roster
@@ -53,13 +54,13 @@ returns-clause-roster g c = record {
   places = c.requires.roster.places;
   team = team_ran c.args.site.now.course.now c.args.site.now.rounds c.args.roster.now.places.deal c.args.groups.now c.args.core c.of_core-place.result c.index_mut-member.result.now _ c.index-groups-place.result (view_of c.args.seat.now) c.args.roster.now.clocks.ticks
       c.requires.roster.team c.requires.roster.agree c.requires.roster.ticks c.requires.core c.requires.on (c.of_core-place.ensures c.args.site.now.course.now.cores c.requires.core c.requires.roster.places) c.index_mut-member.ensures.value
-      c.run_member-reached.new.member c.run_member-reached.result (view_of c.run_member-reached.new.seat) c.run_member-reached.ensures.same c.run_member-reached.ensures.slices c.run_member-reached.ensures.changes c.run_member-reached.ensures.agrees c.run_member-reached.ensures.runs;
+      c.run_member-reached.new.member c.run_member-reached.result (view_of c.run_member-reached.new.seat) c.run_member-reached.ensures.same c.run_member-reached.ensures.slices c.run_member-reached.ensures.changes c.run_member-reached.ensures.agrees c.run_member-reached.ensures.parts c.run_member-reached.ensures.runs;
   agree = (cores_ran c.args.site.now.course.now c.args.site.now.rounds c.args.roster.now.places.deal c.args.groups.now c.args.core c.of_core-place.result c.index_mut-member.result.now _ c.index-groups-place.result (view_of c.args.seat.now) c.args.roster.now.clocks.ticks
       c.requires.roster.team c.requires.roster.agree c.requires.roster.ticks c.requires.core c.requires.on (c.of_core-place.ensures c.args.site.now.course.now.cores c.requires.core c.requires.roster.places) c.index_mut-member.ensures.value
-      c.run_member-reached.new.member c.run_member-reached.result (view_of c.run_member-reached.new.seat) c.run_member-reached.ensures.same c.run_member-reached.ensures.slices c.run_member-reached.ensures.changes c.run_member-reached.ensures.agrees c.run_member-reached.ensures.runs).agree;
+      c.run_member-reached.new.member c.run_member-reached.result (view_of c.run_member-reached.new.seat) c.run_member-reached.ensures.same c.run_member-reached.ensures.slices c.run_member-reached.ensures.changes c.run_member-reached.ensures.agrees c.run_member-reached.ensures.parts c.run_member-reached.ensures.runs).agree;
   ticks = ticks_now c.args.site.now.course.now c.args.site.now.rounds c.args.roster.now.places.deal c.args.groups.now c.args.core c.of_core-place.result c.index_mut-member.result.now _ c.index-groups-place.result (view_of c.args.seat.now) c.args.roster.now.clocks.ticks
       c.requires.roster.team c.requires.roster.agree c.requires.roster.ticks c.requires.core c.requires.on (c.of_core-place.ensures c.args.site.now.course.now.cores c.requires.core c.requires.roster.places) c.index_mut-member.ensures.value
-      c.run_member-reached.new.member c.run_member-reached.result (view_of c.run_member-reached.new.seat) c.run_member-reached.ensures.same c.run_member-reached.ensures.slices c.run_member-reached.ensures.changes c.run_member-reached.ensures.agrees c.run_member-reached.ensures.runs;
+      c.run_member-reached.new.member c.run_member-reached.result (view_of c.run_member-reached.new.seat) c.run_member-reached.ensures.same c.run_member-reached.ensures.slices c.run_member-reached.ensures.changes c.run_member-reached.ensures.agrees c.run_member-reached.ensures.parts c.run_member-reached.ensures.runs;
 }
 
 pub returns-clause-goes : goal.returns-clause-goes
@@ -68,5 +69,5 @@ returns-clause-goes g c = record {
   posting = refl;
   goes = cores_ran c.args.site.now.course.now c.args.site.now.rounds c.args.roster.now.places.deal c.args.groups.now c.args.core c.of_core-place.result c.index_mut-member.result.now _ c.index-groups-place.result (view_of c.args.seat.now) c.args.roster.now.clocks.ticks
       c.requires.roster.team c.requires.roster.agree c.requires.roster.ticks c.requires.core c.requires.on (c.of_core-place.ensures c.args.site.now.course.now.cores c.requires.core c.requires.roster.places) c.index_mut-member.ensures.value
-      c.run_member-reached.new.member c.run_member-reached.result (view_of c.run_member-reached.new.seat) c.run_member-reached.ensures.same c.run_member-reached.ensures.slices c.run_member-reached.ensures.changes c.run_member-reached.ensures.agrees c.run_member-reached.ensures.runs;
+      c.run_member-reached.new.member c.run_member-reached.result (view_of c.run_member-reached.new.seat) c.run_member-reached.ensures.same c.run_member-reached.ensures.slices c.run_member-reached.ensures.changes c.run_member-reached.ensures.agrees c.run_member-reached.ensures.parts c.run_member-reached.ensures.runs;
 }

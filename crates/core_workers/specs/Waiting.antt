@@ -1,0 +1,71 @@
+-- When the actors whose parts a view holds are at rest: they have finished, or wait by what they did last.
+-- Source: the rules of this project.
+use Rattle.std.specs.Prelude.{◌≡◌, ◌≢◌, ◌⊎◌, ℕ, ◌+◌, ◌<◌, ◌≤◌, true, length}
+use Rattle.tab_core.specs.declared.stint.Stint.{Stint}
+use Rattle.table_form.specs.Running.Courses.{CourseView, tick_at}
+use Rattle.round_words.specs.declared.view.Part.{Part}
+use Rattle.round_words.specs.declared.view.View.{View}
+use Rattle.round_words.specs.Shown.{HoldsCore}
+use Rattle.round_words.specs.Views.{controller, heard_of, holds, part, hears, sees}
+use Rattle.dispatch_core.specs.Told.{ComesNext}
+use Rattle.core_workers.specs.Groups.{CrewView}
+use Rattle.core_workers.specs.Crews.{CoresFinished, HasPosted}
+
+-- q is an actor's part p, maybe some steps on: its clock is later or it has seen no less at that clock, and
+-- it has heard each core no less often
+pub record IsOn (p q : Part) : Type 0 where
+  pub clock : p.clock ≤ q.clock
+  pub sights : q.clock ≡ p.clock → length p.sights ≤ length q.sights
+  pub heard : (d : ℕ) → length (heard_of p d) ≤ length (heard_of q d)
+
+-- the last that core c did since v was to see a count, which lacks an event of tick at most the core's clock
+-- less the lag
+pub record AwaitsEvent (course : CourseView) (c : ℕ) (v w : View) : Type 0 where
+  pub before : Part
+  pub since : IsOn (part v c) before
+  pub count : ℕ
+  pub saw : part w c ≡ sees before count
+  pub some : count < length course.ticks
+  pub due : tick_at course count + course.lag ≤ (part w c).clock
+  pub exact : holds w controller ≡ true → count ≡ length (part w controller).floors
+
+-- the last that actor a did since v was to hear another core's clock, which is below the tick less the lag
+pub record AwaitsCore (course : CourseView) (a tick : ℕ) (v w : View) : Type 0 where
+  pub before : Part
+  pub since : IsOn (part v a) before
+  pub core : ℕ
+  pub within : core < course.cores
+  pub other : core ≢ a
+  pub clock : ℕ
+  pub heard : part w a ≡ hears before core clock
+  pub low : clock + course.lag < tick
+  pub exact : holds w core ≡ true → clock ≡ (part w core).clock
+
+-- core c has seen a count at its clock, and waits for another core with the stint that comes next
+pub record AwaitsOther (course : CourseView) (c : ℕ) (v w : View) : Type 0 where
+  pub stint : Stint
+  pub next : ComesNext course c (part w c) stint
+  pub seen : 0 < length (part w c).sights
+  pub awaits : AwaitsCore course c stint.end v w
+
+-- core c waits: for an event, or for another core
+abbrev pub CoreWaits : CourseView → ℕ → View → View → Type 0
+CoreWaits course c v w = AwaitsEvent course c v w ⊎ AwaitsOther course c v w
+
+-- one of the cores that are held waits, and none of them has a lower clock
+pub record LeastWaits (course : CourseView) (v w : View) : Type 0 where
+  pub core : ℕ
+  pub held : HoldsCore w core
+  pub least : (d : ℕ) → HoldsCore w d → (part w core).clock ≤ (part w d).clock
+  pub waits : CoreWaits course core v w
+
+-- the controller, which has posted n events, waits for a core with the next one
+pub record LeadWaits (course : CourseView) (n : ℕ) (v w : View) : Type 0 where
+  pub some : n < length course.ticks
+  pub awaits : AwaitsCore course controller (tick_at course n) v w
+
+-- Those whose parts are held are at rest in w, after steps that began in v: the cores have finished or one
+-- of least clock waits, and the controller has posted all events or waits
+pub record AreAtRest (crew : CrewView) (v w : View) : Type 0 where
+  pub cores : CoresFinished crew w ⊎ LeastWaits crew.course v w
+  pub control : holds w controller ≡ true → HasPosted crew ⊎ LeadWaits crew.course crew.control.posted v w
