@@ -6,13 +6,14 @@ pub mod Few
 pub mod First
 pub mod Inside
 pub mod Kept
-pub mod Keys
 pub mod LoadLemmas
 pub mod Misses
 pub mod OverloadsLemmas
+pub mod PendingJobs
 pub mod Pieces
 pub mod Repeats
 pub mod RepetitionLemmas
+pub mod Runs
 pub mod Shorter
 pub mod Starts
 pub mod Steps

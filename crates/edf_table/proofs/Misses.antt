@@ -54,7 +54,7 @@ missed_overloads ps gs tick d apart counted missed le =
     window_overloads ps gs tick missed.at d apart counted missed.in_range (missed.missed d) le
 
 -- where the pieces fit, each window is given its cost by its end
-fits_served : (ps : List Piece) (gs : List ℕ) (tick : ℕ) → DistinctVcpus ps → IsCounted ps gs tick
+pub fits_served : (ps : List Piece) (gs : List ℕ) (tick : ℕ) → DistinctVcpus ps → IsCounted ps gs tick
     → Fits (jobs_of ps) → tick ≤ ROUND → ServedBelow ps gs tick (length ps)
 fits_served ps gs tick apart counted fits le i d i-in k at =
     elim (cases_lt (get_or gs i 0) ((k + 1) * (get_or ps i d).cost)) [

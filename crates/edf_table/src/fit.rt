@@ -8,7 +8,8 @@ ghost use Rattle.table_form.specs.Planning.Windows.{DistinctVcpus};
 use crate::common::common_period;
 use crate::light::are_unsplit_and_light;
 use crate::overload::last_overload;
-use crate::turn::{NO_TICKS, NONE_READY, any_missed, first_windows, next_event, run_turn};
+use crate::pending::{NO_JOBS, is_late};
+use crate::turn::{first_begins, next_event, run_turn};
 use tab_core::{Over, Piece};
 
 // The first tick at which a window ends without its cost. Where there is none up to a multiple of
@@ -22,19 +23,19 @@ fn first_miss(pieces: &[Piece]) -> Option<u32>
         return None;
     }
     let common = common_period(pieces);
-    let mut windows = first_windows(pieces);
-    let mut given = NO_TICKS;
-    let mut keys = NONE_READY;
+    let mut begins = first_begins(pieces);
+    let mut jobs = NO_JOBS;
+    let mut count = 0;
     let mut tick = 0;
     let mut event = 0;
     while tick < common {
-        if any_missed(pieces, &windows, &given, tick) {
+        if is_late(&jobs, count, tick) {
             return Some(tick);
         }
-        event = next_event(pieces, &mut windows, &mut keys, tick, event);
-        tick = run_turn(pieces, &windows, &mut given, &mut keys, tick, event).end;
+        event = next_event(pieces, &mut begins, &mut jobs, &mut count, tick, event);
+        tick = run_turn(pieces, &begins, &mut jobs, &mut count, tick, event).end;
     }
-    if any_missed(pieces, &windows, &given, tick) {
+    if is_late(&jobs, count, tick) {
         Some(tick)
     } else {
         None

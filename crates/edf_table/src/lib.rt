@@ -11,10 +11,10 @@ mod fit;
 mod laws;
 mod light;
 mod overload;
+mod pending;
 mod row;
 mod simulation;
 mod turn;
-mod window;
 
 pub use fault::EdfFault;
 pub use fit::find_overload;

@@ -9,7 +9,8 @@ ghost use Rattle.table_form.specs.Tables.Segments.{AreMaximal, segment_view};
 ghost use Rattle.edf_table.specs.Inside.Progress.{MetBefore};
 ghost use Rattle.edf_table.specs.Inside.Repetition.{so_often};
 
-use crate::turn::{NO_TICKS, NONE_READY, first_windows, next_event, run_turn};
+use crate::pending::NO_JOBS;
+use crate::turn::{first_begins, next_event, run_turn};
 use std::alloc::{AllocError, Global};
 use tab_core::{Piece, ROUND};
 use table_form::{CoreTable, RowBuilder, Segment, push_segment};
@@ -28,22 +29,15 @@ pub(crate) fn first_segments(
         ≡ map owner_of (edf_cells (jobs_of pieces.now) end)) }
     ensures met { IfOk result (λ _. MetBefore (jobs_of pieces.now) (end + 1)) }
 {
-    let mut windows = first_windows(pieces);
-    let mut given = NO_TICKS;
-    let mut keys = NONE_READY;
+    let mut begins = first_begins(pieces);
+    let mut jobs = NO_JOBS;
+    let mut count = 0;
     let mut segments = Vec::new(alloc);
     let mut tick = 0;
     let mut event = 0;
     while tick < end {
-        event = next_event(pieces, &mut windows, &mut keys, tick, event);
-        let turn = run_turn(
-            pieces,
-            &windows,
-            &mut given,
-            &mut keys,
-            tick,
-            event.min(end),
-        );
+        event = next_event(pieces, &mut begins, &mut jobs, &mut count, tick, event);
+        let turn = run_turn(pieces, &begins, &mut jobs, &mut count, tick, event.min(end));
         let segment = Segment {
             owner: turn.owner,
             end: turn.end,

@@ -1,12 +1,12 @@
 -- What the simulation keeps from tick to tick, and the search for the overload from begin to begin.
 use Rattle.std.specs.List.{sum_by}
-use Rattle.std.specs.Prelude.{◌==◌, if◌then◌else◌, ◌≡◌, ℕ, ◌+◌, ◌-◌, ◌*◌, ◌/◌, ◌^◌, ◌<◌, ◌≤◌, ◌&&◌, ◌⊎◌, Bool, true, nat_le, nat_lt, min, List, [], ◌∷◌, length, slice_index, slice_index_or, Option, MatchOption}
+use Rattle.std.specs.Prelude.{◌==◌, if◌then◌else◌, ◌≡◌, ℕ, ◌+◌, ◌-◌, ◌*◌, ◌/◌, ◌<◌, ◌≤◌, ◌&&◌, ◌⊎◌, Bool, true, nat_le, nat_lt, min, List, [], ◌∷◌, length, slice_index, slice_index_or, Option}
 use Rattle.tab_core.specs.declared.TheConstants.{MAX_VCPUS, ROUND}
 use Rattle.tab_core.specs.declared.piece.Piece.{Piece}
 use Rattle.table_form.specs.Planning.Jobs.{Job, job_of, subtask_of, jobs_of}
 use Rattle.table_form.specs.Planning.Demand.{IsOverloaded}
 use Rattle.table_form.specs.Planning.EdfRow.{cells_of, edf_cells, first_pending, owner_of}
-use Rattle.edf_table.specs.declared.window.Window.{Window}
+use Rattle.edf_table.specs.declared.pending.Pending.{Pending}
 
 -- the job is one of the list
 abbrev pub Among : List Job → Job → Type 0
@@ -84,42 +84,79 @@ IsCalm p tick until = (k : ℕ) → tick < k * p.period + p.from → until ≤ k
 abbrev pub AreCalm : List Piece → ℕ → ℕ → ℕ → Type 0
 AreCalm ps n tick until = (i : ℕ) (d : Piece) → i < n → IsCalm (slice_index_or ps i d) tick until
 
+-- where the next window of the piece begins at `next`: the end of the one before it
+unfoldable pub due_of : Piece → ℕ → ℕ
+due_of p next = next - p.period - p.from + p.to
+
+-- and what all windows before it cost
+unfoldable pub goal_of : Piece → ℕ → ℕ
+goal_of p next = (next - p.from) / p.period * p.cost
+
 -- what is kept of a piece once its windows that begin below `bound` have begun, and no further one
--- begins below `event`
-pub record IsKept (p : Piece) (bound event : ℕ) (w : Window) : Type 0 where
+-- begins below `event`: the tick at which its next one begins
+pub record IsKept (p : Piece) (bound event next : ℕ) : Type 0 where
   pub count : ℕ
-  pub next_is : w.next ≡ count * p.period + p.from
-  pub goal_is : w.goal ≡ count * p.cost
-  pub due_is : 0 < count → w.due + p.period ≡ count * p.period + p.to
-  pub begun : w.next < bound + p.period
-  pub ahead : event ≤ w.next
+  pub next_is : next ≡ count * p.period + p.from
+  pub goal_is : goal_of p next ≡ count * p.cost
+  pub due_is : 0 < count → due_of p next + p.period ≡ count * p.period + p.to
+  pub begun : next < bound + p.period
+  pub ahead : event ≤ next
 
 -- and of each of the first n pieces
-abbrev pub AreKept : List Piece → List Window → ℕ → ℕ → ℕ → Type 0
-AreKept ps ws n bound event = (i : ℕ) (d : Piece) (v : Window) → i < n
-    → IsKept (slice_index_or ps i d) bound event (slice_index_or ws i v)
+abbrev pub AreKept : List Piece → List ℕ → ℕ → ℕ → ℕ → Type 0
+AreKept ps ns n bound event = (i : ℕ) (d : Piece) → i < n
+    → IsKept (slice_index_or ps i d) bound event (slice_index ns i)
 
--- the key of a piece that isn't ready
-abbrev pub not_ready : ℕ
-not_ready = 2 ^ 32 - 1
+-- the key of the piece's window that began last: by its end, and at ties by the vCPU
+abbrev pub key_at : Piece → ℕ → ℕ
+key_at p next = due_of p next * MAX_VCPUS + p.vcpu
 
--- while its window lacks ticks the piece has a key: by the end of the window, and at ties by the vCPU
-pub record IsKeyed (p : Piece) (given : ℕ) (w : Window) (key : ℕ) : Type 0 where
-  pub within : given ≤ w.goal
-  pub ready : given < w.goal → key ≡ w.due * MAX_VCPUS + p.vcpu
-  pub done : w.goal ≤ given → key ≡ not_ready
+-- the job at a place of the list
+abbrev pub job_at : List Pending → ℕ → Pending
+job_at jobs j = slice_index_or jobs j (record { key = 0; left = 0 })
 
--- so it is of each piece
-abbrev pub AreKeyed : List Piece → List ℕ → List Window → List ℕ → Type 0
-AreKeyed ps gs ws ks = (i : ℕ) (d : Piece) (v : Window) → i < length ps
-    → IsKeyed (slice_index_or ps i d) (slice_index gs i) (slice_index_or ws i v) (slice_index ks i)
+-- the job is what the window of piece i that began last lacks
+pub record IsJobOf (ps : List Piece) (given ns : List ℕ) (job : Pending) (i : ℕ) : Type 0 where
+  pub in_range : i < length ps
+  pub some : 0 < job.left
+  pub left_is : (d : Piece) → slice_index given i + job.left ≡ goal_of (slice_index_or ps i d) (slice_index ns i)
+  pub key_is : (d : Piece) → job.key ≡ key_at (slice_index_or ps i d) (slice_index ns i)
 
--- none of the first n keys is less than the one at the place, or than that of no ready piece
-abbrev pub IsLeastKey : List ℕ → ℕ → Option ℕ → Type 0
-IsLeastKey ks n place =
-    MatchOption place
-    ((k : ℕ) → k < n → not_ready ≤ slice_index ks k)
-    (λ i. (i < n) × (slice_index ks i < not_ready) × ((k : ℕ) → k < n → slice_index ks i ≤ slice_index ks k))
+-- the first `count` jobs are those of the pieces that lack ticks, and the most urgent is the last
+pub record ArePending (ps : List Piece) (given ns : List ℕ) (jobs : List Pending) (count : ℕ) : Type 0 where
+  pub room : count ≤ length jobs
+  pub falling : (j k : ℕ) → j < k → k < count → (job_at jobs k).key < (job_at jobs j).key
+  pub each : (j : ℕ) → j < count → (i : ℕ) × IsJobOf ps given ns (job_at jobs j) i
+  pub all : (i : ℕ) (d : Piece) → i < length ps
+      → slice_index given i < goal_of (slice_index_or ps i d) (slice_index ns i)
+      → (j : ℕ) × (j < count) × ((job_at jobs j).key ≡ key_at (slice_index_or ps i d) (slice_index ns i))
+  pub within : (i : ℕ) (d : Piece) → i < length ps
+      → slice_index given i ≤ goal_of (slice_index_or ps i d) (slice_index ns i)
+
+-- of the first `count` jobs, those at and behind a place have moved up for one that is more urgent
+pub record IsAdded (old new : List Pending) (count : ℕ) (job : Pending) : Type 0 where
+  pub at : ℕ
+  pub within : at ≤ count
+  pub here : job_at new at ≡ job
+  pub before : (j : ℕ) → j < at → job_at new j ≡ job_at old j
+  pub behind : (j : ℕ) → at ≤ j → j < count → job_at new (j + 1) ≡ job_at old j
+  pub above : 0 < at → job.key ≤ (job_at old (at - 1)).key
+  pub below : (j : ℕ) → at ≤ j → j < count → (job_at old j).key < job.key
+
+-- none of the first `count` jobs is due before the tick
+abbrev pub AreTimely : List Pending → ℕ → ℕ → Type 0
+AreTimely jobs count tick = (j : ℕ) → j < count → tick * MAX_VCPUS ≤ (job_at jobs j).key
+
+-- the simulation at a tick: the windows that begin below `begun` have begun, no further one begins
+-- below `event`, and those that end below `served` have had their cost
+pub record IsUnderWay (ps : List Piece) (ns : List ℕ) (jobs : List Pending) (count tick begun served event : ℕ)
+    : Type 0 where
+  pub given : List ℕ
+  pub kept : AreKept ps ns (length ps) begun event
+  pub pending : ArePending ps given ns jobs count
+  pub timely : AreTimely jobs count served
+  pub counted : IsCounted ps given tick
+  pub met : MetBefore (jobs_of ps) served
 
 -- of the first n pieces none has a window that begins at a tick above `from` and below `tick`
 abbrev pub NoBegin : List Piece → ℕ → ℕ → ℕ → Type 0

@@ -1,55 +1,48 @@
-use Rattle.std.proofs.Common.{ℕ, ◌+◌, ◌-◌, ◌≡◌, [], ◌∷◌, ap, length, map, subst, sym, ◌∙◌, arith}
-use Rattle.std.proofs.lemmas.List.{length-replicate}
-use Rattle.tab_core.specs.declared.TheConstants.{MAX_VCPUS}
+use Rattle.std.proofs.Common.{◌+◌, ◌-◌, ◌≡◌, [], ◌∷◌, ap, length, map, subst, sym, ◌∙◌, arith}
 use Rattle.table_form.proofs.AppendingLemmas.{cells_appended, maximal_appended}
 use Rattle.table_form.proofs.RowLemmas.{cells-nil}
 use Rattle.table_form.specs.Planning.EdfRow.{edf_cells, owner_of}
 use Rattle.table_form.specs.Planning.Jobs.{jobs_of}
 use Rattle.table_form.specs.Tables.Rows.{cells_from}
 use Rattle.table_form.specs.Tables.Segments.{AreMaximal, put_before, segment_view}
-use Rattle.edf_table.specs.Inside.Progress.{GoesTo, IsCounted, MetBefore, not_ready}
+use Rattle.edf_table.specs.Inside.Progress.{GoesTo, MetBefore}
 use Rattle.edf_table.proofs.Calm.{row_along}
 use Rattle.edf_table.proofs.Few.{few_pieces}
 use Rattle.edf_table.proofs.Kept.{all_kept_later}
-use Rattle.edf_table.proofs.Keys.{keyed_start}
 use Rattle.edf_table.proofs.Misses.{fits_met}
-use Rattle.edf_table.proofs.Steps.{counted_start, row_start}
+use Rattle.edf_table.proofs.PendingJobs.{fits_now, under_way_kept, under_way_later, under_way_start}
+use Rattle.edf_table.proofs.Steps.{row_start}
 use Rattle.edf_table.proofs.row.first_segments.Goals as goal
 
-pub first_windows-windows-requires : goal.first_windows-windows-requires
-first_windows-windows-requires c = few_pieces c.args.pieces.now c.requires.distinct
+pub first_begins-begins-requires : goal.first_begins-begins-requires
+first_begins-begins-requires c = few_pieces c.args.pieces.now c.requires.distinct
 
 pub loop-tick-init : goal.loop-tick-init
 loop-tick-init c = record {
   in_time = omega arith;
   in_round = omega arith;
   within = omega arith;
-  enough = c.first_windows-windows.ensures.enough;
-  kept = c.first_windows-windows.ensures.kept;
-  a_key_each = omega (
-    arith,
-    length-replicate {A = ℕ} MAX_VCPUS not_ready,
-    few_pieces c.args.pieces.now c.requires.distinct,
-  );
-  keyed = keyed_start c.args.pieces.now c.first_windows-windows.result MAX_VCPUS
-      c.first_windows-windows.ensures.kept (few_pieces c.args.pieces.now c.requires.distinct);
-  counted = counted_start c.args.pieces.now MAX_VCPUS (few_pieces c.args.pieces.now c.requires.distinct);
-  met = λ j a lt. absurd (omega arith);
+  a_begin_each = c.first_begins-begins.ensures.a_begin_each;
+  a_place_each = omega arith;
+  under_way = under_way_start c.args.pieces.now c.first_begins-begins.result _ c.requires.distinct
+      c.first_begins-begins.ensures.kept;
   maximal = rw c.new-segments.ensures.items (omega arith);
   cells_are = row_start (jobs_of c.args.pieces.now) (cells_from 0 c.new-segments.result.items)
       (ap (cells_from 0) c.new-segments.ensures.items ∙ cells-nil 0);
 }
 
-pub run_turn-turn-requires-clause-kept : goal.run_turn-turn-requires-clause-kept
-run_turn-turn-requires-clause-kept c =
-    all_kept_later c.args.pieces.now c.next_event-event.new.windows (length c.args.pieces.now)
-    (c.loop-tick.tick + 1) (c.loop-tick.tick + 1) c.next_event-event.result c.min.result
-    c.next_event-event.ensures.kept (omega arith) (omega (arith, c.min.ensures))
+pub next_event-event-requires-clause-under_way : goal.next_event-event-requires-clause-under_way
+next_event-event-requires-clause-under_way c =
+    fits_now c.args.pieces.now c.loop-tick.begins c.loop-tick.jobs c.loop-tick.count c.loop-tick.tick
+    c.loop-tick.event c.requires.distinct c.loop-tick.invariant.under_way c.loop-tick.invariant.in_time
+    c.requires.fits (omega (arith, c.loop-tick.invariant.in_time, c.loop-tick.invariant.in_round))
 
-pub run_turn-turn-requires-clause-met : goal.run_turn-turn-requires-clause-met
-run_turn-turn-requires-clause-met c =
-    fits_met c.args.pieces.now c.loop-tick.given c.loop-tick.tick c.requires.distinct
-    c.loop-tick.invariant.counted c.loop-tick.invariant.met c.requires.fits (omega arith)
+pub run_turn-turn-requires-clause-under_way : goal.run_turn-turn-requires-clause-under_way
+run_turn-turn-requires-clause-under_way c =
+    under_way_later c.args.pieces.now c.next_event-event.new.begins c.next_event-event.new.jobs
+    c.next_event-event.new.count c.loop-tick.tick (c.loop-tick.tick + 1) (c.loop-tick.tick + 1)
+    (c.loop-tick.tick + 1) c.next_event-event.result c.min.result c.next_event-event.ensures.under_way
+    (omega arith) (omega (arith, c.min.ensures))
 
 pub loop-tick-preserved : goal.loop-tick-preserved
 loop-tick-preserved c =
@@ -69,19 +62,19 @@ loop-tick-preserved c =
       in_time = omega (arith, c.run_turn-turn.ensures.within, c.min.ensures);
       in_round = c.next_event-event.ensures.in_round;
       within = omega (arith, c.run_turn-turn.ensures.within, c.min.ensures);
-      enough = omega (arith, c.next_event-event.ensures.enough, c.loop-tick.invariant.enough);
-      kept = all_kept_later c.args.pieces.now c.next_event-event.new.windows (length c.args.pieces.now)
-          (c.loop-tick.tick + 1) end c.next_event-event.result c.next_event-event.result
-          c.next_event-event.ensures.kept (omega (arith, some)) (omega arith);
-      a_key_each = omega (
+      a_begin_each = omega (arith, c.next_event-event.ensures.a_begin_each, c.loop-tick.invariant.a_begin_each);
+      a_place_each = omega (
         arith,
-        c.next_event-event.ensures.a_key_each,
-        c.run_turn-turn.ensures.a_key_each,
-        c.loop-tick.invariant.a_key_each,
+        c.next_event-event.ensures.a_place_each,
+        c.run_turn-turn.ensures.a_place_each,
+        c.loop-tick.invariant.a_place_each,
       );
-      keyed = c.run_turn-turn.ensures.keyed;
-      counted = c.run_turn-turn.ensures.counted;
-      met = c.run_turn-turn.ensures.met;
+      under_way = under_way_kept c.args.pieces.now c.next_event-event.new.begins c.run_turn-turn.new.jobs
+          c.run_turn-turn.new.count end end end end c.min.result c.next_event-event.result
+          c.run_turn-turn.ensures.under_way
+          (all_kept_later c.args.pieces.now c.next_event-event.new.begins (length c.args.pieces.now)
+          (c.loop-tick.tick + 1) end c.next_event-event.result c.next_event-event.result
+          c.next_event-event.ensures.under_way.kept (omega (arith, some)) (omega arith));
       maximal = subst (AreMaximal 0 (map segment_view new)) at
           (maximal_appended old new c.loop-tick.tick n owner c.loop-tick.invariant.maximal
           (omega (arith, some)) pushed);
@@ -97,11 +90,7 @@ loop-tick-preserved c =
 pub returns-clause-met : goal.returns-clause-met
 returns-clause-met c =
     let end : c.loop-tick.tick ≡ c.args.end = omega (arith, c.loop-tick.invariant.within) in
-    fits_met c.args.pieces.now c.loop-tick.given c.args.end c.requires.distinct
-    (subst (IsCounted c.args.pieces.now c.loop-tick.given) end c.loop-tick.invariant.counted)
-    (subst (MetBefore (jobs_of c.args.pieces.now)) end c.loop-tick.invariant.met) c.requires.fits
-    (omega arith)
-
-pub run_turn-turn-requires-clause-keyed : goal.run_turn-turn-requires-clause-keyed
-run_turn-turn-requires-clause-keyed c =
-    c.next_event-event.ensures.keyed c.loop-tick.given c.loop-tick.invariant.keyed
+    let here = c.loop-tick.invariant.under_way in
+    subst (λ n. MetBefore (jobs_of c.args.pieces.now) (n + 1)) end
+    (fits_met c.args.pieces.now here.given c.loop-tick.tick c.requires.distinct here.counted here.met
+    c.requires.fits (omega (arith, c.loop-tick.invariant.in_time, c.loop-tick.invariant.in_round)))

@@ -1,10 +1,10 @@
 use Rattle.std.proofs.Common.{◌≡◌, ◌≤◌, ◌-◌, length, map}
-use Rattle.tab_core.specs.declared.TheConstants.{ROUND}
+use Rattle.tab_core.specs.declared.TheConstants.{MAX_VCPUS, ROUND}
 use Rattle.table_form.specs.Planning.EdfRow.{edf_cells, owner_of}
 use Rattle.table_form.specs.Planning.Jobs.{jobs_of}
 use Rattle.table_form.specs.Tables.Rows.{cells_from}
 use Rattle.table_form.specs.Tables.Segments.{AreMaximal, segment_view}
-use Rattle.edf_table.specs.Inside.Progress.{AreKept, AreKeyed, IsCounted, MetBefore}
+use Rattle.edf_table.specs.Inside.Progress.{IsUnderWay}
 use Rattle.edf_table.proofs.row.first_segments.Given as goal
 
 abbrev pub invariant-loop-tick : goal.invariant-loop-tick
@@ -12,12 +12,9 @@ invariant-loop-tick l = record {
   in_time : l.tick ≤ l.event;
   in_round : l.event ≤ ROUND;
   within : l.tick ≤ l.end;
-  enough : length l.pieces ≤ length l.windows;
-  kept : AreKept l.pieces l.windows (length l.pieces) l.tick l.event;
-  a_key_each : length l.pieces ≤ length l.keys;
-  keyed : AreKeyed l.pieces l.given l.windows l.keys;
-  counted : IsCounted l.pieces l.given l.tick;
-  met : MetBefore (jobs_of l.pieces) l.tick;
+  a_begin_each : length l.pieces ≤ length l.begins;
+  a_place_each : length l.jobs ≡ MAX_VCPUS;
+  under_way : IsUnderWay l.pieces l.begins l.jobs l.count l.tick l.tick l.tick l.event;
   maximal : AreMaximal 0 (map segment_view l.segments.items) l.tick;
   cells_are : cells_from 0 l.segments.items ≡ map owner_of (edf_cells (jobs_of l.pieces) l.tick);
 }

@@ -1,81 +1,140 @@
-use Rattle.std.proofs.Common.{◌≡◌, ◌+◌, ◌*◌, ◌<◌, ◌≤◌, min, List, get_or, set, length, refl, ap, subst, sym, ◌∙◌, arith, length-set, get_or-set_same, get_or-set_other}
+use Rattle.std.proofs.Common.{◌≡◌, ◌+◌, ◌-◌, ◌*◌, ◌<◌, ◌≤◌, min, ℕ, List, get_or, set, length, refl, ap, subst, sym, ◌∙◌, arith, length-set, get_or-set_same, get_or-set_other}
 use Rattle.std.proofs.lemmas.List.{get_or_default, get_or_read}
 use Rattle.tab_core.specs.declared.TheConstants.{MAX_VCPUS}
 use Rattle.tab_core.specs.declared.piece.Piece.{Piece}
-use Rattle.edf_table.specs.declared.window.Window.{Window}
-use Rattle.edf_table.specs.Inside.Progress.{IsKept}
-use Rattle.edf_table.proofs.Keys.{keyed_begun}
-use Rattle.edf_table.proofs.Kept.{begun_more, kept_ahead, some_piece}
+use Rattle.edf_table.specs.Inside.Progress.{IsKept, goal_of}
+use Rattle.edf_table.proofs.Kept.{begun_more, kept_ahead, kept_next, some_piece}
+use Rattle.edf_table.proofs.PendingJobs.{begun_job, idle_piece, pending_added, room_to_begin, timely_added}
+use Rattle.edf_table.proofs.Turns.{short_period, some_period}
 use Rattle.edf_table.proofs.turn.begin_windows.Goals as goal
-use Rattle.edf_table.proofs.turn.begin_windows.Goals.{then-windows-i, else-windows-i}
+use Rattle.edf_table.proofs.turn.begin_windows.Goals.{then-begins-i, else-begins-i}
 
 pub loop-i-preserved : goal.loop-i-preserved
 loop-i-preserved c =
     let ps = c.args.pieces.now in
     let i = c.loop-i.i in
     let tick = c.args.tick in
-    let ws = c.loop-i.windows in
+    let ns = c.loop-i.begins in
+    let old = c.loop-i.jobs in
+    let count = c.loop-i.count in
     let next = c.min-event.result in
-    let zero : Window = record { next = 0; due = 0; goal = 0 } in
     let in_ps : i < length ps = c.loop-i-test.true in
-    let in_ws : i < length ws = omega (arith, c.requires.enough, c.loop-i.invariant.enough) in
-    elim c.if-windows-i.branch [
-      | then-windows-i w ↦
+    let in_ns : i < length ns = omega (arith, c.requires.a_begin_each, c.loop-i.invariant.a_begin_each) in
+    let before : (d : Piece) → IsKept (get_or ps i d) tick tick (get_or ns i 0) =
+    λ d. subst (IsKept (get_or ps i d) tick tick)
+    (sym (c.loop-i.invariant.rest i (omega arith))) (c.requires.under_way.kept i d in_ps) in
+    elim c.if-begins-i.branch [
+      | then-begins-i w ↦
           let p = w.index-pieces-i.result in
-          let v = w.begun.result in
-          let ks = c.loop-i.keys in
-          let key = w.key_of.result in
-          let at : (u : Window) → get_or (set ws i v) i u ≡ v = λ u. get_or-set_same ws i v u in_ws in
-          let begun : IsKept p (tick + 1) v.next v =
-          subst (λ n. IsKept p (n + 1) v.next v) w.if-windows-i.true w.begun.ensures.kept in
-          let later : tick < v.next = omega (arith, w.if-windows-i.true, w.begun.ensures.later) in
-          let least : next ≡ min c.loop-i.event v.next =
-          subst (λ (xs : List Window). next ≡ min c.loop-i.event (get_or xs i zero).next) w.windows-is
-          c.min-event.ensures ∙ ap (λ (u : Window). min c.loop-i.event u.next) (at zero) in
-          rw (w.windows-is, w.keys-is) (record {
-            enough = length-set ws i v ∙ c.loop-i.invariant.enough;
-            a_key_each = length-set ks i key ∙ c.loop-i.invariant.a_key_each;
-            keyed = λ gs before. keyed_begun ps gs ws ks i v key (c.loop-i.invariant.keyed gs before) in_ws
-                (omega (arith, c.requires.a_key_each, c.loop-i.invariant.a_key_each))
-                (λ d u. (
-                  subst (λ (x : Window). x.goal < v.goal) (get_or_default ws i zero u in_ws) w.begun.ensures.more,
-                  w.key_of.ensures ∙ ap (λ (x : Window). x.due * MAX_VCPUS + w.index-pieces-i-then-windows-i.result.vcpu) (at zero)
-                      ∙ ap (λ (q : Piece). v.due * MAX_VCPUS + q.vcpu)
-                      (get_or_read ps i w.index-pieces-i-then-windows-i.result in_ps w.index-pieces-i-then-windows-i.is d),
-                ));
-            later = omega (arith, c.loop-i.invariant.later);
+          let q = w.index-pieces-i-then-begins-i.result in
+          let after = tick + (get_or ps i q).period in
+          let job = w.job_from.result in
+          let new = w.add.new.jobs in
+          let here : get_or ns i 0 ≡ tick = w.if-begins-i.true in
+          let read : (d : Piece) → p ≡ get_or ps i d = λ d. get_or_read ps i p in_ps w.index-pieces-i.is d in
+          let after_is : (d : Piece) → after ≡ tick + (get_or ps i d).period =
+          λ d. ap (λ (x : Piece). tick + x.period) (get_or_default ps i q d in_ps) in
+          let least : next ≡ min c.loop-i.event after =
+          subst (λ (xs : List ℕ). next ≡ min c.loop-i.event (get_or xs i 0)) w.begins-is c.min-event.ensures
+          ∙ ap (min c.loop-i.event) (get_or-set_same ns i after 0 in_ns) in
+          rw (w.begins-is, w.jobs-is, w.count-is) (record {
+            a_begin_each = length-set ns i after ∙ c.loop-i.invariant.a_begin_each;
+            a_place_each = w.add.ensures.a_place_each ∙ c.loop-i.invariant.a_place_each;
+            later = omega (arith, c.loop-i.invariant.later, some_period (get_or ps i q));
             in_round = omega (arith, c.loop-i.invariant.in_round);
-            kept = begun_more ps ws (set ws i v) i tick c.loop-i.event next c.loop-i.invariant.kept
-                (omega arith) (λ k u lt. get_or-set_other ws i k v u (omega arith))
-                (λ d u. subst (IsKept (get_or ps i d) (tick + 1) next) (sym (at u))
-                (subst (λ (q : Piece). IsKept q (tick + 1) next v)
-                (get_or_read ps i p in_ps w.index-pieces-i.is d)
-                (kept_ahead p (tick + 1) (tick + 1) v.next next v begun (omega arith) (omega arith))));
-            rest = λ k u le. get_or-set_other ws i k v u (omega arith)
-                ∙ c.loop-i.invariant.rest k u (omega arith);
+            kept = begun_more ps ns (set ns i after) i tick c.loop-i.event next c.loop-i.invariant.kept
+                (omega arith) (λ k lt. get_or-set_other ns i k after 0 (omega arith))
+                (λ d. subst (IsKept (get_or ps i d) (tick + 1) next) (sym (get_or-set_same ns i after 0 in_ns))
+                (kept_ahead (get_or ps i d) (tick + 1) (tick + 1) after next after
+                (kept_next (get_or ps i d) tick after (subst (IsKept (get_or ps i d) tick tick) here (before d))
+                (after_is d)) (omega arith) (omega arith)));
+            rest = λ k le. get_or-set_other ns i k after 0 (omega arith)
+                ∙ c.loop-i.invariant.rest k (omega arith);
+            pending = λ gs start.
+                (let pending = c.loop-i.invariant.pending gs start in
+                let timely = c.loop-i.invariant.timely in
+                let idle : (d : Piece) → goal_of (get_or ps i d) (get_or ns i 0) ≤ get_or gs i 0 =
+                λ d. idle_piece ps gs ns old count tick i d (before d) here in_ps pending timely in
+                let room = room_to_begin ps gs ns old count tick i p c.requires.distinct (before p) here in_ps
+                pending timely in
+                pending_added ps gs ns (set ns i after) old new count i job c.requires.distinct pending
+                w.add.ensures.added
+                (omega (arith, c.requires.a_place_each, c.loop-i.invariant.a_place_each, w.add.ensures.a_place_each))
+                idle (λ k ne. get_or-set_other ns i k after 0 ne)
+                (begun_job ps gs ns tick i after job in_ps in_ns here before
+                (λ d. omega (arith, idle d, pending.within i d in_ps)) after_is
+                (λ d. subst (λ (x : Piece). job.key ≡ (tick - x.from + x.to) * MAX_VCPUS + x.vcpu) (read d)
+                w.job_from.ensures.key)
+                (λ d. subst (λ (x : Piece). job.left ≡ x.cost) (read d) w.job_from.ensures.left)));
+            timely = timely_added old new count (tick + 1) job w.add.ensures.added c.loop-i.invariant.timely
+                (omega (arith, w.job_from.ensures.key, p.begins));
           })
-      | else-windows-i w ↦
-          let least : next ≡ min c.loop-i.event (get_or ws i zero).next =
-          subst (λ (xs : List Window). next ≡ min c.loop-i.event (get_or xs i zero).next) w.windows-is
-          c.min-event.ensures in
-          let same : (u : Window) → get_or ws i zero ≡ get_or ws i u =
-          λ u. get_or_default ws i zero u in_ws in
-          let before : (d : Piece) (u : Window) → IsKept (get_or ps i d) tick tick (get_or ws i u) =
-          λ d u. subst (IsKept (get_or ps i d) tick tick)
-          (sym (c.loop-i.invariant.rest i u (omega arith))) (c.requires.kept i d u in_ps) in
-          let later : tick < (get_or ws i zero).next =
-          omega (arith, w.if-windows-i.false, (before (some_piece ps i in_ps) zero).ahead) in
-          rw (w.windows-is, w.keys-is) (record {
-            enough = c.loop-i.invariant.enough;
-            a_key_each = c.loop-i.invariant.a_key_each;
-            keyed = c.loop-i.invariant.keyed;
+      | else-begins-i w ↦
+          let least : next ≡ min c.loop-i.event (get_or ns i 0) =
+          subst (λ (xs : List ℕ). next ≡ min c.loop-i.event (get_or xs i 0)) w.begins-is c.min-event.ensures in
+          let later : tick < get_or ns i 0 =
+          omega (arith, w.if-begins-i.false, (before (some_piece ps i in_ps)).ahead) in
+          rw (w.begins-is, w.jobs-is, w.count-is) (record {
+            a_begin_each = c.loop-i.invariant.a_begin_each;
+            a_place_each = c.loop-i.invariant.a_place_each;
             later = omega (arith, c.loop-i.invariant.later);
             in_round = omega (arith, c.loop-i.invariant.in_round);
-            kept = begun_more ps ws ws i tick c.loop-i.event next c.loop-i.invariant.kept (omega arith)
-                (λ k u lt. refl)
-                (λ d u. kept_ahead (get_or ps i d) tick (tick + 1) tick next (get_or ws i u) (before d u)
-                (omega arith)
-                (subst (λ (x : Window). next ≤ x.next) (same u) (omega arith)));
-            rest = λ k u le. c.loop-i.invariant.rest k u (omega arith);
+            kept = begun_more ps ns ns i tick c.loop-i.event next c.loop-i.invariant.kept (omega arith)
+                (λ k lt. refl)
+                (λ d. kept_ahead (get_or ps i d) tick (tick + 1) tick next (get_or ns i 0) (before d)
+                (omega arith) (omega arith));
+            rest = λ k le. c.loop-i.invariant.rest k (omega arith);
+            pending = c.loop-i.invariant.pending;
+            timely = c.loop-i.invariant.timely;
           })
     ]
+
+-- there is room for the piece's job
+pub add-requires : goal.add-requires
+add-requires c =
+    let i = c.loop-i.i in
+    let tick = c.args.tick in
+    let gs = c.requires.under_way.given in
+    let p = c.index-pieces-i.result in
+    omega (
+      arith,
+      room_to_begin c.args.pieces.now gs c.loop-i.begins c.loop-i.jobs c.loop-i.count tick i p c.requires.distinct
+          (subst (IsKept (get_or c.args.pieces.now i p) tick tick) (sym (c.loop-i.invariant.rest i (omega arith)))
+          (c.requires.under_way.kept i p c.loop-i-test.true)) c.if-begins-i.true c.loop-i-test.true
+          (c.loop-i.invariant.pending gs c.requires.under_way.pending) c.loop-i.invariant.timely,
+      c.requires.a_place_each,
+      c.loop-i.invariant.a_place_each,
+    )
+
+pub overflow_add-count : goal.overflow_add-count
+overflow_add-count c =
+    let i = c.loop-i.i in
+    let tick = c.args.tick in
+    let gs = c.requires.under_way.given in
+    let p = c.index-pieces-i.result in
+    omega (
+      arith,
+      room_to_begin c.args.pieces.now gs c.loop-i.begins c.loop-i.jobs c.loop-i.count tick i p c.requires.distinct
+          (subst (IsKept (get_or c.args.pieces.now i p) tick tick) (sym (c.loop-i.invariant.rest i (omega arith)))
+          (c.requires.under_way.kept i p c.loop-i-test.true)) c.if-begins-i.true c.loop-i-test.true
+          (c.loop-i.invariant.pending gs c.requires.under_way.pending) c.loop-i.invariant.timely,
+    )
+
+pub overflow_add-begins : goal.overflow_add-begins
+overflow_add-begins c = omega (
+  arith,
+  short_period (get_or c.args.pieces.now c.loop-i.i c.index-pieces-i-then-begins-i.result),
+  c.requires.in_round,
+)
+
+pub returns-clause-under_way : goal.returns-clause-under_way
+returns-clause-under_way c =
+    let before = c.requires.under_way in
+    record {
+      given = before.given;
+      kept = λ i d i-in. c.loop-i.invariant.kept i d (omega (arith, c.loop-i-test.false));
+      pending = c.loop-i.invariant.pending before.given before.pending;
+      timely = c.loop-i.invariant.timely;
+      counted = before.counted;
+      met = before.met;
+    }

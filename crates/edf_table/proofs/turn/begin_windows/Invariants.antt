@@ -1,18 +1,18 @@
 use Rattle.std.proofs.Common.{◌≡◌, ◌<◌, ◌≤◌, ◌+◌, ℕ, List, get_or, length}
 use Rattle.tab_core.specs.declared.TheConstants.{ROUND}
-use Rattle.edf_table.specs.declared.window.Window.{Window}
-use Rattle.edf_table.specs.Inside.Progress.{AreKept, AreKeyed}
+use Rattle.edf_table.specs.Inside.Progress.{AreKept, ArePending, AreTimely}
 use Rattle.edf_table.proofs.turn.begin_windows.Given as goal
 
 -- the windows of the pieces before this one have begun, and those of the others are as they were
 abbrev pub invariant-loop-i : goal.invariant-loop-i
 invariant-loop-i l = record {
-  enough : length l.windows ≡ length l.initial.windows;
+  a_begin_each : length l.begins ≡ length l.initial.begins;
+  a_place_each : length l.jobs ≡ length l.initial.jobs;
   later : l.tick < l.event;
   in_round : l.event ≤ ROUND;
-  kept : AreKept l.pieces l.windows l.i (l.tick + 1) l.event;
-  a_key_each : length l.keys ≡ length l.initial.keys;
-  keyed : (gs : List ℕ) → AreKeyed l.pieces gs l.initial.windows l.initial.keys
-      → AreKeyed l.pieces gs l.windows l.keys;
-  rest : (k : ℕ) (v : Window) → l.i ≤ k → get_or l.windows k v ≡ get_or l.initial.windows k v;
+  kept : AreKept l.pieces l.begins l.i (l.tick + 1) l.event;
+  rest : (k : ℕ) → l.i ≤ k → get_or l.begins k 0 ≡ get_or l.initial.begins k 0;
+  pending : (gs : List ℕ) → ArePending l.pieces gs l.initial.begins l.initial.jobs l.initial.count
+      → ArePending l.pieces gs l.begins l.jobs l.count;
+  timely : AreTimely l.jobs l.count (l.tick + 1);
 }

@@ -1,13 +1,14 @@
-use Rattle.std.proofs.Common.{◌+◌, length, arith}
-use Rattle.edf_table.proofs.Kept.{all_kept_later}
+use Rattle.std.proofs.Common.{◌+◌, arith}
+use Rattle.edf_table.proofs.PendingJobs.{under_way_later}
 use Rattle.edf_table.proofs.turn.next_event.Goals as goal
 
-pub returns-then-tick-event-clause-kept : goal.returns-then-tick-event-clause-kept
-returns-then-tick-event-clause-kept c =
-    all_kept_later c.args.pieces.now c.args.windows.now (length c.args.pieces.now) c.args.tick
-    (c.args.tick + 1) c.args.event c.args.event c.requires.kept (omega arith) (omega arith)
+pub returns-then-tick-event-clause-under_way : goal.returns-then-tick-event-clause-under_way
+returns-then-tick-event-clause-under_way c =
+    under_way_later c.args.pieces.now c.args.begins.now c.args.jobs.now c.args.count.now c.args.tick c.args.tick
+    (c.args.tick + 1) (c.args.tick + 1) c.args.event c.args.event c.requires.under_way (omega arith) (omega arith)
 
-pub begin_windows-requires-clause-kept : goal.begin_windows-requires-clause-kept
-begin_windows-requires-clause-kept c =
-    all_kept_later c.args.pieces.now c.args.windows.now (length c.args.pieces.now) c.args.tick c.args.tick
-    c.args.event c.args.tick c.requires.kept (omega arith) (omega (arith, c.requires.in_time))
+pub begin_windows-requires-clause-under_way : goal.begin_windows-requires-clause-under_way
+begin_windows-requires-clause-under_way c =
+    under_way_later c.args.pieces.now c.args.begins.now c.args.jobs.now c.args.count.now c.args.tick c.args.tick
+    c.args.tick (c.args.tick + 1) c.args.event c.args.tick c.requires.under_way (omega arith)
+    (omega (arith, c.requires.in_time))
