@@ -1,9 +1,8 @@
-ghost use Rattle.std.specs.Prelude.{◌≡◌, ◌≤◌, length, true};
+ghost use Rattle.std.specs.Prelude.{◌≡◌, ◌*◌, ◌/◌, ◌<◌, ◌≤◌, length, true};
 ghost use Rattle.tab_core.specs.declared.TheConstants.{ROUND};
-ghost use Rattle.tab_core.specs.Period.{IsPeriod};
 ghost use Rattle.edf_table.specs.Inside.Progress.{IsCommon};
 
-use tab_core::{PERIODS, Piece, ROUND};
+use tab_core::{Piece, ROUND};
 
 // Whether the period of each piece divides so many ticks.
 fn is_common(pieces: &[Piece], ticks: u32) -> bool
@@ -17,16 +16,36 @@ fn is_common(pieces: &[Piece], ticks: u32) -> bool
     true
 }
 
-// The least period of the table that the period of each piece divides.
-pub(crate) fn common_period(pieces: &[Piece]) -> u32
-    ensures listed { IsPeriod result }
+// What is left of so many ticks without this factor, as often as the period of each piece divides it.
+fn without(pieces: &[Piece], ticks: u32, factor: u32) -> u32
+    requires factor { 2 ≤ factor }
+    requires some { 0 < ticks }
+    requires small { ticks ≤ ROUND }
+    requires whole { ROUND / ticks * ticks ≡ ROUND }
+    requires common { IsCommon pieces.now (length pieces.now) ticks }
+    ensures some { 0 < result }
     ensures small { result ≤ ROUND }
+    ensures whole { ROUND / result * result ≡ ROUND }
     ensures common { IsCommon pieces.now (length pieces.now) result }
 {
-    for period in PERIODS {
-        if is_common(pieces, period) {
-            return period;
-        }
+    let mut left = ticks;
+    while left % factor == 0 && is_common(pieces, left / factor) {
+        left /= factor;
     }
-    ROUND
+    left
+}
+
+// The least number of ticks that the period of each piece divides, or a round without a piece: a round
+// without those of its prime factors (it is 2^3 * 3^3 * 5^2 * 19 ticks) that no period needs.
+pub(crate) fn common_period(pieces: &[Piece]) -> u32
+    ensures some { 0 < result }
+    ensures small { result ≤ ROUND }
+    ensures whole { ROUND / result * result ≡ ROUND }
+    ensures common { IsCommon pieces.now (length pieces.now) result }
+{
+    if pieces.is_empty() {
+        return ROUND;
+    }
+    let odd = without(pieces, ROUND, 2);
+    without(pieces, without(pieces, without(pieces, odd, 3), 5), 19)
 }

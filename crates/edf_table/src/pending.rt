@@ -61,7 +61,8 @@ pub(crate) fn add(jobs: &mut [Pending], count: usize, job: Pending)
 pub(crate) fn is_late(jobs: &[Pending], count: usize, tick: u32) -> bool
     requires known { count ≤ length jobs.now }
     requires in_round { tick ≤ ROUND }
-    ensures late { result ≡ true → (0 < count) × ((job_at jobs.now (count - 1)).key < (tick + 1) * MAX_VCPUS) }
+    ensures late { result ≡ true
+        → (0 < count) × ((job_at jobs.now (count - 1)).key < (tick + 1) * MAX_VCPUS) }
     ensures timely { result ≡ false → 0 < count → (tick + 1) * MAX_VCPUS ≤ (job_at jobs.now (count - 1)).key }
 {
     count > 0 && jobs[count - 1].key < (tick + 1) * MAX_VCPUS

@@ -1,4 +1,4 @@
-ghost use Rattle.std.specs.Prelude.{◌≡◌, ℕ, ◌+◌, ◌<◌, ◌≤◌, List, length};
+ghost use Rattle.std.specs.Prelude.{◌≡◌, ℕ, ◌+◌, ◌<◌, ◌≤◌, length, slice_index};
 ghost use Rattle.tab_core.specs.declared.TheConstants.{MAX_VCPUS, ROUND};
 ghost use Rattle.table_form.specs.Planning.Jobs.{jobs_of};
 ghost use Rattle.edf_table.specs.Inside.Progress.{AreKept, GoesTo, IsUnderWay};
@@ -20,14 +20,14 @@ pub(crate) fn first_begins(pieces: &[Piece]) -> [u32; MAX_VCPUS as usize]
     begins
 }
 
-// Begins the windows of the tick, and gives the next tick at which one begins, or the round's end.
+// Begins the windows of the tick.
 fn begin_windows(
     pieces: &[Piece],
     begins: &mut [u32],
     jobs: &mut [Pending],
     count: &mut usize,
     tick: u32,
-) -> u32
+)
     requires distinct { DistinctVcpus pieces.now }
     requires a_begin_each { length pieces.now ≤ length begins.old }
     requires a_place_each { length jobs.old ≡ MAX_VCPUS }
@@ -35,23 +35,36 @@ fn begin_windows(
     requires in_round { tick < ROUND }
     ensures a_begin_each { length begins.new ≡ length begins.old }
     ensures a_place_each { length jobs.new ≡ length jobs.old }
-    ensures later { tick < result }
-    ensures in_round { result ≤ ROUND }
-    ensures under_way { IsUnderWay pieces.now begins.new jobs.new count.new tick (tick + 1) (tick + 1) result }
+    ensures under_way { IsUnderWay pieces.now begins.new jobs.new count.new tick (tick + 1) (tick + 1)
+        (tick + 1) }
 {
-    let mut event = ROUND;
     for i in 0..pieces.len() {
         if begins[i] == tick {
             add(jobs, *count, job_from(&pieces[i], tick));
             *count += 1;
             begins[i] = tick + pieces[i].period;
         }
-        event = event.min(begins[i]);
     }
-    event
 }
 
-// The next tick at which a window begins, once those of this one have: at `event` they do.
+// The least of the first begins, and at most the round's end. It stands apart from their search, so
+// that the compiler takes several at once.
+fn least_of(begins: &[u32], count: usize) -> u32
+    requires known { count ≤ length begins.now }
+    ensures in_round { result ≤ ROUND }
+    ensures least { (i : ℕ) → i < count → result ≤ slice_index begins.now i }
+    ensures later { (tick : ℕ) → tick < ROUND → ((i : ℕ) → i < count → tick < slice_index begins.now i)
+        → tick < result }
+{
+    let mut least = ROUND;
+    for i in 0..count {
+        least = least.min(begins[i]);
+    }
+    least
+}
+
+// The next tick at which a window begins, or the round's end, once those of this tick have begun: at
+// `event` some do.
 pub(crate) fn next_event(
     pieces: &[Piece],
     begins: &mut [u32],
@@ -71,12 +84,14 @@ pub(crate) fn next_event(
     ensures a_place_each { length jobs.new ≡ length jobs.old }
     ensures later { tick < result }
     ensures in_round { result ≤ ROUND }
-    ensures under_way { IsUnderWay pieces.now begins.new jobs.new count.new tick (tick + 1) (tick + 1) result }
+    ensures under_way { IsUnderWay pieces.now begins.new jobs.new count.new tick (tick + 1) (tick + 1)
+        result }
 {
     if tick < event {
         return event;
     }
-    begin_windows(pieces, begins, jobs, count, tick)
+    begin_windows(pieces, begins, jobs, count, tick);
+    least_of(begins, pieces.len())
 }
 
 // The ticks up to `end` that go to one vCPU, or to none.
@@ -96,13 +111,15 @@ pub(crate) fn run_turn(
     event: u32,
 ) -> Turn
     requires distinct { DistinctVcpus pieces.now }
-    requires under_way { IsUnderWay pieces.now begins.now jobs.old count.old tick (tick + 1) (tick + 1) event }
+    requires under_way { IsUnderWay pieces.now begins.now jobs.old count.old tick (tick + 1) (tick + 1)
+        event }
     requires before { tick < event }
     requires in_round { event ≤ ROUND }
     ensures later { tick < result.end }
     ensures within { result.end ≤ event }
     ensures a_place_each { length jobs.new ≡ length jobs.old }
-    ensures under_way { IsUnderWay pieces.now begins.now jobs.new count.new result.end result.end result.end event }
+    ensures under_way { IsUnderWay pieces.now begins.now jobs.new count.new result.end result.end
+        result.end event }
     ensures goes { GoesTo (jobs_of pieces.now) tick result.end result.owner }
 {
     if *count == 0 {

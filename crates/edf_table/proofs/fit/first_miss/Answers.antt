@@ -1,5 +1,4 @@
 use Rattle.std.proofs.Common.{arith}
-use Rattle.tab_core.proofs.Periods.{period_facts}
 use Rattle.edf_table.proofs.Few.{few_pieces}
 use Rattle.edf_table.proofs.Misses.{all_met_fits, first_end}
 use Rattle.edf_table.proofs.PendingJobs.{missed_now, served_now, under_way_start}
@@ -43,10 +42,9 @@ returns-then-is_late-2-clause-some c =
 pub returns-else-is_late-2-clause-none : goal.returns-else-is_late-2-clause-none
 returns-else-is_late-2-clause-none c =
     let common = c.common_period-common.result in
-    let facts = period_facts common c.common_period-common.ensures.listed in
     let served = served_now c.args.pieces.now c.loop-tick.begins c.loop-tick.jobs c.loop-tick.count
     c.loop-tick.tick c.loop-tick.event c.loop-tick.invariant.under_way c.loop-tick.invariant.in_time
     (c.is_late-2.ensures.timely c.if-is_late-2.false) in
     all_met_fits c.args.pieces.now c.requires
     (all_met c.args.pieces.now common c.requires c.common_period-common.ensures.common
-    (omega (arith, facts.at_least)) (omega (arith, facts.whole)) (λ j a lt. served.met j a (omega arith)))
+    c.common_period-common.ensures.some c.common_period-common.ensures.whole (λ j a lt. served.met j a (omega arith)))

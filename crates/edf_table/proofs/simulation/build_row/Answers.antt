@@ -1,7 +1,6 @@
 use Rattle.std.proofs.Common.{◌≡◌, ◌∙◌, ◌*◌, ◌/◌, ◌+◌, ap, arith, subst, sym, slice_get, Some}
 use Rattle.std.proofs.lemmas.Option.{slice_get_within}
 use Rattle.tab_core.specs.declared.TheConstants.{ROUND}
-use Rattle.tab_core.proofs.Periods.{period_facts}
 use Rattle.table_form.specs.Planning.Jobs.{jobs_of}
 use Rattle.table_form.specs.Tables.Serves.{cells_within}
 use Rattle.edf_table.specs.Inside.Progress.{MetBefore}
@@ -12,32 +11,20 @@ use Rattle.edf_table.proofs.RepetitionLemmas.{row_repeats}
 use Rattle.edf_table.proofs.Windowed.{window_of_piece}
 use Rattle.edf_table.proofs.simulation.build_row.Goals as goal
 
-pub repeated-requires-clause-some : goal.repeated-requires-clause-some
-repeated-requires-clause-some c =
-    let facts = period_facts c.common_period-common.result c.common_period-common.ensures.listed in
-    omega (arith, facts.at_least)
-
-pub repeated-requires-clause-whole : goal.repeated-requires-clause-whole
-repeated-requires-clause-whole c =
-    let facts = period_facts c.common_period-common.result c.common_period-common.ensures.listed in
-    omega (arith, facts.whole)
-
 pub returns-clause-row : goal.returns-clause-row
 returns-clause-row c =
     let common = c.common_period-common.result in
-    let facts = period_facts common c.common_period-common.ensures.listed in
     c.in_ok-row.ensures ∙ ap (so_often (ROUND / common)) c.in_ok-first.ensures.cells
     ∙ row_repeats c.args.pieces.now common c.requires.distinct c.common_period-common.ensures.common
-    (omega (arith, facts.at_least)) c.common_period-common.ensures.small (omega (arith, facts.whole))
+    c.common_period-common.ensures.some c.common_period-common.ensures.small c.common_period-common.ensures.whole
     c.in_ok-first.ensures.met
 
 -- all is met to the end of the round
 met_at_end : (c : goal.In_ok-row) → MetBefore (jobs_of c.args.pieces.now) (ROUND + 1)
 met_at_end c =
     let common = c.common_period-common.result in
-    let facts = period_facts common c.common_period-common.ensures.listed in
     all_met c.args.pieces.now common c.requires.distinct c.common_period-common.ensures.common
-    (omega (arith, facts.at_least)) (omega (arith, facts.whole)) c.in_ok-first.ensures.met
+    c.common_period-common.ensures.some c.common_period-common.ensures.whole c.in_ok-first.ensures.met
 
 pub returns-clause-windows : goal.returns-clause-windows
 returns-clause-windows c i k p at k-lt =

@@ -17,7 +17,6 @@ loop-i-preserved c =
     let ns = c.loop-i.begins in
     let old = c.loop-i.jobs in
     let count = c.loop-i.count in
-    let next = c.min-event.result in
     let in_ps : i < length ps = c.loop-i-test.true in
     let in_ns : i < length ns = omega (arith, c.requires.a_begin_each, c.loop-i.invariant.a_begin_each) in
     let before : (d : Piece) → IsKept (get_or ps i d) tick tick (get_or ns i 0) =
@@ -34,20 +33,15 @@ loop-i-preserved c =
           let read : (d : Piece) → p ≡ get_or ps i d = λ d. get_or_read ps i p in_ps w.index-pieces-i.is d in
           let after_is : (d : Piece) → after ≡ tick + (get_or ps i d).period =
           λ d. ap (λ (x : Piece). tick + x.period) (get_or_default ps i q d in_ps) in
-          let least : next ≡ min c.loop-i.event after =
-          subst (λ (xs : List ℕ). next ≡ min c.loop-i.event (get_or xs i 0)) w.begins-is c.min-event.ensures
-          ∙ ap (min c.loop-i.event) (get_or-set_same ns i after 0 in_ns) in
           rw (w.begins-is, w.jobs-is, w.count-is) (record {
             a_begin_each = length-set ns i after ∙ c.loop-i.invariant.a_begin_each;
             a_place_each = w.add.ensures.a_place_each ∙ c.loop-i.invariant.a_place_each;
-            later = omega (arith, c.loop-i.invariant.later, some_period (get_or ps i q));
-            in_round = omega (arith, c.loop-i.invariant.in_round);
-            kept = begun_more ps ns (set ns i after) i tick c.loop-i.event next c.loop-i.invariant.kept
+            kept = begun_more ps ns (set ns i after) i tick (tick + 1) (tick + 1) c.loop-i.invariant.kept
                 (omega arith) (λ k lt. get_or-set_other ns i k after 0 (omega arith))
-                (λ d. subst (IsKept (get_or ps i d) (tick + 1) next) (sym (get_or-set_same ns i after 0 in_ns))
-                (kept_ahead (get_or ps i d) (tick + 1) (tick + 1) after next after
+                (λ d. subst (IsKept (get_or ps i d) (tick + 1) (tick + 1)) (sym (get_or-set_same ns i after 0 in_ns))
+                (kept_ahead (get_or ps i d) (tick + 1) (tick + 1) after (tick + 1) after
                 (kept_next (get_or ps i d) tick after (subst (IsKept (get_or ps i d) tick tick) here (before d))
-                (after_is d)) (omega arith) (omega arith)));
+                (after_is d)) (omega arith) (omega (arith, some_period (get_or ps i q)))));
             rest = λ k le. get_or-set_other ns i k after 0 (omega arith)
                 ∙ c.loop-i.invariant.rest k (omega arith);
             pending = λ gs start.
@@ -70,18 +64,14 @@ loop-i-preserved c =
                 (omega (arith, w.job_from.ensures.key, p.begins));
           })
       | else-begins-i w ↦
-          let least : next ≡ min c.loop-i.event (get_or ns i 0) =
-          subst (λ (xs : List ℕ). next ≡ min c.loop-i.event (get_or xs i 0)) w.begins-is c.min-event.ensures in
           let later : tick < get_or ns i 0 =
           omega (arith, w.if-begins-i.false, (before (some_piece ps i in_ps)).ahead) in
           rw (w.begins-is, w.jobs-is, w.count-is) (record {
             a_begin_each = c.loop-i.invariant.a_begin_each;
             a_place_each = c.loop-i.invariant.a_place_each;
-            later = omega (arith, c.loop-i.invariant.later);
-            in_round = omega (arith, c.loop-i.invariant.in_round);
-            kept = begun_more ps ns ns i tick c.loop-i.event next c.loop-i.invariant.kept (omega arith)
+            kept = begun_more ps ns ns i tick (tick + 1) (tick + 1) c.loop-i.invariant.kept (omega arith)
                 (λ k lt. refl)
-                (λ d. kept_ahead (get_or ps i d) tick (tick + 1) tick next (get_or ns i 0) (before d)
+                (λ d. kept_ahead (get_or ps i d) tick (tick + 1) tick (tick + 1) (get_or ns i 0) (before d)
                 (omega arith) (omega arith));
             rest = λ k le. c.loop-i.invariant.rest k (omega arith);
             pending = c.loop-i.invariant.pending;
