@@ -25,7 +25,8 @@ due_counted p next n is some =
     let more = mul-le-mul_left {m = 1} {n = n} p.period (omega arith) in omega arith
 
 -- so what is kept of a piece follows from the number of the next window
-pub kept_counted : (p : Piece) (b e next n : ℕ) → next ≡ n * p.period + p.from → next < b + p.period → e ≤ next
+pub kept_counted : (p : Piece) (b e next n : ℕ) → next ≡ n * p.period + p.from → next < b + p.period
+    → e ≤ next
     → IsKept p b e next
 kept_counted p b e next n is low ahead = record {
   count = n;
@@ -61,7 +62,8 @@ pub kept_next : (p : Piece) (next after : ℕ) → IsKept p next next next → a
     → IsKept p (next + 1) after after
 kept_next p next after kept is =
     let more : (kept.count + 1) * p.period ≡ kept.count * p.period + p.period = omega arith in
-    kept_counted p (next + 1) after after (kept.count + 1) (omega (arith, kept.next_is)) (omega arith) (omega arith)
+    kept_counted p (next + 1) after after (kept.count + 1) (omega (arith, kept.next_is)) (omega arith)
+    (omega arith)
 
 -- it costs the piece's cost more than those before it
 pub goal_next : (p : Piece) (next after : ℕ) → IsKept p next next next → after ≡ next + p.period
@@ -114,7 +116,8 @@ pub kept_ready : (p : Piece) (given tick : ℕ) (next : ℕ) → IsKept p (tick 
 kept_ready p given tick next kept = elim (cases_lt 0 kept.count) [
   | inl some ↦
       (let last = last_counted p tick next kept some in
-      let goal : (window_no p tick + 1) * p.cost ≡ goal_of p next = ap (λ m. m * p.cost) last.1 ∙ sym kept.goal_is in
+      let goal : (window_no p tick + 1) * p.cost ≡ goal_of p next =
+      ap (λ m. m * p.cost) last.1 ∙ sym kept.goal_is in
       sym (ap (λ b. b && ltb given ((window_no p tick + 1) * p.cost)) (le-leb p.from tick last.0)
       ∙ ap (λ m. ltb given m) goal))
   | inr none ↦
@@ -136,7 +139,8 @@ kept_goal p tick next kept goal = elim (cases_lt 0 kept.count) [
 -- so a ready piece has windows that cost something
 pub ready_goal : (p : Piece) (given tick : ℕ) (next : ℕ) → IsKept p (tick + 1) (tick + 1) next
     → is_ready p given tick ≡ true → given < goal_of p next
-ready_goal p given tick next kept ready = ltb-true given (goal_of p next) (kept_ready p given tick next kept ∙ ready)
+ready_goal p given tick next kept ready =
+    ltb-true given (goal_of p next) (kept_ready p given tick next kept ∙ ready)
 
 -- and is due where the last of them ends
 pub kept_due : (p : Piece) (tick : ℕ) (next : ℕ) → IsKept p (tick + 1) (tick + 1) next → 0 < goal_of p next
@@ -178,8 +182,8 @@ last_ends p tick k next kept at = elim (cases_lt k kept.count) [
 ]
 
 -- so where that one ends at another tick, none ends at this one
-pub kept_apart : (p : Piece) (given tick : ℕ) (next : ℕ) → IsKept p tick tick next → (due_of p next ≡ tick → ⊥)
-    → IsServedAt p given tick
+pub kept_apart : (p : Piece) (given tick : ℕ) (next : ℕ) → IsKept p tick tick next
+    → (due_of p next ≡ tick → ⊥) → IsServedAt p given tick
 kept_apart p given tick next kept apart k at =
     let last = last_ends p tick k next kept at in
     let due = kept.due_is (omega arith) in
@@ -207,7 +211,8 @@ kept_missed p given tick next kept now short = elim (cases_lt 0 kept.count) [
       (k, omega arith, omega arith))
   | inr none ↦
       (let zero : kept.count ≡ 0 = omega arith in
-      let goal : goal_of p next ≡ 0 * p.cost = kept.goal_is ∙ ap (λ m. m * p.cost) zero in absurd (omega arith))
+      let goal : goal_of p next ≡ 0 * p.cost = kept.goal_is ∙ ap (λ m. m * p.cost) zero in
+      absurd (omega arith))
 ]
 
 -- where there is a place there is a piece

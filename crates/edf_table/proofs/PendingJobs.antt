@@ -133,7 +133,8 @@ pending_done ps gs ns jobs count i ticks apart i-in pending some job all_left = 
       ));
   all = all';
   within = λ k d k-in. elim (cases_eq k i) [
-    | inl same ↦ subst (λ m. get_or (set gs i (get_or gs i 0 + ticks)) m 0 ≤ goal_of (get_or ps m d) (get_or ns m 0))
+    | inl same ↦ subst (λ m. get_or (set gs i (get_or gs i 0 + ticks)) m 0 ≤ goal_of (get_or ps m d)
+        (get_or ns m 0))
         (sym same) (rw (get_or-set_same gs i (get_or gs i 0 + ticks) 0 i-in) (omega (arith, job.left_is d)))
     | inr ne ↦ rw (get_or-set_other gs i k (get_or gs i 0 + ticks) 0 ne) (pending.within k d k-in)
   ];
@@ -144,7 +145,8 @@ pending_done ps gs ns jobs count i ticks apart i-in pending some job all_left = 
         → (j : ℕ) × (j < count - 1) × ((job_at jobs j).key ≡ key_at (get_or ps k d) (get_or ns k 0))
     all' k d k-in short = elim (cases_eq k i) [
       | inl same ↦
-          (let here : get_or (set gs i (get_or gs i 0 + ticks)) i 0 < goal_of (get_or ps i d) (get_or ns i 0) =
+          (let here : get_or (set gs i (get_or gs i 0 + ticks)) i 0 < goal_of (get_or ps i d)
+          (get_or ns i 0) =
           subst (λ m. get_or (set gs i (get_or gs i 0 + ticks)) m 0 < goal_of (get_or ps m d) (get_or ns m 0))
           same short in
           let given = get_or-set_same gs i (get_or gs i 0 + ticks) 0 i-in in
@@ -165,7 +167,8 @@ pending_done ps gs ns jobs count i ticks apart i-in pending some job all_left = 
     ]
 
 -- the last job has some of its ticks
-pub pending_run : (ps : List Piece) (gs ns : List ℕ) (jobs : List Pending) (count i ticks : ℕ) (less : Pending)
+pub pending_run : (ps : List Piece) (gs ns : List ℕ) (jobs : List Pending) (count i ticks : ℕ)
+    (less : Pending)
     → i < length gs → ArePending ps gs ns jobs count → 0 < count
     → IsJobOf ps gs ns (job_at jobs (count - 1)) i → ticks < (job_at jobs (count - 1)).left
     → less.key ≡ (job_at jobs (count - 1)).key → less.left ≡ (job_at jobs (count - 1)).left - ticks
@@ -176,7 +179,8 @@ pending_run ps gs ns jobs count i ticks less i-in pending some job lt key left =
   each = each';
   all = all';
   within = λ k d k-in. elim (cases_eq k i) [
-    | inl same ↦ subst (λ m. get_or (set gs i (get_or gs i 0 + ticks)) m 0 ≤ goal_of (get_or ps m d) (get_or ns m 0))
+    | inl same ↦ subst (λ m. get_or (set gs i (get_or gs i 0 + ticks)) m 0 ≤ goal_of (get_or ps m d)
+        (get_or ns m 0))
         (sym same) (rw (get_or-set_same gs i (get_or gs i 0 + ticks) 0 i-in) (omega (arith, job.left_is d)))
     | inr ne ↦ rw (get_or-set_other gs i k (get_or gs i 0 + ticks) 0 ne) (pending.within k d k-in)
   ];
@@ -199,12 +203,14 @@ pending_run ps gs ns jobs count i ticks less i-in pending some job lt key left =
         × IsJobOf ps (set gs i (get_or gs i 0 + ticks)) ns (job_at (set jobs (count - 1) less) j) k
     each' j j-lt = elim (cases_eq j (count - 1)) [
       | inl last ↦ subst (λ m. (k : ℕ)
-          × IsJobOf ps (set gs i (get_or gs i 0 + ticks)) ns (job_at (set jobs (count - 1) less) m) k) (sym last) (
+          × IsJobOf ps (set gs i (get_or gs i 0 + ticks)) ns (job_at (set jobs (count - 1) less) m) k)
+          (sym last) (
             i,
             rw here (record {
               in_range = job.in_range;
               some = omega arith;
-              left_is = λ d. rw (get_or-set_same gs i (get_or gs i 0 + ticks) 0 i-in) (omega (arith, job.left_is d));
+              left_is = λ d. rw (get_or-set_same gs i (get_or gs i 0 + ticks) 0 i-in)
+                  (omega (arith, job.left_is d));
               key_is = λ d. key ∙ job.key_is d;
             }),
           )
@@ -276,7 +282,8 @@ length-picked ps gs ns jobs count (suc n) d pending le =
     ap suc (length-picked ps gs ns jobs count n d pending (omega arith))
 
 -- the job that a piece was picked for
-record IsPicked (ps : List Piece) (gs ns : List ℕ) (jobs : List Pending) (count n k : ℕ) (d q : Piece) : Type 0 where
+record IsPicked (ps : List Piece) (gs ns : List ℕ) (jobs : List Pending) (count n k : ℕ)
+    (d q : Piece) : Type 0 where
   job : ℕ
   place : job + suc k ≡ n
   piece : ℕ
@@ -365,7 +372,8 @@ room_for_job ps gs ns jobs count i d apart i-in pending idle =
 
 -- so it is for a piece whose next window begins
 pub room_to_begin : (ps : List Piece) (gs ns : List ℕ) (jobs : List Pending) (count tick i : ℕ) (d : Piece)
-    → DistinctVcpus ps → IsKept (get_or ps i d) tick tick (get_or ns i 0) → get_or ns i 0 ≡ tick → i < length ps
+    → DistinctVcpus ps → IsKept (get_or ps i d) tick tick (get_or ns i 0) → get_or ns i 0 ≡ tick
+    → i < length ps
     → ArePending ps gs ns jobs count → AreTimely jobs count (tick + 1) → count < MAX_VCPUS
 room_to_begin ps gs ns jobs count tick i d apart kept at i-in pending timely =
     room_for_job ps gs ns jobs count i d apart i-in pending
@@ -386,7 +394,8 @@ timely_added old new count tick job added timely later j lt = elim (cases_lt j a
 ]
 
 -- a job more, of a piece that had none and whose next window has begun
-pub pending_added : (ps : List Piece) (gs ns ms : List ℕ) (old new : List Pending) (count i : ℕ) (job : Pending)
+pub pending_added : (ps : List Piece) (gs ns ms : List ℕ) (old new : List Pending) (count i : ℕ)
+    (job : Pending)
     → DistinctVcpus ps → ArePending ps gs ns old count → IsAdded old new count job → count < length new
     → ((d : Piece) → goal_of (get_or ps i d) (get_or ns i 0) ≤ get_or gs i 0)
     → ((k : ℕ) → k ≢ i → get_or ms k 0 ≡ get_or ns k 0) → IsJobOf ps gs ms job i
@@ -462,7 +471,8 @@ pending_added ps gs ns ms old new count i job apart pending added room idle same
           | inr j-from ↦ elim (cases_eq j added.at) [
             | inl here ↦ subst (λ m. (job_at old (k - 1)).key < (job_at new m).key) (sym here)
                 (rw added.here (added.below (k - 1) (omega arith) (omega arith)))
-            | inr j-ne ↦ rw (behind j (omega arith) (omega arith)) (falls (j - 1) (k - 1) (omega arith) (omega arith))
+            | inr j-ne ↦ rw (behind j (omega arith) (omega arith))
+                (falls (j - 1) (k - 1) (omega arith) (omega arith))
           ]
         ])
       ]
@@ -512,7 +522,8 @@ pub begun_job : (ps : List Piece) (gs ns : List ℕ) (tick i after : ℕ) (job :
     → ((d : Piece) → IsKept (get_or ps i d) tick tick (get_or ns i 0))
     → ((d : Piece) → goal_of (get_or ps i d) (get_or ns i 0) ≡ get_or gs i 0)
     → ((d : Piece) → after ≡ tick + (get_or ps i d).period)
-    → ((d : Piece) → job.key ≡ (tick - (get_or ps i d).from + (get_or ps i d).to) * MAX_VCPUS + (get_or ps i d).vcpu)
+    → ((d : Piece)
+    → job.key ≡ (tick - (get_or ps i d).from + (get_or ps i d).to) * MAX_VCPUS + (get_or ps i d).vcpu)
     → ((d : Piece) → job.left ≡ (get_or ps i d).cost) → IsJobOf ps gs (set ns i after) job i
 begun_job ps gs ns tick i after job i-in i-in' at kept given after_is key left = record {
   in_range = i-in;
@@ -634,7 +645,8 @@ under_way_kept ps ns jobs count tick b c served e f here kept = record {
 
 -- so where less is asked
 pub under_way_later : (ps : List Piece) (ns : List ℕ) (jobs : List Pending) (count tick b c served e f : ℕ)
-    → IsUnderWay ps ns jobs count tick b served e → b ≤ c → f ≤ e → IsUnderWay ps ns jobs count tick c served f
+    → IsUnderWay ps ns jobs count tick b served e → b ≤ c → f ≤ e
+    → IsUnderWay ps ns jobs count tick c served f
 under_way_later ps ns jobs count tick b c served e f here le le' =
     under_way_kept ps ns jobs count tick b c served e f here
     (all_kept_later ps ns (length ps) b c e f here.kept le le')

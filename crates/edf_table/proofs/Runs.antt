@@ -24,7 +24,8 @@ idles_on ps ns jobs count tick event apart here before in_round none =
     let at : tick + (event - tick) ≡ event = omega arith in (
       record {
         given = gs;
-        kept = all_kept_later ps ns (length ps) (tick + 1) event event event here.kept (omega arith) (omega arith);
+        kept = all_kept_later ps ns (length ps) (tick + 1) event event event here.kept (omega arith)
+            (omega arith);
         pending = here.pending;
         timely = λ j lt. absurd (omega arith);
         counted = subst (IsCounted ps gs) at along.0;
@@ -35,11 +36,13 @@ idles_on ps ns jobs count tick event apart here before in_round none =
 
 -- when the piece's job is due, by its key
 due_by_key : (p : Piece) (next key : ℕ) → key ≡ key_at p next → key / MAX_VCPUS ≡ due_of p next
-due_by_key p next key is = ap (λ n. n / MAX_VCPUS) is ∙ div-mul-add (due_of p next) MAX_VCPUS p.vcpu p.vcpu_small
+due_by_key p next key is = ap (λ n. n / MAX_VCPUS) is
+    ∙ div-mul-add (due_of p next) MAX_VCPUS p.vcpu p.vcpu_small
 
 -- and of which vCPU it is
 vcpu_by_key : (p : Piece) (next key : ℕ) → key ≡ key_at p next → key % MAX_VCPUS ≡ p.vcpu
-vcpu_by_key p next key is = ap (λ n. n % MAX_VCPUS) is ∙ mod-mul-add (due_of p next) MAX_VCPUS p.vcpu p.vcpu_small
+vcpu_by_key p next key is = ap (λ n. n % MAX_VCPUS) is
+    ∙ mod-mul-add (due_of p next) MAX_VCPUS p.vcpu p.vcpu_small
 
 -- a turn of the last job lasts until it has its ticks, it is due or a window begins
 pub runs_on : (ps : List Piece) (ns : List ℕ) (jobs new : List Pending) (count left tick event end ticks : ℕ)
@@ -52,7 +55,8 @@ pub runs_on : (ps : List Piece) (ns : List ℕ) (jobs new : List Pending) (count
     → (tick < tick + ticks)
     × IsUnderWay ps ns new left (tick + ticks) (tick + ticks) (tick + ticks) event
     × GoesTo (jobs_of ps) tick (tick + ticks) (Some ((job_at jobs (count - 1)).key % MAX_VCPUS))
-runs_on ps ns jobs new count left tick event end ticks apart here before in_round some end_is ticks_is pending timely =
+runs_on ps ns jobs new count left tick event end ticks apart here before in_round some end_is ticks_is
+    pending timely =
     let gs = here.given in
     let place = here.pending.each (count - 1) (omega arith) in
     let i = place.0 in
@@ -62,7 +66,8 @@ runs_on ps ns jobs new count left tick event end ticks apart here before in_roun
     let urgent = urgent_by_key ps gs ns jobs count tick event i here.kept before here.pending some job in
     let due : (e : Piece) → end ≡ min event (due_of (get_or ps i e) (get_or ns i 0)) =
     λ e. end_is ∙ ap (min event) (due_by_key (get_or ps i e) (get_or ns i 0) key (job.key_is e)) in
-    let run = before_run ps ns gs tick event end i d apart here.counted here.met in_round here.kept before urgent due in
+    let run = before_run ps ns gs tick event end i d apart here.counted here.met in_round here.kept before
+    urgent due in
     let within : tick + ticks ≤ end = omega (arith, run.1) in
     let lacks = lacks_all ps ns gs tick event i ticks here.kept before urgent
     (λ e. omega (arith, job.left_is e)) in

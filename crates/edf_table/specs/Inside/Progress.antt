@@ -119,7 +119,8 @@ job_at jobs j = slice_index_or jobs j (record { key = 0; left = 0 })
 pub record IsJobOf (ps : List Piece) (given ns : List ℕ) (job : Pending) (i : ℕ) : Type 0 where
   pub in_range : i < length ps
   pub some : 0 < job.left
-  pub left_is : (d : Piece) → slice_index given i + job.left ≡ goal_of (slice_index_or ps i d) (slice_index ns i)
+  pub left_is : (d : Piece)
+      → slice_index given i + job.left ≡ goal_of (slice_index_or ps i d) (slice_index ns i)
   pub key_is : (d : Piece) → job.key ≡ key_at (slice_index_or ps i d) (slice_index ns i)
 
 -- the first `count` jobs are those of the pieces that lack ticks, and the most urgent is the last
@@ -149,7 +150,8 @@ AreTimely jobs count tick = (j : ℕ) → j < count → tick * MAX_VCPUS ≤ (jo
 
 -- the simulation at a tick: the windows that begin below `begun` have begun, no further one begins
 -- below `event`, and those that end below `served` have had their cost
-pub record IsUnderWay (ps : List Piece) (ns : List ℕ) (jobs : List Pending) (count tick begun served event : ℕ)
+pub record IsUnderWay (ps : List Piece) (ns : List ℕ) (jobs : List Pending)
+    (count tick begun served event : ℕ)
     : Type 0 where
   pub given : List ℕ
   pub kept : AreKept ps ns (length ps) begun event

@@ -1,4 +1,4 @@
-use Rattle.std.proofs.Common.{◌≡◌, ℕ, ◌*◌, ◌/◌, ◌<◌, ◌≤◌, ap, sym, ◌∙◌, inl, inr, arith}
+use Rattle.std.proofs.Common.{◌≡◌, ℕ, ◌*◌, ◌/◌, ◌<◌, ap, sym, ◌∙◌, inl, inr, arith}
 use Rattle.std.proofs.Math.Nat.{mod-add-div', mul-div_cancel, mul-le-mul_left}
 use Rattle.std.proofs.lemmas.Bool.{cases_lt}
 use Rattle.tab_core.specs.declared.TheConstants.{ROUND}
@@ -21,7 +21,8 @@ whole_left left factor q is some whole =
     let m = ROUND / left in
     let split : m * (q * factor) ≡ m * left = ap (λ n. m * n) is in
     let product : m * factor * q ≡ ROUND = omega (arith, whole) in
-    let quotient : ROUND / q ≡ m * factor = ap (λ n. n / q) (sym product) ∙ mul-div_cancel (m * factor) some in
+    let quotient : ROUND / q ≡ m * factor = ap (λ n. n / q) (sym product)
+    ∙ mul-div_cancel (m * factor) some in
     ap (λ n. n * q) quotient ∙ product
 
 pub loop-left-preserved : goal.loop-left-preserved

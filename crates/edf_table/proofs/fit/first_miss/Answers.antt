@@ -23,7 +23,8 @@ returns-then-is_late-clause-some c =
     let here = c.loop-tick.invariant.under_way in
     first_end c.args.pieces.now here.given c.loop-tick.tick c.requires here.counted here.met
     (missed_now c.args.pieces.now c.loop-tick.begins c.loop-tick.jobs c.loop-tick.count c.loop-tick.tick
-    c.loop-tick.event here c.loop-tick.invariant.in_time (c.is_late.ensures.late c.if-is_late.true)) (omega arith)
+    c.loop-tick.event here c.loop-tick.invariant.in_time (c.is_late.ensures.late c.if-is_late.true))
+    (omega arith)
 
 pub next_event-event-requires-clause-under_way : goal.next_event-event-requires-clause-under_way
 next_event-event-requires-clause-under_way c =
@@ -47,4 +48,5 @@ returns-else-is_late-2-clause-none c =
     (c.is_late-2.ensures.timely c.if-is_late-2.false) in
     all_met_fits c.args.pieces.now c.requires
     (all_met c.args.pieces.now common c.requires c.common_period-common.ensures.common
-    c.common_period-common.ensures.some c.common_period-common.ensures.whole (λ j a lt. served.met j a (omega arith)))
+    c.common_period-common.ensures.some c.common_period-common.ensures.whole
+    (λ j a lt. served.met j a (omega arith)))

@@ -28,7 +28,8 @@ loop-place-preserved c =
             subst (λ m. job_at (set jobs place moved) (m + 1) ≡ job_at c.args.jobs.now m) (sym at)
             (subst (λ m. job_at (set jobs place moved) m ≡ job_at c.args.jobs.now (place - 1)) (sym back)
             (get_or-set_same jobs place moved none
-            (omega (arith, c.loop-place.invariant.a_place_each, c.loop-place.invariant.within, c.requires)) ∙ same)))
+            (omega (arith, c.loop-place.invariant.a_place_each, c.loop-place.invariant.within, c.requires))
+            ∙ same)))
         | inr ne ↦ get_or-set_other jobs place (j + 1) moved none (omega arith)
             ∙ c.loop-place.invariant.behind j (omega arith) lt
       ];

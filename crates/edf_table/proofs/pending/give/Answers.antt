@@ -5,7 +5,8 @@ use Rattle.edf_table.proofs.pending.give.Goals as goal
 
 pub returns-then-ticks-job-clause-pending : goal.returns-then-ticks-job-clause-pending
 returns-then-ticks-job-clause-pending c ps gs ns i apart i-in pending job =
-    pending_done ps gs ns c.args.jobs.now c.args.count.now i c.args.ticks apart i-in pending c.requires.some job
+    pending_done ps gs ns c.args.jobs.now c.args.count.now i c.args.ticks apart i-in pending c.requires.some
+    job
     c.if-ticks-job.true
 
 pub returns-else-ticks-job-clause-pending : goal.returns-else-ticks-job-clause-pending

@@ -56,13 +56,15 @@ loop-tick-preserved c =
     let new = c.push_segment.new.segments.items in
     let pushed : map segment_view new
     ≡ put_before (map segment_view old) (record { owner = owner; end = c.loop-tick.tick + n } ∷ []) =
-    subst (λ e. map segment_view new ≡ put_before (map segment_view old) (record { owner = owner; end = e } ∷ []))
+    subst (λ e. map segment_view new ≡ put_before (map segment_view old)
+    (record { owner = owner; end = e } ∷ []))
     (sym at) c.in_ok-push_segment.ensures.ok in
     record {
       in_time = omega (arith, c.run_turn-turn.ensures.within, c.min.ensures);
       in_round = c.next_event-event.ensures.in_round;
       within = omega (arith, c.run_turn-turn.ensures.within, c.min.ensures);
-      a_begin_each = omega (arith, c.next_event-event.ensures.a_begin_each, c.loop-tick.invariant.a_begin_each);
+      a_begin_each =
+          omega (arith, c.next_event-event.ensures.a_begin_each, c.loop-tick.invariant.a_begin_each);
       a_place_each = omega (
         arith,
         c.next_event-event.ensures.a_place_each,

@@ -16,7 +16,8 @@ returns-clause-row c =
     let common = c.common_period-common.result in
     c.in_ok-row.ensures ∙ ap (so_often (ROUND / common)) c.in_ok-first.ensures.cells
     ∙ row_repeats c.args.pieces.now common c.requires.distinct c.common_period-common.ensures.common
-    c.common_period-common.ensures.some c.common_period-common.ensures.small c.common_period-common.ensures.whole
+    c.common_period-common.ensures.some c.common_period-common.ensures.small
+    c.common_period-common.ensures.whole
     c.in_ok-first.ensures.met
 
 -- all is met to the end of the round

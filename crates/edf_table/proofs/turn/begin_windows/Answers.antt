@@ -1,4 +1,4 @@
-use Rattle.std.proofs.Common.{◌≡◌, ◌+◌, ◌-◌, ◌*◌, ◌<◌, ◌≤◌, min, ℕ, List, get_or, set, length, refl, ap, subst, sym, ◌∙◌, arith, length-set, get_or-set_same, get_or-set_other}
+use Rattle.std.proofs.Common.{◌≡◌, ◌+◌, ◌-◌, ◌*◌, ◌<◌, ◌≤◌, get_or, set, length, refl, ap, subst, sym, ◌∙◌, arith, length-set, get_or-set_same, get_or-set_other}
 use Rattle.std.proofs.lemmas.List.{get_or_default, get_or_read}
 use Rattle.tab_core.specs.declared.TheConstants.{MAX_VCPUS}
 use Rattle.tab_core.specs.declared.piece.Piece.{Piece}
@@ -38,9 +38,11 @@ loop-i-preserved c =
             a_place_each = w.add.ensures.a_place_each ∙ c.loop-i.invariant.a_place_each;
             kept = begun_more ps ns (set ns i after) i tick (tick + 1) (tick + 1) c.loop-i.invariant.kept
                 (omega arith) (λ k lt. get_or-set_other ns i k after 0 (omega arith))
-                (λ d. subst (IsKept (get_or ps i d) (tick + 1) (tick + 1)) (sym (get_or-set_same ns i after 0 in_ns))
+                (λ d. subst (IsKept (get_or ps i d) (tick + 1) (tick + 1))
+                (sym (get_or-set_same ns i after 0 in_ns))
                 (kept_ahead (get_or ps i d) (tick + 1) (tick + 1) after (tick + 1) after
-                (kept_next (get_or ps i d) tick after (subst (IsKept (get_or ps i d) tick tick) here (before d))
+                (kept_next (get_or ps i d) tick after
+                (subst (IsKept (get_or ps i d) tick tick) here (before d))
                 (after_is d)) (omega arith) (omega (arith, some_period (get_or ps i q)))));
             rest = λ k le. get_or-set_other ns i k after 0 (omega arith)
                 ∙ c.loop-i.invariant.rest k (omega arith);
@@ -53,7 +55,12 @@ loop-i-preserved c =
                 pending timely in
                 pending_added ps gs ns (set ns i after) old new count i job c.requires.distinct pending
                 w.add.ensures.added
-                (omega (arith, c.requires.a_place_each, c.loop-i.invariant.a_place_each, w.add.ensures.a_place_each))
+                (omega (
+                  arith,
+                  c.requires.a_place_each,
+                  c.loop-i.invariant.a_place_each,
+                  w.add.ensures.a_place_each,
+                ))
                 idle (λ k ne. get_or-set_other ns i k after 0 ne)
                 (begun_job ps gs ns tick i after job in_ps in_ns here before
                 (λ d. omega (arith, idle d, pending.within i d in_ps)) after_is
@@ -88,8 +95,10 @@ add-requires c =
     let p = c.index-pieces-i.result in
     omega (
       arith,
-      room_to_begin c.args.pieces.now gs c.loop-i.begins c.loop-i.jobs c.loop-i.count tick i p c.requires.distinct
-          (subst (IsKept (get_or c.args.pieces.now i p) tick tick) (sym (c.loop-i.invariant.rest i (omega arith)))
+      room_to_begin c.args.pieces.now gs c.loop-i.begins c.loop-i.jobs c.loop-i.count tick i p
+          c.requires.distinct
+          (subst (IsKept (get_or c.args.pieces.now i p) tick tick)
+          (sym (c.loop-i.invariant.rest i (omega arith)))
           (c.requires.under_way.kept i p c.loop-i-test.true)) c.if-begins-i.true c.loop-i-test.true
           (c.loop-i.invariant.pending gs c.requires.under_way.pending) c.loop-i.invariant.timely,
       c.requires.a_place_each,
@@ -104,8 +113,10 @@ overflow_add-count c =
     let p = c.index-pieces-i.result in
     omega (
       arith,
-      room_to_begin c.args.pieces.now gs c.loop-i.begins c.loop-i.jobs c.loop-i.count tick i p c.requires.distinct
-          (subst (IsKept (get_or c.args.pieces.now i p) tick tick) (sym (c.loop-i.invariant.rest i (omega arith)))
+      room_to_begin c.args.pieces.now gs c.loop-i.begins c.loop-i.jobs c.loop-i.count tick i p
+          c.requires.distinct
+          (subst (IsKept (get_or c.args.pieces.now i p) tick tick)
+          (sym (c.loop-i.invariant.rest i (omega arith)))
           (c.requires.under_way.kept i p c.loop-i-test.true)) c.if-begins-i.true c.loop-i-test.true
           (c.loop-i.invariant.pending gs c.requires.under_way.pending) c.loop-i.invariant.timely,
     )
