@@ -1,5 +1,6 @@
 pub mod FirstBadLemmas
 pub mod HomeLemmas
+pub mod LineBytes
 pub mod LineWordLemmas
 pub mod MeaningLemmas
 pub mod OneMeaning
@@ -11,3 +12,4 @@ pub mod ReadingLemmas
 pub mod ReadingSegmentLemmas
 pub mod ReadingVcpuLemmas
 pub mod RowText
+pub mod TailLemmas

@@ -1,7 +1,11 @@
 -- The lines of a row's segments, one after the other.
-use Rattle.std.proofs.Common.{sym, ap, ◌∙◌, ◌≡◌, ℕ, ◌+◌, ◌<◌, ◌≤◌, List, ◌∷◌, ◌++◌, append-nil, add-one, drop, flat_map, get_or, length, map, suc}
+use Rattle.std.proofs.Common.{sym, ap, subst, ◌∙◌, ◌≡◌, ℕ, ◌+◌, ◌<◌, ◌≤◌, List, ◌∷◌, ◌++◌, append-nil, append_assoc, add-one, drop, flat_map, get_or, length, map, suc, refl, Ok, Err}
 use Rattle.std.proofs.Math.Seq.{drop-cons}
 use Rattle.std.proofs.lemmas.List.{drop_all}
+use Rattle.tab_io.specs.Sinks.{IsLeft, Writes}
+use Rattle.tab_io.specs.Views.{SinkView}
+use Rattle.tab_io.specs.declared.sink.WriteFault.{WriteFault}
+use Rattle.tab_io.proofs.SinkLemmas.{left_behind, left_broken}
 use Rattle.table_form.specs.declared.segment.Segment.{Segment}
 use Rattle.table_form.specs.Tables.Segments.{segment_view}
 use Rattle.plan_text.specs.PlanText.{segment_line}
@@ -22,3 +26,29 @@ line_first names ss k s low is =
 pub no_line_left : (names : List (List ℕ)) (ss : List Segment) (k : ℕ) (gathered : List ℕ) → length ss ≤ k
     → gathered ++ lines_of_row names (drop k ss) ≡ gathered
 no_line_left names ss k gathered past = rw (drop_all k ss past) (append-nil gathered)
+
+-- ---- lines that are gathered
+
+-- a fault is one for each call that answers it
+pub failed_alike : {U W : Type 0} (s t : SinkView) (text : List ℕ) (e : WriteFault)
+    → Writes {U = U} s t text (Err e) → Writes {U = W} s t text (Err e)
+failed_alike s t text e wrote = record { later = wrote.later; bytes = wrote.bytes; fits = wrote.fits }
+
+-- of the gathered bytes a front was written, and then a line was put behind those that were left
+pub line_behind : (s t v : SinkView) (text gathered still now line rest whole : List ℕ)
+    → IsLeft s t text (gathered ++ whole) → whole ≡ line ++ rest → IsLeft t v gathered still
+    → now ≡ still ++ line → IsLeft s v text (now ++ rest)
+line_behind s t v text gathered still now line rest whole left parts room put =
+    let made : IsLeft s v text (still ++ whole) =
+    left_behind s t v text (gathered ++ whole) room.front (still ++ whole) (Ok tt) tt left
+    (ap (λ l. l ++ whole) room.whole ∙ append_assoc room.front still whole) room.written refl in
+    subst (IsLeft s v text) (ap (λ l. still ++ l) parts ∙ (sym (append_assoc still line rest)
+    ∙ ap (λ l. l ++ rest) (sym put))) made
+
+-- where that failed, a front of the row's text is out
+pub lines_torn : (s t v : SinkView) (text gathered rest : List ℕ) (e : WriteFault)
+    → IsLeft s t text (gathered ++ rest) → Writes {U = ℕ} t v gathered (Err e)
+    → Writes {U = Unit {0}} s v text (Err e)
+lines_torn s t v text gathered rest e left wrote =
+    left_broken s t v text (gathered ++ rest) gathered rest (Err e) e left refl (failed_alike t v gathered e wrote)
+    refl

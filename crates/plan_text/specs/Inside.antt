@@ -1,2 +1,3 @@
--- What the reader of a plan text keeps on its way, private to this crate.
+-- What the reader and the writer of a plan text keep on their way, private to this crate.
 pub mod Reading
+pub mod Tails

@@ -1,13 +1,16 @@
-ghost use Rattle.std.specs.Prelude.{◌<◌, ◌≤◌, ◌∷◌, flat_map, length, map};
-ghost use Rattle.tab_core.specs.declared.TheConstants.{MAX_CORES};
+ghost use Rattle.std.specs.Prelude.{ℕ, ◌<◌, ◌≤◌, List, ◌∷◌, length, map};
+ghost use Rattle.tab_core.specs.declared.TheConstants.{MAX_CORES, MAX_VCPUS};
 ghost use Rattle.tab_io.specs.Sinks.{Writes};
-ghost use Rattle.table_form.specs.Tables.Segments.{segment_view, segments_from};
+ghost use Rattle.table_form.specs.Tables.Segments.{segments_from};
 ghost use Rattle.tab_words.specs.Texts.{text_of};
 ghost use Rattle.vcpu_names.specs.Names.{names_of};
 ghost use Rattle.plan_text.specs.PlanLines.{core_lines, core_words};
-ghost use Rattle.plan_text.specs.PlanText.{segment_line, view_words};
+ghost use Rattle.plan_text.specs.PlanText.{view_words};
+ghost use Rattle.plan_text.specs.Inside.Tails.{AreTails};
 
 use crate::rows::put_row;
+use crate::tail::Tail;
+use crate::tails::tails_of;
 use tab_core::Vcpu;
 use tab_io::{Sink, WriteFault};
 use tab_words::{TextPiece, put_line};
@@ -24,8 +27,9 @@ pub(crate) fn put_cores<K: Sink>(
         (text_of (core_lines (view_words (names_of vcpus.now)) 0
         (map (segments_from 0) rows.now))) result }
 {
+    let tails = tails_of(vcpus);
     for core in 0..rows.len() {
-        put_core(sink, vcpus, core as u32, &rows[core])?;
+        put_core(sink, &tails, core as u32, &rows[core])?;
     }
     Ok(())
 }
@@ -33,14 +37,14 @@ pub(crate) fn put_cores<K: Sink>(
 // Writes the lines of one core.
 fn put_core<K: Sink>(
     sink: &mut K,
-    vcpus: &[Vcpu],
+    tails: &[Tail; 257],
     core: u32,
     row: &CoreTable,
 ) -> Result<(), WriteFault>
-    ensures { Writes (K.state sink.old) (K.state sink.new)
-        (text_of (core_words core ∷ map (view_words (names_of vcpus.now))
-        (segments_from 0 row.now))) result }
+    ensures { (names : List (List ℕ)) → AreTails names MAX_VCPUS tails.now
+        → Writes (K.state sink.old) (K.state sink.new)
+        (text_of (core_words core ∷ map (view_words names) (segments_from 0 row.now))) result }
 {
     put_line(sink, &[TextPiece::Text(b"core"), TextPiece::Number(core)])?;
-    put_row(sink, vcpus, row.segments())
+    put_row(sink, tails, row.segments())
 }

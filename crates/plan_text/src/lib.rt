@@ -8,6 +8,7 @@
 
 mod cores;
 mod laws;
+mod line_bytes;
 mod line_words;
 mod lines_left;
 mod plain_line;
@@ -17,6 +18,8 @@ mod read_fault;
 mod read_vcpus;
 mod refusal;
 mod rows;
+mod tail;
+mod tails;
 mod vcpus;
 mod write;
 

@@ -12,14 +12,15 @@ returns-in_err-put_core g c =
     let p = err_from_is_err_and c.from_residual.result c.from_residual.ensures.1 in
     let parts = cores_left (names_of c.args.vcpus.now) c.args.rows.now c.loop-core.core
     c.index-rows-core.result c.loop-core-test.true c.index-rows-core.is in
-    rw p.1 (left_broken _ _ _ _ _ _ _ _ _ c.loop-core.invariant parts c.put_core.ensures
-    c.in_err-put_core.was)
+    rw p.1 (left_broken _ _ _ _ _ _ _ _ _ c.loop-core.invariant parts
+    (c.put_core.ensures (names_of c.args.vcpus.now) c.tails_of-tails.ensures) c.in_err-put_core.was)
 
 pub loop-core-preserved : goal.loop-core-preserved
 loop-core-preserved g c =
     let parts = cores_left (names_of c.args.vcpus.now) c.args.rows.now c.loop-core.core
     c.index-rows-core.result c.loop-core-test.true c.index-rows-core.is in
-    left_behind _ _ _ _ _ _ _ _ _ c.loop-core.invariant parts c.put_core.ensures c.in_ok-put_core.was
+    left_behind _ _ _ _ _ _ _ _ _ c.loop-core.invariant parts
+    (c.put_core.ensures (names_of c.args.vcpus.now) c.tails_of-tails.ensures) c.in_ok-put_core.was
 
 pub returns : goal.returns
 returns g c = none_left _ _ _ _ c.loop-core.invariant
