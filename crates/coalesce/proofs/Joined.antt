@@ -1,37 +1,13 @@
 -- The row that the two passes make is the joined row.
-use Rattle.std.proofs.Common.{◌≡◌, ℕ, zero, suc, ◌+◌, ◌-◌, ◌≤◌, ◌⊎◌, Bool, ◌&&◌, ltb, cond, List, [], ◌∷◌, ◌++◌, length, map, slice_get, Option, Some, None, refl, ap, subst, sym, ◌∙◌, inl, inr, arith, length-append}
+use Rattle.std.proofs.Common.{◌≡◌, ℕ, zero, suc, ◌+◌, ◌-◌, ◌≤◌, ◌⊎◌, Bool, ◌&&◌, ltb, cond, List, [], ◌∷◌, ◌++◌, length, slice_get, Option, Some, None, refl, ap, subst, sym, ◌∙◌, inl, inr, arith, length-append}
 use Rattle.std.proofs.lemmas.Option.{same_Some}
-use Rattle.tab_core.specs.declared.TheConstants.{ROUND}
 use Rattle.tab_core.specs.declared.piece.Piece.{Piece}
 use Rattle.table_form.specs.Planning.Drafts.{pieces_at}
-use Rattle.table_form.specs.Tables.Rows.{Row, cells_from}
-use Rattle.table_form.specs.Tables.Segments.{AreMaximal, SegmentView, put_front, segment_view, segments_from}
-use Rattle.table_form.specs.declared.segment.Segment.{Segment}
-use Rattle.coalesce.specs.Joining.{AreJoined, IsJoined, SwapsTo, filled, filled_after, given, is_given, may_have_more}
-use Rattle.coalesce.proofs.Filled.{filled_after_length, filled_maximal}
+use Rattle.table_form.specs.Tables.Rows.{Row}
+use Rattle.table_form.specs.Tables.Segments.{SegmentView, put_front, segments_from}
+use Rattle.coalesce.specs.Joining.{AreJoined, IsJoined, filled_after, given, is_given, may_have_more}
+use Rattle.coalesce.proofs.Filled.{filled_after_length}
 use Rattle.coalesce.proofs.Swapping.{swaps_shorten}
-use Rattle.table_form.proofs.SegmentLemmas.{segments_are, segments_of_cells}
-
--- the filled segments are maximal
-pub still_maximal : (may_grow : ℕ → Bool) (sliver : ℕ) (swapped joined : List Segment) → AreMaximal 0
-    (map segment_view swapped) ROUND
-    → map segment_view joined ≡ filled may_grow sliver (map segment_view swapped)
-    → AreMaximal 0 (map segment_view joined) ROUND
-still_maximal may_grow sliver swapped joined m is = subst (λ ts. AreMaximal 0 ts ROUND) (sym is)
-    (filled_maximal may_grow sliver (map segment_view swapped) ROUND m)
-
--- the row of the filled segments is the joined row
-pub row_joined : (pieces : List Piece) (may_grow : ℕ → Bool) (sliver : ℕ) (row joined : Row)
-    (swapped segments : List Segment) → SwapsTo pieces sliver (map segment_view swapped) (segments_from 0 row)
-    → AreMaximal 0 (map segment_view swapped) ROUND → map segment_view segments ≡ filled may_grow sliver
-    (map segment_view swapped) → joined ≡ cells_from 0 segments
-    → IsJoined pieces may_grow sliver row joined
-row_joined pieces may_grow sliver row joined swapped segments swaps m is row_is = record {
-  end = map segment_view swapped;
-  swaps = swaps;
-  fills = ap (segments_from 0) (row_is ∙ segments_are 0 segments) ∙ segments_of_cells 0
-      (map segment_view segments) ROUND (still_maximal may_grow sliver swapped segments m is) ∙ is;
-}
 
 -- only whether each vCPU may grow counts
 same_given : (f g : ℕ → Bool) (sliver : ℕ) (x y : SegmentView) → ((v : ℕ) → f v ≡ g v)

@@ -1,56 +1,71 @@
-ghost use Rattle.std.specs.Prelude.{◌≡◌, ◌-◌, ◌<◌, ◌≤◌, IfOk, map};
+ghost use Rattle.std.specs.Prelude.{◌≡◌, ◌-◌, ◌<◌, ◌≤◌, None, false, map};
 ghost use Rattle.tab_core.specs.VcpuSets.{has_vcpu};
 ghost use Rattle.tab_core.specs.declared.TheConstants.{ROUND};
-ghost use Rattle.table_form.specs.Tables.Segments.{AreMaximal, segment_view};
-ghost use Rattle.coalesce.specs.Joining.{filled, given};
+ghost use Rattle.table_form.specs.Tables.Segments.{AreMaximal, segment_view, segments_from};
+ghost use Rattle.coalesce.specs.Joining.{filled, is_given};
+ghost use Rattle.coalesce.specs.Inside.Passing.{given_all};
 
-use std::alloc::Global;
-use tab_core::{NoMemory, VcpuNo, VcpuSet};
-use table_form::{Segment, push_segment};
+use tab_core::{VcpuNo, VcpuSet};
+use table_form::{CoreTable, Segment};
 
-// The segment, with the owner of the one before it, which ends at `start`, where it is given to
-// that.
-fn given(
-    before: Option<VcpuNo>,
+// Whether the segment is short and idle, and the owner of the one before it, which ends at `start`,
+// may have it.
+fn is_given(
+    before: &Option<VcpuNo>,
     start: u32,
     segment: &Segment,
     may_grow: &VcpuSet,
     sliver: u32,
-) -> Segment
+) -> bool
     requires { start ≤ segment.now.end }
-    ensures { segment_view result ≡ given (has_vcpu may_grow.now) sliver
-        (record { owner = before; end = start }) (segment_view segment.now) }
+    ensures { result ≡ is_given (has_vcpu may_grow.now) sliver before.now segment.now.owner
+        (segment.now.end - start) }
 {
     let Some(vcpu) = before else {
-        return *segment;
+        return false;
     };
-    if segment.owner.is_some() || sliver <= segment.end - start || !may_grow.has(vcpu) {
-        return *segment;
+    if segment.owner.is_some() || sliver <= segment.end - start {
+        return false;
     }
-    Segment {
-        owner: Some(vcpu),
-        end: segment.end,
-    }
+    may_grow.has(*vcpu)
 }
 
-// Gives each short idle segment to the vCPU before it, if that may have more.
-pub(crate) fn fill_all(
-    alloc: Global,
-    segments: &[Segment],
-    may_grow: &VcpuSet,
-    sliver: u32,
-) -> Result<Vec<Segment>, NoMemory>
-    requires { AreMaximal 0 (map segment_view segments.now) ROUND }
-    ensures { IfOk result (λ out. map segment_view out.items
-        ≡ filled (has_vcpu may_grow.now) sliver (map segment_view segments.now)) }
+// Gives each short idle segment to the vCPU before it, if that may have more, and answers whether
+// there was one.
+fn give_all(segments: &mut Vec<Segment>, may_grow: &VcpuSet, sliver: u32) -> bool
+    requires { AreMaximal 0 (map segment_view segments.old.items) ROUND }
+    ensures given { map segment_view segments.new.items ≡ given_all (has_vcpu may_grow.now) sliver
+        (record { owner = None; end = 0 }) (map segment_view segments.old.items) }
+    ensures none { result ≡ false → segments.new.items ≡ segments.old.items }
 {
-    let mut out = Vec::with_capacity(alloc, segments.len())?;
+    let mut some = false;
     let mut before: Option<VcpuNo> = None;
     let mut start = 0;
-    for segment in segments {
-        push_segment(&mut out, given(before, start, segment, may_grow, sliver))?;
+    for at in 0..segments.len() {
+        let segment = segments[at];
+        if is_given(&before, start, &segment, may_grow, sliver) {
+            let owned = Segment {
+                owner: before,
+                end: segment.end,
+            };
+            segments[at] = owned;
+            some = true;
+        }
         before = segment.owner;
         start = segment.end;
     }
-    Ok(out)
+    some
+}
+
+// The row of the segments of which each short idle one has gone to the vCPU before it, if that may
+// have more. Only where there was one are neighbours joined again.
+pub(crate) fn fill_all(mut segments: Vec<Segment>, may_grow: &VcpuSet, sliver: u32) -> CoreTable
+    requires { AreMaximal 0 (map segment_view segments.items) ROUND }
+    ensures { segments_from 0 result
+        ≡ filled (has_vcpu may_grow.now) sliver (map segment_view segments.items) }
+{
+    if give_all(&mut segments, may_grow, sliver) {
+        return CoreTable::of_rising(segments);
+    }
+    CoreTable::of_maximal(segments)
 }

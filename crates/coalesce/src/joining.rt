@@ -29,8 +29,7 @@ pub(crate) fn join_row(
         → IfOk result (IsJoined pieces (has_vcpu may_grow.now) sliver row.now) }
 {
     let swapped = swap_all(alloc, row.segments(), table, sliver)?;
-    let filled = fill_all(alloc, &swapped, may_grow, sliver)?;
-    Ok(CoreTable::of_maximal(filled))
+    Ok(fill_all(swapped, may_grow, sliver))
 }
 
 // Joins the slivers of each row.

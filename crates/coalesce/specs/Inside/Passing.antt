@@ -1,9 +1,9 @@
 -- What the pass over a row keeps while it joins slivers.
-use Rattle.std.specs.Prelude.{◌≡◌, ℕ, ◌<◌, List, [], ◌∷◌, ◌++◌, Option, Some, length, slice_get}
+use Rattle.std.specs.Prelude.{◌≡◌, ℕ, ◌<◌, Bool, List, [], ◌∷◌, ◌++◌, Option, Some, length, slice_get}
 use Rattle.tab_core.specs.declared.TheConstants.{MAX_VCPUS, ROUND}
 use Rattle.tab_core.specs.declared.piece.Piece.{Piece}
 use Rattle.table_form.specs.Tables.Segments.{put_before, AreMaximal, SegmentView}
-use Rattle.coalesce.specs.Joining.{CanSwap, NoSwap, SwapsTo}
+use Rattle.coalesce.specs.Joining.{CanSwap, NoSwap, SwapsTo, given}
 
 -- the table has the piece of each vCPU that has one here
 pub record IsTableOf (pieces : List Piece) (table : List (Option Piece)) : Type 0 where
@@ -40,3 +40,8 @@ pub record EndBelow (out : List SegmentView) (tick : ℕ) : Type 0 where
   pub reached : ℕ
   pub maximal : AreMaximal 0 out reached
   pub below : reached < tick
+
+-- the segments, each with the owner that it is given; `x` is the segment before these
+abbrev pub given_all : (ℕ → Bool) → ℕ → SegmentView → List SegmentView → List SegmentView
+given_all may_grow sliver x [] = []
+given_all may_grow sliver x (y ∷ rest) = given may_grow sliver x y ∷ given_all may_grow sliver y rest
