@@ -3,7 +3,7 @@ ghost use Rattle.std.specs.Prelude.{◌≡◌, ◌<◌, ◌≤◌, ◌-◌, ◌/
 ghost use Rattle.tab_core.specs.declared.TheConstants.{MAX_CORES, MAX_EVENTS};
 ghost use Rattle.tab_core.specs.declared.entry.Entry.{Entry};
 ghost use Rattle.tab_core.specs.declared.stint.Stint.{Stint};
-ghost use Rattle.round_words.specs.Inside.Known.{AreKnown, TakesClocks};
+ghost use Rattle.round_words.specs.Inside.Known.{AreKnown};
 ghost use Rattle.round_words.specs.Inside.Numbers.{NumbersAgree};
 ghost use Rattle.round_words.specs.Views.{both, controller, enters, hears, holds, just_started, names, only, part, posts, runs, sees, with_part, without};
 ghost use Rattle.round_words.specs.Shown.{IsHeardClock};
@@ -21,6 +21,8 @@ pub(crate) struct Numbers {
     /// The clock of each core that the seat holds. Of another the last clock that one of the seat's actors heard, or 0
     /// where none heard it since the core or that actor was in another seat.
     pub(crate) clocks: [u32; 32],
+    /// A tick that none of the clocks is below.
+    pub(crate) floor: u32,
     /// What each core saw last, or 0 where it has seen nothing since its last stint.
     pub(crate) sights: [u32; 32],
     /// Four for each core: the used counts of the last rounds that it entered, by the round's remainder.
@@ -58,47 +60,8 @@ fn posted_of(mine: u32, theirs: u32, held: u64) -> u32
     if (held >> 32) & 1 == 0 { theirs } else { mine }
 }
 
-// Of the first so many cores but the actor, those known below `least` are known by their clocks from then on.
-pub(crate) fn take_clocks(
-    known: &mut [u32; 32],
-    clocks: &[u32; 32],
-    actor: u32,
-    cores: u32,
-    least: u32,
-)
-    requires { cores ≤ 32 }
-    ensures { TakesClocks clocks.now actor least cores cores known.old known.new }
-{
-    let own = own_of(known, actor);
-    for core in 0..cores {
-        let at = core as usize;
-        known[at] = newer(known[at], clocks[at], known[at] < least);
-    }
-    // it hears no clock of its own
-    if actor < 32 {
-        known[actor as usize] = own;
-    }
-}
-
-// What stands there of the actor itself, if it is a core.
-fn own_of(known: &[u32; 32], actor: u32) -> u32
-    ensures { result ≡ slice_index known.now actor }
-{
-    if (actor as usize) < known.len() {
-        known[actor as usize]
-    } else {
-        0
-    }
-}
-
-// The clock that is known, or the one that is taken in its place.
-fn newer(heard: u32, clock: u32, taken: bool) -> u32
-    ensures { result ≡ cond taken clock heard }
-{
-    if taken { clock } else { heard }
-}
-
 // The least of the numbers.
+#[inline(never)]
 fn least_of(clocks: &[u32; 32]) -> u32
     ensures { (d : ℕ) → d < 32 → result ≤ slice_index clocks.now d }
 {
@@ -127,6 +90,7 @@ impl Numbers {
         ensures held { result.held ≡ held }
         ensures cores { result.cores ≡ cores }
         ensures posted { result.posted ≡ 0 }
+        ensures floor { result.floor ≡ 0 }
         ensures clocks { (c : ℕ) → c < cores → slice_index result.clocks c ≡ 0 }
         ensures sights { result.sights ≡ replicate 32 0 }
     {
@@ -135,6 +99,7 @@ impl Numbers {
             cores,
             posted: 0,
             clocks: first_clocks(cores),
+            floor: 0,
             sights: [0; 32],
             useds: [0; 128],
         }
@@ -160,6 +125,7 @@ impl Numbers {
             cores: self.cores,
             posted: self.posted,
             clocks: self.clocks,
+            floor: 0,
             sights: self.sights,
             useds: self.useds,
         };
@@ -178,8 +144,10 @@ impl Numbers {
             → slice_index self.new.clocks c ≡ slice_index self.old.clocks c }
         ensures others { (c : ℕ) → c < 32 → c < self.new.cores → names self.new.held c ≡ false
             → slice_index self.new.clocks c ≡ 0 }
+        ensures floor { self.new.floor ≡ 0 }
     {
         take_over(&mut self.clocks, &first_clocks(self.cores), self.held);
+        self.floor = 0;
     }
 
     // Takes in the parts of another seat.
@@ -213,13 +181,18 @@ impl Numbers {
         self.sights[core] = count;
     }
 
-    // Whether no clock is known below the tick.
+    // Whether no clock is known below the tick. All of them are looked at only where the floor doesn't tell it.
     #[inline(always)]
-    pub(crate) fn reach(&self, tick: u32) -> bool
-        ensures { result ≡ true → (v : View) → v.started ≡ true → NumbersAgree self.now v
-            → AreKnown self.now.clocks v v.cores tick }
+    pub(crate) fn reach(&mut self, tick: u32) -> bool
+        ensures kept { (v : View) → NumbersAgree self.old v → NumbersAgree self.new v }
+        ensures known { result ≡ true → (v : View) → v.started ≡ true → NumbersAgree self.old v
+            → AreKnown self.old.clocks v v.cores tick }
     {
-        tick <= least_of(&self.clocks)
+        if tick <= self.floor {
+            return true;
+        }
+        self.floor = least_of(&self.clocks);
+        tick <= self.floor
     }
 
     // An actor has heard this clock of the core.
@@ -230,6 +203,7 @@ impl Numbers {
             → NumbersAgree self.new (with_part v a (hears (part v a) core clock)) }
     {
         self.clocks[core] = clock;
+        self.floor = self.floor.min(clock);
     }
 
     // A core has entered this round.
@@ -249,6 +223,7 @@ impl Numbers {
             → NumbersAgree self.new (with_part v core (runs (part v core) s)) }
     {
         self.clocks[core] = end;
+        self.floor = self.floor.min(end);
         self.sights[core] = 0;
     }
 }

@@ -33,9 +33,9 @@ SeeClaim c v n w = SeesCount v w c n × IsSight v c n
 abbrev pub HearClaim : ℕ × ℕ → View → ℕ → View → Type 0
 HearClaim x v n w = HearsClock v w x.0 x.1 n × IsHeardClock v x.0 x.1 n
 
--- `hear_known`, of the actor, the tick below which it asks, the count of cores, and the clocks
-abbrev pub KnownClaim : ℕ × ℕ × ℕ × List ℕ → View → ℕ → View → Type 0
-KnownClaim x v n w = w ≡ with_part v x.0 (hears_all_known x.0 x.1 x.3 x.2 (part v x.0))
+-- `hear_floor`, of the actor, the tick at which it hears that the cores are, and their count
+abbrev pub FloorClaim : ℕ × ℕ × ℕ → View → ℕ → View → Type 0
+FloorClaim x v n w = w ≡ with_part v x.0 (hears_all_known x.0 x.1 x.2 (part v x.0))
 
 -- what a core expects of the word of round k: 0, or its own entry of four rounds before
 abbrev pub IsExpected : Part → ℕ → ℕ → Type 0

@@ -7,5 +7,6 @@ use Rattle.round_words.proofs.numbers.Numbers.note_post.Goals as goal
 pub returns : goal.returns
 returns c = λ v floor has next agrees.
     agree_same c.args.self.now _ v controller (posts (part v controller) floor) agrees has (λ k. as_before (part v controller) k) refl refl
+    agrees.floor_is
     (λ e. next ∙ sym (length_push (part v controller).floors floor)) (λ away. absurd (away refl))
     (λ lt. absurd (omega arith)) (λ k away. refl) (λ lt. absurd (omega arith)) (λ k away. refl) refl refl
