@@ -2,3 +2,4 @@
 pub mod Claims
 pub mod Known
 pub mod Numbers
+pub mod Spacing

@@ -6,6 +6,7 @@ ghost use Rattle.round_words.specs.Shown.{ViewInvariant};
 ghost use Rattle.round_words.specs.declared.view.View.{View};
 
 use crate::board::RoundBoard;
+use crate::spacing::place_of;
 use crate::table_rule::{Step, StepClaim};
 use crate::view::View;
 use atomic_table::Seat;
@@ -28,7 +29,7 @@ impl RoundBoard {
         ensures shown { ViewInvariant seat.new.me.0 }
     {
         let _ = about;
-        self.table.shared.load::<Step<J>>(seat, word)
+        self.table.shared.load::<Step<J>>(seat, place_of(word))
     }
 
     pub(crate) fn store_step<X, J: StepClaim>(
@@ -48,7 +49,9 @@ impl RoundBoard {
         ensures shown { ViewInvariant seat.new.me.0 }
     {
         let _ = about;
-        self.table.shared.store::<Step<J>>(seat, word, new);
+        self.table
+            .shared
+            .store::<Step<J>>(seat, place_of(word), new);
     }
 
     pub(crate) fn exchange_step<X, J: StepClaim>(
@@ -71,6 +74,6 @@ impl RoundBoard {
         let _ = about;
         self.table
             .shared
-            .compare_exchange::<Step<J>>(seat, word, old, new)
+            .compare_exchange::<Step<J>>(seat, place_of(word), old, new)
     }
 }

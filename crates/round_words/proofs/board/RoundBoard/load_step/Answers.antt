@@ -6,6 +6,6 @@ pub load-requires : goal.load-requires
 load-requires g c = (
   c.requires.board,
   search rules,
-  allows _ _ _ _ (λ n. n)
-      (g.J.StepClaim.claim c.args.seat.now.me.0) c.requires.rule c.requires.lag,
+  allows _ _ _ _ _ (λ n. n)
+      (g.J.StepClaim.claim c.args.seat.now.me.0) c.requires.word c.place_of.ensures.is c.requires.rule c.requires.lag,
 )

@@ -6,7 +6,7 @@ pub store-requires : goal.store-requires
 store-requires g c = (
   c.requires.board,
   search rules,
-  allows _ _ _ _ (λ _. c.args.new)
-      (λ _. g.J.StepClaim.claim c.args.seat.now.me.0 c.args.new) c.requires.rule
+  allows _ _ _ _ _ (λ _. c.args.new)
+      (λ _. g.J.StepClaim.claim c.args.seat.now.me.0 c.args.new) c.requires.word c.place_of.ensures.is c.requires.rule
       (λ n w told. c.requires.lag c.args.new w told),
 )
