@@ -19,6 +19,7 @@ use tab_core::{CoreNo, ROUND};
 use table_form::Outline;
 
 // Whether the count has each event of tick at most the clock less the lag.
+#[inline(always)]
 pub(crate) fn has_events(outline: &Outline, count: u32, clock: u32) -> bool
     requires { count ≤ length outline.now.ticks }
     ensures known { IsTrue result ↔ HasEvents outline.now count clock }
@@ -31,6 +32,7 @@ pub(crate) fn has_events(outline: &Outline, count: u32, clock: u32) -> bool
 }
 
 // Enters the round of the core's clock, unless it has, and answers the round's count.
+#[inline(always)]
 pub(crate) fn enter(
     board: &RoundBoard,
     seat: &mut RoundSeat,
@@ -66,6 +68,7 @@ pub(crate) fn enter(
 }
 
 // The begin of a step, on what a state keeps inside.
+#[inline(always)]
 pub(crate) fn begin(
     board: &RoundBoard,
     seat: &mut RoundSeat,

@@ -15,13 +15,14 @@ ghost use Rattle.dispatch_core.specs.Told.{BeginsNext, EndTold, StaysWhereBehind
 
 use crate::answer::Ended;
 use crate::log::{CoreLog, note};
-use round_words::{RoundBoard, RoundSeat, hear_cores};
+use round_words::{RoundBoard, RoundSeat, hear_all};
 use second_level::{Begin, next_stint};
 use slice_table::SliceTable;
 use tab_core::{CoreNo, ROUND, Stint};
 use table_form::{Outline, Span};
 
 // The end of a step, on what a state keeps inside. `place` is a guess at the number of the span.
+#[inline(always)]
 pub(crate) fn end(
     board: &RoundBoard,
     seat: &mut RoundSeat,
@@ -57,6 +58,7 @@ pub(crate) fn end(
 }
 
 // The core hears the others and runs its next stint, at this span, if none of them is too far behind.
+#[inline(always)]
 fn run_at(
     board: &RoundBoard,
     seat: &mut RoundSeat,
@@ -94,7 +96,7 @@ fn run_at(
         last: log.last,
     };
     let next = next_stint(outline, CoreNo(log.core), &begin, span);
-    match hear_cores(
+    match hear_all(
         board,
         seat,
         log.core,
@@ -116,6 +118,7 @@ fn run_at(
 }
 
 // The core runs its next stint.
+#[inline(always)]
 fn advance(board: &RoundBoard, seat: &mut RoundSeat, core: u32, stint: &Stint)
     requires board { IsSeatOf board.now seat.old }
     requires started { (view_of seat.old).started ≡ true }

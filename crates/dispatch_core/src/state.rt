@@ -10,6 +10,7 @@ ghost use Rattle.dispatch_core.specs.States.{AgreesWith, Stands};
 
 use crate::account::CoreAccount;
 use crate::log::CoreLog;
+use round_words::HeardClocks;
 use std::alloc::Global;
 use std::marker::Model;
 use tab_core::{CoreNo, NoMemory, Stint};
@@ -60,7 +61,7 @@ impl CoreState {
             → IsNewPart (part v core)
             → AgreesWith course s v) }
     {
-        let log = new_log(alloc, core.index() as u32, rounds, keep)?;
+        let log = new_log(alloc, outline, core.index() as u32, rounds, keep)?;
         Ok(CoreState { log, place: 0 })
     }
 
@@ -94,7 +95,13 @@ impl CoreState {
 }
 
 // Nothing has happened, and there is room.
-fn new_log(alloc: Global, core: u32, rounds: u32, keep: u32) -> Result<CoreLog, NoMemory>
+fn new_log(
+    alloc: Global,
+    outline: &Outline,
+    core: u32,
+    rounds: u32,
+    keep: u32,
+) -> Result<CoreLog, NoMemory>
     requires small { core < MAX_CORES }
     requires few { rounds ≤ MAX_ROUNDS }
     ensures log { IfOk result (λ log. IsLog log × IsNewLog log) }
@@ -115,7 +122,7 @@ fn new_log(alloc: Global, core: u32, rounds: u32, keep: u32) -> Result<CoreLog, 
         },
         used,
         stints,
-        known: no_clocks(),
+        known: HeardClocks::new(core, outline.cores()),
     })
 }
 
@@ -123,10 +130,4 @@ fn no_ticks() -> [u64; 256]
     ensures { (v : ℕ) → v < MAX_VCPUS → slice_index result v ≡ 0 }
 {
     [0; 256]
-}
-
-fn no_clocks() -> [u32; 32]
-    ensures { (d : ℕ) → slice_index result d ≡ 0 }
-{
-    [0; 32]
 }

@@ -89,6 +89,7 @@ pub fn next_stint(outline: &Outline, core: CoreNo, begin: &Begin, span: &Span<'_
 }
 
 // Whom the core runs in the span: the owner if it is runnable, otherwise the pick among the sharers.
+#[inline(always)]
 fn choose(span: &Span<'_>, runnable: &VcpuSet, last: Option<VcpuNo>) -> Option<VcpuNo>
     ensures slot { owner_runs span.now.owner runnable.now ≡ true → result ≡ span.now.owner }
     ensures shared { owner_runs span.now.owner runnable.now ≡ false

@@ -25,7 +25,7 @@ pub advance-requires-clause-begins : goal.advance-requires-clause-begins
 advance-requires-clause-begins c =
     let log : CoreLog = c.args.log.now in
     let p : Part = part (view_of c.args.seat.now) log.core in
-    let q : Part = part (view_of c.hear_cores.new.seat) log.core in
+    let q : Part = part (view_of c.hear_all.new.seat) log.core in
     let n = c.next_stint-next.ensures in
     begins_same p q c.next_stint-next.result.stint (heard_same log.core _ _ _ p q c.in-None.ensures.heard)
     (begins_next p c.next_stint-next.result.stint log.clock c.args.seen c.args.used log.used.items c.requires.stands.used c.requires.begun.entered
@@ -35,9 +35,9 @@ pub returns-in-Some-clause-stands : goal.returns-in-Some-clause-stands
 returns-in-Some-clause-stands c =
     let log : CoreLog = c.args.log.now in
     let v : View = view_of c.args.seat.now in
-    let w : View = view_of c.hear_cores.new.seat in
+    let w : View = view_of c.hear_all.new.seat in
     let low = c.in-Some.ensures.low in
-    stands_same c.args.outline.now (log_view log) v w c.hear_cores.new.known c.requires.stands c.in-Some.ensures.changes (low_same log.core _ _ _ _ (part v log.core) low.heard (part w log.core) low.near low.becomes) c.in-Some.ensures.known
+    stands_same c.args.outline.now (log_view log) v w c.hear_all.new.known c.requires.stands c.in-Some.ensures.changes (low_same log.core _ _ _ _ (part v log.core) low.heard (part w log.core) low.near low.becomes) c.in-Some.ensures.known
 
 pub returns-in-Some-clause-told : goal.returns-in-Some-clause-told
 returns-in-Some-clause-told c = λ plan shown plans numbers is follows.
@@ -67,13 +67,13 @@ pub returns-in-Some-clause-waits : goal.returns-in-Some-clause-waits
 returns-in-Some-clause-waits c =
     let core : ℕ = c.args.log.now.core in
     let low = c.in-Some.ensures.low in
-    low_stays core _ _ _ _ (part (view_of c.args.seat.now) core) low.heard (part (view_of c.hear_cores.new.seat) core) low.near low.becomes
+    low_stays core _ _ _ _ (part (view_of c.args.seat.now) core) low.heard (part (view_of c.hear_all.new.seat) core) low.near low.becomes
 
 pub returns-in-Some-clause-plans : goal.returns-in-Some-clause-plans
 returns-in-Some-clause-plans c = λ plan shown plans numbers is follows.
     let log : CoreLog = c.args.log.now in
     let v : View = view_of c.args.seat.now in
-    let w : View = view_of c.hear_cores.new.seat in
+    let w : View = view_of c.hear_all.new.seat in
     let low = c.in-Some.ensures.low in
     let same : SameRun (part v log.core) (part w log.core) = low_same log.core _ _ _ _ (part v log.core) low.heard (part w log.core) low.near low.becomes in
     plans_same _ (log_view log) _ (part v log.core) (part w log.core) refl refl refl same.stints follows
@@ -82,13 +82,13 @@ pub returns-in-None-clause-stands : goal.returns-in-None-clause-stands
 returns-in-None-clause-stands c =
     let log : CoreLog = c.args.log.now in
     let v : View = view_of c.args.seat.now in
-    let u : View = view_of c.hear_cores.new.seat in
+    let u : View = view_of c.hear_all.new.seat in
     let q : Part = part u log.core in
     let hs = heard_same log.core _ _ _ (part v log.core) q c.in-None.ensures.heard in
     let n = c.next_stint-next.ensures in
     let t = c.note.ensures in
-    stands_ran c.args.outline.now (record (log_view log) { known = c.hear_cores.new.known }) (log_view c.note.new.log) u _ c.next_stint-next.result.stint c.next_stint-next.result.shared c.args.seen
-    (stands_same c.args.outline.now (log_view log) v u c.hear_cores.new.known c.requires.stands c.in-None.ensures.changes (run_of_same (part v log.core) q hs) c.in-None.ensures.known)
+    stands_ran c.args.outline.now (record (log_view log) { known = c.hear_all.new.known }) (log_view c.note.new.log) u _ c.next_stint-next.result.stint c.next_stint-next.result.shared c.args.seen
+    (stands_same c.args.outline.now (log_view log) v u c.hear_all.new.known c.requires.stands c.in-None.ensures.changes (run_of_same (part v log.core) q hs) c.in-None.ensures.known)
     c.requires.begun.unfinished (heard_seen c.args.outline.now c.args.seen (part v log.core) q hs c.requires.begun.sight)
     (begins_same (part v log.core) q c.next_stint-next.result.stint hs
     (begins_next (part v log.core) c.next_stint-next.result.stint log.clock c.args.seen c.args.used log.used.items c.requires.stands.used c.requires.begun.entered
@@ -100,7 +100,7 @@ returns-in-None-clause-told c = λ plan shown plans numbers is follows.
     let log : CoreLog = c.args.log.now in
     let o : OutlineView = c.args.outline.now in
     let p : Part = part (view_of c.args.seat.now) log.core in
-    let q : Part = part (view_of c.hear_cores.new.seat) log.core in
+    let q : Part = part (view_of c.hear_all.new.seat) log.core in
     let n = c.next_stint-next.ensures in
     record {
       next = record {
@@ -117,7 +117,7 @@ pub returns-in-None-clause-plans : goal.returns-in-None-clause-plans
 returns-in-None-clause-plans c = λ plan shown plans numbers is follows.
     let log : CoreLog = c.args.log.now in
     let v : View = view_of c.args.seat.now in
-    let u : View = view_of c.hear_cores.new.seat in
+    let u : View = view_of c.hear_all.new.seat in
     let q : Part = part u log.core in
     let hs = heard_same log.core _ _ _ (part v log.core) q c.in-None.ensures.heard in
     let n = c.next_stint-next.ensures in
