@@ -22,6 +22,7 @@ pub(crate) const CONTROLLER: u32 = 32;
 
 // Steps of the member, whose core has this number, while it runs and its clock is at most the limit. The answer is its
 // clock then, or OUT if it has finished.
+#[inline(always)]
 pub(crate) fn run_member<G: Gate>(
     site: &Site<'_, G>,
     seat: &mut RoundSeat,
@@ -55,6 +56,7 @@ pub(crate) fn run_member<G: Gate>(
 }
 
 // A step of the member.
+#[inline(always)]
 fn step_member<G: Gate>(
     site: &Site<'_, G>,
     seat: &mut RoundSeat,

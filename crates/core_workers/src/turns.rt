@@ -92,6 +92,7 @@ fn or_waits(cores: Progress) -> Progress
 }
 
 // The core that is guessed runs on, or else one of least clock.
+#[inline(always)]
 fn turn_cores<G: Gate>(
     site: &Site<'_, G>,
     seat: &mut RoundSeat,
@@ -114,6 +115,7 @@ fn turn_cores<G: Gate>(
 }
 
 // The core that is guessed runs on. The answer is whether it got on.
+#[inline(always)]
 fn turn_guessed<G: Gate>(
     site: &Site<'_, G>,
     seat: &mut RoundSeat,
@@ -175,6 +177,7 @@ fn turn_least<G: Gate>(
 }
 
 // The core, which is to go on, does so up to the limit. The answer is whether it got on.
+#[inline(always)]
 fn run_core<G: Gate>(
     site: &Site<'_, G>,
     seat: &mut RoundSeat,
