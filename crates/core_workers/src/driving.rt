@@ -40,7 +40,7 @@ pub(crate) fn drive_groups<G: Gate>(
 {
     let places = Places::of(deal, site.course.cores());
     let clocks = read_clocks(site, seat, &places, groups);
-    let guess = Guess::of(&clocks.ticks);
+    let guess = Guess::of(&clocks.ticks, site.course.cores());
     let mut roster = Roster {
         places,
         clocks,

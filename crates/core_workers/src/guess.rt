@@ -5,18 +5,20 @@ use crate::clocks::OUT;
 /// A guess which core is the one of least clock, found without looking at all of them. Nothing is claimed of
 /// it: where the core that it names doesn't get on, a turn looks at all clocks.
 ///
-/// It is a tree of numbers `64 * clock + core`. Those of the cores stand from place 32 on, and at each place
-/// below that the lesser of the two at twice the place and behind it.
+/// It is a tree of numbers `64 * clock + core`. Those of the cores stand so many levels below place 1, as few as the
+/// count of cores allows, and at each place above them the lesser of the two at twice the place and behind it.
 #[derive(Drop)]
 pub(crate) struct Guess {
     places: [u64; 64],
+    levels: u32,
     running: u32,
 }
 
 impl Guess {
-    pub(crate) fn of(ticks: &[u32; 32]) -> Guess {
+    pub(crate) fn of(ticks: &[u32; 32], cores: u32) -> Guess {
         let mut guess = Guess {
             places: [u64::MAX; 64],
+            levels: levels_of(cores),
             running: 0,
         };
         for core in 0..32 {
@@ -56,12 +58,23 @@ impl Guess {
         } else {
             clock as u64 * 64 + core as u64 % 64
         };
-        let mut place = 32 + core as usize % 32;
+        let mut place = ((1 << (self.levels % 8)) | core as usize) % 64;
         self.places[place] = least;
-        for _ in 0..5 {
+        for _ in 0..self.levels {
             least = least.min(self.places[(place ^ 1) % 64]);
             place /= 2;
             self.places[place % 64] = least;
         }
     }
+}
+
+// How many levels a tree over so many cores has below its top.
+fn levels_of(cores: u32) -> u32 {
+    let mut levels = 0;
+    for level in 0..5 {
+        if (1 << level) < cores {
+            levels = level + 1;
+        }
+    }
+    levels
 }

@@ -38,6 +38,7 @@ pub(crate) struct Roster {
 }
 
 // A core runs on: the one that is guessed to be least, or else one of least clock. Then the controller makes a step.
+#[inline(always)]
 pub(crate) fn turn<G: Gate>(
     site: &Site<'_, G>,
     seat: &mut RoundSeat,
