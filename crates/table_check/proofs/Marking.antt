@@ -1,5 +1,5 @@
 -- Rows whose ticks are marked one row after the other are apart.
-use Rattle.std.proofs.Common.{◌≡◌, ℕ, ◌+◌, ◌<◌, ◌≤◌, Bool, false, true, List, length, get_or, slice_get, Option, Some, refl, ap, sym, ◌∙◌, inl, inr, arith}
+use Rattle.std.proofs.Common.{◌≡◌, ℕ, ◌+◌, ◌<◌, ◌≤◌, false, true, List, length, get_or, slice_get, Option, Some, refl, ap, sym, ◌∙◌, inl, inr, arith}
 use Rattle.std.proofs.lemmas.Bool.{cases_eq, cases_lt}
 use Rattle.std.proofs.lemmas.Option.{same_Some, slice_get-get_or, slice_get-map, slice_get_within}
 use Rattle.std.specs.Option.{option_map}
@@ -15,7 +15,7 @@ use Rattle.table_check.proofs.RawShapes.{length-rows_of}
 use Rattle.table_check.proofs.Sweep.{GoesOnFrom, owner_now}
 
 -- a tick that isn't marked now wasn't before
-pub was_free : (old new : List (List Bool)) (v x : ℕ) → KeepsMarks old new → is_marked new v x ≡ false
+pub was_free : (old new : List ℕ) (v x : ℕ) → KeepsMarks old new → is_marked new v x ≡ false
     → is_marked old v x ≡ false
 was_free old new v x kept free = elim (is_marked old v x) as (λ b. is_marked old v x ≡ b → is_marked old v x ≡ false) [
   | true ↦ λ was. absurd (let still = kept v x was in cc)
@@ -23,11 +23,11 @@ was_free old new v x kept free = elim (is_marked old v x) as (λ b. is_marked ol
 ] refl
 
 -- no row is marked yet
-pub none_marked : (row : Row) (marks : List (List Bool)) → MarksRow row 0 marks marks
+pub none_marked : (row : Row) (marks : List ℕ) → MarksRow row 0 marks marks
 none_marked row marks v x low at = absurd (omega arith)
 
 -- a row whose next segment is marked too
-pub row_more : (ss : List Segment) (from place : ℕ) (s : Segment) (old marks new : List (List Bool))
+pub row_more : (ss : List Segment) (from place : ℕ) (s : Segment) (old marks new : List ℕ)
     → GoesOnFrom ss from place → place < length ss → s ≡ get_or ss place s
     → KeepsMarks old marks → KeepsMarks marks new
     → ((v x : ℕ) → s.owner ≡ Some v → from ≤ x → x < s.end → IsNewMark marks new v x)
@@ -42,13 +42,13 @@ row_more ss from place s old marks new on lt at before kept marked row v x low c
 ]
 
 -- the rows below this core are apart, and their ticks are marked
-pub record AreApartBelow (rows : List Row) (core : ℕ) (marks : List (List Bool)) : Type 0 where
+pub record AreApartBelow (rows : List Row) (core : ℕ) (marks : List ℕ) : Type 0 where
   pub marked : (v x c : ℕ) → c < core → owner_at rows c x ≡ Some v → is_marked marks v x ≡ true
   pub apart : (v x c d : ℕ) → c < core → d < core → owner_at rows c x ≡ Some v → owner_at rows d x ≡ Some v
       → c ≡ d
 
 -- no row is there yet
-pub none_apart : (rows : List Row) (marks : List (List Bool)) → AreApartBelow rows 0 marks
+pub none_apart : (rows : List Row) (marks : List ℕ) → AreApartBelow rows 0 marks
 none_apart rows marks = record {
   marked = λ v x c low owned. absurd (omega arith);
   apart = λ v x c d low lower here there. absurd (omega arith);
@@ -66,7 +66,7 @@ cell_here raw core v x c ss lt is same owned =
     (sym (ap (λ k. owner_at (rows_of raw) k x) same ∙ ap (λ row. cell_of row x) at) ∙ owned)
 
 -- a core's row more, whose ticks were marked
-pub core_more : (raw : List (List Segment)) (core : ℕ) (ss : List Segment) (marks new : List (List Bool))
+pub core_more : (raw : List (List Segment)) (core : ℕ) (ss : List Segment) (marks new : List ℕ)
     → RisesTo 0 ss ROUND → core < length raw → ss ≡ get_or raw core ss
     → AreApartBelow (rows_of raw) core marks → KeepsMarks marks new
     → MarksRow (cells_from 0 ss) ROUND marks new → AreApartBelow (rows_of raw) (core + 1) new
@@ -100,7 +100,7 @@ core_more raw core ss marks new rises lt is below kept row =
     }
 
 -- behind the last core all rows are apart
-pub apart_rows : (raw : List (List Segment)) (count : ℕ) (marks : List (List Bool)) → length raw ≤ count
+pub apart_rows : (raw : List (List Segment)) (count : ℕ) (marks : List ℕ) → length raw ≤ count
     → AreApartBelow (rows_of raw) count marks → Apart (rows_of raw)
 apart_rows raw count marks all below v x c d here there =
     let size = length-rows_of raw in

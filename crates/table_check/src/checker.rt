@@ -27,7 +27,7 @@ fn first_fault(
     if let Some(fault) = find_bad_shape(raw) {
         return Ok(Some(fault));
     }
-    if let Some(clash) = find_clash(alloc, raw) {
+    if let Some(clash) = find_clash(alloc, tasks.len(), raw) {
         return Ok(Some(clash.fault()));
     }
     if let Some(shortage) = find_shortage(alloc, tasks, raw)? {

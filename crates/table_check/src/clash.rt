@@ -1,5 +1,5 @@
 ghost use Rattle.std.specs.Prelude.{◌≡◌, ◌+◌, ◌<◌, ◌≤◌, true, false, Some, IfNone, IfSome, IsSomeAnd, length};
-ghost use Rattle.tab_core.specs.declared.TheConstants.{MAX_CORES};
+ghost use Rattle.tab_core.specs.declared.TheConstants.{MAX_CORES, MAX_VCPUS};
 ghost use Rattle.table_form.specs.Tables.Serves.{Apart};
 ghost use Rattle.table_check.specs.Clashes.{IsFirstClash};
 ghost use Rattle.table_check.specs.Shapes.{HaveGoodShapes, rows_of};
@@ -86,15 +86,16 @@ fn take_core(raw: &[Segments], core: usize, best: Option<Clash>) -> Option<Clash
 }
 
 // The first clash of the rows. Where marks don't tell that there is none, each pair of rows is swept
-// from end to end of a segment.
-pub(crate) fn find_clash(alloc: Global, raw: &[Segments]) -> Option<Clash>
+// from end to end of a segment. Only speed depends on the count of vCPUs.
+pub(crate) fn find_clash(alloc: Global, vcpus: usize, raw: &[Segments]) -> Option<Clash>
+    requires few { vcpus ≤ MAX_VCPUS }
     requires good { HaveGoodShapes raw.now }
-    requires few { length raw.now ≤ MAX_CORES }
+    requires few_rows { length raw.now ≤ MAX_CORES }
     ensures none { IfNone result (Apart (rows_of raw.now)) }
     ensures some { IfSome result
         (λ clash. IsFirstClash (rows_of raw.now) clash.vcpu clash.tick clash.core clash.other) }
 {
-    if seem_apart(alloc, raw) {
+    if seem_apart(alloc, vcpus, raw) {
         return None;
     }
     let mut best = None;

@@ -6,20 +6,18 @@ use Rattle.table_check.proofs.marks.mark_row.Goals as goal
 
 pub loop-segment-init : goal.loop-segment-init
 loop-segment-init c = record {
-  are = c.requires.are;
   kept = λ v x is. is;
-  on = goes_on-start c.args.segments.now c.requires.rises;
+  on = goes_on-start c.args.segments.now c.requires;
   marked = none_marked (cells_from 0 c.args.segments.now) c.args.marks.now.items;
 }
 
-pub mark_segment-requires-clause-in_round : goal.mark_segment-requires-clause-in_round
-mark_segment-requires-clause-in_round c =
+pub mark_segment-requires : goal.mark_segment-requires
+mark_segment-requires c =
     end_in_round c.args.segments.now c.loop-segment.from c.loop-segment.segment-index c.segment-item.result
     c.loop-segment.invariant.on c.loop-segment-test.true c.segment-item.is
 
 pub loop-segment-preserved : goal.loop-segment-preserved
 loop-segment-preserved c = record {
-  are = c.mark_segment.ensures.are;
   kept = λ v x is. c.mark_segment.ensures.kept v x (c.loop-segment.invariant.kept v x is);
   on = next_on c.args.segments.now c.loop-segment.from c.loop-segment.segment-index c.segment-item.result
       c.loop-segment.invariant.on c.loop-segment-test.true c.segment-item.is;

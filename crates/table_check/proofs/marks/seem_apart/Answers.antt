@@ -8,29 +8,24 @@ use Rattle.table_check.proofs.RawShapes.{rises_at}
 use Rattle.table_check.proofs.marks.seem_apart.Goals as goal
 
 pub loop-row-init : goal.loop-row-init
-loop-row-init c = record {
-  are = search rules;
-  below = none_apart (rows_of c.args.raw.now) _;
-}
+loop-row-init c = none_apart (rows_of c.args.raw.now) _
 
-pub mark_row-requires-clause-rises : goal.mark_row-requires-clause-rises
-mark_row-requires-clause-rises c =
+pub mark_row-requires : goal.mark_row-requires
+mark_row-requires c =
     subst (λ ss. RisesTo 0 ss ROUND) (sym c.items.ensures)
-    (rises_at c.args.raw.now c.loop-row.row-index c.row-item.result c.requires c.loop-row-test.true
+    (rises_at c.args.raw.now c.loop-row.row-index c.row-item.result c.requires.good c.loop-row-test.true
     c.row-item.is)
 
 pub loop-row-preserved : goal.loop-row-preserved
-loop-row-preserved c = record {
-  are = c.mark_row.ensures.are;
-  below = core_more c.args.raw.now c.loop-row.row-index c.row-item.result c.loop-row.marks.items
-      c.mark_row.new.marks.items
-      (rises_at c.args.raw.now c.loop-row.row-index c.row-item.result c.requires c.loop-row-test.true
-      c.row-item.is)
-      c.loop-row-test.true c.row-item.is c.loop-row.invariant.below c.mark_row.ensures.kept
-      (subst (λ ss. MarksRow (cells_from 0 ss) ROUND c.loop-row.marks.items c.mark_row.new.marks.items)
-      c.items.ensures (c.mark_row.ensures.marked (search rules)));
-}
+loop-row-preserved c =
+    core_more c.args.raw.now c.loop-row.row-index c.row-item.result c.loop-row.marks.items
+    c.mark_row.new.marks.items
+    (rises_at c.args.raw.now c.loop-row.row-index c.row-item.result c.requires.good c.loop-row-test.true
+    c.row-item.is)
+    c.loop-row-test.true c.row-item.is c.loop-row.invariant c.mark_row.ensures.kept
+    (subst (λ ss. MarksRow (cells_from 0 ss) ROUND c.loop-row.marks.items c.mark_row.new.marks.items)
+    c.items.ensures (c.mark_row.ensures.marked (search rules)))
 
 pub returns : goal.returns
 returns c = λ is. apart_rows c.args.raw.now c.loop-row.row-index c.loop-row.marks.items
-    (omega (arith, c.loop-row-test.false)) c.loop-row.invariant.below
+    (omega (arith, c.loop-row-test.false)) c.loop-row.invariant
