@@ -1,4 +1,5 @@
 pub mod FirstBadLemmas
+pub mod FirstLineLemmas
 pub mod HomeLemmas
 pub mod LineBytes
 pub mod LineWordLemmas

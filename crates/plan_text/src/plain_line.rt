@@ -1,34 +1,50 @@
-ghost use Rattle.std.specs.Prelude.{◌≡◌, ◌+◌, ◌*◌, ◌<◌, ◌≤◌, ◌^◌, [], ◌∷◌, IfSome, SomeIff, decimal, length, slice_index, take, true};
+ghost use Rattle.std.specs.Prelude.{◌≡◌, ◌≢◌, ◌++◌, ◌+◌, ◌*◌, ◌<◌, ◌≤◌, ◌^◌, [], ◌∷◌, IfSome, SomeIff, decimal, length, slice_index, take, true};
 ghost use Rattle.std.specs.Char.{digit_value};
+ghost use Rattle.std.specs.List.{All};
 ghost use Rattle.std.specs.Str.Parse.{AllDigits, digits_value};
+ghost use Rattle.plan_text.specs.Meaning.{worded};
 ghost use Rattle.tab_words.specs.Words.{words_of};
 
-// The number and the word that a line of digits, one space and a word has. Such a line is read in one
-// pass; none where the line isn't seen to be one.
-pub(crate) fn plain_line(line: &[u8]) -> Option<(u32, &[u8])>
-    ensures { IfSome result (λ parts. words_of line.now ≡ decimal parts.0 ∷ parts.1.now ∷ []) }
-{
-    let (number, count) = front_number(line);
-    if !is_spelled_so(line, count) {
-        return None;
-    }
-    let (_, rest) = line.split_at(count);
-    let Some(word) = word_behind(rest) else {
-        return None;
-    };
-    Some((number, word))
+// A line of digits, one space and a word, which a line feed ends.
+#[derive(Clone, Copy)]
+pub(crate) struct PlainLine<'a> {
+    // the number of the digits
+    pub(crate) number: u32,
+    pub(crate) word: &'a [u8],
+    // the bytes behind the line feed
+    pub(crate) behind: &'a [u8],
 }
 
-// The number of the digits that the line begins with, up to the first that makes it 2^32 or more, and
-// how many they are.
-fn front_number(line: &[u8]) -> (u32, usize)
-    ensures within { result.1 ≤ length line.now }
-    ensures digits { AllDigits 10 (take result.1 line.now) }
-    ensures value { result.0 ≡ digits_value 10 (take result.1 line.now) }
+// Such a line at the front of the bytes, read in one pass; none where none is seen there.
+pub(crate) fn plain_line(bytes: &[u8]) -> Option<PlainLine<'_>>
+    ensures { IfSome result (λ plain. worded bytes.now
+        ≡ (decimal plain.number ∷ plain.word.now ∷ []) ∷ worded plain.behind.now) }
+{
+    let (number, count) = front_number(bytes);
+    if !is_spelled_so(bytes, count) {
+        return None;
+    }
+    let (_, rest) = bytes.split_at(count);
+    let Some((word, behind)) = word_behind(rest) else {
+        return None;
+    };
+    Some(PlainLine {
+        number,
+        word,
+        behind,
+    })
+}
+
+// The number of the digits that the bytes begin with, up to the first that may make it 2^32 or more,
+// and how many they are.
+fn front_number(bytes: &[u8]) -> (u32, usize)
+    ensures within { result.1 ≤ length bytes.now }
+    ensures digits { AllDigits 10 (take result.1 bytes.now) }
+    ensures value { result.0 ≡ digits_value 10 (take result.1 bytes.now) }
 {
     let mut number = 0;
     let mut count = 0;
-    for byte in line {
+    for byte in bytes {
         let Some(digit) = digit_of(*byte) else {
             return (number, count);
         };
@@ -51,44 +67,44 @@ fn digit_of(byte: u8) -> Option<u32>
     }
 }
 
+// The number with a digit more, where any digit keeps it below 2^32.
 fn with_digit(number: u32, digit: u32) -> Option<u32>
-    ensures { SomeIff result (number * 10 + digit < 2 ^ 32) (number * 10 + digit) }
+    requires { digit < 10 }
+    ensures { IfSome result (λ more. more ≡ number * 10 + digit) }
 {
-    number.checked_mul(10)?.checked_add(digit)
-}
-
-// Whether so many digits spell a number: there are some, and no zero leads them.
-fn is_spelled_so(line: &[u8], count: usize) -> bool
-    requires { count ≤ length line.now }
-    ensures some { result ≡ true → 0 < count }
-    ensures plain { result ≡ true → slice_index line.now 0 ≡ 48 → count ≡ 1 }
-{
-    count == 1 || (count > 1 && line[0] != b'0')
-}
-
-// The word behind the space that the bytes begin with, if they are no more than that.
-fn word_behind(rest: &[u8]) -> Option<&[u8]>
-    ensures space { IfSome result (λ word. rest.now ≡ 32 ∷ word.now) }
-    ensures word { IfSome result (λ word. words_of word.now ≡ word.now ∷ []) }
-{
-    let Some((first, word)) = rest.split_first() else {
-        return None;
-    };
-    if *first == b' ' && is_word(word) {
-        Some(word)
+    if number < u32::MAX / 10 {
+        Some(number * 10 + digit)
     } else {
         None
     }
 }
 
-fn is_word(bytes: &[u8]) -> bool
-    ensures { result ≡ true → words_of bytes.now ≡ bytes.now ∷ [] }
+// Whether so many digits spell a number: there are some, and no zero leads them.
+fn is_spelled_so(bytes: &[u8], count: usize) -> bool
+    requires { count ≤ length bytes.now }
+    ensures some { result ≡ true → 0 < count }
+    ensures plain { result ≡ true → slice_index bytes.now 0 ≡ 48 → count ≡ 1 }
 {
-    if bytes.is_empty() {
-        return false;
+    count == 1 || (count > 1 && bytes[0] != b'0')
+}
+
+// The word behind the space that the bytes begin with, and the bytes behind the line feed that ends
+// it. No byte of a word comes before the space in ASCII.
+fn word_behind(bytes: &[u8]) -> Option<(&[u8], &[u8])>
+    ensures { IfSome result (λ parts. (bytes.now ≡ 32 ∷ parts.0.now ++ 10 ∷ parts.1.now)
+        × (words_of parts.0.now ≡ parts.0.now ∷ []) × All (λ byte. byte ≢ 10) parts.0.now) }
+{
+    let Some((first, rest)) = bytes.split_first() else {
+        return None;
+    };
+    if *first != b' ' {
+        return None;
     }
-    match bytes.iter().position(|byte| *byte == b' ') {
-        Some(_) => false,
-        None => true,
+    let Some(end) = rest.iter().position(|byte| *byte <= b' ') else {
+        return None;
+    };
+    if end == 0 || rest[end] != b'\n' {
+        return None;
     }
+    Some((&rest[..end], &rest[end + 1..]))
 }

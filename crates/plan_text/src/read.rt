@@ -11,14 +11,14 @@ ghost use Rattle.plan_text.specs.declared.read_fault.ReadPlan.{ReadPlan};
 ghost use Rattle.tab_words.specs.Words.{words_of};
 
 use crate::line_words::has_words;
-use crate::lines_left::LinesLeft;
+use crate::lines_left::{LinesLeft, first_line};
 use crate::read_cores::read_cores;
 use crate::read_fault::ReadPlan;
 use crate::read_vcpus::read_vcpus;
 use crate::vcpus::count_admitted;
 use std::alloc::Global;
 use tab_core::{Host, Periodic, Tasks};
-use tab_words::{Lines, TextPiece};
+use tab_words::TextPiece;
 use table_form::{Homes, RawRows, RawTables};
 use vcpu_names::Names;
 
@@ -75,14 +75,13 @@ fn read_text(
     ensures bad_line { (bad : ℕ) → IsErrOf result (ReadPlan.BadLine bad)
         → IsFirstBadFor (IsSomePlan names.now host.now.cores tasks.now) 1 (worded bytes.now) bad }
 {
-    let mut lines = Lines::over(bytes);
-    let Some(head) = lines.next() else {
+    let Some((head, behind)) = first_line(bytes) else {
         return Err(ReadPlan::BadLine { line: 1 });
     };
     if !is_head(head, host.cores, tasks.items()) {
         return Err(ReadPlan::BadLine { line: 1 });
     }
-    let mut left = LinesLeft::from(lines, 2);
+    let mut left = LinesLeft::from(behind, 2);
     let homes = read_vcpus(
         alloc,
         &mut left,

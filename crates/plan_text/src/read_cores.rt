@@ -1,4 +1,4 @@
-ghost use Rattle.std.specs.Prelude.{◌≡◌, ◌++◌, ◌+◌, ◌<◌, ◌≤◌, [], ◌∷◌, IfOk, IsErrOf, IsTrue, MatchOption, OnOk, ◌↔◌, ◌^◌, decimal, false, length, map, true, ℕ};
+ghost use Rattle.std.specs.Prelude.{◌≡◌, ◌++◌, ◌+◌, ◌<◌, ◌≤◌, [], ◌∷◌, IfOk, IsErrOf, IsTrue, MatchOption, OnOk, ◌↔◌, ◌^◌, IfNone, IfSome, decimal, length, map, true, ℕ};
 ghost use Rattle.std.specs.List.{All};
 ghost use Rattle.tab_core.specs.declared.TheConstants.{MAX_CORES, MAX_VCPUS};
 ghost use Rattle.table_form.specs.Tables.Serves.{has_task};
@@ -8,7 +8,7 @@ ghost use Rattle.plan_text.specs.FirstBad.{IsFirstBadFor};
 ghost use Rattle.plan_text.specs.Names.{AreHostNames};
 ghost use Rattle.plan_text.specs.Meaning.{AreFineRows, IsFineSegment, segment_words};
 ghost use Rattle.plan_text.specs.PlanLines.{core_lines, end_words};
-ghost use Rattle.plan_text.specs.Inside.Reading.{AreFromCore, IsNoSegment, IsNoSegmentLine, IsPushed};
+ghost use Rattle.plan_text.specs.Inside.Reading.{AreFromCore, IsNoSegment, IsNoSegmentLine};
 ghost use Rattle.plan_text.specs.declared.read_fault.ReadPlan.{ReadPlan};
 
 use crate::lines_left::LinesLeft;
@@ -69,35 +69,42 @@ fn read_row(
     ensures behind { OnOk result (IsNoSegment names.now tasks.now left.new.lines) }
 {
     let mut row = Vec::new(alloc);
-    while let Some(line) = left.first() {
-        if !push_segment(&mut row, line, names, tasks)? {
-            return Ok(row);
-        }
-        left.step();
+    while let Some(segment) = take_segment(left, names, tasks) {
+        let Segment { owner, end, .. } = segment;
+        row.push(Segment { owner, end })?;
     }
     Ok(row)
 }
 
-// Appends the segment that the line is, if it is one.
-fn push_segment(
-    row: &mut Vec<Segment>,
-    line: &[u8],
+// Steps over the first line, if it is a segment's, and gives that. Most lines are plain and read in
+// one pass.
+fn take_segment(
+    left: &mut LinesLeft<'_>,
     names: &Names<'_>,
     tasks: &[Option<Periodic>],
-) -> Result<bool, AllocError>
+) -> Option<Segment>
     requires good { AreHostNames names.now }
     requires named { length names.now ≡ length tasks.now }
-    ensures pushed { IfOk result (λ pushed. IsTrue pushed
-        → IsPushed names.now tasks.now (words_of line.now) row.old.items row.new.items) }
-    ensures none { IfOk result (λ pushed. pushed ≡ false
-        → (row.new.items ≡ row.old.items) × IsNoSegmentLine names.now tasks.now (words_of line.now)) }
+    ensures some { IfSome result (λ s. IsFineSegment tasks.now s
+        × (left.old.lines ≡ segment_words names.now s ∷ left.new.lines)
+        × (left.new.number ≡ left.old.number + 1)) }
+    ensures none { IfNone result ((left.new ≡ left.old) × IsNoSegment names.now tasks.now left.old.lines) }
 {
-    let Some(segment) = segment_of(line, names, tasks) else {
-        return Ok(false);
+    if let Some(plain) = plain_line(left.bytes()) {
+        let Some(segment) = segment_with(plain.number, plain.word, names, tasks) else {
+            return None;
+        };
+        left.step_to(plain.behind);
+        return Some(segment);
+    }
+    let Some((line, behind)) = left.first() else {
+        return None;
     };
-    let Segment { owner, end, .. } = segment;
-    row.push(Segment { owner, end })?;
-    Ok(true)
+    let Some(segment) = segment_of(line, names, tasks) else {
+        return None;
+    };
+    left.step_to(behind);
+    Some(segment)
 }
 
 // The segment that the line is.
@@ -108,9 +115,6 @@ fn segment_of(line: &[u8], names: &Names<'_>, tasks: &[Option<Periodic>]) -> Opt
         (IsNoSegmentLine names.now tasks.now (words_of line.now))
         (λ s. IsFineSegment tasks.now s × (words_of line.now ≡ segment_words names.now s)) }
 {
-    if let Some((end, owner)) = plain_line(line) {
-        return segment_with(end, owner, names, tasks);
-    }
     let mut words = Words::of(line);
     let (Some(end), Some(owner), None) = (words.next(), words.next(), words.next()) else {
         return None;

@@ -68,13 +68,13 @@ fn read_vcpu(
     let Some(task) = task else {
         return Ok(None);
     };
-    let Some(line) = left.first() else {
+    let Some((line, behind)) = left.first() else {
         return Err(left.bad_line());
     };
     let Some(home) = home_of(line, name, task, cores) else {
         return Err(left.bad_line());
     };
-    left.step();
+    left.step_to(behind);
     Ok(Some(home))
 }
 

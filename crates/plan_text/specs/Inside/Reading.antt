@@ -1,11 +1,9 @@
 -- What the parts of the reader find, and what may follow the lines that are read.
 use Rattle.std.specs.Prelude.{◌≡◌, ℕ, ◌<◌, IsTrue, List, [], ◌∷◌, ◌++◌, drop, length, map, Option, Some, None}
 use Rattle.std.specs.List.{All}
-use Rattle.tab_words.specs.Words.{words_of}
 use Rattle.tab_core.specs.declared.periodic.Periodic.{Periodic}
 use Rattle.table_form.specs.declared.segment.Segment.{Segment}
 use Rattle.table_form.specs.Tables.Homes.{are_housed}
-use denote.Ref.{Bor}
 use Rattle.plan_text.specs.Meaning.{AreFineRows, IsFineSegment, segment_words}
 use Rattle.plan_text.specs.PlanLines.{Line, core_lines, end_words, vcpu_lines, vcpu_words}
 
@@ -53,25 +51,8 @@ IsNoSegment names tasks lines = (s : Segment) → IsFineSegment tasks s
 abbrev pub IsNoSegmentLine : List (List ℕ) → List (Option Periodic) → Line → Type 0
 IsNoSegmentLine names tasks words = (s : Segment) → IsFineSegment tasks s → words ≡ segment_words names s → ⊥
 
--- the line's segment was appended
-pub record IsPushed (names : List (List ℕ)) (tasks : List (Option Periodic)) (words : Line)
-    (old new : List Segment) : Type 0 where
-  pub segment : Segment
-  pub fine : IsFineSegment tasks segment
-  pub written : words ≡ segment_words names segment
-  pub appended : new ≡ old ++ segment ∷ []
-
 -- the first of the lines isn't that of a vCPU with this name and task, if it has one
 abbrev pub IsNoVcpu : List ℕ → Option Periodic → ℕ → List Line → Type 0
 IsNoVcpu name None cores lines = ⊥
 IsNoVcpu name (Some task) cores lines = (home : ℕ) → home < cores
     → IsOtherLine (vcpu_words name task home) lines
-
--- the lines from the first one on, if there is one
-abbrev pub lines_left : Option (Bor (List ℕ)) → List (List ℕ) → List Line
-lines_left None behind = []
-lines_left (Some line) behind = words_of line.now ∷ map words_of behind
-
--- the first of the lines is this one
-abbrev pub StartsWith : Line → List Line → Type 0
-StartsWith words lines = (rest : List Line) × (lines ≡ words ∷ rest)

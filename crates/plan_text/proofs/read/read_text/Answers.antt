@@ -1,5 +1,5 @@
 use Rattle.std.proofs.Common.{◌≡◌, [], ◌∷◌, map, count_by, IsTrue, Err, ap, sym, ◌∙◌, subst, arith, rules}
-use Rattle.std.proofs.lemmas.Grind.{common_steps}
+use Rattle.std.proofs.lemmas.List.{length-map}
 use Rattle.std.proofs.lemmas.Result.{err_from_is_err_and}
 use Rattle.tab_words.specs.Lines.{lines_of}
 use Rattle.tab_words.specs.Words.{words_of}
@@ -14,8 +14,7 @@ use Rattle.plan_text.proofs.read.read_text.Goals as goal
 
 pub returns-in_default-clause-bad_line : goal.returns-in_default-clause-bad_line
 returns-in_default-clause-bad_line c = λ bad is.
-    let none : lines_of c.args.bytes.now ≡ [] =
-    sym c.over-lines.ensures.lines ∙ c.in_default.ensures.steps.0 in
+    let none : lines_of c.args.bytes.now ≡ [] = search rules in
     let one : bad ≡ 1 = cc in
     rw one (head_is_bad c.args.names.now c.args.tasks.now c.args.host.now.cores
     (worded c.args.bytes.now) c.args.host.now.some_core
@@ -24,8 +23,8 @@ returns-in_default-clause-bad_line c = λ bad is.
 
 pub returns-then-not-is_head-clause-bad_line : goal.returns-then-not-is_head-clause-bad_line
 returns-then-not-is_head-clause-bad_line c = λ bad is.
-    let lines : lines_of c.args.bytes.now ≡ c.in-Some.head.now ∷ c.next.new.self =
-    grind (arith, common_steps) in
+    let lines : lines_of c.args.bytes.now ≡ c.in-Some.head.now ∷ lines_of c.in-Some.behind.now =
+    search rules in
     let one : bad ≡ 1 = cc in
     let other : words_of c.in-Some.head.now ≡ head_words c.args.host.now.cores
     (count_by is_admitted c.args.tasks.now) → ⊥ =
@@ -34,25 +33,27 @@ returns-then-not-is_head-clause-bad_line c = λ bad is.
     (sym c.items.ensures.same)) in absurd (search rules)) in
     rw one (head_is_bad c.args.names.now c.args.tasks.now c.args.host.now.cores
     (worded c.args.bytes.now) c.args.host.now.some_core
-    (λ rest at. other (let first : words_of c.in-Some.head.now ∷ map words_of c.next.new.self
+    (λ rest at. other (let first : words_of c.in-Some.head.now ∷ map words_of (lines_of c.in-Some.behind.now)
     ≡ head_words c.args.host.now.cores (count_by is_admitted c.args.tasks.now) ∷ rest =
     sym (ap (map words_of) lines) ∙ at in cc)))
 
 pub from-left-requires : goal.from-left-requires
 from-left-requires c =
-    let lines : lines_of c.args.bytes.now ≡ c.in-Some.head.now ∷ c.next.new.self =
-    grind (arith, common_steps) in
+    let lines : lines_of c.args.bytes.now ≡ c.in-Some.head.now ∷ lines_of c.in-Some.behind.now =
+    search rules in
     let words : words_of c.in-Some.head.now ≡ head_words c.args.host.now.cores
     (count_by is_admitted c.items.result.now) = search rules in
-    let few = few_behind c.args.bytes.now c.in-Some.head.now c.next.new.self _ _ lines words in
-    record { few = omega (arith, few, c.requires.short) }
+    let few = few_behind c.args.bytes.now c.in-Some.head.now (lines_of c.in-Some.behind.now) _ _ lines words in
+    record {
+      few = omega (arith, few, length-map (lines_of c.in-Some.behind.now) words_of, c.requires.short);
+    }
 
 pub returns-in_err-homes-clause-bad_line : goal.returns-in_err-homes-clause-bad_line
 returns-in_err-homes-clause-bad_line c = λ bad is.
     let p = err_from_is_err_and c.from_residual.result c.from_residual.ensures.1 in
     let same : c.in_err-homes.field-0.0 ≡ BadLine bad = cc in
-    let lines : lines_of c.args.bytes.now ≡ c.in-Some.head.now ∷ c.next.new.self =
-    grind (arith, common_steps) in
+    let lines : lines_of c.args.bytes.now ≡ c.in-Some.head.now ∷ lines_of c.in-Some.behind.now =
+    search rules in
     let words : words_of c.in-Some.head.now ≡ head_words c.args.host.now.cores
     (count_by is_admitted c.items.result.now) = search rules in
     let own : names_of c.items-2.result.now ≡ c.args.names.now = ap names_of c.items-2.ensures.same
@@ -65,8 +66,8 @@ pub returns-in_err-rows-clause-bad_line : goal.returns-in_err-rows-clause-bad_li
 returns-in_err-rows-clause-bad_line c = λ bad is.
     let p = err_from_is_err_and c.from_residual-in_err-rows.result c.from_residual-in_err-rows.ensures.1 in
     let same : c.in_err-rows.field-0.0 ≡ BadLine bad = cc in
-    let lines : lines_of c.args.bytes.now ≡ c.in-Some.head.now ∷ c.next.new.self =
-    grind (arith, common_steps) in
+    let lines : lines_of c.args.bytes.now ≡ c.in-Some.head.now ∷ lines_of c.in-Some.behind.now =
+    search rules in
     let words : words_of c.in-Some.head.now ≡ head_words c.args.host.now.cores
     (count_by is_admitted c.items.result.now) = search rules in
     let own : names_of c.items-2.result.now ≡ c.args.names.now = ap names_of c.items-2.ensures.same

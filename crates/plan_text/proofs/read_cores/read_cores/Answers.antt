@@ -45,7 +45,7 @@ returns-in_err-take-2-clause-bad_line c = λ bad is.
 
 pub returns-in-Some-clause-bad_line : goal.returns-in-Some-clause-bad_line
 returns-in-Some-clause-bad_line c = λ bad is.
-    let some : c.take-2.new.self.lines ≢ [] = λ none. absurd (let starts = c.in-Some.ensures.1 in cc) in
+    let some : c.take-2.new.self.lines ≢ [] = λ none. absurd (let starts = c.in-Some.ensures in cc) in
     let number : bad ≡ c.take-2.new.self.number = cc in
     rw number (c.loop-core.invariant.behind _
     (line_behind_end _ _ c.loop-core.core _ _ _ _ _ c.loop-core-test.false c.in_ok-take-2.ensures.ok
