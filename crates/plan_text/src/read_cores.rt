@@ -125,7 +125,8 @@ fn segment_of(line: &[u8], names: &Names<'_>, tasks: &[Option<Periodic>]) -> Opt
     segment_with(end, owner, names, tasks)
 }
 
-// The segment with this end whose owner is the word.
+// The segment with this end whose owner is the word. It is inlined, as most lines come here.
+#[inline(always)]
 fn segment_with(
     end: u32,
     owner: &[u8],
