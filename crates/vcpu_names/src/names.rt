@@ -57,6 +57,7 @@ impl<'a> Names<'a> {
     }
 
     /// The number of the vCPU of this name. None exactly where no vCPU has it.
+    #[inline(always)]
     pub fn number_of(&self, name: &[u8]) -> Option<VcpuNo>
         ensures known { IfSome result (λ vcpu. (vcpu < length self.now) × (name_at self.now vcpu ≡ name.now)
             × IsName name.now) }
@@ -72,7 +73,8 @@ impl<'a> Names<'a> {
         self.found_in_map(name)
     }
 
-    // The same by the map alone.
+    // The same by the map alone. It stays out of the look-up, since most names are found by a hint.
+    #[inline(never)]
     fn found_in_map(&self, name: &[u8]) -> Option<VcpuNo>
         ensures known { IfSome result (λ vcpu. (vcpu < length self.now) × (name_at self.now vcpu ≡ name.now)
             × IsName name.now) }
