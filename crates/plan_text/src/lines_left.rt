@@ -1,9 +1,8 @@
-ghost use Rattle.std.specs.Prelude.{◌≡◌, ◌+◌, ◌<◌, ◌^◌, [], ◌∷◌, IsErrOf, List, MatchOption, OnOk, length, map, ℕ};
+ghost use Rattle.std.specs.Prelude.{◌≡◌, ◌+◌, ◌<◌, ◌^◌, [], ◌∷◌, IsErrOf, MatchOption, OnOk, length, map, ℕ};
 ghost use Rattle.tab_words.specs.Lines.{lines_of};
 ghost use Rattle.tab_words.specs.Pieces.{piece_text};
 ghost use Rattle.tab_words.specs.Words.{words_of};
 ghost use Rattle.plan_text.specs.Meaning.{worded};
-ghost use Rattle.plan_text.specs.PlanLines.{Line};
 ghost use Rattle.plan_text.specs.Inside.Reading.{IsOtherLine};
 ghost use Rattle.plan_text.specs.declared.read_fault.ReadPlan.{ReadPlan};
 

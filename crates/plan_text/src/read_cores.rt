@@ -1,4 +1,4 @@
-ghost use Rattle.std.specs.Prelude.{◌≡◌, ◌++◌, ◌+◌, ◌<◌, ◌≤◌, [], ◌∷◌, IfOk, IsErrOf, IsTrue, MatchOption, OnOk, ◌↔◌, ◌^◌, IfNone, IfSome, decimal, length, map, true, ℕ};
+ghost use Rattle.std.specs.Prelude.{◌≡◌, ◌++◌, ◌+◌, ◌<◌, ◌≤◌, [], ◌∷◌, IfOk, IsErrOf, MatchOption, OnOk, ◌↔◌, ◌^◌, IfNone, IfSome, decimal, length, map, ℕ};
 ghost use Rattle.std.specs.List.{All};
 ghost use Rattle.tab_core.specs.declared.TheConstants.{MAX_CORES, MAX_VCPUS};
 ghost use Rattle.table_form.specs.Tables.Serves.{has_task};
