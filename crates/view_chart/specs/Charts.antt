@@ -1,18 +1,18 @@
 -- A view as a picture, in SVG: a lane for each core or vCPU, a box for each slot or stint.
 -- Source: Scalable Vector Graphics (SVG) 1.1, W3C Recommendation.
-use Rattle.std.specs.Prelude.{ℕ, zero, suc, ◌+◌, ◌-◌, ◌*◌, ◌/◌, ◌++◌, nat_lt, Bool, true, false, List, [], ◌∷◌, codes, decimal, if◌then◌else◌, length, min, slice_index_or}
+use Rattle.std.specs.Prelude.{ℕ, zero, suc, ◌+◌, ◌-◌, ◌*◌, ◌/◌, ◌++◌, nat_lt, List, [], ◌∷◌, codes, if◌then◌else◌, length, slice_index_or}
 use Rattle.std.specs.List.{sum_by}
-use Rattle.tab_core.specs.declared.TheConstants.{ROUND}
 use Rattle.tab_words.specs.Texts.{texts_below}
 use Rattle.view_chart.specs.Axes.{axis_text}
 use Rattle.view_chart.specs.Colours.{colours_of, core_names, core_tones, tones_of}
 use Rattle.view_chart.specs.Columns.{columns_text}
-use Rattle.view_chart.specs.Frames.{foot_of, height_of, pitch_of, top_of, x_at}
+use Rattle.view_chart.specs.Frames.{foot_of, height_of, pitch_of, top_of}
 use Rattle.view_chart.specs.Heads.{head_text}
 use Rattle.view_chart.specs.Lanes.{bars_text, ground_box, label_text, waits_text}
 use Rattle.view_chart.specs.Legends.{end_of, legend_text}
 use Rattle.view_chart.specs.Marks.{per_mille, tenths_ms}
-use Rattle.view_chart.specs.Shown.{cores_in, frame_of, held_in, lane_bars, lanes_of, shown_in}
+use Rattle.view_chart.specs.Rounds.{rounds_text}
+use Rattle.view_chart.specs.Shown.{cores_in, frame_of, held_in, lane_bars, lanes_of, rounds_of, shown_in}
 use Rattle.view_chart.specs.declared.frame.Bar.{Bar}
 use Rattle.view_chart.specs.declared.frame.ChartOptions.{ChartOptions}
 use Rattle.view_chart.specs.declared.frame.Frame.{Frame}
@@ -21,32 +21,6 @@ use Rattle.view_doc.specs.declared.view.Stretch.{Stretch}
 use Rattle.view_doc.specs.declared.view.Task.{Task}
 use Rattle.view_doc.specs.declared.view.View.{View}
 use Rattle.view_table.specs.declared.figures.Figures.{Figures}
-
--- ---- rounds
-
--- the rounds that are shown, where these are 24 at most: the first, and how many there are
-abbrev pub first_round : Frame → ℕ
-first_round f = f.from / ROUND
-
-abbrev pub rounds_shown : Frame → ℕ
-rounds_shown f = (f.to - 1) / ROUND + 1 - f.from / ROUND
-
--- a line where a round begins, or where what is shown begins, and the round's number
-unfoldable pub round_text : ℕ → ℕ → ℕ → List ℕ
-round_text x foot r = codes "<path class=\"round\" d=\"M" ++ (decimal x ++ (codes " 9300V" ++ (decimal foot
-    ++ (codes "\"/><text x=\"" ++ (decimal (x + 500)
-    ++ (codes "\" y=\"7600\" font-size=\"1000\" class=\"label\">round " ++ (decimal r ++ codes "</text>\n")))))))
-
-abbrev pub begin_of : Frame → ℕ → ℕ
-begin_of f r = min f.to (r * ROUND)
-
-abbrev pub round_at : Frame → ℕ → ℕ → List ℕ
-round_at f foot k = round_text (x_at f (begin_of f (first_round f + k))) foot (first_round f + k)
-
-abbrev pub rounds_text : Frame → Bool → ℕ → List ℕ
-rounds_text f false foot = []
-rounds_text f true foot =
-    if nat_lt 24 (rounds_shown f) then [] else texts_below (round_at f foot) (rounds_shown f)
 
 -- ---- lanes
 
@@ -89,28 +63,30 @@ abbrev pub tall_of : ℕ → ℕ → ℕ
 tall_of lanes vcpus = end_of (foot_of lanes) vcpus + 1000
 
 -- what the head says
-unfoldable pub head_of : Frame → ℕ → ℕ → List (List Bar) → Head
-head_of f cores vcpus lanes = record {
+unfoldable pub head_of : Frame → List Stretch → ℕ → ℕ → List (List Bar) → Head
+head_of f stretches cores vcpus lanes = record {
   is_run = f.is_run;
   by_vcpu = f.by_vcpu;
   cores = cores;
   vcpus = vcpus;
+  rounds = rounds_of stretches;
+  stints = length stretches;
   from = f.from;
   to = f.to;
   lasting = tenths_ms f.tick (f.to - f.from);
   share = share_in f lanes;
 }
 
--- the picture of these lanes: the vCPUs have these names and figures, and the keys of the bars those names, tasks
--- and tones
-unfoldable pub chart_of : Frame → ℕ → ℕ → ℕ → List (List ℕ) → Figures → List (List ℕ) → List Task → List ℕ
-    → List (List Bar) → List ℕ
-chart_of f width first cores labels figures names tasks colours lanes =
-    head_text width (tall_of (length lanes) (length names)) (head_of f cores (length labels) lanes)
+-- the picture of these lanes of these stretches: the vCPUs have these names and figures, and the keys of the bars
+-- those names, tasks and tones
+unfoldable pub chart_of : Frame → List Stretch → ℕ → ℕ → ℕ → List (List ℕ) → Figures → List (List ℕ) → List Task
+    → List ℕ → List (List Bar) → List ℕ
+chart_of f stretches width first cores labels figures names tasks colours lanes =
+    head_text width (tall_of (length lanes) (length names)) (head_of f stretches cores (length labels) lanes)
     ++ (grounds_text (length lanes)
     ++ (axis_text f (foot_of (length lanes))
     ++ (texts_below (lane_at f first labels figures names tasks colours lanes) (length lanes)
-    ++ (rounds_text f f.is_run (foot_of (length lanes))
+    ++ (rounds_text f f.is_run stretches (foot_of (length lanes))
     ++ (legend_text f (foot_of (length lanes)) names tasks colours ++ codes "</svg>\n")))))
 
 -- the lanes of a view, as many as are asked for
@@ -129,12 +105,14 @@ vcpu_tones view figures = tones_of view.is_run figures
 
 -- the picture of a view: with lanes of cores, or of vCPUs
 abbrev pub cores_chart : ChartOptions → View → Figures → List ℕ
-cores_chart options view figures = chart_of (frame_of view options) options.width options.first (cores_in view)
-    view.names.items figures view.names.items view.tasks.items (vcpu_tones view figures) (chart_lanes view options)
+cores_chart options view figures = chart_of (frame_of view options) (shown_in view) options.width options.first
+    (cores_in view) view.names.items figures view.names.items view.tasks.items (vcpu_tones view figures)
+    (chart_lanes view options)
 
 abbrev pub vcpus_chart : ChartOptions → View → Figures → List ℕ
-vcpus_chart options view figures = chart_of (frame_of view options) options.width options.first (cores_in view)
-    view.names.items figures (core_names (cores_in view)) [] (core_tones (cores_in view)) (chart_lanes view options)
+vcpus_chart options view figures = chart_of (frame_of view options) (shown_in view) options.width options.first
+    (cores_in view) view.names.items figures (core_names (cores_in view)) [] (core_tones (cores_in view))
+    (chart_lanes view options)
 
 abbrev pub chart_text : ChartOptions → View → Figures → List ℕ
 chart_text options view figures =

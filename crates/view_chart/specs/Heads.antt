@@ -13,12 +13,24 @@ abbrev pub lanes_word : Bool → List ℕ
 lanes_word false = []
 lanes_word true = codes ", by vCPU"
 
-unfoldable pub title_of : List ℕ → ℕ → List ℕ → ℕ → List ℕ → List ℕ → List ℕ
-title_of kind cores many vcpus more lanes = kind ++ (codes " of " ++ (decimal cores ++ (codes " core" ++ (many
-    ++ (codes ", " ++ (decimal vcpus ++ (codes " vCPU" ++ (more ++ lanes))))))))
+unfoldable pub title_of : List ℕ → ℕ → List ℕ → ℕ → List ℕ → List ℕ
+title_of kind cores many vcpus more = kind ++ (codes " of " ++ (decimal cores ++ (codes " core" ++ (many
+    ++ (codes ", " ++ (decimal vcpus ++ (codes " vCPU" ++ more)))))))
+
+abbrev pub kind_text : Head → List ℕ
+kind_text h = title_of (kind_word h.is_run) h.cores (plural h.cores) h.vcpus (plural h.vcpus)
+
+-- how many rounds and stints a run has
+unfoldable pub counts_of : ℕ → List ℕ → ℕ → List ℕ → List ℕ
+counts_of rounds many stints more = codes ", " ++ (decimal rounds ++ (codes " round" ++ (many ++ (codes ", "
+    ++ (decimal stints ++ (codes " stint" ++ more))))))
+
+abbrev pub counts_text : Bool → ℕ → ℕ → List ℕ
+counts_text false rounds stints = []
+counts_text true rounds stints = counts_of rounds (plural rounds) stints (plural stints)
 
 abbrev pub title_text : Head → List ℕ
-title_text h = title_of (kind_word h.is_run) h.cores (plural h.cores) h.vcpus (plural h.vcpus) (lanes_word h.by_vcpu)
+title_text h = kind_text h ++ (counts_text h.is_run h.rounds h.stints ++ lanes_word h.by_vcpu)
 
 -- which ticks are shown, and how long they last in tenths of a millisecond
 unfoldable pub ticks_text : ℕ → ℕ → ℕ → List ℕ

@@ -8,5 +8,6 @@ pub mod Inside
 pub mod Lanes
 pub mod Legends
 pub mod Marks
+pub mod Rounds
 pub mod Shown
 pub mod TextCharts

@@ -28,9 +28,13 @@ abbrev pub last_end : List Stretch → ℕ
 last_end [] = 0
 last_end (s ∷ ss) = max s.end (last_end ss)
 
--- where the last round ends that the stretches reach, and the first one at least; ticks are below 2^32
+-- how many rounds the stretches reach, and one at least
+abbrev pub rounds_of : List Stretch → ℕ
+rounds_of stretches = max 1 ((last_end stretches + (ROUND - 1)) / ROUND)
+
+-- where the last of them ends; ticks are below 2^32
 abbrev pub whole_of : List Stretch → ℕ
-whole_of stretches = min (max 1 ((last_end stretches + (ROUND - 1)) / ROUND) * ROUND) (2 ^ 32 - 1)
+whole_of stretches = min (rounds_of stretches * ROUND) (2 ^ 32 - 1)
 
 -- the tick that ends what is shown: the end of the last round, or an earlier one that was asked for
 abbrev pub end_at : Option ℕ → ℕ → ℕ

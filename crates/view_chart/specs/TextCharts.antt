@@ -8,12 +8,13 @@ use Rattle.view_chart.specs.Charts.{chart_lanes, head_of}
 use Rattle.view_chart.specs.Columns.{ticks_in, ticks_of, width_at}
 use Rattle.view_chart.specs.Heads.{sub_text, title_text}
 use Rattle.view_chart.specs.Marks.{per_mille}
-use Rattle.view_chart.specs.Shown.{cores_in, frame_of, held_in}
+use Rattle.view_chart.specs.Shown.{cores_in, frame_of, held_in, shown_in}
 use Rattle.view_chart.specs.declared.frame.Bar.{Bar}
 use Rattle.view_chart.specs.declared.frame.ChartOptions.{ChartOptions}
 use Rattle.view_chart.specs.declared.frame.Frame.{Frame}
 use Rattle.view_chart.specs.declared.frame.TextOptions.{TextOptions}
 use Rattle.view_chart.specs.declared.head.Head.{Head}
+use Rattle.view_doc.specs.declared.view.Stretch.{Stretch}
 use Rattle.view_doc.specs.declared.view.View.{View}
 
 -- ---- a column
@@ -88,9 +89,9 @@ key_at names v = letter_of v ∷ key_name (name_at names v) (key_gap (length nam
 abbrev pub head_lines : Head → List ℕ
 head_lines h = title_text h ++ (codes "\n" ++ (sub_text h ++ codes "\n"))
 
--- the text of these lanes
-abbrev pub text_of : Frame → ℕ → ℕ → ℕ → List (List ℕ) → List (List Bar) → List ℕ
-text_of f columns first cores names lanes = head_lines (head_of f cores (length names) lanes)
+-- the text of these lanes of these stretches
+abbrev pub text_of : Frame → List Stretch → ℕ → ℕ → ℕ → List (List ℕ) → List (List Bar) → List ℕ
+text_of f stretches columns first cores names lanes = head_lines (head_of f stretches cores (length names) lanes)
     ++ (texts_below (line_at f columns (length names) first lanes) (length lanes)
     ++ texts_below (key_at names) (length names))
 
@@ -108,5 +109,5 @@ by_core options = record {
 
 -- the text of a view
 abbrev pub text_chart : TextOptions → View → List ℕ
-text_chart options view = text_of (frame_of view (by_core options)) options.columns options.first (cores_in view)
-    view.names.items (chart_lanes view (by_core options))
+text_chart options view = text_of (frame_of view (by_core options)) (shown_in view) options.columns options.first
+    (cores_in view) view.names.items (chart_lanes view (by_core options))

@@ -350,8 +350,9 @@ fn marked_tick(frame: &Frame, k: u64) -> u32
     tick as u32
 }
 
+// Writes a number below the lanes.
 #[tactic(auto, unfolding(crate::specs::Axes::tick_text))]
-fn put_tick<K: Sink>(sink: &mut K, x: u64, y: u32, tick: u32) -> Result<(), WriteFault>
+pub(crate) fn put_tick<K: Sink>(sink: &mut K, x: u64, y: u32, tick: u32) -> Result<(), WriteFault>
     ensures { Writes (K.state sink.old) (K.state sink.new) (tick_text x y tick) result }
 {
     put_pieces(

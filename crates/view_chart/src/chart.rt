@@ -109,6 +109,7 @@ fn draw_cores<K: Sink>(
     told(put_picture(
         sink,
         frame,
+        shown_in(view),
         options.width,
         options.first,
         cores_in(view),
@@ -152,6 +153,7 @@ fn draw_vcpus<K: Sink>(
     told(put_picture(
         sink,
         frame,
+        shown_in(view),
         options.width,
         options.first,
         cores,

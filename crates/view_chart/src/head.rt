@@ -1,6 +1,6 @@
 ghost use Rattle.std.specs.Prelude.{◌≡◌, ◌<◌, ◌≤◌, ◌*◌, ◌/◌};
 ghost use Rattle.tab_io.specs.Sinks.{Writes};
-ghost use Rattle.view_chart.specs.Heads.{head_end, head_text, kind_word, lanes_note, lanes_word, share_text, style_text, sub_end, sub_text, svg_begin, ticks_text, title_begin, title_of, title_text};
+ghost use Rattle.view_chart.specs.Heads.{counts_of, counts_text, head_end, head_text, kind_text, kind_word, lanes_note, lanes_word, share_text, style_text, sub_end, sub_text, svg_begin, ticks_text, title_begin, title_of, title_text};
 
 use crate::marks::plural;
 use tab_io::{Sink, WriteFault, write_all};
@@ -13,6 +13,9 @@ pub(crate) struct Head {
     pub(crate) by_vcpu: bool,
     pub(crate) cores: u32,
     pub(crate) vcpus: u64,
+    // How many rounds and stretches there are, drawn or not.
+    pub(crate) rounds: u64,
+    pub(crate) stints: u64,
     pub(crate) from: u32,
     pub(crate) to: u32,
     // Tenths of a millisecond from the one to the other.
@@ -126,6 +129,15 @@ fn put_ground<K: Sink>(sink: &mut K, tall: u32) -> Result<(), WriteFault>
 pub(crate) fn put_title<K: Sink>(sink: &mut K, head: &Head) -> Result<(), WriteFault>
     ensures { Writes (K.state sink.old) (K.state sink.new) (title_text head.now) result }
 {
+    put_kind(sink, head)?;
+    put_counts(sink, head.is_run, head.rounds, head.stints)?;
+    put_lanes_word(sink, head.by_vcpu)
+}
+
+// Writes what it is of.
+fn put_kind<K: Sink>(sink: &mut K, head: &Head) -> Result<(), WriteFault>
+    ensures { Writes (K.state sink.old) (K.state sink.new) (kind_text head.now) result }
+{
     put_title_of(
         sink,
         kind_word(head.is_run),
@@ -133,8 +145,13 @@ pub(crate) fn put_title<K: Sink>(sink: &mut K, head: &Head) -> Result<(), WriteF
         plural(u64::from(head.cores)),
         head.vcpus,
         plural(head.vcpus),
-        lanes_word(head.by_vcpu),
     )
+}
+
+fn put_lanes_word<K: Sink>(sink: &mut K, by_vcpu: bool) -> Result<(), WriteFault>
+    ensures { Writes (K.state sink.old) (K.state sink.new) (lanes_word by_vcpu) result }
+{
+    write_all(sink, lanes_word(by_vcpu))
 }
 
 #[tactic(auto, unfolding(crate::specs::Heads::title_of))]
@@ -145,10 +162,9 @@ fn put_title_of<'a, K: Sink>(
     many: &'a [u8],
     vcpus: u64,
     more: &'a [u8],
-    lanes: &'a [u8],
 ) -> Result<(), WriteFault>
     ensures { Writes (K.state sink.old) (K.state sink.new)
-        (title_of kind.now cores many.now vcpus more.now lanes.now) result }
+        (title_of kind.now cores many.now vcpus more.now) result }
 {
     put_pieces(
         sink,
@@ -162,7 +178,47 @@ fn put_title_of<'a, K: Sink>(
             TextPiece::Wide(vcpus),
             TextPiece::Text(b" vCPU"),
             TextPiece::Text(more),
-            TextPiece::Text(lanes),
+        ],
+    )
+}
+
+// Writes how many rounds and stints a run has.
+fn put_counts<K: Sink>(
+    sink: &mut K,
+    is_run: bool,
+    rounds: u64,
+    stints: u64,
+) -> Result<(), WriteFault>
+    ensures { Writes (K.state sink.old) (K.state sink.new) (counts_text is_run rounds stints) result }
+{
+    if is_run {
+        put_counts_of(sink, rounds, plural(rounds), stints, plural(stints))
+    } else {
+        Ok(())
+    }
+}
+
+#[tactic(auto, unfolding(crate::specs::Heads::counts_of))]
+fn put_counts_of<'a, K: Sink>(
+    sink: &mut K,
+    rounds: u64,
+    many: &'a [u8],
+    stints: u64,
+    more: &'a [u8],
+) -> Result<(), WriteFault>
+    ensures { Writes (K.state sink.old) (K.state sink.new) (counts_of rounds many.now stints more.now) result }
+{
+    put_pieces(
+        sink,
+        &[
+            TextPiece::Text(b", "),
+            TextPiece::Wide(rounds),
+            TextPiece::Text(b" round"),
+            TextPiece::Text(many),
+            TextPiece::Text(b", "),
+            TextPiece::Wide(stints),
+            TextPiece::Text(b" stint"),
+            TextPiece::Text(more),
         ],
     )
 }

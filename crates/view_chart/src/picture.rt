@@ -18,17 +18,19 @@ use crate::legend::put_legend;
 use crate::marks::{per_mille, put_box, tenths_ms};
 use crate::places::{foot_of, height_of, pitch_of, span_of, top_of};
 use crate::rounds::put_rounds;
+use crate::shown::rounds_of;
 use crate::waits::put_waits;
 use tab_core::{Name, ROUND};
 use tab_io::{Sink, WriteFault, write_all};
-use view_doc::Task;
+use view_doc::{Stretch, Task};
 use view_table::Figures;
 
-// Writes the picture of these lanes, of which the first is a core's or vCPU's. The vCPUs have these labels and
-// figures, and the keys of the bars those names, tasks and tones.
+// Writes the picture of these lanes of these stretches, of which the first is a core's or vCPU's. The vCPUs have
+// these labels and figures, and the keys of the bars those names, tasks and tones.
 pub(crate) fn put_picture<K: Sink>(
     sink: &mut K,
     frame: &Frame,
+    stretches: &[Stretch],
     width: u32,
     first: u32,
     cores: u32,
@@ -43,11 +45,13 @@ pub(crate) fn put_picture<K: Sink>(
     requires few { length names.now ≤ MAX_VCPUS }
     requires coloured { length names.now ≤ length colours.now }
     ensures { Writes (K.state sink.old) (K.state sink.new)
-        (chart_of frame.now width first cores labels.now figures.now names.now tasks.now colours.now lanes.now) result }
+        (chart_of frame.now stretches.now width first cores labels.now figures.now names.now tasks.now colours.now
+        lanes.now) result }
 {
     put_chart_head(
         sink,
         frame,
+        stretches,
         width,
         cores,
         labels.len() as u64,
@@ -59,7 +63,7 @@ pub(crate) fn put_picture<K: Sink>(
     put_lanes(
         sink, frame, first, labels, figures, names, tasks, colours, lanes,
     )?;
-    put_rounds(sink, frame, lanes.len() as u32)?;
+    put_rounds(sink, frame, stretches, lanes.len() as u32)?;
     put_legend(sink, frame, lanes.len() as u32, names, tasks, colours)?;
     write_all(sink, b"</svg>\n")
 }
@@ -68,6 +72,7 @@ pub(crate) fn put_picture<K: Sink>(
 fn put_chart_head<K: Sink>(
     sink: &mut K,
     frame: &Frame,
+    stretches: &[Stretch],
     width: u32,
     cores: u32,
     vcpus: u64,
@@ -77,23 +82,32 @@ fn put_chart_head<K: Sink>(
     requires lanes { length lanes.now ≤ MAX_VCPUS }
     requires few { keys ≤ MAX_VCPUS }
     ensures { Writes (K.state sink.old) (K.state sink.new)
-        (head_text width (tall_of (length lanes.now) keys) (head_of frame.now cores vcpus lanes.now)) result }
+        (head_text width (tall_of (length lanes.now) keys) (head_of frame.now stretches.now cores vcpus lanes.now))
+        result }
 {
-    let head = head_of(frame, cores, vcpus, lanes);
+    let head = head_of(frame, stretches, cores, vcpus, lanes);
     put_head(sink, width, tall_of(lanes.len() as u32, keys), &head)
 }
 
 // What the head says.
 #[tactic(auto, unfolding(crate::specs::Charts::head_of))]
-pub(crate) fn head_of(frame: &Frame, cores: u32, vcpus: u64, lanes: &[Lane]) -> Head
+pub(crate) fn head_of(
+    frame: &Frame,
+    stretches: &[Stretch],
+    cores: u32,
+    vcpus: u64,
+    lanes: &[Lane],
+) -> Head
     requires { length lanes.now ≤ MAX_VCPUS }
-    ensures { result ≡ head_of frame.now cores vcpus lanes.now }
+    ensures { result ≡ head_of frame.now stretches.now cores vcpus lanes.now }
 {
     Head {
         is_run: frame.is_run,
         by_vcpu: frame.by_vcpu,
         cores,
         vcpus,
+        rounds: rounds_of(stretches),
+        stints: stretches.len() as u64,
         from: frame.from,
         to: frame.to,
         lasting: tenths_ms(frame.tick, span_of(frame)),

@@ -1,6 +1,6 @@
-ghost use Rattle.std.specs.Prelude.{◌≡◌, ◌<◌, ◌≤◌, length};
+ghost use Rattle.std.specs.Prelude.{◌≡◌, ◌<◌, ◌≤◌, ◌^◌, length};
 ghost use Rattle.tab_core.specs.declared.TheConstants.{MAX_CORES, MAX_VCPUS};
-ghost use Rattle.view_chart.specs.Shown.{cores_in, frame_of, lanes_of, last_end, reach_of, rows_in, shown_in, shows_nothing, whole_of};
+ghost use Rattle.view_chart.specs.Shown.{cores_in, frame_of, lanes_of, last_end, reach_of, rounds_of, rows_in, shown_in, shows_nothing, whole_of};
 
 use crate::frame::{ChartOptions, Frame};
 use tab_core::ROUND;
@@ -63,9 +63,16 @@ fn end_of(view: &View, options: &ChartOptions) -> u32
 fn whole_of(stretches: &[Stretch]) -> u32
     ensures { result ≡ whole_of stretches.now }
 {
+    (rounds_of(stretches) * u64::from(ROUND)).min(u64::from(u32::MAX)) as u32
+}
+
+// How many rounds the stretches reach, and one at least.
+pub(crate) fn rounds_of(stretches: &[Stretch]) -> u64
+    ensures value { result ≡ rounds_of stretches.now }
+    ensures small { result < 2 ^ 32 }
+{
     let last = u64::from(last_end(stretches));
-    let rounds = ((last + u64::from(ROUND - 1)) / u64::from(ROUND)).max(1);
-    (rounds * u64::from(ROUND)).min(u64::from(u32::MAX)) as u32
+    ((last + u64::from(ROUND - 1)) / u64::from(ROUND)).max(1)
 }
 
 // The ticks that are shown.

@@ -22,7 +22,7 @@ use std::alloc::Global;
 use tab_core::Name;
 use tab_io::{Sink, WriteFault, write_all};
 use tab_words::{TextPiece, put_pieces};
-use view_doc::View;
+use view_doc::{Stretch, View};
 
 /// Draws a view of at most 32 cores and 256 vCPUs as a text: a line for each core, in it a letter for each
 /// column, and below the letters' vCPUs.
@@ -61,6 +61,7 @@ pub fn write_text_chart<K: Sink>(
     let written = put_text(
         sink,
         &frame,
+        shown_in(view),
         options.columns,
         options.first,
         cores_in(view),
@@ -88,10 +89,11 @@ fn by_core(options: &TextOptions) -> ChartOptions
     }
 }
 
-// Writes the text of these lanes, of which the first is a core's.
+// Writes the text of these lanes of these stretches, of which the first is a core's.
 fn put_text<K: Sink>(
     sink: &mut K,
     frame: &Frame,
+    stretches: &[Stretch],
     columns: u32,
     first: u32,
     cores: u32,
@@ -103,9 +105,9 @@ fn put_text<K: Sink>(
     requires some { 0 < columns }
     requires few { columns ≤ 8000 }
     ensures { Writes (K.state sink.old) (K.state sink.new)
-        (text_of frame.now columns first cores names.now lanes.now) result }
+        (text_of frame.now stretches.now columns first cores names.now lanes.now) result }
 {
-    put_text_head(sink, frame, cores, names, lanes)?;
+    put_text_head(sink, frame, stretches, cores, names, lanes)?;
     put_lines(sink, frame, columns, names.len(), first, lanes)?;
     put_keys(sink, names)
 }
@@ -113,15 +115,16 @@ fn put_text<K: Sink>(
 fn put_text_head<K: Sink>(
     sink: &mut K,
     frame: &Frame,
+    stretches: &[Stretch],
     cores: u32,
     names: &[Name],
     lanes: &[Lane],
 ) -> Result<(), WriteFault>
     requires { length lanes.now ≤ MAX_VCPUS }
     ensures { Writes (K.state sink.old) (K.state sink.new)
-        (head_lines (head_of frame.now cores (length names.now) lanes.now)) result }
+        (head_lines (head_of frame.now stretches.now cores (length names.now) lanes.now)) result }
 {
-    let head = head_of(frame, cores, names.len() as u64, lanes);
+    let head = head_of(frame, stretches, cores, names.len() as u64, lanes);
     put_head_lines(sink, &head)
 }
 

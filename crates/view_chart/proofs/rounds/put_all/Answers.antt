@@ -1,6 +1,6 @@
 use Rattle.std.proofs.lemmas.Result.{err_from_is_err_and}
 use Rattle.tab_words.proofs.NumberedTextLemmas.{all_written, next_broken, next_written, none_written}
-use Rattle.view_chart.specs.Charts.{round_at}
+use Rattle.view_chart.specs.Rounds.{round_at}
 use Rattle.view_chart.proofs.rounds.put_all.Goals as goal
 
 pub loop-k-init : goal.loop-k-init

@@ -1,7 +1,7 @@
 use Rattle.std.proofs.Common.{Ok}
 use Rattle.tab_io.specs.Sinks.{Writes}
 use Rattle.tab_words.specs.Texts.{texts_below}
-use Rattle.view_chart.specs.Charts.{round_at}
+use Rattle.view_chart.specs.Rounds.{round_at}
 use Rattle.view_chart.proofs.rounds.put_all.Given as goal
 
 -- the texts so far came
