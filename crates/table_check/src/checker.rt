@@ -13,8 +13,13 @@ use std::alloc::Global;
 use tab_core::{NoMemory, Periodic, Tasks, VcpuSet};
 use table_form::{Homes, Plan, RawTables, Segments, Tables};
 
-// The first fault of the tables, if they have one. No table is copied.
-fn first_fault(
+/// The first fault of the tables, if they have one: none exactly where they are a plan of these tasks. No table is
+/// copied.
+///
+/// `BadShape` comes exactly where the segments of a core make no row, `Twice` exactly where they all do and a vCPU
+/// stands on two cores at one tick, and `Short` exactly where none does and a vCPU gets less than its cost in one of
+/// its periods. Neighbouring segments may have one owner.
+pub fn first_fault(
     alloc: Global,
     tasks: &[Option<Periodic>],
     raw: &[Segments],
@@ -37,15 +42,11 @@ fn first_fault(
 }
 
 /// The plan of these tasks with these tables, in which no vCPU is capped, or the first fault of the
-/// tables.
+/// tables, as `first_fault` tells it.
 ///
 /// There are at most 32 rows, each task has one home below their count and no other vCPU has one,
-/// and each owner of a segment has a task. Neighbouring segments may have one owner.
-///
-/// `BadShape` comes exactly where the segments of a core make no row, `Twice` exactly where they
-/// all do and a vCPU stands on two cores at one tick, and `Short` exactly where none does and a
-/// vCPU gets less than its cost in one of its periods. So tables that are a plan are refused for
-/// nothing but want of memory.
+/// and each owner of a segment has a task. Tables that are a plan are refused for nothing but want of
+/// memory.
 pub fn check(alloc: Global, tasks: &Tasks, raw: &RawTables) -> Result<Plan, CheckFault>
     requires few { length raw.now.rows ≤ MAX_CORES }
     requires housed { IsTrue (are_housed (length raw.now.rows) tasks.now raw.now.homes) }

@@ -15,6 +15,6 @@ mod refusal;
 mod shape;
 mod shortage;
 
-pub use checker::check;
+pub use checker::{check, first_fault};
 pub use fault::CheckFault;
 pub use refusal::put_check_fault;

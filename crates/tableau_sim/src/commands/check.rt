@@ -12,7 +12,7 @@ use period_choice::tasks_of;
 use plan_text::{ReadPlan, read_plan};
 use std::alloc::Global;
 use tab_words::Sections;
-use table_check::check;
+use table_check::first_fault;
 
 // The reply of `check` to its input.
 pub(crate) fn check_reply(alloc: Global, input: &[u8]) -> Reply
@@ -43,8 +43,11 @@ fn check_of(alloc: Global, sections: &Sections) -> Reply
         Err(ReadPlan::BadLine { line }) => return Err(stopped(Status::BadPlanLine { line })),
         Err(ReadPlan::NoMemory) => return Err(Stop::NoMemory),
     };
-    match check(alloc, &tasks, &raw) {
-        Ok(_) => Ok(Text::Checked),
-        Err(fault) => Err(stop_of_check(fault, host)),
+    let Ok(fault) = first_fault(alloc, tasks.items(), raw.rows.items()) else {
+        return Err(Stop::NoMemory);
+    };
+    match fault {
+        None => Ok(Text::Checked),
+        Some(fault) => Err(stop_of_check(fault, host)),
     }
 }

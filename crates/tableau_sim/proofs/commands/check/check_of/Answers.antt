@@ -1,4 +1,6 @@
-use Rattle.std.proofs.Common.{ap, Err}
+use Rattle.std.proofs.Common.{ap, inr, subst, sym, Err}
+use Rattle.std.specs.Prelude.{IfNone, IfSome}
+use Rattle.table_check.specs.Faults.{AreGood, HasCheckFault}
 use Rattle.tableau_sim.specs.Check.{Checks, HasTables, HasTasks}
 use Rattle.tableau_sim.proofs.StopsLemmas.{check_stopped, host_stopped, tasks_stopped}
 use Rattle.tableau_sim.proofs.commands.check.check_of.Goals as goal
@@ -21,24 +23,30 @@ returns-in-Err-BadLine c =
     (Checks.BadLine c.in-Ok.host c.in-Ok-tasks_of.tasks c.in-Err-BadLine.line tasked
     (rw c.part-2.ensures at (c.in-Err-BadLine.ensures.bad_line c.in-Err-BadLine.line (ap Err c.in-Err-BadLine.field-0-is))))
 
-pub returns-in-Ok-check : goal.returns-in-Ok-check
-returns-in-Ok-check c =
+pub returns-in-None : goal.returns-in-None
+returns-in-None c =
     let tasked : HasTasks c.args.sections.now c.in-Ok.host c.in-Ok-tasks_of.tasks =
-    record { is_host = rw c.part.ensures at c.in-Ok.ensures.ok; are_tasks = c.in-Ok-tasks_of.ensures.ok } in (
+    record { is_host = rw c.part.ensures at c.in-Ok.ensures.ok; are_tasks = c.in-Ok-tasks_of.ensures.ok } in
+    let found : AreGood c.items.result.now c.items-2.result.now =
+    subst (λ fault. IfNone fault (AreGood c.items.result.now c.items-2.result.now)) c.in-None.is
+    c.in-Ok-first_fault.ensures.none in (
       Checks.Passes c.in-Ok.host c.in-Ok-tasks_of.tasks c.in-Ok-read_plan.raw
           (record { tasked = tasked; text = rw c.part-2.ensures at c.in-Ok-read_plan.ensures.ok })
-          c.in-Ok-check.ensures.good,
+          (rw (sym c.items.ensures.same, sym c.items-2.ensures) found),
       tt {0},
     )
 
-pub returns-in-Err-check : goal.returns-in-Err-check
-returns-in-Err-check c =
+pub returns-in-Some : goal.returns-in-Some
+returns-in-Some c =
     let tasked : HasTasks c.args.sections.now c.in-Ok.host c.in-Ok-tasks_of.tasks =
     record { is_host = rw c.part.ensures at c.in-Ok.ensures.ok; are_tasks = c.in-Ok-tasks_of.ensures.ok } in
     let tables : HasTables c.args.sections.now c.in-Ok.host c.in-Ok-tasks_of.tasks c.in-Ok-read_plan.raw =
     record { tasked = tasked; text = rw c.part-2.ensures at c.in-Ok-read_plan.ensures.ok } in
+    let found : HasCheckFault c.items.result.now c.items-2.result.now c.in-Some.fault =
+    subst (λ fault. IfSome fault (HasCheckFault c.items.result.now c.items-2.result.now)) c.in-Some.is
+    c.in-Ok-first_fault.ensures.some in
     rw c.stop_of_check.ensures
-    (check_stopped (Checks c.args.sections.now) c.in-Ok.host c.in-Err-check.fault _
-    (λ faulty. Checks.BadTables c.in-Ok.host c.in-Ok-tasks_of.tasks c.in-Ok-read_plan.raw c.in-Err-check.fault
+    (check_stopped (Checks c.args.sections.now) c.in-Ok.host c.in-Some.fault _
+    (λ faulty. Checks.BadTables c.in-Ok.host c.in-Ok-tasks_of.tasks c.in-Ok-read_plan.raw c.in-Some.fault
     tables faulty)
-    c.in-Err-check.ensures.fault)
+    (inr (rw (sym c.items.ensures.same, sym c.items-2.ensures) found)))
