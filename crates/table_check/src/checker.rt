@@ -13,12 +13,12 @@ use std::alloc::Global;
 use tab_core::{NoMemory, Periodic, Tasks, VcpuSet};
 use table_form::{Homes, Plan, RawTables, Segments, Tables};
 
-/// The first fault of the tables, if they have one: none exactly where they are a plan of these tasks. No table is
-/// copied.
+/// The first fault of the tables, if they have one: none exactly where they serve these tasks, with no
+/// vCPU on two cores at one tick. No table is copied.
 ///
-/// `BadShape` comes exactly where the segments of a core make no row, `Twice` exactly where they all do and a vCPU
-/// stands on two cores at one tick, and `Short` exactly where none does and a vCPU gets less than its cost in one of
-/// its periods. Neighbouring segments may have one owner.
+/// `BadShape` comes exactly where the segments of a core make no row, `Twice` exactly where they all do
+/// and a vCPU stands on two cores at one tick, and `Short` exactly where none does and a vCPU gets less
+/// than its cost in one of its periods. Neighbouring segments may have one owner.
 pub fn first_fault(
     alloc: Global,
     tasks: &[Option<Periodic>],
