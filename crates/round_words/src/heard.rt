@@ -80,7 +80,7 @@ impl HeardClocks {
 }
 
 // Of the first so many clocks but the actor's, those below the floor become the floor.
-fn raise(clocks: &mut [u32; 32], actor: u32, floor: u32, cores: u32)
+pub(crate) fn raise(clocks: &mut [u32; 32], actor: u32, floor: u32, cores: u32)
     requires { cores ≤ MAX_CORES }
     ensures { clocks.new ≡ raised actor floor cores clocks.old }
 {
