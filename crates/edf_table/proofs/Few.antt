@@ -1,7 +1,8 @@
--- Pieces of distinct vCPUs are at most as many as there are vCPUs.
-use Rattle.std.proofs.Common.{◌≡◌, ℕ, zero, suc, ◌+◌, ◌≤◌, cond, eqb, ltb, List, [], ◌∷◌, length, slice_get, Some, refl, arith, sym, ◌∙◌, inl, inr}
-use Rattle.std.proofs.lemmas.Bool.{cases_Bool, eqb-true, lt-ltb, ne_eqb}
+-- Pieces of distinct vCPUs are at most as many as there are vCPUs, and as any others that they are among.
+use Rattle.std.proofs.Common.{◌≡◌, ℕ, zero, suc, ◌+◌, ◌<◌, ◌≤◌, cond, eqb, ltb, List, [], ◌∷◌, length, slice_get, Some, refl, arith, sym, ap, ◌∙◌, inl, inr}
+use Rattle.std.proofs.lemmas.Bool.{cases_Bool, cases_lt, eq-eqb, eqb-true, lt-ltb, ne_eqb}
 use Rattle.std.proofs.lemmas.Bool.Decides.{nat_tests}
+use Rattle.std.proofs.lemmas.Option.{none-some, same_Some}
 use Rattle.tab_core.specs.declared.TheConstants.{MAX_VCPUS}
 use Rattle.tab_core.specs.declared.piece.Piece.{Piece}
 use Rattle.table_form.specs.Planning.Windows.{DistinctVcpus}
@@ -68,3 +69,55 @@ all_below (p ∷ ps) = rw (lt-ltb p.vcpu MAX_VCPUS p.vcpu_small) (omega (arith, 
 -- the pigeonhole principle: each piece has a vCPU of its own
 pub few_pieces : (ps : List Piece) → DistinctVcpus ps → length ps ≤ MAX_VCPUS
 few_pieces ps apart = omega (arith, all_below ps, below_few MAX_VCPUS ps apart)
+
+-- where a vCPU counts, a piece is of it
+some_of : (v : ℕ) (ps : List Piece) → 0 < of_vcpu v ps
+    → (i : ℕ) × (q : Piece) × (slice_get ps i ≡ Some q) × (q.vcpu ≡ v)
+unfolding of_vcpu
+some_of v [] some = absurd (omega (arith, some))
+some_of v (p ∷ ps) some = elim (cases_Bool (eqb p.vcpu v)) [
+  | inl same ↦ (0, p, refl, eqb-true p.vcpu v same)
+  | inr other ↦
+      (let none : cond {A = ℕ} (eqb p.vcpu v) 1 0 ≡ 0 = rw other refl in
+      let there = some_of v ps (omega (arith, some, none)) in
+      (suc there.0, there.1, there.2, there.3))
+]
+
+-- and where a piece is of it, it counts
+of_some : (v i : ℕ) (ps : List Piece) (q : Piece) → slice_get ps i ≡ Some q → q.vcpu ≡ v → 1 ≤ of_vcpu v ps
+unfolding of_vcpu
+of_some v i [] q at is = absurd (none-some q at)
+of_some v zero (p ∷ ps) q at is =
+    let same : p.vcpu ≡ v = ap (λ (x : Piece). x.vcpu) (same_Some _ _ at) ∙ is in
+    rw (eq-eqb p.vcpu v same) (omega arith)
+of_some v (suc i) (p ∷ ps) q at is = omega (arith, of_some v i ps q at is)
+
+-- each of the first pieces is one of the others
+abbrev pub AreAmong : List Piece → List Piece → Type 0
+AreAmong qs ps = (i : ℕ) (q : Piece) → slice_get qs i ≡ Some q → (k : ℕ) × (slice_get ps k ≡ Some q)
+
+-- so no more of them are of a vCPU
+of_among : (v : ℕ) (qs ps : List Piece) → DistinctVcpus qs → AreAmong qs ps → of_vcpu v qs ≤ of_vcpu v ps
+of_among v qs ps apart among = elim (cases_lt 0 (of_vcpu v qs)) [
+  | inl some ↦
+      (let q = some_of v qs some in
+      let there = among q.0 q.1 q.2 in
+      omega (arith, of_one v qs apart, of_some v there.0 ps q.1 there.1 q.3))
+  | inr none ↦ omega arith
+]
+
+-- nor of the vCPUs below n
+below_among : (n : ℕ) (qs ps : List Piece) → DistinctVcpus qs → AreAmong qs ps → below n qs ≤ below n ps
+below_among zero qs ps apart among = omega (arith, below-zero qs, below-zero ps)
+below_among (suc n) qs ps apart among = omega (
+  arith,
+  below-suc n qs,
+  below-suc n ps,
+  below_among n qs ps apart among,
+  of_among n qs ps apart among,
+)
+
+-- the same for pieces of distinct vCPUs that are all among others
+pub fewer_pieces : (qs ps : List Piece) → DistinctVcpus qs → AreAmong qs ps → length qs ≤ length ps
+fewer_pieces qs ps apart among =
+    omega (arith, all_below qs, all_below ps, below_among MAX_VCPUS qs ps apart among)

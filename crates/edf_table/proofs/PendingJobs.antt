@@ -3,7 +3,7 @@ use Rattle.std.proofs.Common.{◌≡◌, ◌≢◌, ℕ, zero, suc, ◌+◌, ◌
 use Rattle.std.proofs.Math.Nat.{mul-le-mul_left}
 use Rattle.std.proofs.lemmas.Bool.{cases_eq, cases_lt, le-ltb, lt-ltb}
 use Rattle.std.proofs.lemmas.List.{get_or-replicate}
-use Rattle.std.proofs.lemmas.Option.{none-some, same_Some}
+use Rattle.std.proofs.lemmas.Option.{none-some, same_Some, slice_get-get_or}
 use Rattle.tab_core.specs.declared.TheConstants.{MAX_VCPUS, ROUND}
 use Rattle.tab_core.specs.declared.piece.Piece.{Piece}
 use Rattle.table_form.specs.Planning.Windows.{DistinctVcpus}
@@ -12,7 +12,7 @@ use Rattle.table_form.specs.Planning.Demand.{Fits}
 use Rattle.table_form.specs.Planning.Jobs.{jobs_of}
 use Rattle.edf_table.specs.Inside.Progress.{AreKept, ArePending, AreTimely, IsAdded, IsDueFirst, IsJobOf, IsKept, IsMostUrgent, IsUnderWay, ServedBelow, SomeMissed, due_at, goal_of, job_at, key_at}
 use Rattle.edf_table.proofs.Calm.{NoneReady}
-use Rattle.edf_table.proofs.Few.{few_pieces}
+use Rattle.edf_table.proofs.Few.{AreAmong, few_pieces, fewer_pieces}
 use Rattle.edf_table.proofs.Kept.{all_kept_later, due_next, goal_next, kept_apart, kept_due, kept_missed, kept_ready, kept_served, ready_goal, some_piece}
 use Rattle.edf_table.proofs.Misses.{fits_served}
 use Rattle.edf_table.proofs.Steps.{counted_start, distinct_at, met_more_any}
@@ -338,15 +338,21 @@ same_place ps gs ns jobs count k m d p q apart pending a b e = elim (cases_eq a.
 -- beside the jobs there is room for one of a piece that has none
 pub room_for_job : (ps : List Piece) (gs ns : List ℕ) (jobs : List Pending) (count i : ℕ) (d : Piece)
     → DistinctVcpus ps → i < length ps → ArePending ps gs ns jobs count
-    → goal_of (get_or ps i d) (get_or ns i 0) ≤ get_or gs i 0 → count < MAX_VCPUS
+    → goal_of (get_or ps i d) (get_or ns i 0) ≤ get_or gs i 0 → count < length ps
 room_for_job ps gs ns jobs count i d apart i-in pending idle =
     let qs = picked ps gs ns jobs count count d pending (omega arith) in
     omega (
       arith,
       length-picked ps gs ns jobs count count d pending (omega arith),
-      few_pieces (get_or ps i d ∷ qs) apart',
+      fewer_pieces (get_or ps i d ∷ qs) ps apart' among,
     )
   where
+    among : AreAmong (get_or ps i d ∷ picked ps gs ns jobs count count d pending (omega arith)) ps
+    among zero q at = (i, slice_get-get_or ps i d i-in ∙ at)
+    among (suc k) q at =
+        let there = picked_at ps gs ns jobs count count k d q pending (omega arith) at in
+        (there.piece, slice_get-get_or ps there.piece d there.of.in_range ∙ ap Some there.is)
+
     other : (k : ℕ) (q : Piece) → IsPicked ps gs ns jobs count count k d q → (get_or ps i d).vcpu ≡ q.vcpu → ⊥
     other k q at e = elim (cases_eq at.piece i) [
       | inl same ↦
@@ -374,7 +380,7 @@ room_for_job ps gs ns jobs count i d apart i-in pending idle =
 pub room_to_begin : (ps : List Piece) (gs ns : List ℕ) (jobs : List Pending) (count tick i : ℕ) (d : Piece)
     → DistinctVcpus ps → IsKept (get_or ps i d) tick tick (get_or ns i 0) → get_or ns i 0 ≡ tick
     → i < length ps
-    → ArePending ps gs ns jobs count → AreTimely jobs count (tick + 1) → count < MAX_VCPUS
+    → ArePending ps gs ns jobs count → AreTimely jobs count (tick + 1) → count < length ps
 room_to_begin ps gs ns jobs count tick i d apart kept at i-in pending timely =
     room_for_job ps gs ns jobs count i d apart i-in pending
     (idle_piece ps gs ns jobs count tick i d kept at i-in pending timely)

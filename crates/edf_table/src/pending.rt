@@ -15,6 +15,12 @@ pub(crate) struct Pending {
     pub(crate) left: u32,
 }
 
+// How many pieces most cores have at most.
+pub(crate) const FEW: usize = 32;
+
+// No jobs of pieces that are few.
+pub(crate) const FEW_JOBS: [Pending; FEW] = [Pending { key: 0, left: 0 }; FEW];
+
 // No jobs: a core has at most one of each vCPU.
 pub(crate) const NO_JOBS: [Pending; MAX_VCPUS as usize] = [Pending {
     key: 0,

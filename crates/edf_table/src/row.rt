@@ -9,13 +9,50 @@ ghost use Rattle.table_form.specs.Tables.Segments.{AreMaximal, segment_view};
 ghost use Rattle.edf_table.specs.Inside.Progress.{MetBefore};
 ghost use Rattle.edf_table.specs.Inside.Repetition.{so_often};
 
-use crate::pending::NO_JOBS;
-use crate::turn::{first_begins, next_event, run_turn};
+use crate::pending::{FEW, FEW_JOBS, NO_JOBS, Pending};
+use crate::turn::{next_event, put_first_begins, run_turn};
 use std::alloc::{AllocError, Global};
-use tab_core::{Piece, ROUND};
+use tab_core::{MAX_VCPUS, Piece, ROUND};
 use table_form::{CoreTable, RowBuilder, Segment, push_segment};
 
-// The maximal segments of the ticks below `end`, of pieces that fit.
+// The maximal segments of the ticks below `end`, of pieces that fit. What stands in `begins` and
+// `jobs` means nothing.
+fn first_segments_in(
+    alloc: Global,
+    pieces: &[Piece],
+    end: u32,
+    begins: &mut [u32],
+    jobs: &mut [Pending],
+) -> Result<Vec<Segment>, AllocError>
+    requires distinct { DistinctVcpus pieces.now }
+    requires fits { Fits (jobs_of pieces.now) }
+    requires in_round { end ≤ ROUND }
+    requires a_begin_each { length pieces.now ≤ length begins.old }
+    requires a_place_each { length pieces.now ≤ length jobs.old }
+    ensures maximal { IfOk result (λ segments. AreMaximal 0 (map segment_view segments.items) end) }
+    ensures cells { IfOk result (λ segments. cells_from 0 segments.items
+        ≡ map owner_of (edf_cells (jobs_of pieces.now) end)) }
+    ensures met { IfOk result (λ _. MetBefore (jobs_of pieces.now) (end + 1)) }
+{
+    put_first_begins(pieces, begins);
+    let mut count = 0;
+    let mut segments = Vec::new(alloc);
+    let mut tick = 0;
+    let mut event = 0;
+    while tick < end {
+        event = next_event(pieces, begins, jobs, &mut count, tick, event);
+        let turn = run_turn(pieces, begins, jobs, &mut count, tick, event.min(end));
+        let segment = Segment {
+            owner: turn.owner,
+            end: turn.end,
+        };
+        push_segment(&mut segments, segment)?;
+        tick = turn.end;
+    }
+    Ok(segments)
+}
+
+// The same, with tables of its own: short ones for few pieces, since each is cleared first.
 pub(crate) fn first_segments(
     alloc: Global,
     pieces: &[Piece],
@@ -29,23 +66,11 @@ pub(crate) fn first_segments(
         ≡ map owner_of (edf_cells (jobs_of pieces.now) end)) }
     ensures met { IfOk result (λ _. MetBefore (jobs_of pieces.now) (end + 1)) }
 {
-    let mut begins = first_begins(pieces);
-    let mut jobs = NO_JOBS;
-    let mut count = 0;
-    let mut segments = Vec::new(alloc);
-    let mut tick = 0;
-    let mut event = 0;
-    while tick < end {
-        event = next_event(pieces, &mut begins, &mut jobs, &mut count, tick, event);
-        let turn = run_turn(pieces, &begins, &mut jobs, &mut count, tick, event.min(end));
-        let segment = Segment {
-            owner: turn.owner,
-            end: turn.end,
-        };
-        push_segment(&mut segments, segment)?;
-        tick = turn.end;
+    if pieces.len() <= FEW {
+        return first_segments_in(alloc, pieces, end, &mut [0; FEW], &mut FEW_JOBS);
     }
-    Ok(segments)
+    let mut begins = [0; MAX_VCPUS as usize];
+    first_segments_in(alloc, pieces, end, &mut begins, &mut NO_JOBS)
 }
 
 // Appends the cells of segments, the first of which begins at tick 0.

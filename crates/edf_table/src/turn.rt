@@ -7,17 +7,15 @@ ghost use Rattle.table_form.specs.Planning.Windows.{DistinctVcpus};
 use crate::pending::{Pending, add, give, job_from};
 use tab_core::{MAX_VCPUS, Piece, ROUND, VcpuNo};
 
-// The tick at which the first window of each piece begins.
-pub(crate) fn first_begins(pieces: &[Piece]) -> [u32; MAX_VCPUS as usize]
-    requires { length pieces.now ≤ MAX_VCPUS }
-    ensures a_begin_each { length pieces.now ≤ length result }
-    ensures kept { AreKept pieces.now result (length pieces.now) 0 0 }
+// Puts the tick at which the first window of each piece begins.
+pub(crate) fn put_first_begins(pieces: &[Piece], begins: &mut [u32])
+    requires { length pieces.now ≤ length begins.old }
+    ensures a_begin_each { length begins.new ≡ length begins.old }
+    ensures kept { AreKept pieces.now begins.new (length pieces.now) 0 0 }
 {
-    let mut begins = [0; MAX_VCPUS as usize];
     for i in 0..pieces.len() {
         begins[i] = pieces[i].from;
     }
-    begins
 }
 
 // Begins the windows of the tick.
@@ -30,7 +28,7 @@ fn begin_windows(
 )
     requires distinct { DistinctVcpus pieces.now }
     requires a_begin_each { length pieces.now ≤ length begins.old }
-    requires a_place_each { length jobs.old ≡ MAX_VCPUS }
+    requires a_place_each { length pieces.now ≤ length jobs.old }
     requires under_way { IsUnderWay pieces.now begins.old jobs.old count.old tick tick (tick + 1) tick }
     requires in_round { tick < ROUND }
     ensures a_begin_each { length begins.new ≡ length begins.old }
@@ -75,7 +73,7 @@ pub(crate) fn next_event(
 ) -> u32
     requires distinct { DistinctVcpus pieces.now }
     requires a_begin_each { length pieces.now ≤ length begins.old }
-    requires a_place_each { length jobs.old ≡ MAX_VCPUS }
+    requires a_place_each { length pieces.now ≤ length jobs.old }
     requires under_way { IsUnderWay pieces.now begins.old jobs.old count.old tick tick (tick + 1) event }
     requires in_time { tick ≤ event }
     requires in_round { tick < ROUND }

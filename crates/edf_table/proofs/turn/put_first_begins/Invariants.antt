@@ -1,6 +1,6 @@
 use Rattle.std.proofs.Common.{◌≤◌, length}
 use Rattle.edf_table.specs.Inside.Progress.{AreKept}
-use Rattle.edf_table.proofs.turn.first_begins.Given as goal
+use Rattle.edf_table.proofs.turn.put_first_begins.Given as goal
 
 abbrev pub invariant-loop-i : goal.invariant-loop-i
 invariant-loop-i l = record {

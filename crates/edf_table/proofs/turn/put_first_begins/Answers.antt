@@ -4,7 +4,7 @@ use Rattle.std.proofs.lemmas.List.{get_or_default}
 use Rattle.tab_core.specs.declared.piece.Piece.{Piece}
 use Rattle.edf_table.specs.Inside.Progress.{IsKept}
 use Rattle.edf_table.proofs.Kept.{kept_first}
-use Rattle.edf_table.proofs.turn.first_begins.Goals as goal
+use Rattle.edf_table.proofs.turn.put_first_begins.Goals as goal
 
 pub loop-i-preserved : goal.loop-i-preserved
 loop-i-preserved c =
