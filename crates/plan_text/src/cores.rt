@@ -8,6 +8,7 @@ ghost use Rattle.plan_text.specs.PlanLines.{core_lines, core_words};
 ghost use Rattle.plan_text.specs.PlanText.{view_words};
 ghost use Rattle.plan_text.specs.Inside.Tails.{AreTails};
 
+use crate::line_bytes::{BLOCK, Block};
 use crate::rows::put_row;
 use crate::tail::Tail;
 use crate::tails::tails_of;
@@ -28,16 +29,18 @@ pub(crate) fn put_cores<K: Sink>(
         (map (segments_from 0) rows.now))) result }
 {
     let tails = tails_of(vcpus);
+    let mut block = [0; BLOCK];
     for core in 0..rows.len() {
-        put_core(sink, &tails, core as u32, &rows[core])?;
+        put_core(sink, &tails, &mut block, core as u32, &rows[core])?;
     }
     Ok(())
 }
 
-// Writes the lines of one core.
+// Writes the lines of one core. What stands in the block means nothing.
 fn put_core<K: Sink>(
     sink: &mut K,
     tails: &[Tail; 257],
+    block: &mut Block,
     core: u32,
     row: &CoreTable,
 ) -> Result<(), WriteFault>
@@ -46,5 +49,5 @@ fn put_core<K: Sink>(
         (text_of (core_words core ∷ map (view_words names) (segments_from 0 row.now))) result }
 {
     put_line(sink, &[TextPiece::Text(b"core"), TextPiece::Number(core)])?;
-    put_row(sink, tails, row.segments())
+    put_row(sink, tails, block, row.segments())
 }

@@ -1,4 +1,4 @@
-ghost use Rattle.std.specs.Prelude.{◌≡◌, ◌≢◌, ◌++◌, ◌+◌, ◌*◌, ◌<◌, ◌≤◌, [], ◌∷◌, IfSome, SomeIff, decimal, length, slice_index, take, true};
+ghost use Rattle.std.specs.Prelude.{◌≡◌, ◌≢◌, ◌++◌, ◌<◌, ◌≤◌, [], ◌∷◌, IfSome, SomeIff, decimal, length, slice_index, take, true};
 ghost use Rattle.std.specs.Char.{digit_value};
 ghost use Rattle.std.specs.List.{All};
 ghost use Rattle.std.specs.Str.Parse.{AllDigits, digits_value};
@@ -35,23 +35,23 @@ pub(crate) fn plain_line(bytes: &[u8]) -> Option<PlainLine<'_>>
     })
 }
 
-// The number of the digits that the bytes begin with, up to the first that may make it 2^32 or more,
-// and how many they are.
+// So many digits make a number below 2^32, whichever they are.
+const SURE_DIGITS: usize = 9;
+
+// The number of the digits that the bytes begin with, of nine at most, and how many they are.
 fn front_number(bytes: &[u8]) -> (u32, usize)
     ensures within { result.1 ≤ length bytes.now }
     ensures digits { AllDigits 10 (take result.1 bytes.now) }
     ensures value { result.0 ≡ digits_value 10 (take result.1 bytes.now) }
 {
+    let most = bytes.len().min(SURE_DIGITS);
     let mut number = 0;
     let mut count = 0;
-    for byte in bytes {
-        let Some(digit) = digit_of(*byte) else {
+    while count < most {
+        let Some(digit) = digit_of(bytes[count]) else {
             return (number, count);
         };
-        let Some(more) = with_digit(number, digit) else {
-            return (number, count);
-        };
-        number = more;
+        number = number * 10 + digit;
         count += 1;
     }
     (number, count)
@@ -62,18 +62,6 @@ fn digit_of(byte: u8) -> Option<u32>
 {
     if byte.is_ascii_digit() {
         Some(u32::from(byte - b'0'))
-    } else {
-        None
-    }
-}
-
-// The number with a digit more, where any digit keeps it below 2^32.
-fn with_digit(number: u32, digit: u32) -> Option<u32>
-    requires { digit < 10 }
-    ensures { IfSome result (λ more. more ≡ number * 10 + digit) }
-{
-    if number < u32::MAX / 10 {
-        Some(number * 10 + digit)
     } else {
         None
     }

@@ -17,10 +17,12 @@ use table_form::Segment;
 // A line takes up at most so many bytes of a block.
 const LINE: usize = 46;
 
-// Writes the lines of a row's segments. They are gathered, since a plan has up to a million of them.
+// Writes the lines of a row's segments. They are gathered, since a plan has up to a million of them. What
+// stands in the block means nothing.
 pub(crate) fn put_row<K: Sink>(
     sink: &mut K,
     tails: &[Tail; 257],
+    block: &mut Block,
     segments: &[Segment],
 ) -> Result<(), WriteFault>
     requires { RisesTo 0 segments.now ROUND }
@@ -28,11 +30,10 @@ pub(crate) fn put_row<K: Sink>(
         → Writes (K.state sink.old) (K.state sink.new)
         (flat_map (segment_line names) (map segment_view segments.now)) result }
 {
-    let mut block = [0; BLOCK];
     let mut count = 0;
     for segment in segments {
-        let at = make_room(sink, &block, count)?;
-        count = put_segment(&mut block, at, tails, segment);
+        let at = make_room(sink, block, count)?;
+        count = put_segment(block, at, tails, segment);
     }
     write_all(sink, &block[..count])
 }
