@@ -3,19 +3,19 @@ ghost use Rattle.std.specs.Prelude.{◌≤◌};
 use crate::clocks::OUT;
 
 /// A guess which core is the one of least clock, found without looking at all of them. Nothing is claimed of
-/// it: where the core that it names doesn't get on, a turn looks at all clocks.
-///
-/// It is a tree of numbers `64 * clock + core`. Those of the cores stand so many levels below place 1, as few as the
-/// count of cores allows, and at each place above them the lesser of the two at twice the place and behind it.
+/// it: where the core that it names doesn't get on, a turn looks at all clocks (`find_least`).
 #[derive(Drop)]
-pub(crate) struct Guess {
+pub struct Guess {
+    // A tree of numbers `64 * clock + core`. Those of the cores stand so many levels below place 1, as few as the count
+    // of cores allows, and at each place above them the lesser of the two at twice the place and behind it.
     places: [u64; 64],
     levels: u32,
     running: u32,
 }
 
 impl Guess {
-    pub(crate) fn of(ticks: &[u32; 32], cores: u32) -> Guess {
+    /// The guess for the first so many cores, whose clocks are given in ticks, OUT for one that isn't to go on.
+    pub fn of(ticks: &[u32; 32], cores: u32) -> Guess {
         let mut guess = Guess {
             places: [u64::MAX; 64],
             levels: levels_of(cores),
@@ -31,21 +31,22 @@ impl Guess {
         guess
     }
 
-    // The number of a core, or 63 where it knows of none that is to go on.
-    pub(crate) fn core(&self) -> u32 {
+    /// The number of a core, or 63 where it knows of none that is to go on.
+    pub fn core(&self) -> u32 {
         (self.places[1] % 64) as u32
     }
 
-    // How far the core runs on by itself: a stint, or as far as it gets where it is the only one.
-    pub(crate) fn limit(&self, clock: u32) -> u32
+    /// Up to which clock the core of this clock runs on by itself: a stint, or as far as it gets where it is the only
+    /// one.
+    pub fn limit(&self, clock: u32) -> u32
         ensures { clock ≤ result }
     {
         if self.running == 1 { OUT } else { clock }
     }
 
-    // The core's clock is this one, or OUT where it has finished.
+    /// The core's clock is this one, or OUT where it has finished.
     #[inline(always)]
-    pub(crate) fn note(&mut self, core: u32, clock: u32) {
+    pub fn note(&mut self, core: u32, clock: u32) {
         if clock == OUT {
             self.running = self.running.saturating_sub(1);
         }
