@@ -15,3 +15,4 @@ pub mod CrewsLemmas
 pub mod MeetingLemmas
 pub mod OutcomesLemmas
 pub mod TellingLemmas
+pub mod KeepingLemmas

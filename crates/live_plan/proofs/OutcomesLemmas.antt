@@ -1,7 +1,6 @@
 -- What was made of the changes of a live book is what their plan book may be given.
-use Rattle.std.proofs.Common.{◌≡◌, ◌⊎◌, inl, inr, ℕ, ◌+◌, ◌<◌, List, [], ◌∷◌, ◌++◌, length, take, Option, Some, Result, Ok, Err, ap, sym, subst, ◌∙◌, arith}
+use Rattle.std.proofs.Common.{◌≡◌, inl, inr, ℕ, List, [], ◌∷◌, ◌++◌, length, Option, Some, Result, Ok, Err, ap, sym, subst, ◌∙◌}
 use Rattle.std.specs.Prelude.{IfSome, slice_get}
-use Rattle.std.proofs.lemmas.Option.{slice_get_within}
 use Rattle.tab_core.proofs.Lists.{push_split}
 use Rattle.tab_core.specs.declared.edit.Edit.{Edit}
 use Rattle.tab_core.specs.declared.host.Host.{Host}
@@ -11,7 +10,6 @@ use Rattle.table_form.specs.Tables.Views.{plan_view}
 use Rattle.table_form.specs.declared.plan.Plan.{Plan}
 use Rattle.period_choice.proofs.TasksLemmas.{tasks_where_reserved}
 use Rattle.plan_make.specs.Planned.{IsPlanned}
-use Rattle.script_doc.specs.Script.{changes_in}
 use Rattle.script_doc.specs.declared.event.Event.{Event}
 use Rattle.plan_book.specs.Changes.{IsUnplanned}
 use Rattle.plan_book.specs.Mades.{AreMadeOf, IsChangedTo, IsMadeOf}

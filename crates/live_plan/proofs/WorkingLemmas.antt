@@ -19,6 +19,7 @@ use Rattle.live_plan.specs.declared.answer.LiveAnswer.{LiveAnswer}
 use Rattle.live_plan.specs.declared.answer.LiveAnswer.TheVariants as answer
 use Rattle.live_plan.specs.declared.controller.LiveControl.{LiveControl}
 use Rattle.live_plan.specs.declared.controller.LiveControl.TheVariants as control
+use Rattle.live_plan.specs.declared.kept.Kept.{Kept}
 use Rattle.live_plan.specs.declared.team.Lead.{Lead}
 use Rattle.live_plan.specs.declared.team.Member.{Member}
 use Rattle.live_plan.specs.declared.turning.Roster.{Roster}
@@ -29,6 +30,7 @@ use Rattle.live_plan.specs.Crews.{IsMemberOf}
 use Rattle.live_plan.specs.Shelves.{ShelfView}
 use Rattle.live_plan.specs.Told.{LiveTold}
 use Rattle.live_plan.specs.Inside.Cells.{IsCellShelfOf}
+use Rattle.live_plan.specs.Inside.Keeping.{AreKept, IsKept}
 use Rattle.live_plan.specs.Inside.Working.{AreBelow, AreTicks, BlockAgrees, CoresGoOn, IsBlock, IsRoster, IsWorking}
 use Rattle.live_plan.proofs.PlacesLemmas.{set_each}
 
@@ -113,6 +115,14 @@ module _ (b : LiveView) (rounds first : ℕ) (members : List Member) where
           (λ j x ne at out. are.each j x at (subst (λ (k : ℕ). OUT ≤ k) (get_or-set_other ticks i j t _ ne) out));
     }
 
+    pub kept_ran : (kepts : List Kept) (k : Kept) → AreKept b first kepts → IsKept b (first + i) k
+        → AreKept b first (slice_set kepts i k)
+    kept_ran kepts k are is = record {
+      size = length-set kepts i k ∙ are.size;
+      each = set_each (λ (j : ℕ) (x : Kept). IsKept b (first + j) x) kepts i k (omega (arith, lt, block.few, are.size)) is
+          (λ j x ne at. are.each j x at);
+    }
+
 -- a turn: cores made steps, and then the controller
 module _ (b : LiveView) (rounds first : ℕ) (members : List Member) (lead : Lead) (v : View)
     (working : IsWorking b rounds first members lead v) where
@@ -148,9 +158,11 @@ ticks_more ticks k clock inside less old i lt = dite (ℕ_discrete i k)
     (λ ne. subst (λ (n : ℕ). n < OUT) (sym (get_or-set_other ticks k i clock _ ne)) (old i (omega (arith, lt, ne))))
 
 pub roster_first : (b : LiveView) (members : List Member) (lead : Lead) (roster : Roster) (v : View)
-    → AreTicks members roster.ticks → roster.posting ≡ holds v controller → IsRoster b members lead roster v
-roster_first b members lead roster v ticks posting = record {
+    → AreTicks members roster.ticks → AreKept b roster.first roster.kept → roster.posting ≡ holds v controller
+    → IsRoster b members lead roster v
+roster_first b members lead roster v ticks kept posting = record {
   ticks = ticks;
+  kept = kept;
   some = λ on. sym posting ∙ on;
   over = λ off has. absurd (true≢false (sym has ∙ (sym posting ∙ off)));
 }

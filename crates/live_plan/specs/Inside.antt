@@ -2,6 +2,7 @@
 pub mod Cells
 pub mod Crewing
 pub mod Finishing
+pub mod Keeping
 pub mod Lists
 pub mod Making
 pub mod Outcomes

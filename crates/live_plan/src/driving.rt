@@ -34,7 +34,7 @@ pub(crate) fn drive<G: Gate>(
     ensures crew { IsWorking site.now.book.now site.now.rounds first members.new lead.new (view_of seat.new) }
     ensures actors { SameActors (view_of seat.old) (view_of seat.new) }
 {
-    let mut roster = Roster::of(seat, first, members);
+    let mut roster = Roster::of(site.book, seat, first, members);
     let mut idle = 0;
     // more turns than a run has steps
     for _ in 0..u64::MAX {
@@ -68,7 +68,7 @@ pub(crate) fn drive_on<R: Wait, G: Gate>(
     ensures actors { SameActors (view_of seat.old) (view_of seat.new) }
     ensures ended { HaveEnded site.now.book.now members.new lead.new (view_of seat.new) }
 {
-    let mut roster = Roster::of(seat, 0, members);
+    let mut roster = Roster::of(site.book, seat, 0, members);
     let mut idle: u32 = 0;
     for _ in rt.forever() {
         match turn(site, seat, lead, members, &mut roster) {

@@ -16,6 +16,7 @@ mod crew;
 mod driving;
 mod finding;
 mod into_book;
+mod kept;
 mod laws;
 mod list_shelf;
 mod made;

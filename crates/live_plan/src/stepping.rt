@@ -5,6 +5,7 @@ ghost use Rattle.dispatch_core.specs.States.{HasBegun, IsSameCore};
 ghost use Rattle.live_plan.specs.Actors.{IsActorOf, LiveAgrees};
 ghost use Rattle.live_plan.specs.Books.{changes_before};
 ghost use Rattle.live_plan.specs.Inside.Finishing.{FinishTold, WaitTold};
+ghost use Rattle.live_plan.specs.Inside.Keeping.{IsKept};
 ghost use Rattle.live_plan.specs.Inside.Seeking.{IsSliceAt};
 ghost use Rattle.live_plan.specs.Shelves.{Grows};
 ghost use Rattle.live_plan.specs.Told.{LiveTold};
@@ -12,7 +13,8 @@ ghost use Rattle.live_plan.specs.Told.{LiveTold};
 use crate::actor::LiveActor;
 use crate::answer::LiveAnswer;
 use crate::book::LiveBook;
-use crate::seeking::{Unmade, seek};
+use crate::kept::{Kept, keep};
+use crate::seeking::Unmade;
 use crate::shelf::Shelf;
 use dispatch_core::{Begun, CoreState, Ended, begin_step, end_step};
 use round_words::{RoundBoard, RoundSeat};
@@ -48,20 +50,53 @@ pub fn live_core_step<'a, H: Shelf<'a>>(
     ensures told { LiveTold book.now actor.old.state.rounds actor.old.state.core (view_of seat.old)
         (H.state shelf.old) result (view_of seat.new) (H.state shelf.new) }
 {
+    let mut kept = Kept::nothing(book);
+    step_keeping(board, seat, actor, book, shelf, &mut kept)
+}
+
+// The same, where what the last step found is kept: the shelf is asked for a plan only where the round has another used
+// count.
+#[inline(always)]
+pub(crate) fn step_keeping<'a, H: Shelf<'a>>(
+    board: &RoundBoard,
+    seat: &mut RoundSeat,
+    actor: &mut LiveActor,
+    book: &'a LiveBook,
+    shelf: &mut H,
+    kept: &mut Kept<'a>,
+) -> LiveAnswer
+    requires board { IsSeatOf board.now seat.old }
+    requires actor { IsActorOf book.now actor.old }
+    requires agrees { LiveAgrees book.now actor.old.state (view_of seat.old) }
+    requires shelf { H.is_of shelf.old book.now }
+    requires kept { IsKept book.now actor.old.state.core kept.old }
+    ensures board { IsSeatOf board.now seat.new }
+    ensures actor { IsActorOf book.now actor.new }
+    ensures agrees { LiveAgrees book.now actor.new.state (view_of seat.new) }
+    ensures same { IsSameCore actor.old.state actor.new.state }
+    ensures changes { ChangesOnly (view_of seat.old) (view_of seat.new) actor.old.state.core }
+    ensures shelf { H.is_of shelf.new book.now }
+    ensures grows { Grows (H.state shelf.old) (H.state shelf.new) }
+    ensures told { LiveTold book.now actor.old.state.rounds actor.old.state.core (view_of seat.old)
+        (H.state shelf.old) result (view_of seat.new) (H.state shelf.new) }
+    ensures kept { IsKept book.now actor.old.state.core kept.new }
+{
     match begin_step(board, seat, book.outline(), &mut actor.state) {
         Begun::Finished => LiveAnswer::Finished,
         Begun::Behind { seen, tick } => wait(book, shelf, seen, Actor::Controller, tick),
-        Begun::At { seen, used } => finish(board, seat, actor, book, shelf, seen, used),
+        Begun::At { seen, used } => { finish(board, seat, actor, book, shelf, kept, seen, used) },
     }
 }
 
 // The end of a step, with the plan that the shelf gives for the used count.
+#[inline(always)]
 fn finish<'a, H: Shelf<'a>>(
     board: &RoundBoard,
     seat: &mut RoundSeat,
     actor: &mut LiveActor,
     book: &'a LiveBook,
     shelf: &mut H,
+    kept: &mut Kept<'a>,
     seen: u32,
     used: u32,
 ) -> LiveAnswer
@@ -70,6 +105,7 @@ fn finish<'a, H: Shelf<'a>>(
     requires agrees { LiveAgrees book.now actor.old.state (view_of seat.old) }
     requires begun { HasBegun book.now.outline actor.old.state (view_of seat.old) seen used }
     requires shelf { H.is_of shelf.old book.now }
+    requires kept { IsKept book.now actor.old.state.core kept.old }
     ensures board { IsSeatOf board.now seat.new }
     ensures actor { IsActorOf book.now actor.new }
     ensures agrees { LiveAgrees book.now actor.new.state (view_of seat.new) }
@@ -79,26 +115,16 @@ fn finish<'a, H: Shelf<'a>>(
     ensures grows { Grows (H.state shelf.old) (H.state shelf.new) }
     ensures told { FinishTold book.now actor.old.state.core seen used (view_of seat.old)
         (H.state shelf.old) result (view_of seat.new) (H.state shelf.new) }
+    ensures kept { IsKept book.now actor.old.state.core kept.new }
 {
-    let changes = book.changes_before(used);
-    match seek(book, shelf, &mut actor.taken, actor.core, changes) {
+    match keep(book, shelf, &mut actor.taken, kept, actor.core, used) {
         Err(Unmade::NotMade { change }) => LiveAnswer::NotMade { change },
         Err(Unmade::Stopped { change }) => LiveAnswer::Stopped { change },
-        Ok(Some(table)) => run(
+        Ok(()) => run(
             board,
             seat,
             &mut actor.state,
-            table,
-            book,
-            shelf,
-            seen,
-            used,
-        ),
-        Ok(None) => run(
-            board,
-            seat,
-            &mut actor.state,
-            &actor.table,
+            kept.table_or(&actor.table),
             book,
             shelf,
             seen,
@@ -108,6 +134,7 @@ fn finish<'a, H: Shelf<'a>>(
 }
 
 // The end of a step by this slice table.
+#[inline(always)]
 fn run<'a, H: Shelf<'a>>(
     board: &RoundBoard,
     seat: &mut RoundSeat,
@@ -139,6 +166,7 @@ fn run<'a, H: Shelf<'a>>(
 }
 
 // The core waits for this actor, unless memory ran out for the first change beyond what it saw.
+#[inline(never)]
 fn wait<'a, H: Shelf<'a>>(
     book: &'a LiveBook,
     shelf: &mut H,

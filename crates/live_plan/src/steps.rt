@@ -9,14 +9,16 @@ ghost use Rattle.core_workers.specs.Crews.{HasFinished};
 ghost use Rattle.live_plan.specs.Actors.{LiveAgrees};
 ghost use Rattle.live_plan.specs.Crews.{IsMemberOf};
 ghost use Rattle.live_plan.specs.Inside.Cells.{IsCellShelfOf};
+ghost use Rattle.live_plan.specs.Inside.Keeping.{IsKept};
 ghost use Rattle.live_plan.specs.Inside.Working.{HasPostedAll};
 ghost use Rattle.live_plan.specs.declared.answer.LiveAnswer.TheVariants.{Finished};
 ghost use Rattle.live_plan.specs.declared.controller.LiveControl.TheVariants.{Finished as LeadFinished};
 
 use crate::answer::LiveAnswer;
 use crate::controller::{LiveControl, live_control_step};
+use crate::kept::Kept;
 use crate::site::Site;
-use crate::stepping::live_core_step;
+use crate::stepping::step_keeping;
 use crate::team::{Lead, Member};
 use core_workers::{Gate, OUT};
 use round_words::RoundSeat;
@@ -32,10 +34,12 @@ pub(crate) struct Reached {
 }
 
 // Steps of the member, whose core has this number, while it runs and its clock is at most the limit.
-pub(crate) fn run_member<G: Gate>(
-    site: &Site<'_, G>,
+#[inline(always)]
+pub(crate) fn run_member<'a, G: Gate>(
+    site: &Site<'a, G>,
     seat: &mut RoundSeat,
     member: &mut Member,
+    kept: &mut Kept<'a>,
     core: u32,
     limit: u32,
 ) -> Reached
@@ -43,10 +47,12 @@ pub(crate) fn run_member<G: Gate>(
     requires short { site.now.rounds ≤ MAX_ROUNDS }
     requires member { IsMemberOf site.now.book.now site.now.rounds core member.old }
     requires agrees { LiveAgrees site.now.book.now member.old.actor.state (view_of seat.old) }
+    requires kept { IsKept site.now.book.now member.old.actor.state.core kept.old }
     ensures board { IsSeatOf site.now.board.now seat.new }
     ensures member { IsMemberOf site.now.book.now site.now.rounds core member.new }
     ensures agrees { LiveAgrees site.now.book.now member.new.actor.state (view_of seat.new) }
     ensures changes { ChangesOnly (view_of seat.old) (view_of seat.new) core }
+    ensures kept { IsKept site.now.book.now member.new.actor.state.core kept.new }
     ensures end { THE_OUT ≤ result.clock → HasFinished member.new.actor.state }
 {
     let mut clock = member.actor.clock();
@@ -55,7 +61,7 @@ pub(crate) fn run_member<G: Gate>(
         if clock > limit {
             return at(clock, false);
         }
-        match step_member(site, seat, member, core) {
+        match step_member(site, seat, member, kept, core) {
             LiveAnswer::Ran(_) => clock = member.actor.clock(),
             LiveAnswer::Behind { who: _, tick: _ } => return at(clock, false),
             LiveAnswer::NotMade { change: _ } => return at(clock, false),
@@ -73,29 +79,34 @@ fn at(clock: u32, stopped: bool) -> Reached
 }
 
 // A step of the member.
-fn step_member<G: Gate>(
-    site: &Site<'_, G>,
+#[inline(always)]
+fn step_member<'a, G: Gate>(
+    site: &Site<'a, G>,
     seat: &mut RoundSeat,
     member: &mut Member,
+    kept: &mut Kept<'a>,
     core: u32,
 ) -> LiveAnswer
     requires board { IsSeatOf site.now.board.now seat.old }
     requires member { IsMemberOf site.now.book.now site.now.rounds core member.old }
     requires agrees { LiveAgrees site.now.book.now member.old.actor.state (view_of seat.old) }
+    requires kept { IsKept site.now.book.now member.old.actor.state.core kept.old }
     ensures board { IsSeatOf site.now.board.now seat.new }
     ensures member { IsMemberOf site.now.book.now site.now.rounds core member.new }
     ensures agrees { LiveAgrees site.now.book.now member.new.actor.state (view_of seat.new) }
     ensures changes { ChangesOnly (view_of seat.old) (view_of seat.new) core }
+    ensures kept { IsKept site.now.book.now member.new.actor.state.core kept.new }
     ensures end { result ≡ Finished → HasFinished member.new.actor.state }
 {
     site.gate.pass(core, member.steps);
     member.steps = member.steps.saturating_add(1);
-    live_core_step(
+    step_keeping(
         site.board,
         seat,
         &mut member.actor,
         site.book,
         &mut member.shelf,
+        kept,
     )
 }
 

@@ -13,6 +13,7 @@ use Rattle.live_plan.specs.Actors.{LiveAgrees}
 use Rattle.live_plan.specs.Books.{LiveView}
 use Rattle.live_plan.specs.Crews.{IsMemberOf}
 use Rattle.live_plan.specs.Inside.Cells.{IsCellShelfOf}
+use Rattle.live_plan.specs.Inside.Keeping.{AreKept}
 use Rattle.live_plan.specs.Planners.{PlannerView}
 
 -- the members are those of neighbouring cores, from the first one on
@@ -65,9 +66,10 @@ pub record AreTicks (members : List Member) (ticks : List ℕ) : Type 0 where
 abbrev pub HasPostedAll : LiveView → Lead → Type 0
 HasPostedAll b lead = lead.controller.posted ≡ length b.outline.ticks
 
--- and a controller that is to go on is held, and one that isn't has posted all, if the view holds it
+-- what turns go by is so: a controller that is to go on is held, and one that isn't has posted all, if the view holds it
 pub record IsRoster (b : LiveView) (members : List Member) (lead : Lead) (roster : Roster) (v : View) : Type 0 where
   pub ticks : AreTicks members roster.ticks
+  pub kept : AreKept b roster.first roster.kept
   pub some : roster.posting ≡ true → holds v controller ≡ true
   pub over : roster.posting ≡ false → holds v controller ≡ true → HasPostedAll b lead
 

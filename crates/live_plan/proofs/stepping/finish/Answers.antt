@@ -5,8 +5,8 @@ use Rattle.live_plan.specs.Inside.Finishing.{FinishTold}
 use Rattle.live_plan.proofs.SteppingLemmas.{finish_since}
 use Rattle.live_plan.proofs.stepping.finish.Goals as goal
 
-pub returns-in-Ok-Some-clause-told : goal.returns-in-Ok-Some-clause-told
-returns-in-Ok-Some-clause-told g c =
+pub returns-in-Ok-clause-told : goal.returns-in-Ok-clause-told
+returns-in-Ok-clause-told g c =
     let b = c.args.book.now in
     let v = view_of c.args.seat.now in
     let w = view_of c.run.new.seat in
@@ -14,17 +14,5 @@ returns-in-Ok-Some-clause-told g c =
     let t = g.H.Shelf.state c.run.new.shelf in
     subst (λ (i : ℕ). FinishTold b i c.args.seen c.args.used v s c.run.result w t)
     (ap (λ (a : LiveActorView). a.state.core) c.actor.view_is)
-    (finish_since b c.actor.inside.state.core c.args.seen c.args.used v w s (g.H.Shelf.state c.seek.new.shelf) t c.run.result
-    c.seek.ensures.grows c.run.ensures.told)
-
-pub returns-in-Ok-None-clause-told : goal.returns-in-Ok-None-clause-told
-returns-in-Ok-None-clause-told g c =
-    let b = c.args.book.now in
-    let v = view_of c.args.seat.now in
-    let w = view_of c.run-in-Ok-None.new.seat in
-    let s = g.H.Shelf.state c.args.shelf.now in
-    let t = g.H.Shelf.state c.run-in-Ok-None.new.shelf in
-    subst (λ (i : ℕ). FinishTold b i c.args.seen c.args.used v s c.run-in-Ok-None.result w t)
-    (ap (λ (a : LiveActorView). a.state.core) c.actor.view_is)
-    (finish_since b c.actor.inside.state.core c.args.seen c.args.used v w s (g.H.Shelf.state c.seek.new.shelf) t
-    c.run-in-Ok-None.result c.seek.ensures.grows c.run-in-Ok-None.ensures.told)
+    (finish_since b c.actor.inside.state.core c.args.seen c.args.used v w s (g.H.Shelf.state c.keep.new.shelf) t c.run.result
+    c.keep.ensures.grows c.run.ensures.told)

@@ -6,9 +6,10 @@ use Rattle.dispatch_core.specs.States.{HasBegun, Stands}
 use Rattle.dispatch_core.specs.Told.{BegunTold}
 use Rattle.live_plan.specs.Actors.{IsActorOf, LiveActorView, LiveAgrees, live_actor_view}
 use Rattle.live_plan.specs.Inside.Finishing.{FinishTold}
+use Rattle.live_plan.specs.Inside.Keeping.{IsKept}
 use Rattle.live_plan.specs.Told.{LiveTold}
 use Rattle.live_plan.proofs.SteppingLemmas.{HasBegunFrom, actor_on, agrees_on, begin_waits, finish_told}
-use Rattle.live_plan.proofs.stepping.live_core_step.Goals as goal
+use Rattle.live_plan.proofs.stepping.step_keeping.Goals as goal
 
 pub finish-requires : goal.finish-requires
 finish-requires g c κs =
@@ -20,7 +21,9 @@ finish-requires g c κs =
     let e = c.in-At.ensures in
     let was : LiveActorView = live_actor_view old c.actor.inside.table c.actor.inside.taken in
     let of : IsActorOf b was = subst (IsActorOf b) (sym c.actor.view_is) c.requires.actor in
-    let agrees : LiveAgrees b old v = subst (λ (a : LiveActorView). LiveAgrees b a.state v) (sym c.actor.view_is) c.requires.agrees in (
+    let agrees : LiveAgrees b old v = subst (λ (a : LiveActorView). LiveAgrees b a.state v) (sym c.actor.view_is) c.requires.agrees in
+    let kept : IsKept b new.core c.args.kept.now = subst (λ (i : ℕ). IsKept b i c.args.kept.now) (sym e.same.core)
+    (subst (λ (a : LiveActorView). IsKept b a.state.core c.args.kept.now) (sym c.actor.view_is) c.requires.kept) in (
       (refl, tt),
       (
         e.board,
@@ -28,7 +31,7 @@ finish-requires g c κs =
           actor_on b was new of e.same.core,
           (
             agrees_on b c.outline.result.now old new v u c.outline.ensures agrees e.stands e.same.core e.plans,
-            (subst (λ (o : OutlineView). HasBegun o new u c.in-At.seen c.in-At.used) c.outline.ensures e.told.1, c.requires.shelf),
+            (subst (λ (o : OutlineView). HasBegun o new u c.in-At.seen c.in-At.used) c.outline.ensures e.told.1, (c.requires.shelf, kept)),
           ),
         ),
       ),
@@ -95,3 +98,9 @@ returns-in-At-clause-told g c =
     subst (λ (i : ℕ). FinishTold b i seen used u s c.finish.result w t) e.same.core c.finish.ensures.told in
     subst (λ (a : LiveActorView). LiveTold b a.state.rounds a.state.core v s c.finish.result w t) c.actor.view_is
     (finish_told b old.rounds old.core seen used v u w s t new c.finish.result from told)
+
+pub returns-in-At-clause-kept : goal.returns-in-At-clause-kept
+returns-in-At-clause-kept g c =
+    let b = c.args.book.now in
+    subst (λ (a : LiveActorView). IsKept b a.state.core c.finish.new.kept) c.actor.view_is
+    (subst (λ (i : ℕ). IsKept b i c.finish.new.kept) c.in-At.ensures.same.core c.finish.ensures.kept)

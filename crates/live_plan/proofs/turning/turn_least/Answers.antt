@@ -1,6 +1,6 @@
 use Rattle.std.proofs.Common.{arith}
 use Rattle.std.proofs.lemmas.Option.{slice_get_within}
-use Rattle.live_plan.proofs.turning.turn_cores.Goals as goal
+use Rattle.live_plan.proofs.turning.turn_least.Goals as goal
 
 pub returns-then-clock-clause-done : goal.returns-then-clock-clause-done
 returns-then-clock-clause-done g c = λ _ i m at.

@@ -1,0 +1,100 @@
+ghost use Rattle.std.specs.Prelude.{◌≡◌, ◌<◌, ◌≤◌, ℕ, IfErr, IfOk, MatchOption, length};
+ghost use Rattle.live_plan.specs.Books.{changes_before};
+ghost use Rattle.live_plan.specs.Inside.Keeping.{IsKept};
+ghost use Rattle.live_plan.specs.Inside.Seeking.{IsTaken, IsUnmade};
+ghost use Rattle.live_plan.specs.Shelves.{Grows};
+
+use crate::book::LiveBook;
+use crate::seeking::{Unmade, seek};
+use crate::shelf::Shelf;
+use crate::taken::Taken;
+use slice_table::SliceTable;
+
+/// What a core's step found last: the core's slice table of the plan after so many events, or none where that is the
+/// host's own plan. While the core uses as many events, its steps ask its shelf for no plan.
+#[derive(Clone, Copy)]
+pub(crate) struct Kept<'a> {
+    pub(crate) used: u32,
+    pub(crate) table: Option<&'a SliceTable>,
+}
+
+impl<'a> Kept<'a> {
+    // Nothing: a count that no round uses.
+    pub(crate) fn nothing(book: &LiveBook) -> Kept<'a>
+        ensures { (c : ℕ) → IsKept book.now c result }
+    {
+        Kept {
+            used: book.outline().count() + 1,
+            table: None,
+        }
+    }
+
+    // The table, where this is the core's own one of the host's plan.
+    #[inline(always)]
+    pub(crate) fn table_or<'b>(&self, own: &'b SliceTable) -> &'b SliceTable
+    where
+        'a: 'b,
+        ensures { MatchOption self.now.table (result.now ≡ own.now) (λ table. result.now ≡ table.now) }
+    {
+        match self.table {
+            Some(table) => table,
+            None => own,
+        }
+    }
+}
+
+// Keeps the core's slice table of the plan after the first so many events.
+#[inline(always)]
+pub(crate) fn keep<'a, H: Shelf<'a>>(
+    book: &'a LiveBook,
+    shelf: &mut H,
+    taken: &mut Taken,
+    kept: &mut Kept<'a>,
+    core: u32,
+    used: u32,
+) -> Result<(), Unmade>
+    requires shelf { H.is_of shelf.old book.now }
+    requires taken { IsTaken book.now taken.old }
+    requires kept { IsKept book.now core kept.old }
+    requires core { core < book.now.host.cores }
+    requires used { used ≤ length book.now.outline.ticks }
+    ensures shelf { H.is_of shelf.new book.now }
+    ensures grows { Grows (H.state shelf.old) (H.state shelf.new) }
+    ensures taken { IsTaken book.now taken.new }
+    ensures kept { IsKept book.now core kept.new }
+    ensures ok { IfOk result (λ _. kept.new.used ≡ used) }
+    ensures err { IfErr result (IsUnmade (changes_before book.now used) (H.state shelf.old) (H.state shelf.new)) }
+{
+    if kept.used == used {
+        return Ok(());
+    }
+    keep_anew(book, shelf, taken, kept, core, used)
+}
+
+// The same, where another count's was kept.
+#[inline(never)]
+fn keep_anew<'a, H: Shelf<'a>>(
+    book: &'a LiveBook,
+    shelf: &mut H,
+    taken: &mut Taken,
+    kept: &mut Kept<'a>,
+    core: u32,
+    used: u32,
+) -> Result<(), Unmade>
+    requires shelf { H.is_of shelf.old book.now }
+    requires taken { IsTaken book.now taken.old }
+    requires kept { IsKept book.now core kept.old }
+    requires core { core < book.now.host.cores }
+    requires used { used ≤ length book.now.outline.ticks }
+    ensures shelf { H.is_of shelf.new book.now }
+    ensures grows { Grows (H.state shelf.old) (H.state shelf.new) }
+    ensures taken { IsTaken book.now taken.new }
+    ensures kept { IsKept book.now core kept.new }
+    ensures ok { IfOk result (λ _. kept.new.used ≡ used) }
+    ensures err { IfErr result (IsUnmade (changes_before book.now used) (H.state shelf.old) (H.state shelf.new)) }
+{
+    let changes = book.changes_before(used);
+    let table = seek(book, shelf, taken, core, changes)?;
+    *kept = Kept { used, table };
+    Ok(())
+}
