@@ -6,9 +6,11 @@ use crate::input::view_of;
 use crate::output::{finish, output_of};
 use clap::ArgMatches;
 use tab_core::{MAX_CORES, MAX_TICK_NS, MAX_VCPUS, TICK_NS};
-use view_chart::{ChartOptions, TextOptions, write_chart, write_text_chart};
+use view_chart::write_chart;
 use view_doc::View;
+use view_lanes::ChartOptions;
 use view_table::figures_of;
+use view_text::{TextOptions, write_text_chart};
 
 /// Does `chart`: it reads a text and draws it.
 pub(crate) fn chart(rt: &HostRuntime, matches: &ArgMatches<'_>) -> Result<(), Fault> {

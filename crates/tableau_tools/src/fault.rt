@@ -3,8 +3,8 @@ use sizes_doc::SizesFault;
 use std::alloc::{AllocError, AllocFailed};
 use tab_io::WriteFault;
 use thiserror::Error;
-use view_chart::ChartFault;
 use view_doc::ReadView;
+use view_lanes::ChartFault;
 
 // Why a command doesn't end well.
 #[derive(Clone, Copy, Debug, Error)]

@@ -1,7 +1,7 @@
 //! The program `tableau-tools`: it shows what `tableau` wrote.
 //!
 //! Each command has a file. What it reads is a text, and what it writes is a definition's text of the
-//! view that was read: `view_doc` has the reader, `view_table`, `view_chart` and `view_export` the texts.
+//! view that was read: `view_doc` has the reader, `view_table`, `view_chart`, `view_text` and `view_export` the texts.
 #![tactic(auto)]
 
 mod chart;

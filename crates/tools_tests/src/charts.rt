@@ -5,7 +5,8 @@ use crate::samples::{PLAN, read};
 use std::alloc::Global;
 use std::test::Fail;
 use tab_io::MemSink;
-use view_chart::{ChartOptions, write_chart};
+use view_chart::write_chart;
+use view_lanes::ChartOptions;
 use view_table::figures_of;
 
 const PART: ChartOptions = ChartOptions {

@@ -3,10 +3,6 @@ use Rattle.std.proofs.Common.{arith, ℕ, ◌+◌, ◌-◌, ◌*◌, ◌/◌, �
 use Rattle.std.proofs.Math.Nat.{div-mul-le_self}
 use Rattle.std.proofs.lemmas.Nat.{mul-le}
 
--- the lanes above one take so much
-pub lane_offset : (i pitch : ℕ) → i ≤ 256 → pitch ≤ 4800 → i * pitch ≤ 1228800
-lane_offset i pitch few small = mul-le i pitch 256 4800 few small
-
 -- a mark before the last isn't behind the end
 pub mark_low : (first k us step : ℕ) → k < (us / step + 1) - first → (first + k) * step ≤ us
 mark_low first k us step low =

@@ -1,9 +1,9 @@
 -- The axes of time above the lanes and of ticks below them: marks at round numbers, twelve steps at most.
 use Rattle.std.specs.Prelude.{ℕ, ◌+◌, ◌-◌, ◌*◌, ◌/◌, ◌++◌, ◌&&◌, nat_le, nat_lt, List, [], ◌∷◌, codes, decimal, if◌then◌else◌, min}
 use Rattle.tab_words.specs.Texts.{texts_below}
-use Rattle.view_chart.specs.Frames.{x_at}
+use Rattle.lane_svg.specs.Frames.{x_at}
 use Rattle.view_chart.specs.declared.axis.TheConstants.{STEPS}
-use Rattle.view_chart.specs.declared.frame.Frame.{Frame}
+use Rattle.view_lanes.specs.declared.frame.Frame.{Frame}
 
 -- the first of the steps of which the span has twelve at most, and the greatest step where none is
 abbrev pub step_in : ℕ → List ℕ → ℕ

@@ -2,9 +2,10 @@
 use Rattle.std.specs.Prelude.{ℕ, ◌+◌, ◌-◌, ◌*◌, ◌/◌, ◌%◌, ◌++◌, Bool, true, false, List, [], codes, decimal, length, slice_index, slice_get, Option, Some, None, min}
 use Rattle.tab_words.specs.Texts.{texts_below}
 use Rattle.vcpu_names.specs.Names.{name_at}
-use Rattle.view_chart.specs.Marks.{per_mille, short_dots, short_front, tenths_ms}
-use Rattle.view_chart.specs.declared.frame.Frame.{Frame}
 use Rattle.view_doc.specs.declared.view.Task.{Task}
+use Rattle.lane_svg.specs.Marks.{short_dots, short_front}
+use Rattle.view_lanes.specs.Amounts.{per_mille, tenths_ms}
+use Rattle.view_lanes.specs.declared.frame.Frame.{Frame}
 
 -- where the column of a vCPU begins, and its row's line
 abbrev pub column_of : ℕ → ℕ

@@ -1,13 +1,5 @@
 pub mod Axes
 pub mod Charts
-pub mod Colours
-pub mod Columns
-pub mod Frames
 pub mod Heads
-pub mod Inside
-pub mod Lanes
 pub mod Legends
-pub mod Marks
 pub mod Rounds
-pub mod Shown
-pub mod TextCharts

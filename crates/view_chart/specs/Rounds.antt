@@ -1,19 +1,13 @@
 -- The rounds of a run above its lanes, and below them the counts of events that the rounds' plans include: the glossary's
 -- used counts, one for all cores in a round.
-use Rattle.std.specs.Prelude.{ℕ, zero, suc, ◌+◌, ◌-◌, ◌*◌, ◌/◌, ◌==◌, ◌++◌, nat_le, nat_lt, Bool, true, false, List, [], ◌∷◌, codes, decimal, if◌then◌else◌, min, Option, Some, None}
+use Rattle.std.specs.Prelude.{ℕ, zero, suc, ◌+◌, ◌-◌, ◌*◌, ◌/◌, ◌==◌, ◌++◌, nat_le, nat_lt, Bool, true, false, List, [], codes, decimal, if◌then◌else◌, min, Option, Some, None}
 use Rattle.tab_core.specs.declared.TheConstants.{ROUND}
 use Rattle.tab_words.specs.Texts.{texts_below}
-use Rattle.view_chart.specs.Axes.{tick_text}
-use Rattle.view_chart.specs.Frames.{x_at}
-use Rattle.view_chart.specs.declared.frame.Frame.{Frame}
 use Rattle.view_doc.specs.declared.view.Stretch.{Stretch}
-
--- the rounds that are shown, where these are 24 at most: the first, and how many there are
-abbrev pub first_round : Frame → ℕ
-first_round f = f.from / ROUND
-
-abbrev pub rounds_shown : Frame → ℕ
-rounds_shown f = (f.to - 1) / ROUND + 1 - f.from / ROUND
+use Rattle.lane_svg.specs.Frames.{x_at}
+use Rattle.view_chart.specs.Axes.{tick_text}
+use Rattle.view_lanes.specs.Rounds.{first_round, rounds_shown, used_in}
+use Rattle.view_lanes.specs.declared.frame.Frame.{Frame}
 
 -- what stands before a round's number where so many are shown, a letter where there is no room
 abbrev pub round_word : ℕ → List ℕ
@@ -36,11 +30,6 @@ abbrev pub round_at : Frame → ℕ → ℕ → List ℕ
 round_at f foot k = round_text (begin_at f k) foot (round_word (rounds_shown f)) (first_round f + k)
 
 -- ---- counts of events
-
--- how many events the plan of a round includes: so many as the first stint says that begins in it
-abbrev pub used_in : List Stretch → ℕ → Option ℕ
-used_in [] r = None
-used_in (s ∷ ss) r = if s.from / ROUND == r then Some s.used else used_in ss r
 
 -- the same of the round before the one of a number of those that are shown, if that one is shown too
 abbrev pub used_before : List Stretch → ℕ → ℕ → Option ℕ

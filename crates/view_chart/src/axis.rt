@@ -2,13 +2,13 @@ ghost use Rattle.std.specs.Prelude.{◌≡◌, ◌<◌, ◌≤◌, ◌*◌, ◌+
 ghost use Rattle.tab_core.specs.declared.TheConstants.{MAX_VCPUS};
 ghost use Rattle.tab_io.specs.Sinks.{Writes};
 ghost use Rattle.tab_words.specs.Texts.{texts_below};
+ghost use Rattle.lane_svg.specs.Frames.{foot_of};
 ghost use Rattle.view_chart.specs.Axes.{axis_of, axis_text, end_mark, end_tick, first_mark, first_tick, grid_line, line_at, mark_at, mark_text, micros_at, number_at, step_in, step_of, tick_at, tick_axis, tick_axis_of, tick_number, tick_step, tick_text, ticks_word, time_axis, unit_of, unit_word};
-ghost use Rattle.view_chart.specs.Frames.{foot_of};
 
-use crate::frame::Frame;
-use crate::places::{foot_of, span_of, x_at};
+use lane_svg::{foot_of, x_at};
 use tab_io::{Sink, WriteFault, write_all};
 use tab_words::{TextPiece, put_pieces};
+use view_lanes::{Frame, span_of};
 
 // 1, 2 and 5 times the powers of ten.
 const STEPS: [u32; 28] = [

@@ -1,46 +1,21 @@
-ghost use Rattle.std.specs.Prelude.{◌≡◌, ◌<◌, ◌≤◌, ◌+◌, ◌^◌, ℕ, IfErr, IfOk, IsErrOf, Ok, Err, length, true};
+ghost use Rattle.std.specs.Prelude.{◌≡◌, ◌≤◌, IfErr, IfOk, IsErrOf, Ok, Err, length, true};
 ghost use Rattle.tab_core.specs.declared.TheConstants.{MAX_CORES, MAX_VCPUS};
 ghost use Rattle.tab_io.specs.Sinks.{Writes};
-ghost use Rattle.view_chart.specs.Charts.{chart_lanes, chart_text, cores_chart, vcpu_tones, vcpus_chart};
-ghost use Rattle.view_chart.specs.Shown.{frame_of, shows_nothing};
 ghost use Rattle.view_table.specs.Figures.{AreFigures};
-ghost use Rattle.view_chart.specs.declared.chart.ChartFault.TheVariants as fault;
+ghost use Rattle.view_chart.specs.Charts.{chart_text, cores_chart, vcpus_chart};
+ghost use Rattle.view_lanes.specs.Shown.{chart_lanes, frame_of, shows_nothing};
+ghost use Rattle.view_lanes.specs.declared.fault.ChartFault.TheVariants as fault;
 
-use crate::colours::colours_of;
-use crate::frame::{ChartOptions, Frame};
-use crate::lanes::{Lane, lanes_from};
 use crate::picture::put_picture;
-use crate::shown::{cores_in, frame_of, lanes_of, shown_in, shows_nothing};
-use crate::tones::{core_names, core_tones, tones_of};
-use std::alloc::{AllocError, Global};
-use std::error::Error;
-use std::fmt;
+use std::alloc::Global;
 use tab_core::NoMemory;
 use tab_io::{Sink, WriteFault};
 use view_doc::View;
+use view_lanes::{
+    ChartFault, ChartOptions, Frame, Lane, core_names, core_tones, cores_in, frame_of, lanes_from,
+    lanes_of, shown_in, shows_nothing, vcpu_tones,
+};
 use view_table::Figures;
-
-/// Why a view isn't drawn.
-#[derive(Clone, Copy, Debug, PartialEq, Eq)]
-pub enum ChartFault {
-    /// No tick or no core is shown.
-    Nothing,
-    /// Not all was written.
-    Write,
-    NoMemory,
-}
-
-impl fmt::Display for ChartFault {
-    fn fmt<W: fmt::Write>(&self, f: &mut fmt::Formatter<W>) -> fmt::Result {
-        match self {
-            ChartFault::Nothing => write!(f, "no tick or no core is shown"),
-            ChartFault::Write => write!(f, "the output failed"),
-            ChartFault::NoMemory => write!(f, "want of memory"),
-        }
-    }
-}
-
-impl Error for ChartFault {}
 
 /// Draws a view of at most 32 cores and 256 vCPUs as a picture, in SVG.
 ///
@@ -175,15 +150,4 @@ fn told(written: Result<(), WriteFault>) -> Result<(), ChartFault>
         Ok(()) => Ok(()),
         Err(WriteFault) => Err(ChartFault::Write),
     }
-}
-
-// The tones of the vCPUs.
-fn vcpu_tones(alloc: Global, view: &View, figures: &Figures) -> Result<Vec<u32>, NoMemory>
-    requires { length view.now.names.items ≤ MAX_VCPUS }
-    ensures tones { IfOk result (λ tones. tones.items ≡ vcpu_tones view.now figures.now) }
-    ensures count { IfOk result (λ tones. length tones.items ≡ length view.now.names.items) }
-{
-    let count = view.names.len();
-    let colours = colours_of(alloc, shown_in(view), &view.tasks, count)?;
-    tones_of(alloc, view.is_run, figures, &colours, count)
 }

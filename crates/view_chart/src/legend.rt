@@ -1,19 +1,17 @@
-ghost use Rattle.std.specs.Prelude.{◌≡◌, ◌<◌, ◌≤◌, ◌+◌, ◌^◌, length, min, slice_get};
+ghost use Rattle.std.specs.Prelude.{◌≡◌, ◌<◌, ◌≤◌, ◌^◌, length, min, slice_get};
 ghost use Rattle.tab_core.specs.declared.TheConstants.{MAX_VCPUS};
 ghost use Rattle.tab_io.specs.Sinks.{Writes};
 ghost use Rattle.tab_words.specs.Texts.{texts_below};
-ghost use Rattle.view_chart.specs.Frames.{foot_of};
-ghost use Rattle.view_chart.specs.Marks.{short_dots, short_front};
+ghost use Rattle.lane_svg.specs.Frames.{foot_of};
+ghost use Rattle.lane_svg.specs.Marks.{short_dots, short_front};
 ghost use Rattle.view_chart.specs.Legends.{column_of, entry_at, head_at, head_from, legend_entry, legend_head, legend_name, legend_task, legend_text, listed_word, row_of, swatch, task_cells, task_entry, task_head, task_heads};
 
-use crate::frame::Frame;
-use crate::marks::{per_mille, short_dots, short_front, tenths_ms};
-use crate::paths::name_at;
-use crate::places::foot_of;
+use lane_svg::{foot_of, short_dots, short_front};
 use tab_core::Name;
 use tab_io::{Sink, WriteFault};
 use tab_words::{TextPiece, put_pieces};
 use view_doc::Task;
+use view_lanes::{Frame, name_at, per_mille, tenths_ms};
 
 // Writes the list of the keys below so many lanes.
 pub(crate) fn put_legend<K: Sink>(

@@ -1,28 +1,22 @@
-ghost use Rattle.std.specs.Prelude.{◌≡◌, ◌<◌, ◌≤◌, ◌+◌, ◌^◌, length};
+ghost use Rattle.std.specs.Prelude.{◌≡◌, ◌<◌, ◌≤◌, length};
 ghost use Rattle.tab_core.specs.declared.TheConstants.{MAX_VCPUS};
 ghost use Rattle.tab_io.specs.Sinks.{Writes};
 ghost use Rattle.tab_words.specs.Texts.{texts_below};
-ghost use Rattle.view_chart.specs.Charts.{chart_of, grounds_text, head_of, lane_at, lane_body, lane_of, lane_text, tall_of};
-ghost use Rattle.view_chart.specs.Frames.{height_of, pitch_of};
+ghost use Rattle.lane_svg.specs.Frames.{height_of, pitch_of};
+ghost use Rattle.lane_svg.specs.Lanes.{ground_box};
+ghost use Rattle.view_chart.specs.Charts.{chart_of, grounds_text, lane_at, tall_of};
 ghost use Rattle.view_chart.specs.Heads.{head_text};
-ghost use Rattle.view_chart.specs.Lanes.{ground_box};
+ghost use Rattle.view_lanes.specs.Titles.{head_of};
 
 use crate::axis::put_axis;
-use crate::columns::put_columns;
-use crate::frame::{Bar, Frame};
-use crate::head::{Head, put_head};
-use crate::labels::put_label;
-use crate::lane::put_bars;
-use crate::lanes::{Lane, held_in, share_in};
+use crate::head::put_head;
 use crate::legend::put_legend;
-use crate::marks::{per_mille, put_box, tenths_ms};
-use crate::places::{foot_of, height_of, pitch_of, span_of, top_of};
 use crate::rounds::put_rounds;
-use crate::shown::rounds_of;
-use crate::waits::put_waits;
+use lane_svg::{foot_of, height_of, pitch_of, put_box, put_lane, top_of};
 use tab_core::{Name, ROUND};
 use tab_io::{Sink, WriteFault, write_all};
 use view_doc::{Stretch, Task};
+use view_lanes::{Frame, Lane, head_of};
 use view_table::Figures;
 
 // Writes the picture of these lanes of these stretches, of which the first is a core's or vCPU's. The vCPUs have
@@ -89,32 +83,6 @@ fn put_chart_head<K: Sink>(
     put_head(sink, width, tall_of(lanes.len() as u32, keys), &head)
 }
 
-// What the head says.
-#[tactic(auto, unfolding(crate::specs::Charts::head_of))]
-pub(crate) fn head_of(
-    frame: &Frame,
-    stretches: &[Stretch],
-    cores: u32,
-    vcpus: u64,
-    lanes: &[Lane],
-) -> Head
-    requires { length lanes.now ≤ MAX_VCPUS }
-    ensures { result ≡ head_of frame.now stretches.now cores vcpus lanes.now }
-{
-    Head {
-        is_run: frame.is_run,
-        by_vcpu: frame.by_vcpu,
-        cores,
-        vcpus,
-        rounds: rounds_of(stretches),
-        stints: stretches.len() as u64,
-        from: frame.from,
-        to: frame.to,
-        lasting: tenths_ms(frame.tick, span_of(frame)),
-        share: share_in(frame, lanes),
-    }
-}
-
 // How tall a picture of so many lanes and keys is.
 fn tall_of(lanes: u32, vcpus: usize) -> u32
     requires lanes { lanes ≤ MAX_VCPUS }
@@ -154,7 +122,7 @@ fn put_boxes<K: Sink>(sink: &mut K, high: u32, pitch: u32, lanes: u32) -> Result
     Ok(())
 }
 
-#[tactic(auto, using(crate::proofs::Sizes::lane_offset))]
+#[tactic(auto, using(lane_svg::proofs::Sizes::lane_offset))]
 fn put_ground<K: Sink>(sink: &mut K, high: u32, pitch: u32, i: u32) -> Result<(), WriteFault>
     requires few { i ≤ MAX_VCPUS }
     requires high { high ≤ 4000 }
@@ -234,84 +202,4 @@ fn put_lane_at<K: Sink>(
         colours,
         lanes[i].bars(),
     )
-}
-
-// Writes the lane of a core or vCPU.
-fn put_lane<K: Sink>(
-    sink: &mut K,
-    frame: &Frame,
-    labels: &[Name],
-    figures: &Figures,
-    row: u64,
-    y: u32,
-    high: u32,
-    names: &[Name],
-    tasks: &[Task],
-    colours: &[u32],
-    bars: &[Bar],
-) -> Result<(), WriteFault>
-    requires few { length names.now ≤ MAX_VCPUS }
-    requires coloured { length names.now ≤ length colours.now }
-    requires low { y < 2 ^ 31 }
-    requires high { high ≤ 4000 }
-    ensures { Writes (K.state sink.old) (K.state sink.new)
-        (lane_text frame.now labels.now figures.now row y high names.now tasks.now colours.now bars.now) result }
-{
-    let share = per_mille(held_in(frame, bars), u64::from(span_of(frame)));
-    put_lane_of(
-        sink, frame, labels, figures, row, y, high, share, names, tasks, colours, bars,
-    )
-}
-
-fn put_lane_of<K: Sink>(
-    sink: &mut K,
-    frame: &Frame,
-    labels: &[Name],
-    figures: &Figures,
-    row: u64,
-    y: u32,
-    high: u32,
-    share: u64,
-    names: &[Name],
-    tasks: &[Task],
-    colours: &[u32],
-    bars: &[Bar],
-) -> Result<(), WriteFault>
-    requires few { length names.now ≤ MAX_VCPUS }
-    requires coloured { length names.now ≤ length colours.now }
-    requires low { y < 2 ^ 31 }
-    requires high { high ≤ 4000 }
-    ensures { Writes (K.state sink.old) (K.state sink.new)
-        (lane_of frame.now labels.now figures.now row y high share names.now tasks.now colours.now bars.now) result }
-{
-    put_label(sink, frame.by_vcpu, labels, row, y, high, share)?;
-    put_body(sink, frame, y, high, names, tasks, colours, bars)?;
-    put_waits(sink, frame, y, high, figures, row)?;
-    write_all(sink, b"</g>\n")
-}
-
-// Writes the bars of a lane: each as a box, or as columns where they are many.
-#[tactic(auto, unfolding(crate::specs::Charts::lane_body))]
-fn put_body<K: Sink>(
-    sink: &mut K,
-    frame: &Frame,
-    y: u32,
-    high: u32,
-    names: &[Name],
-    tasks: &[Task],
-    colours: &[u32],
-    bars: &[Bar],
-) -> Result<(), WriteFault>
-    requires few { length names.now ≤ MAX_VCPUS }
-    requires coloured { length names.now ≤ length colours.now }
-    requires low { y < 2 ^ 31 }
-    requires high { high ≤ 4000 }
-    ensures { Writes (K.state sink.old) (K.state sink.new)
-        (lane_body frame.now y high names.now tasks.now colours.now bars.now) result }
-{
-    if bars.len() > 342 {
-        put_columns(sink, frame, y, high, names, tasks, colours, bars)
-    } else {
-        put_bars(sink, frame, y, high, names, tasks, colours, bars)
-    }
 }

@@ -1,17 +1,18 @@
-ghost use Rattle.std.specs.Prelude.{◌≡◌, ◌<◌, ◌≤◌, ◌+◌, ◌^◌};
+ghost use Rattle.std.specs.Prelude.{◌≡◌, ◌<◌, ◌≤◌, ◌^◌};
 ghost use Rattle.tab_core.specs.declared.TheConstants.{MAX_VCPUS};
 ghost use Rattle.tab_io.specs.Sinks.{Writes};
 ghost use Rattle.tab_words.specs.Texts.{texts_below};
-ghost use Rattle.view_chart.specs.Frames.{foot_of};
-ghost use Rattle.view_chart.specs.Rounds.{begin_at, begin_of, change_line, change_text, count_at, events_word, first_round, marks_text, new_count, round_at, round_text, round_word, rounds_shown, rounds_text, used_before, used_in};
+ghost use Rattle.lane_svg.specs.Frames.{foot_of};
+ghost use Rattle.view_chart.specs.Rounds.{begin_at, begin_of, change_line, change_text, count_at, events_word, marks_text, new_count, round_at, round_text, round_word, rounds_text, used_before};
+ghost use Rattle.view_lanes.specs.Rounds.{AreUsed, first_round};
 
 use crate::axis::put_tick;
-use crate::frame::Frame;
-use crate::places::{foot_of, x_at};
+use lane_svg::{foot_of, x_at};
 use tab_core::ROUND;
 use tab_io::{Sink, WriteFault};
 use tab_words::{TextPiece, put_pieces};
 use view_doc::Stretch;
+use view_lanes::{Frame, first_round, rounds_shown, used_counts};
 
 // Writes where the rounds of a run of these stretches begin, if these are few, with lines through so many lanes, and
 // the counts of events that their plans include.
@@ -30,14 +31,6 @@ pub(crate) fn put_rounds<K: Sink>(
         return Ok(());
     }
     put_marks(sink, frame, stretches, foot_of(lanes), count)
-}
-
-// How many rounds are shown.
-fn rounds_shown(frame: &Frame) -> u64
-    ensures { result ≡ rounds_shown frame.now }
-{
-    let last = u64::from(frame.to.saturating_sub(1) / ROUND) + 1;
-    last.saturating_sub(u64::from(frame.from / ROUND))
 }
 
 fn put_marks<K: Sink>(
@@ -79,13 +72,6 @@ fn round_word(rounds: u64) -> &'static [u8]
     ensures { result.now ≡ round_word rounds }
 {
     if rounds <= 16 { b"round " } else { b"r" }
-}
-
-fn first_round(frame: &Frame) -> u64
-    ensures value { result ≡ first_round frame.now }
-    ensures small { result < 2 ^ 32 }
-{
-    u64::from(frame.from / ROUND)
 }
 
 // Where the round of a number of those that are shown begins.
@@ -133,6 +119,7 @@ fn put_round<K: Sink>(
     )
 }
 
+// Writes the counts of events of so many rounds.
 fn put_counts<K: Sink>(
     sink: &mut K,
     frame: &Frame,
@@ -145,8 +132,9 @@ fn put_counts<K: Sink>(
     ensures { Writes (K.state sink.old) (K.state sink.new)
         (texts_below (count_at frame.now stretches.now foot) count) result }
 {
+    let counts = used_counts(stretches, first_round(frame));
     for k in 0..count {
-        put_count_at(sink, frame, stretches, foot, k)?;
+        put_count_at(sink, frame, stretches, &counts, foot, k)?;
     }
     Ok(())
 }
@@ -155,44 +143,34 @@ fn put_count_at<K: Sink>(
     sink: &mut K,
     frame: &Frame,
     stretches: &[Stretch],
+    counts: &[Option<u32>; 24],
     foot: u32,
     k: u64,
 ) -> Result<(), WriteFault>
     requires few { k < 24 }
     requires low { foot < 2 ^ 31 }
+    requires counts { AreUsed stretches.now (first_round frame.now) counts.now }
     ensures { Writes (K.state sink.old) (K.state sink.new) (count_at frame.now stretches.now foot k) result }
 {
-    let first = first_round(frame);
-    let other = used_before(stretches, first, k);
-    match used_in(stretches, first + k) {
+    let other = count_before(stretches, first_round(frame), counts, k);
+    match counts[k as usize] {
         Some(count) => put_count(sink, begin_at(frame, k), foot, other, count),
         None => Ok(()),
     }
 }
 
-// How many events the plan of a round includes, if a stint begins in it.
-fn used_in(stretches: &[Stretch], round: u64) -> Option<u32>
-    ensures { result ≡ used_in stretches.now round }
-{
-    for stretch in stretches {
-        if u64::from(stretch.from / ROUND) == round {
-            return Some(stretch.used);
-        }
-    }
-    None
-}
-
-// The same of the round before the one of a number of those that are shown, if that one is shown too.
-fn used_before(stretches: &[Stretch], first: u64, k: u64) -> Option<u32>
-    requires first { first < 2 ^ 32 }
+// The count of the round before the one of a number of those that are shown, if that one is shown too.
+fn count_before(
+    stretches: &[Stretch],
+    first: u64,
+    counts: &[Option<u32>; 24],
+    k: u64,
+) -> Option<u32>
     requires few { k < 24 }
+    requires counts { AreUsed stretches.now first counts.now }
     ensures { result ≡ used_before stretches.now first k }
 {
-    if k == 0 {
-        None
-    } else {
-        used_in(stretches, first + (k - 1))
-    }
+    if k == 0 { None } else { counts[k as usize - 1] }
 }
 
 // Writes the count of a round, if the round before has another.

@@ -2,7 +2,7 @@ use Rattle.std.proofs.Common.{subst, ℕ, length}
 use Rattle.tab_io.specs.Sinks.{Writes}
 use Rattle.view_chart.specs.Charts.{tall_of}
 use Rattle.view_chart.specs.Heads.{head_text}
-use Rattle.view_chart.specs.declared.head.Head.{Head}
+use Rattle.view_lanes.specs.declared.titles.Head.{Head}
 use Rattle.view_chart.proofs.picture.put_chart_head.Goals as goal
 
 pub returns : goal.returns

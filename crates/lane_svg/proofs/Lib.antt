@@ -1,0 +1,4 @@
+pub mod ColumnLemmas
+pub mod LaneLemmas
+pub mod PlaceLemmas
+pub mod Sizes

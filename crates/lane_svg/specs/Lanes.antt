@@ -1,0 +1,199 @@
+-- A lane: a path of boxes for each key, which is a vCPU on a core's lane and a core on a vCPU's, and each way of
+-- running, and the names that fit; on a vCPU's lane of a plan also its longest wait.
+use Rattle.std.specs.Prelude.{ℕ, ◌+◌, ◌-◌, ◌*◌, ◌/◌, ◌%◌, ◌==◌, ◌&&◌, ◌++◌, nat_le, nat_lt, Bool, true, false, not, List, [], codes, decimal, flat_map, if◌then◌else◌, length, max, min, slice_index, Option, Some, None, slice_get}
+use Rattle.std.specs.List.{list_any}
+use Rattle.tab_core.specs.declared.TheConstants.{ROUND}
+use Rattle.tab_words.specs.Texts.{texts_below}
+use Rattle.vcpu_names.specs.Names.{name_at}
+use Rattle.view_doc.specs.declared.view.Task.{Task}
+use Rattle.view_table.specs.declared.figures.Figures.{Figures}
+use Rattle.lane_svg.specs.Frames.{letters_of, right_end, x_at}
+use Rattle.lane_svg.specs.Marks.{box_path, short_dots, short_front}
+use Rattle.view_lanes.specs.Amounts.{tenths_ms}
+use Rattle.view_lanes.specs.declared.frame.Bar.{Bar}
+use Rattle.view_lanes.specs.declared.frame.Frame.{Frame}
+
+-- whether a bar has this key, and run in this way
+abbrev pub runs_so : Bool → Bar → Bool
+runs_so false bar = not bar.shared
+runs_so true bar = bar.shared
+
+abbrev pub is_of : ℕ → Bool → Bar → Bool
+is_of v shared bar = (bar.key == v) && runs_so shared bar
+
+-- a shared stint has the lower three fifths of the lane
+abbrev pub top_in : ℕ → ℕ → Bool → ℕ
+top_in y high false = y
+top_in y high true = y + high * 2 / 5
+
+-- the box of a bar
+abbrev pub bar_box : Frame → ℕ → ℕ → Bar → List ℕ
+bar_box f y high bar = box_path (x_at f bar.from) (top_in y high bar.shared) (x_at f bar.end) (y + high)
+
+-- the box of a bar that is this vCPU's
+abbrev pub box_of : Frame → ℕ → ℕ → ℕ → Bool → Bar → List ℕ
+box_of f y high v shared bar = if is_of v shared bar then bar_box f y high bar else []
+
+-- what is told of a vCPU: its name, and what its reservation is, in tenths of a millisecond
+unfoldable pub task_note : List ℕ → ℕ → ℕ → ℕ → List ℕ
+task_note name home cost period = name ++ (codes ": home core " ++ (decimal home ++ (codes ", " ++ (decimal (cost / 10)
+    ++ (codes "." ++ (decimal (cost % 10) ++ (codes " ms in each " ++ (decimal (period / 10) ++ (codes "."
+    ++ (decimal (period % 10) ++ codes " ms"))))))))))
+
+-- what a name without a reservation is: a vCPU's, or a core's number
+abbrev pub key_word : Bool → List ℕ
+key_word false = []
+key_word true = codes "core "
+
+abbrev pub note_of : Frame → List ℕ → Option Task → List ℕ
+note_of f name None = key_word f.by_vcpu ++ name
+note_of f name (Some t) = task_note name t.home (tenths_ms f.tick t.cost) (tenths_ms f.tick t.period)
+
+abbrev pub way_class : Bool → List ℕ
+way_class false = []
+way_class true = codes " sh"
+
+abbrev pub way_word : Bool → List ℕ
+way_word false = []
+way_word true = codes ", shared"
+
+-- where a path begins and how it ends
+unfoldable pub path_begin : ℕ → List ℕ → List ℕ
+path_begin colour class = codes "<path class=\"c" ++ (decimal colour ++ (class ++ codes "\" d=\""))
+
+abbrev pub path_end : List ℕ → List ℕ → List ℕ
+path_end note word = codes "\"><title>" ++ (note ++ (word ++ codes "</title></path>\n"))
+
+-- a path of boxes that has a colour and a title
+abbrev pub titled_path : ℕ → List ℕ → List ℕ → List ℕ → List ℕ → List ℕ
+titled_path colour class boxes note word = path_begin colour class ++ (boxes ++ path_end note word)
+
+-- a vCPU's path of one way of running, if it has a bar
+abbrev pub vcpu_path : Frame → ℕ → ℕ → List (List ℕ) → List Task → List ℕ → List Bar → Bool → ℕ → List ℕ
+vcpu_path f y high names tasks colours bars shared v =
+    if list_any (is_of v shared) bars
+    then titled_path (slice_index colours v) (way_class shared) (flat_map (box_of f y high v shared) bars)
+    (note_of f (name_at names v) (slice_get tasks v)) (way_word shared)
+    else []
+
+-- the paths of a vCPU, of its slots first
+abbrev pub vcpu_paths : Frame → ℕ → ℕ → List (List ℕ) → List Task → List ℕ → List Bar → ℕ → List ℕ
+vcpu_paths f y high names tasks colours bars v = vcpu_path f y high names tasks colours bars false v
+    ++ vcpu_path f y high names tasks colours bars true v
+
+-- a white line where a bar begins that is wide enough to bear one
+unfoldable pub cut_line : ℕ → ℕ → ℕ → List ℕ
+cut_line x y high = codes "M" ++ (decimal x ++ (codes " " ++ (decimal y ++ (codes "V" ++ decimal (y + high)))))
+
+abbrev pub cut_of : Frame → ℕ → ℕ → Bar → List ℕ
+cut_of f y high bar =
+    if nat_le (x_at f bar.from + 300) (x_at f bar.end) then cut_line (x_at f bar.from) y high else []
+
+-- a name in the middle of its bar, where it is as wide
+unfoldable pub name_text : ℕ → ℕ → List ℕ → List ℕ
+name_text x y name = codes "<text x=\"" ++ (decimal x ++ (codes "\" y=\"" ++ (decimal y ++ (codes "\">"
+    ++ (name ++ codes "</text>\n")))))
+
+abbrev pub width_of : ℕ → List ℕ → ℕ
+width_of letters name = length name * (letters * 61 / 100) + 500
+
+-- the line on which letters stand in the middle of what is so high
+abbrev pub line_in : ℕ → ℕ → ℕ → ℕ
+line_in y high letters = y + high / 2 + letters * 35 / 100
+
+abbrev pub bar_name : Frame → ℕ → ℕ → List (List ℕ) → Bar → List ℕ
+bar_name f y high names bar =
+    if nat_le (x_at f bar.from + width_of (letters_of high) (name_at names bar.key)) (x_at f bar.end)
+    then name_text ((x_at f bar.from + x_at f bar.end) / 2)
+    (line_in (top_in y high bar.shared) (y + high - top_in y high bar.shared) (letters_of high))
+    (name_at names bar.key)
+    else []
+
+-- where the names of a lane begin
+unfoldable pub names_begin : ℕ → List ℕ
+names_begin letters = codes "\"/>\n<g class=\"name\" text-anchor=\"middle\" font-size=\"" ++ (decimal letters
+    ++ codes "\">\n")
+
+-- the bars of a lane, each of its own
+abbrev pub bars_text : Frame → ℕ → ℕ → List (List ℕ) → List Task → List ℕ → List Bar → List ℕ
+bars_text f y high names tasks colours bars =
+    texts_below (vcpu_paths f y high names tasks colours bars) (length names)
+    ++ (codes "<path class=\"cut\" d=\"" ++ (flat_map (cut_of f y high) bars
+    ++ (names_begin (letters_of high) ++ (flat_map (bar_name f y high names) bars ++ codes "</g>\n"))))
+
+-- the ground of a lane
+abbrev pub ground_box : ℕ → ℕ → ℕ → List ℕ
+ground_box high pitch i = box_path 9400 (9800 + i * pitch) right_end (9800 + i * pitch + high)
+
+-- a core's number left of its lane, and how much of the lane is somebody's, in tenths of a percent
+unfoldable pub core_label : ℕ → ℕ → ℕ → List ℕ
+core_label core y letters = codes "<g><title>core " ++ (decimal core
+    ++ (codes "</title>\n<text x=\"8700\" y=\"" ++ (decimal y ++ (codes "\" font-size=\"" ++ (decimal letters
+    ++ (codes "\" class=\"label\" text-anchor=\"end\">core " ++ (decimal core ++ codes "</text>\n")))))))
+
+unfoldable pub share_label : ℕ → ℕ → List ℕ
+share_label y share = codes "<text x=\"8700\" y=\"" ++ (decimal y
+    ++ (codes "\" font-size=\"900\" class=\"dim\" text-anchor=\"end\">" ++ (decimal (share / 10)
+    ++ (codes "." ++ (decimal (share % 10) ++ codes " %</text>\n")))))
+
+abbrev pub core_text : ℕ → ℕ → ℕ → ℕ → List ℕ
+core_text core y high share =
+    if nat_le 2800 high
+    then core_label core (y + high / 2 - 100) 1100 ++ share_label (y + high / 2 + 1200) share
+    else core_label core (line_in y high (letters_of high)) (letters_of high)
+
+-- a vCPU's name left of its lane
+unfoldable pub vcpu_label : List ℕ → ℕ → List ℕ → List ℕ → List ℕ
+vcpu_label name y front dots = codes "<g><title>" ++ (name ++ (codes "</title>\n<text x=\"8700\" y=\"" ++ (decimal y
+    ++ (codes "\" font-size=\"900\" class=\"name\" text-anchor=\"end\">" ++ (front ++ (dots ++ codes "</text>\n"))))))
+
+abbrev pub vcpu_text : List ℕ → ℕ → ℕ → List ℕ
+vcpu_text name y high = vcpu_label name (line_in y high 900) (short_front name) (short_dots name)
+
+-- what stands left of the lane of a core or a vCPU
+abbrev pub label_text : Bool → List (List ℕ) → ℕ → ℕ → ℕ → ℕ → List ℕ
+label_text false labels row y high share = core_text row y high share
+label_text true labels row y high share = vcpu_text (name_at labels row) y high
+
+-- ---- the longest wait
+
+-- a line at half height over those of the ticks that are shown
+unfoldable pub wait_line : ℕ → ℕ → ℕ → List ℕ
+wait_line x y end = codes "M" ++ (decimal x ++ (codes " " ++ (decimal y ++ (codes "H" ++ decimal end))))
+
+abbrev pub wait_part : Frame → ℕ → ℕ → ℕ → List ℕ
+wait_part f y first last =
+    if nat_lt (max first f.from) (min last f.to)
+    then wait_line (x_at f (max first f.from)) y (x_at f (min last f.to))
+    else []
+
+-- how long it is, in tenths of a millisecond, right of the lane
+unfoldable pub wait_label : ℕ → ℕ → List ℕ
+wait_label y wait = codes "\"/>\n<text x=\"112400\" y=\"" ++ (decimal y ++ (codes "\" font-size=\"800\" class=\"dim\">"
+    ++ (decimal (wait / 10) ++ (codes "." ++ (decimal (wait % 10) ++ codes " ms</text>\n")))))
+
+-- from one tick of two rounds to another: the part in the first round, and that in the second, each where its round
+-- stands
+unfoldable pub wait_at : Frame → ℕ → ℕ → ℕ → ℕ → ℕ → List ℕ
+wait_at f y begin mark line length = codes "<path class=\"wait\" d=\"" ++ (wait_part f y begin (min mark ROUND)
+    ++ (wait_part f y (begin - ROUND) (mark - ROUND) ++ wait_label line length))
+
+-- a wait of so many ticks that ends at a tick
+abbrev pub wait_text : Frame → ℕ → ℕ → ℕ → ℕ → List ℕ
+wait_text f y high wait mark =
+    wait_at f (y + high / 2) (mark - wait) mark (line_in y high 800) (tenths_ms f.tick wait)
+
+-- the lane of a vCPU of a plan has its longest wait
+abbrev pub ending_text : Frame → ℕ → ℕ → ℕ → Option ℕ → List ℕ
+ending_text f y high wait None = []
+ending_text f y high wait (Some mark) = wait_text f y high wait mark
+
+abbrev pub marked_text : Frame → ℕ → ℕ → Option ℕ → Option ℕ → List ℕ
+marked_text f y high None mark = []
+marked_text f y high (Some wait) mark = ending_text f y high wait mark
+
+abbrev pub waits_text : Frame → ℕ → ℕ → Figures → ℕ → List ℕ
+waits_text f y high figures v =
+    if f.by_vcpu && not f.is_run
+    then marked_text f y high (slice_get figures.waits.items v) (slice_get figures.marks.items v)
+    else []

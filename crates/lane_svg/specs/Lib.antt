@@ -1,0 +1,6 @@
+pub mod Columns
+pub mod Frames
+pub mod Inside
+pub mod LanePictures
+pub mod Lanes
+pub mod Marks

@@ -1,0 +1,32 @@
+ghost use Rattle.std.specs.Prelude.{◌≡◌, ℕ, ◌+◌, ◌-◌, ◌<◌, ◌≤◌, ◌++◌, true, false, List, ◌∷◌, max, min};
+ghost use Rattle.tab_core.specs.declared.TheConstants.{ROUND};
+ghost use Rattle.view_doc.specs.declared.view.Stretch.{Stretch};
+ghost use Rattle.view_doc.specs.declared.view.Use.TheVariants.{Slot};
+ghost use Rattle.lane_svg.specs.Columns.{level_of};
+ghost use Rattle.lane_svg.specs.Frames.{x_at};
+ghost use Rattle.view_lanes.specs.Shown.{is_on, key_of, lane_bars};
+ghost use Rattle.view_lanes.specs.declared.frame.Bar.{Bar};
+ghost use Rattle.view_lanes.specs.declared.frame.Frame.{Frame};
+
+/// Each slot of a text that has ticks in a picture of at most one round is a bar of its lane, at its place among
+/// the others, and its box has a width. What ends before something begins also ends left of it, or there.
+pub fn no_slot_vanishes()
+    ensures drawn { (f : Frame) (before after : List Stretch) (s : Stretch) (row v : ℕ)
+        → is_on f.by_vcpu row s ≡ true → s.by ≡ Slot v → max s.from f.from < min s.end f.to
+        → lane_bars f (before ++ s ∷ after) row ≡ lane_bars f before row ++ (record {
+          from = max s.from f.from;
+          end = min s.end f.to;
+          key = key_of f.by_vcpu s v;
+          shared = false;
+        }) ∷ lane_bars f after row }
+    ensures wide { (f : Frame) (from end : ℕ) → f.to - f.from ≤ ROUND → f.from ≤ from → from < end
+        → end ≤ f.to → x_at f from < x_at f end }
+    ensures apart { (f : Frame) (end from : ℕ) → f.from < f.to → end ≤ from → x_at f end ≤ x_at f from }
+{}
+
+/// In a column of a lane the vCPUs stand upon each other, and no higher than the lane.
+pub fn a_column_stays_in_its_lane()
+    ensures stacked { (f : Frame) (high : ℕ) (bars : List Bar) (v j : ℕ)
+        → level_of f high bars v j ≤ level_of f high bars (v + 1) j }
+    ensures within { (f : Frame) (high : ℕ) (bars : List Bar) (v j : ℕ) → level_of f high bars v j ≤ high }
+{}

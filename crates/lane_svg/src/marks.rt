@@ -1,0 +1,48 @@
+ghost use Rattle.std.specs.Prelude.{◌≡◌};
+ghost use Rattle.tab_io.specs.Sinks.{Writes};
+ghost use Rattle.lane_svg.specs.Marks.{box_path, short_dots, short_front};
+
+use tab_io::{Sink, WriteFault};
+use tab_words::{TextPiece, put_pieces};
+
+/// The letters of a name that fit into a list.
+pub fn short_front(name: &[u8]) -> &[u8]
+    ensures { result.now ≡ short_front name.now }
+{
+    if name.len() <= 15 {
+        name
+    } else {
+        let (front, _) = name.split_at(13);
+        front
+    }
+}
+
+/// What stands for the others.
+pub fn short_dots(name: &[u8]) -> &'static [u8]
+    ensures { result.now ≡ short_dots name.now }
+{
+    if name.len() <= 15 { b"" } else { b".." }
+}
+
+/// Writes a path round a box.
+#[tactic(auto, unfolding(crate::specs::Marks::box_path))]
+pub fn put_box<K: Sink>(sink: &mut K, x0: u64, y0: u64, x1: u64, y1: u64) -> Result<(), WriteFault>
+    ensures { Writes (K.state sink.old) (K.state sink.new) (box_path x0 y0 x1 y1) result }
+{
+    put_pieces(
+        sink,
+        &[
+            TextPiece::Text(b"M"),
+            TextPiece::Wide(x0),
+            TextPiece::Text(b" "),
+            TextPiece::Wide(y0),
+            TextPiece::Text(b"H"),
+            TextPiece::Wide(x1),
+            TextPiece::Text(b"V"),
+            TextPiece::Wide(y1),
+            TextPiece::Text(b"H"),
+            TextPiece::Wide(x0),
+            TextPiece::Text(b"z"),
+        ],
+    )
+}

@@ -1,0 +1,209 @@
+ghost use Rattle.std.specs.Prelude.{◌<◌, ◌≤◌, ◌-◌, ◌^◌, min, slice_get};
+ghost use Rattle.tab_io.specs.Sinks.{Writes};
+ghost use Rattle.tab_core.specs.declared.TheConstants.{ROUND};
+ghost use Rattle.lane_svg.specs.Lanes.{ending_text, marked_text, wait_at, wait_label, wait_line, wait_part, wait_text, waits_text};
+
+use crate::lane::line_in;
+use crate::places::x_at;
+use tab_core::ROUND;
+use tab_io::{Sink, WriteFault, write_all};
+use tab_words::{TextPiece, put_pieces};
+use view_lanes::{Frame, tenths_ms};
+use view_table::Figures;
+
+// Writes the longest wait of a vCPU of a plan on its lane.
+pub(crate) fn put_waits<K: Sink>(
+    sink: &mut K,
+    frame: &Frame,
+    y: u32,
+    high: u32,
+    figures: &Figures,
+    row: u64,
+) -> Result<(), WriteFault>
+    requires low { y < 2 ^ 31 }
+    requires high { high ≤ 4000 }
+    ensures { Writes (K.state sink.old) (K.state sink.new)
+        (waits_text frame.now y high figures.now row) result }
+{
+    if frame.by_vcpu && !frame.is_run {
+        put_marked(
+            sink,
+            frame,
+            y,
+            high,
+            &figures.waits,
+            &figures.marks,
+            row as usize,
+        )
+    } else {
+        Ok(())
+    }
+}
+
+fn put_marked<K: Sink>(
+    sink: &mut K,
+    frame: &Frame,
+    y: u32,
+    high: u32,
+    waits: &[u32],
+    marks: &[u32],
+    v: usize,
+) -> Result<(), WriteFault>
+    requires low { y < 2 ^ 31 }
+    requires high { high ≤ 4000 }
+    ensures { Writes (K.state sink.old) (K.state sink.new)
+        (marked_text frame.now y high (slice_get waits.now v) (slice_get marks.now v)) result }
+{
+    match waits.get(v) {
+        Some(wait) => put_ending(sink, frame, y, high, *wait, marks, v),
+        None => Ok(()),
+    }
+}
+
+fn put_ending<K: Sink>(
+    sink: &mut K,
+    frame: &Frame,
+    y: u32,
+    high: u32,
+    wait: u32,
+    marks: &[u32],
+    v: usize,
+) -> Result<(), WriteFault>
+    requires low { y < 2 ^ 31 }
+    requires high { high ≤ 4000 }
+    ensures { Writes (K.state sink.old) (K.state sink.new)
+        (ending_text frame.now y high wait (slice_get marks.now v)) result }
+{
+    match marks.get(v) {
+        Some(mark) => put_wait(sink, frame, y, high, wait, *mark),
+        None => Ok(()),
+    }
+}
+
+// Writes a wait of so many ticks that ends at a tick of two rounds.
+fn put_wait<K: Sink>(
+    sink: &mut K,
+    frame: &Frame,
+    y: u32,
+    high: u32,
+    wait: u32,
+    mark: u32,
+) -> Result<(), WriteFault>
+    requires low { y < 2 ^ 31 }
+    requires high { high ≤ 4000 }
+    ensures { Writes (K.state sink.old) (K.state sink.new)
+        (wait_text frame.now y high wait mark) result }
+{
+    put_wait_at(
+        sink,
+        frame,
+        y + high / 2,
+        mark.saturating_sub(wait),
+        mark,
+        line_in(y, high, 800),
+        tenths_ms(frame.tick, wait),
+    )
+}
+
+// Writes the line from one tick of two rounds to another, and how long it is.
+fn put_wait_at<K: Sink>(
+    sink: &mut K,
+    frame: &Frame,
+    y: u32,
+    begin: u32,
+    mark: u32,
+    line: u32,
+    length: u64,
+) -> Result<(), WriteFault>
+    ensures { Writes (K.state sink.old) (K.state sink.new)
+        (wait_at frame.now y begin mark line length) result }
+{
+    write_all(sink, b"<path class=\"wait\" d=\"")?;
+    put_first_part(sink, frame, y, begin, mark)?;
+    put_second_part(sink, frame, y, begin, mark)?;
+    put_length(sink, line, length)
+}
+
+// Writes the part in the first round.
+fn put_first_part<K: Sink>(
+    sink: &mut K,
+    frame: &Frame,
+    y: u32,
+    begin: u32,
+    mark: u32,
+) -> Result<(), WriteFault>
+    ensures { Writes (K.state sink.old) (K.state sink.new)
+        (wait_part frame.now y begin (min mark ROUND)) result }
+{
+    put_part(sink, frame, y, begin, mark.min(ROUND))
+}
+
+// Writes the part in the second.
+fn put_second_part<K: Sink>(
+    sink: &mut K,
+    frame: &Frame,
+    y: u32,
+    begin: u32,
+    mark: u32,
+) -> Result<(), WriteFault>
+    ensures { Writes (K.state sink.old) (K.state sink.new)
+        (wait_part frame.now y (begin - ROUND) (mark - ROUND)) result }
+{
+    let from = begin.saturating_sub(ROUND);
+    put_part(sink, frame, y, from, mark.saturating_sub(ROUND))
+}
+
+// Writes a line over those of the ticks that are shown.
+fn put_part<K: Sink>(
+    sink: &mut K,
+    frame: &Frame,
+    y: u32,
+    first: u32,
+    last: u32,
+) -> Result<(), WriteFault>
+    ensures { Writes (K.state sink.old) (K.state sink.new) (wait_part frame.now y first last) result }
+{
+    let from = first.max(frame.from);
+    let to = last.min(frame.to);
+    if from < to {
+        put_line(sink, x_at(frame, from), y, x_at(frame, to))
+    } else {
+        Ok(())
+    }
+}
+
+#[tactic(auto, unfolding(crate::specs::Lanes::wait_line))]
+fn put_line<K: Sink>(sink: &mut K, x: u64, y: u32, end: u64) -> Result<(), WriteFault>
+    ensures { Writes (K.state sink.old) (K.state sink.new) (wait_line x y end) result }
+{
+    put_pieces(
+        sink,
+        &[
+            TextPiece::Text(b"M"),
+            TextPiece::Wide(x),
+            TextPiece::Text(b" "),
+            TextPiece::Number(y),
+            TextPiece::Text(b"H"),
+            TextPiece::Wide(end),
+        ],
+    )
+}
+
+// Writes how long it is, in tenths of a millisecond.
+#[tactic(auto, unfolding(crate::specs::Lanes::wait_label))]
+fn put_length<K: Sink>(sink: &mut K, y: u32, wait: u64) -> Result<(), WriteFault>
+    ensures { Writes (K.state sink.old) (K.state sink.new) (wait_label y wait) result }
+{
+    put_pieces(
+        sink,
+        &[
+            TextPiece::Text(b"\"/>\n<text x=\"112400\" y=\""),
+            TextPiece::Number(y),
+            TextPiece::Text(b"\" font-size=\"800\" class=\"dim\">"),
+            TextPiece::Wide(wait / 10),
+            TextPiece::Text(b"."),
+            TextPiece::Wide(wait % 10),
+            TextPiece::Text(b" ms</text>\n"),
+        ],
+    )
+}

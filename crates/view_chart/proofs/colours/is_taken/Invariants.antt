@@ -1,8 +1,0 @@
-use Rattle.std.proofs.Common.{◌≡◌, ℕ, Bool}
-use Rattle.view_chart.specs.Colours.{taken_below}
-use Rattle.view_chart.specs.Inside.Standing.{AreMet}
-use Rattle.view_chart.proofs.colours.is_taken.Given as goal
-
--- whether one so far has it
-abbrev pub invariant-loop-u : goal.invariant-loop-u
-invariant-loop-u l = (on : ℕ → ℕ → Bool) → AreMet l.met on l.fn.v → l.taken ≡ taken_below on l.colours l.fn.v l.k l.u

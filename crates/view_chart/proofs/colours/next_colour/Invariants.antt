@@ -1,9 +1,0 @@
-use Rattle.std.proofs.Common.{◌≡◌, ℕ, ◌%◌, ◌-◌, Bool}
-use Rattle.view_chart.specs.Colours.{first_free, is_taken, next_colour}
-use Rattle.view_chart.specs.Inside.Standing.{AreOn}
-use Rattle.view_chart.proofs.colours.next_colour.Given as goal
-
--- none so far is free
-abbrev pub invariant-loop-k : goal.invariant-loop-k
-invariant-loop-k l = (on : ℕ → ℕ → Bool) → AreOn l.sets on → next_colour on l.vcpus l.colours l.v
-    ≡ first_free (is_taken on l.colours l.v) (l.v % 12) l.k (12 - l.k)

@@ -1,5 +1,0 @@
-use Rattle.view_chart.proofs.MetLemmas.{lane_colours}
-use Rattle.view_chart.proofs.laws.colours_of_a_lane_differ.Goals as goal
-
-pub returns : goal.returns
-returns c = lane_colours

@@ -1,6 +1,0 @@
-use Rattle.std.proofs.Common.{◌≡◌, drop, max}
-use Rattle.view_chart.specs.Shown.{last_end}
-use Rattle.view_chart.proofs.shown.last_end.Given as goal
-
-abbrev pub invariant-loop-stretch : goal.invariant-loop-stretch
-invariant-loop-stretch l = last_end l.stretches ≡ max l.last (last_end (drop l.stretch-index l.stretches))

@@ -1,4 +1,0 @@
--- What is kept on the way, private to this crate.
-pub mod Filling
-pub mod Holding
-pub mod Standing

@@ -1,0 +1,4 @@
+pub mod ColourLemmas
+pub mod EdgeLemmas
+pub mod LaneLemmas
+pub mod MetLemmas

@@ -1,0 +1,77 @@
+-- The title of a picture or a text, and the line below it.
+use Rattle.std.specs.Prelude.{ℕ, ◌==◌, ◌/◌, ◌%◌, ◌++◌, Bool, true, false, List, [], codes, decimal, if◌then◌else◌, ◌-◌, length}
+use Rattle.view_doc.specs.declared.view.Stretch.{Stretch}
+use Rattle.view_lanes.specs.Amounts.{tenths_ms}
+use Rattle.view_lanes.specs.Shown.{rounds_of, share_in}
+use Rattle.view_lanes.specs.declared.frame.Bar.{Bar}
+use Rattle.view_lanes.specs.declared.frame.Frame.{Frame}
+use Rattle.view_lanes.specs.declared.titles.Head.{Head}
+
+-- what the head says
+unfoldable pub head_of : Frame → List Stretch → ℕ → ℕ → List (List Bar) → Head
+head_of f stretches cores vcpus lanes = record {
+  is_run = f.is_run;
+  by_vcpu = f.by_vcpu;
+  cores = cores;
+  vcpus = vcpus;
+  rounds = rounds_of stretches;
+  stints = length stretches;
+  from = f.from;
+  to = f.to;
+  lasting = tenths_ms f.tick (f.to - f.from);
+  share = share_in f lanes;
+}
+
+-- more than one
+abbrev pub plural : ℕ → List ℕ
+plural n = if n == 1 then [] else codes "s"
+
+-- what it is
+abbrev pub kind_word : Bool → List ℕ
+kind_word false = codes "Plan"
+kind_word true = codes "Run"
+
+-- what the lanes are, where it isn't cores
+abbrev pub lanes_word : Bool → List ℕ
+lanes_word false = []
+lanes_word true = codes ", by vCPU"
+
+unfoldable pub title_of : List ℕ → ℕ → List ℕ → ℕ → List ℕ → List ℕ
+title_of kind cores many vcpus more = kind ++ (codes " of " ++ (decimal cores ++ (codes " core" ++ (many
+    ++ (codes ", " ++ (decimal vcpus ++ (codes " vCPU" ++ more)))))))
+
+abbrev pub kind_text : Head → List ℕ
+kind_text h = title_of (kind_word h.is_run) h.cores (plural h.cores) h.vcpus (plural h.vcpus)
+
+-- how many rounds and stints a run has
+unfoldable pub counts_of : ℕ → List ℕ → ℕ → List ℕ → List ℕ
+counts_of rounds many stints more = codes ", " ++ (decimal rounds ++ (codes " round" ++ (many ++ (codes ", "
+    ++ (decimal stints ++ (codes " stint" ++ more))))))
+
+abbrev pub counts_text : Bool → ℕ → ℕ → List ℕ
+counts_text false rounds stints = []
+counts_text true rounds stints = counts_of rounds (plural rounds) stints (plural stints)
+
+abbrev pub title_text : Head → List ℕ
+title_text h = kind_text h ++ (counts_text h.is_run h.rounds h.stints ++ lanes_word h.by_vcpu)
+
+-- which ticks are shown, and how long they last in tenths of a millisecond
+unfoldable pub ticks_text : ℕ → ℕ → ℕ → List ℕ
+ticks_text from to lasting = codes "Ticks " ++ (decimal from ++ (codes " to " ++ (decimal to ++ (codes ": "
+    ++ (decimal (lasting / 10) ++ (codes "." ++ (decimal (lasting % 10) ++ codes " ms")))))))
+
+-- how much of them is somebody's, in tenths of a percent
+unfoldable pub share_text : ℕ → List ℕ
+share_text share = codes ", of which vCPUs have " ++ (decimal (share / 10) ++ (codes "." ++ (decimal (share % 10)
+    ++ codes " %.")))
+
+-- what stands on the lanes of vCPUs
+abbrev pub lanes_note : Bool → List ℕ
+lanes_note false = codes ". A dark line is the longest wait for a slot; right of it how long that is."
+lanes_note true = codes ". The lanes are the vCPUs', the boxes the cores'."
+
+abbrev pub sub_end : Head → List ℕ
+sub_end h = if h.by_vcpu then lanes_note h.is_run else share_text h.share
+
+abbrev pub sub_text : Head → List ℕ
+sub_text h = ticks_text h.from h.to h.lasting ++ sub_end h

@@ -1,0 +1,112 @@
+-- A view as a text for terminals: a line for each core, in it a letter for each column of ticks, and below them the
+-- vCPUs' letters.
+use Rattle.std.specs.Prelude.{ℕ, zero, suc, ◌+◌, ◌-◌, ◌/◌, ◌%◌, ◌==◌, ◌&&◌, ◌||◌, ◌++◌, nat_le, nat_lt, false, List, [], ◌∷◌, codes, decimal, if◌then◌else◌, length, min, slice_index_or}
+use Rattle.std.specs.List.{sum_by}
+use Rattle.tab_words.specs.Texts.{texts_below}
+use Rattle.vcpu_names.specs.Names.{name_at}
+use Rattle.view_doc.specs.declared.view.Stretch.{Stretch}
+use Rattle.view_doc.specs.declared.view.View.{View}
+use Rattle.view_lanes.specs.Amounts.{per_mille}
+use Rattle.view_lanes.specs.Columns.{ticks_in, ticks_of, width_at}
+use Rattle.view_lanes.specs.Shown.{chart_lanes, cores_in, frame_of, held_in, shown_in}
+use Rattle.view_lanes.specs.Titles.{head_of, sub_text, title_text}
+use Rattle.view_lanes.specs.declared.frame.Bar.{Bar}
+use Rattle.view_lanes.specs.declared.frame.ChartOptions.{ChartOptions}
+use Rattle.view_lanes.specs.declared.frame.Frame.{Frame}
+use Rattle.view_lanes.specs.declared.titles.Head.{Head}
+use Rattle.view_text.specs.declared.options.TextOptions.{TextOptions}
+
+-- ---- a column
+
+-- how many of its ticks a vCPU has, and how many all have: at most all
+abbrev pub owned_at : Frame → ℕ → List Bar → ℕ → ℕ → ℕ
+owned_at f columns bars j v = ticks_of (λ w. w == v) f columns bars j
+
+abbrev pub held_at : Frame → ℕ → List Bar → ℕ → ℕ
+held_at f columns bars j = min (width_at f columns j) (sum_by (ticks_in f columns j) bars)
+
+-- of the numbers below one the least that has the most
+abbrev pub leader : (ℕ → ℕ) → ℕ → ℕ
+leader ticks zero = 0
+leader ticks (suc n) = if nat_lt (ticks (leader ticks n)) (ticks n) then n else leader ticks n
+
+-- the vCPUs' letters by number: a to z, then A to Z, then #
+abbrev pub letter_of : ℕ → ℕ
+letter_of v = if nat_lt v 26 then 97 + v else if nat_lt v 52 then 39 + v else 35
+
+-- the letter of the vCPU that has the most ticks, or a dot where nobody had more
+abbrev pub letter_for : ℕ → ℕ → ℕ → ℕ
+letter_for v most idle = if nat_lt 0 most && nat_le idle most then letter_of v else 46
+
+abbrev pub letter_by : Frame → ℕ → List Bar → ℕ → ℕ → ℕ
+letter_by f columns bars j v =
+    letter_for v (owned_at f columns bars j v) (width_at f columns j - held_at f columns bars j)
+
+abbrev pub letter_at : Frame → ℕ → ℕ → List Bar → ℕ → ℕ
+letter_at f columns vcpus bars j = letter_by f columns bars j (leader (owned_at f columns bars j) vcpus)
+
+abbrev pub cell_at : Frame → ℕ → ℕ → List Bar → ℕ → List ℕ
+cell_at f columns vcpus bars j = letter_at f columns vcpus bars j ∷ []
+
+-- ---- a line
+
+-- what stands between a core's number and its columns, and before a share
+abbrev pub gap_behind : ℕ → List ℕ
+gap_behind core = if nat_lt core 10 then codes "  " else codes " "
+
+abbrev pub gap_before : ℕ → List ℕ
+gap_before share = if nat_lt share 100 then codes "    " else if nat_lt share 1000 then codes "   " else codes "  "
+
+unfoldable pub line_begin : ℕ → List ℕ → List ℕ
+line_begin core gap = codes "core " ++ (decimal core ++ gap)
+
+-- how much of the lane is somebody's, in tenths of a percent
+unfoldable pub line_end : List ℕ → ℕ → List ℕ
+line_end gap share = gap ++ (decimal (share / 10) ++ (codes "." ++ (decimal (share % 10) ++ codes " %\n")))
+
+abbrev pub line_of : Frame → ℕ → ℕ → ℕ → ℕ → List Bar → List ℕ
+line_of f columns vcpus core share bars = line_begin core (gap_behind core)
+    ++ (texts_below (cell_at f columns vcpus bars) columns ++ line_end (gap_before share) share)
+
+-- the line of a number, of which the first is this core's
+abbrev pub line_at : Frame → ℕ → ℕ → ℕ → List (List Bar) → ℕ → List ℕ
+line_at f columns vcpus first lanes i = line_of f columns vcpus (first + i)
+    (per_mille (held_in f (slice_index_or lanes i [])) (f.to - f.from)) (slice_index_or lanes i [])
+
+-- ---- the text
+
+-- the letter of a vCPU and its name; eight stand in a line
+unfoldable pub key_name : List ℕ → List ℕ → List ℕ
+key_name name gap = codes "=" ++ (name ++ gap)
+
+abbrev pub key_gap : ℕ → ℕ → List ℕ
+key_gap vcpus v = if (v % 8 == 7) || (v + 1 == vcpus) then codes "\n" else codes " "
+
+abbrev pub key_at : List (List ℕ) → ℕ → List ℕ
+key_at names v = letter_of v ∷ key_name (name_at names v) (key_gap (length names) v)
+
+abbrev pub head_lines : Head → List ℕ
+head_lines h = title_text h ++ (codes "\n" ++ (sub_text h ++ codes "\n"))
+
+-- the text of these lanes of these stretches
+abbrev pub text_of : Frame → List Stretch → ℕ → ℕ → ℕ → List (List ℕ) → List (List Bar) → List ℕ
+text_of f stretches columns first cores names lanes = head_lines (head_of f stretches cores (length names) lanes)
+    ++ (texts_below (line_at f columns (length names) first lanes) (length lanes)
+    ++ texts_below (key_at names) (length names))
+
+-- a text has the lanes and ticks of a picture by core
+abbrev pub by_core : TextOptions → ChartOptions
+by_core options = record {
+  by_vcpu = false;
+  first = options.first;
+  last = options.last;
+  from = options.from;
+  to = options.to;
+  width = options.columns;
+  tick_ns = options.tick_ns;
+}
+
+-- the text of a view
+abbrev pub text_chart : TextOptions → View → List ℕ
+text_chart options view = text_of (frame_of view (by_core options)) (shown_in view) options.columns options.first
+    (cores_in view) view.names.items (chart_lanes view (by_core options))

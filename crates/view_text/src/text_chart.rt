@@ -1,0 +1,356 @@
+ghost use Rattle.std.specs.Prelude.{◌≡◌, ◌<◌, ◌≤◌, IfOk, IsErrOf, Ok, Err, [], ◌∷◌, length, true};
+ghost use Rattle.tab_core.specs.declared.TheConstants.{MAX_CORES, MAX_VCPUS};
+ghost use Rattle.tab_io.specs.Sinks.{Writes};
+ghost use Rattle.tab_words.specs.Texts.{texts_below};
+ghost use Rattle.vcpu_names.specs.Names.{name_at as name_of};
+ghost use Rattle.view_lanes.specs.Shown.{shows_nothing};
+ghost use Rattle.view_lanes.specs.Titles.{head_of};
+ghost use Rattle.view_text.specs.TextCharts.{by_core, cell_at, gap_before, gap_behind, head_lines, key_at, key_gap, key_name, letter_of, line_at, line_begin, line_end, line_of, text_chart, text_of};
+ghost use Rattle.view_lanes.specs.declared.fault.ChartFault.TheVariants as fault;
+
+use crate::letters::{letter_at, letter_of};
+use crate::options::TextOptions;
+use std::alloc::Global;
+use tab_core::Name;
+use tab_io::{Sink, WriteFault, write_all};
+use tab_words::{TextPiece, put_pieces};
+use view_doc::{Stretch, View};
+use view_lanes::{
+    Bar, ChartFault, ChartOptions, Frame, Head, Lane, cores_in, frame_of, head_of, held_in,
+    lanes_from, lanes_of, name_at, per_mille, put_sub, put_title, shown_in, shows_nothing, span_of,
+};
+
+/// Draws a view of at most 32 cores and 256 vCPUs as a text: a line for each core, in it a letter for each
+/// column, and below the letters' vCPUs.
+///
+/// A column's letter is that of the vCPU that has the most of its ticks, and a dot where nobody had more.
+/// A fault of writing leaves a front of the text in the sink; nothing is written where there is no memory,
+/// or where no tick or no core is shown. Nothing is settled.
+pub fn write_text_chart<K: Sink>(
+    alloc: Global,
+    sink: &mut K,
+    view: &View,
+    options: &TextOptions,
+) -> Result<(), ChartFault>
+    requires cores { view.now.cores ≤ MAX_CORES }
+    requires vcpus { length view.now.names.items ≤ MAX_VCPUS }
+    requires some { 0 < options.now.columns }
+    requires few { options.now.columns ≤ 8000 }
+    ensures ok { IfOk result (λ u. Writes (K.state sink.old) (K.state sink.new)
+        (text_chart options.now view.now) (Ok u)) }
+    ensures broken { IsErrOf result fault.Write → Writes {U = Unit {0}} (K.state sink.old) (K.state sink.new)
+        (text_chart options.now view.now) (Err (record {})) }
+    ensures nothing { IsErrOf result fault.Nothing → shows_nothing (by_core options.now) view.now ≡ true }
+    ensures nothing_due { shows_nothing (by_core options.now) view.now ≡ true → IsErrOf result fault.Nothing }
+    ensures unwritten { IsErrOf result fault.NoMemory → sink.new ≡ sink.old }
+    ensures unwritten_nothing { IsErrOf result fault.Nothing → sink.new ≡ sink.old }
+{
+    let chosen = by_core(options);
+    if shows_nothing(view, &chosen) {
+        return Err(ChartFault::Nothing);
+    }
+    let count = lanes_of(view, &chosen);
+    let frame = frame_of(view, &chosen);
+    let Ok(lanes) = lanes_from(alloc, &frame, shown_in(view), options.first, count) else {
+        return Err(ChartFault::NoMemory);
+    };
+    let written = put_text(
+        sink,
+        &frame,
+        shown_in(view),
+        options.columns,
+        options.first,
+        cores_in(view),
+        &view.names,
+        &lanes,
+    );
+    match written {
+        Ok(()) => Ok(()),
+        Err(WriteFault) => Err(ChartFault::Write),
+    }
+}
+
+// The lanes and ticks of the text, as those of a picture.
+fn by_core(options: &TextOptions) -> ChartOptions
+    ensures { result ≡ by_core options.now }
+{
+    ChartOptions {
+        by_vcpu: false,
+        first: options.first,
+        last: options.last,
+        from: options.from,
+        to: options.to,
+        width: options.columns,
+        tick_ns: options.tick_ns,
+    }
+}
+
+// Writes the text of these lanes of these stretches, of which the first is a core's.
+fn put_text<K: Sink>(
+    sink: &mut K,
+    frame: &Frame,
+    stretches: &[Stretch],
+    columns: u32,
+    first: u32,
+    cores: u32,
+    names: &[Name],
+    lanes: &[Lane],
+) -> Result<(), WriteFault>
+    requires lanes { length lanes.now ≤ MAX_VCPUS }
+    requires vcpus { length names.now ≤ MAX_VCPUS }
+    requires some { 0 < columns }
+    requires few { columns ≤ 8000 }
+    ensures { Writes (K.state sink.old) (K.state sink.new)
+        (text_of frame.now stretches.now columns first cores names.now lanes.now) result }
+{
+    put_text_head(sink, frame, stretches, cores, names, lanes)?;
+    put_lines(sink, frame, columns, names.len(), first, lanes)?;
+    put_keys(sink, names)
+}
+
+fn put_text_head<K: Sink>(
+    sink: &mut K,
+    frame: &Frame,
+    stretches: &[Stretch],
+    cores: u32,
+    names: &[Name],
+    lanes: &[Lane],
+) -> Result<(), WriteFault>
+    requires { length lanes.now ≤ MAX_VCPUS }
+    ensures { Writes (K.state sink.old) (K.state sink.new)
+        (head_lines (head_of frame.now stretches.now cores (length names.now) lanes.now)) result }
+{
+    let head = head_of(frame, stretches, cores, names.len() as u64, lanes);
+    put_head_lines(sink, &head)
+}
+
+fn put_head_lines<K: Sink>(sink: &mut K, head: &Head) -> Result<(), WriteFault>
+    ensures { Writes (K.state sink.old) (K.state sink.new) (head_lines head.now) result }
+{
+    put_title(sink, head)?;
+    write_all(sink, b"\n")?;
+    put_sub(sink, head)?;
+    write_all(sink, b"\n")
+}
+
+// Writes a line for each lane.
+fn put_lines<K: Sink>(
+    sink: &mut K,
+    frame: &Frame,
+    columns: u32,
+    vcpus: usize,
+    first: u32,
+    lanes: &[Lane],
+) -> Result<(), WriteFault>
+    requires lanes { length lanes.now ≤ MAX_VCPUS }
+    requires vcpus { vcpus ≤ MAX_VCPUS }
+    requires some { 0 < columns }
+    requires few { columns ≤ 8000 }
+    ensures { Writes (K.state sink.old) (K.state sink.new)
+        (texts_below (line_at frame.now columns vcpus first lanes.now) (length lanes.now)) result }
+{
+    for i in 0..lanes.len() {
+        put_line_at(sink, frame, columns, vcpus, first, lanes, i)?;
+    }
+    Ok(())
+}
+
+fn put_line_at<K: Sink>(
+    sink: &mut K,
+    frame: &Frame,
+    columns: u32,
+    vcpus: usize,
+    first: u32,
+    lanes: &[Lane],
+    i: usize,
+) -> Result<(), WriteFault>
+    requires lanes { length lanes.now ≤ MAX_VCPUS }
+    requires there { i < length lanes.now }
+    requires vcpus { vcpus ≤ MAX_VCPUS }
+    requires some { 0 < columns }
+    requires few { columns ≤ 8000 }
+    ensures { Writes (K.state sink.old) (K.state sink.new)
+        (line_at frame.now columns vcpus first lanes.now i) result }
+{
+    let bars = lanes[i].bars();
+    let core = u64::from(first) + i as u64;
+    let share = per_mille(held_in(frame, bars), u64::from(span_of(frame)));
+    put_line_of(sink, frame, columns, vcpus, core, share, bars)
+}
+
+// Writes the line of a core.
+fn put_line_of<K: Sink>(
+    sink: &mut K,
+    frame: &Frame,
+    columns: u32,
+    vcpus: usize,
+    core: u64,
+    share: u64,
+    bars: &[Bar],
+) -> Result<(), WriteFault>
+    requires vcpus { vcpus ≤ MAX_VCPUS }
+    requires some { 0 < columns }
+    requires few { columns ≤ 8000 }
+    ensures { Writes (K.state sink.old) (K.state sink.new)
+        (line_of frame.now columns vcpus core share bars.now) result }
+{
+    put_line_begin(sink, core)?;
+    put_cells(sink, frame, columns, vcpus, bars)?;
+    put_line_end(sink, share)
+}
+
+fn put_line_begin<K: Sink>(sink: &mut K, core: u64) -> Result<(), WriteFault>
+    ensures { Writes (K.state sink.old) (K.state sink.new) (line_begin core (gap_behind core)) result }
+{
+    put_core(sink, core, gap_behind(core))
+}
+
+fn put_line_end<K: Sink>(sink: &mut K, share: u64) -> Result<(), WriteFault>
+    ensures { Writes (K.state sink.old) (K.state sink.new) (line_end (gap_before share) share) result }
+{
+    put_share(sink, gap_before(share), share)
+}
+
+fn gap_behind(core: u64) -> &'static [u8]
+    ensures { result.now ≡ gap_behind core }
+{
+    if core < 10 { b"  " } else { b" " }
+}
+
+fn gap_before(share: u64) -> &'static [u8]
+    ensures { result.now ≡ gap_before share }
+{
+    if share < 100 {
+        b"    "
+    } else if share < 1000 {
+        b"   "
+    } else {
+        b"  "
+    }
+}
+
+#[tactic(auto, unfolding(crate::specs::TextCharts::line_begin))]
+fn put_core<K: Sink>(sink: &mut K, core: u64, gap: &[u8]) -> Result<(), WriteFault>
+    ensures { Writes (K.state sink.old) (K.state sink.new) (line_begin core gap.now) result }
+{
+    put_pieces(
+        sink,
+        &[
+            TextPiece::Text(b"core "),
+            TextPiece::Wide(core),
+            TextPiece::Text(gap),
+        ],
+    )
+}
+
+#[tactic(auto, unfolding(crate::specs::TextCharts::line_end))]
+fn put_share<K: Sink>(sink: &mut K, gap: &[u8], share: u64) -> Result<(), WriteFault>
+    ensures { Writes (K.state sink.old) (K.state sink.new) (line_end gap.now share) result }
+{
+    put_pieces(
+        sink,
+        &[
+            TextPiece::Text(gap),
+            TextPiece::Wide(share / 10),
+            TextPiece::Text(b"."),
+            TextPiece::Wide(share % 10),
+            TextPiece::Text(b" %\n"),
+        ],
+    )
+}
+
+// Writes the letters of a lane's columns.
+fn put_cells<K: Sink>(
+    sink: &mut K,
+    frame: &Frame,
+    columns: u32,
+    vcpus: usize,
+    bars: &[Bar],
+) -> Result<(), WriteFault>
+    requires vcpus { vcpus ≤ MAX_VCPUS }
+    requires some { 0 < columns }
+    requires few { columns ≤ 8000 }
+    ensures { Writes (K.state sink.old) (K.state sink.new)
+        (texts_below (cell_at frame.now columns vcpus bars.now) columns) result }
+{
+    for j in 0..columns {
+        put_cell(sink, frame, columns, vcpus, bars, j)?;
+    }
+    Ok(())
+}
+
+fn put_cell<K: Sink>(
+    sink: &mut K,
+    frame: &Frame,
+    columns: u32,
+    vcpus: usize,
+    bars: &[Bar],
+    j: u32,
+) -> Result<(), WriteFault>
+    requires vcpus { vcpus ≤ MAX_VCPUS }
+    requires there { j < columns }
+    requires few { columns ≤ 8000 }
+    ensures { Writes (K.state sink.old) (K.state sink.new)
+        (cell_at frame.now columns vcpus bars.now j) result }
+{
+    write_all(sink, &[letter_at(frame, columns, vcpus, bars, j)])
+}
+
+// Writes the vCPUs' letters.
+fn put_keys<K: Sink>(sink: &mut K, names: &[Name]) -> Result<(), WriteFault>
+    ensures { Writes (K.state sink.old) (K.state sink.new)
+        (texts_below (key_at names.now) (length names.now)) result }
+{
+    for v in 0..names.len() {
+        put_key_at(sink, names, v)?;
+    }
+    Ok(())
+}
+
+fn put_key_at<K: Sink>(sink: &mut K, names: &[Name], v: usize) -> Result<(), WriteFault>
+    requires { v < length names.now }
+    ensures { Writes (K.state sink.old) (K.state sink.new) (key_at names.now v) result }
+{
+    put_letter(sink, v)?;
+    put_key_name(sink, names, v)
+}
+
+fn put_letter<K: Sink>(sink: &mut K, v: usize) -> Result<(), WriteFault>
+    ensures { Writes (K.state sink.old) (K.state sink.new) (letter_of v ∷ []) result }
+{
+    write_all(sink, &[letter_of(v)])
+}
+
+fn put_key_name<K: Sink>(sink: &mut K, names: &[Name], v: usize) -> Result<(), WriteFault>
+    requires { v < length names.now }
+    ensures { Writes (K.state sink.old) (K.state sink.new)
+        (key_name (name_of names.now v) (key_gap (length names.now) v)) result }
+{
+    put_named(sink, name_at(names, v), key_gap(names.len(), v))
+}
+
+// What stands behind a vCPU's name, of so many.
+fn key_gap(vcpus: usize, v: usize) -> &'static [u8]
+    requires { v < vcpus }
+    ensures { result.now ≡ key_gap vcpus v }
+{
+    if v % 8 == 7 || v + 1 == vcpus {
+        b"\n"
+    } else {
+        b" "
+    }
+}
+
+#[tactic(auto, unfolding(crate::specs::TextCharts::key_name))]
+fn put_named<'a, K: Sink>(sink: &mut K, name: &'a [u8], gap: &'a [u8]) -> Result<(), WriteFault>
+    ensures { Writes (K.state sink.old) (K.state sink.new) (key_name name.now gap.now) result }
+{
+    put_pieces(
+        sink,
+        &[
+            TextPiece::Text(b"="),
+            TextPiece::Text(name),
+            TextPiece::Text(gap),
+        ],
+    )
+}
