@@ -4,23 +4,26 @@ use tab_core::{MAX_CORES, MAX_TICK_NS, MIN_TICK_NS};
 
 /// The words of the program.
 pub(crate) fn command<'a>(alloc: Global) -> Result<Command<'a>, AllocError> {
-    let chart = chart_command(alloc)?;
-    let export = export_command(alloc)?;
-    let table = table_command(alloc)?;
-    let diff = diff_command(alloc)?;
-    let sections = sections_command(alloc)?;
-    let host = host_command(alloc)?;
-    Command::new(alloc, "tableau-tools")
+    let command = Command::new(alloc, "tableau-tools")
         .version("0.1.0")
         .about("Shows what tableau wrote, and writes what it reads")
         .subcommand_required(true)
-        .arg_required_else_help(true)
-        .subcommand(table)?
-        .subcommand(chart)?
-        .subcommand(diff)?
-        .subcommand(export)?
-        .subcommand(sections)?
-        .subcommand(host)
+        .arg_required_else_help(true);
+    let command = with_command(command, table_command(alloc))?;
+    let command = with_command(command, chart_command(alloc))?;
+    let command = with_command(command, diff_command(alloc))?;
+    let command = with_command(command, export_command(alloc))?;
+    let command = with_command(command, sections_command(alloc))?;
+    with_command(command, host_command(alloc))
+}
+
+// The command with another below it. (One alone is held where memory is wanting: to let go of several takes minutes
+// of proof.)
+fn with_command<'a>(
+    command: Command<'a>,
+    other: Result<Command<'a>, AllocError>,
+) -> Result<Command<'a>, AllocError> {
+    command.subcommand(other?)
 }
 
 // The words of `chart`.
