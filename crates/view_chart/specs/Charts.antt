@@ -1,6 +1,6 @@
 -- A view as a picture, in SVG: a lane for each core or vCPU, a box for each slot or stint.
 -- Source: Scalable Vector Graphics (SVG) 1.1, W3C Recommendation.
-use Rattle.std.specs.Prelude.{ℕ, ◌+◌, ◌/◌, ◌++◌, List, [], codes, if◌then◌else◌, length, slice_index_or}
+use Rattle.std.specs.Prelude.{ℕ, ◌+◌, ◌++◌, List, [], codes, if◌then◌else◌, length, slice_index_or}
 use Rattle.tab_words.specs.Texts.{texts_below}
 use Rattle.view_doc.specs.declared.view.Stretch.{Stretch}
 use Rattle.view_doc.specs.declared.view.Task.{Task}

@@ -1,6 +1,6 @@
 -- The rounds of a run above its lanes, and below them the counts of events that the rounds' plans include: the glossary's
 -- used counts, one for all cores in a round.
-use Rattle.std.specs.Prelude.{ℕ, zero, suc, ◌+◌, ◌-◌, ◌*◌, ◌/◌, ◌==◌, ◌++◌, nat_le, nat_lt, Bool, true, false, List, [], codes, decimal, if◌then◌else◌, min, Option, Some, None}
+use Rattle.std.specs.Prelude.{ℕ, zero, suc, ◌+◌, ◌*◌, ◌==◌, ◌++◌, nat_le, nat_lt, Bool, true, false, List, [], codes, decimal, if◌then◌else◌, min, Option, Some, None}
 use Rattle.tab_core.specs.declared.TheConstants.{ROUND}
 use Rattle.tab_words.specs.Texts.{texts_below}
 use Rattle.view_doc.specs.declared.view.Stretch.{Stretch}
