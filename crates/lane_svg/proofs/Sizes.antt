@@ -1,5 +1,5 @@
 -- How large the numbers of a picture are.
-use Rattle.std.proofs.Common.{ℕ, ◌-◌, ◌*◌, ◌≤◌}
+use Rattle.std.proofs.Common.{ℕ, ◌*◌, ◌≤◌}
 use Rattle.std.proofs.lemmas.Nat.{mul-le}
 
 -- the lanes above one take so much

@@ -1,5 +1,5 @@
 -- The picture of a lane: its label, its bars, and on a vCPU's lane of a plan its longest wait.
-use Rattle.std.specs.Prelude.{ℕ, ◌+◌, ◌-◌, ◌/◌, ◌++◌, nat_lt, List, codes, if◌then◌else◌, length}
+use Rattle.std.specs.Prelude.{ℕ, ◌-◌, ◌++◌, nat_lt, List, codes, if◌then◌else◌, length}
 use Rattle.view_doc.specs.declared.view.Task.{Task}
 use Rattle.view_table.specs.declared.figures.Figures.{Figures}
 use Rattle.lane_svg.specs.Columns.{columns_text}
