@@ -1,5 +1,6 @@
-//! The test of plans that are made while the cores run: whole runs by threads, whose used counts, accounts and plans are
-//! judged by plain rules. It stands apart since a crate with tests is proved twice, with them and without.
+//! The tests of plans that are made while the cores run: single steps, and whole runs by threads, whose used counts,
+//! accounts and plans are judged by plain rules. They stand apart since a crate with tests is proved twice, with them
+//! and without.
 #![tactic(auto)]
 
 #[cfg(test)]
@@ -8,3 +9,5 @@ mod judging;
 mod runs;
 #[cfg(test)]
 mod scenes;
+#[cfg(test)]
+mod stepping;
