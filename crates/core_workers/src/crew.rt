@@ -11,6 +11,7 @@ ghost use Rattle.core_workers.specs.Waiting.{AreAtRest};
 ghost use Rattle.core_workers.specs.Inside.Making.{AreGroups, AreMembers};
 
 use crate::driving::drive_team;
+use crate::extent::Extent;
 use crate::gate::Gate;
 use crate::patience::spins_of;
 use crate::team::{Deal, Group, Lead, Member, Team};
@@ -191,5 +192,12 @@ pub fn drive<G: Gate>(board: &RoundBoard, seat: &mut RoundSeat, crew: &mut Crew<
     ensures rests { AreAtRest crew.new (view_of seat.old) (view_of seat.new) }
     ensures finished { HoldsAll crew.old (view_of seat.old) → HeldFinished crew.new (view_of seat.new) }
 {
-    drive_team(board, seat, crew.course, &mut crew.team, gate);
+    drive_team(
+        board,
+        seat,
+        crew.course,
+        &mut crew.team,
+        gate,
+        Extent::Whole,
+    );
 }

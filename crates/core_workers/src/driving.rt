@@ -1,11 +1,13 @@
-ghost use Rattle.std.specs.Prelude.{◌≡◌};
+ghost use Rattle.std.specs.Prelude.{◌≡◌, false};
 ghost use Rattle.round_words.specs.Seats.{view_of, IsSeatOf};
 ghost use Rattle.core_workers.specs.Crews.{AllAgree};
 ghost use Rattle.core_workers.specs.Groups.{crew_view, team_view};
 ghost use Rattle.core_workers.specs.Inside.Teams.{GoesOn, IsManned, IsSameShape, IsTeam, IsTeamKept};
 ghost use Rattle.core_workers.specs.Waiting.{AreAtRest};
+ghost use Rattle.core_workers.specs.declared.extent.Extent.TheVariants.{Whole};
 
 use crate::clocks::read_clocks;
+use crate::extent::Extent;
 use crate::gate::Gate;
 use crate::guess::Guess;
 use crate::patience::{PATIENCE, give_way};
@@ -16,7 +18,8 @@ use crate::turns::{Progress, Roster, turn};
 use round_words::{RoundBoard, RoundSeat};
 use table_form::Course;
 
-// Turns of those actors whose parts the seat holds, until all of them have finished or none got on for long.
+// Turns of those actors whose parts the seat holds, until all of them have finished or are as far as wanted, or none
+// got on for long.
 pub(crate) fn drive_groups<G: Gate>(
     site: &Site<'_, G>,
     seat: &mut RoundSeat,
@@ -24,6 +27,7 @@ pub(crate) fn drive_groups<G: Gate>(
     deal: Deal,
     groups: &mut [Group],
     spins: u32,
+    extent: Extent,
 )
     requires board { IsSeatOf site.now.board.now seat.old }
     requires rounds { lead.old.rounds ≡ site.now.rounds }
@@ -35,8 +39,8 @@ pub(crate) fn drive_groups<G: Gate>(
     ensures team { IsTeam site.now.course.now site.now.rounds deal groups.new }
     ensures goes { GoesOn (crew_view site.now.course.now lead.old deal groups.old) (view_of seat.old)
         (crew_view site.now.course.now lead.new deal groups.new) (view_of seat.new) }
-    ensures rests { AreAtRest (crew_view site.now.course.now lead.new deal groups.new) (view_of seat.old)
-        (view_of seat.new) }
+    ensures rests { extent ≡ Whole → AreAtRest (crew_view site.now.course.now lead.new deal groups.new)
+        (view_of seat.old) (view_of seat.new) }
 {
     let places = Places::of(deal, site.course.cores());
     let clocks = read_clocks(site, seat, &places, groups);
@@ -48,6 +52,9 @@ pub(crate) fn drive_groups<G: Gate>(
     };
     let mut left = PATIENCE;
     'driving: while left > 0 {
+        if is_far(extent, site.course, lead, &roster) {
+            return;
+        }
         match turn(site, seat, lead, groups, &mut roster) {
             Progress::Moved => left = PATIENCE,
             Progress::Waits => {
@@ -59,6 +66,25 @@ pub(crate) fn drive_groups<G: Gate>(
     }
 }
 
+// Whether the actors have gone as far as wanted, where that isn't the whole way.
+#[inline(always)]
+fn is_far(extent: Extent, course: &Course, lead: &Lead, roster: &Roster) -> bool
+    ensures { extent ≡ Whole → result ≡ false }
+{
+    match extent {
+        Extent::Whole => false,
+        Extent::Until(tick) => {
+            roster.guess.is_from(tick)
+                && (!roster.clocks.posting || has_posted(course, lead.control.posted(), tick))
+        }
+    }
+}
+
+// Whether these first events are all those before the tick.
+fn has_posted(course: &Course, posted: u32, tick: u32) -> bool {
+    posted >= course.count() || course.tick_of(posted) >= tick
+}
+
 // The same, of a team.
 pub(crate) fn drive_team<G: Gate>(
     board: &RoundBoard,
@@ -66,6 +92,7 @@ pub(crate) fn drive_team<G: Gate>(
     course: &Course,
     team: &mut Team,
     gate: &G,
+    extent: Extent,
 )
     requires board { IsSeatOf board.now seat.old }
     requires kept { IsTeamKept course.now team.old }
@@ -75,7 +102,7 @@ pub(crate) fn drive_team<G: Gate>(
     ensures kept { IsTeamKept course.now team.new }
     ensures goes { GoesOn (team_view course.now team.old) (view_of seat.old) (team_view course.now team.new)
         (view_of seat.new) }
-    ensures rests { AreAtRest (team_view course.now team.new) (view_of seat.old) (view_of seat.new) }
+    ensures rests { extent ≡ Whole → AreAtRest (team_view course.now team.new) (view_of seat.old) (view_of seat.new) }
     ensures shape { IsSameShape team.old team.new }
 {
     let site = Site {
@@ -95,5 +122,6 @@ pub(crate) fn drive_team<G: Gate>(
         deal,
         &mut team.groups,
         team.spins,
+        extent,
     );
 }

@@ -67,7 +67,7 @@ driving-preserved g c =
     }
 
 pub returns-in-Done-clause-rests : goal.returns-in-Done-clause-rests
-returns-in-Done-clause-rests g c =
+returns-in-Done-clause-rests g c whole =
     let course = c.args.site.now.course.now in
     let i = c.driving.invariant in
     let e = c.turn.ensures in
