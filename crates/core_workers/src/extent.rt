@@ -1,10 +1,12 @@
 /// The rounds in which a run's cores are carried by threads side by side, at least. What is left of a longer run is
-/// carried on by one thread, unless the cores are busy: it waits for no clock that another processor has just written.
+/// carried on by one thread, unless many cores are busy: it waits for no clock that another processor has just written.
 pub const BESIDE: u32 = 1_000;
 
-/// The steps that the cores together make in the ticks of a lag, above which threads side by side gain more than their
-/// meetings cost.
-pub const BUSY: u64 = 128;
+/// From so many cores on threads may gain more by working side by side than their meetings cost.
+pub const MANY: u32 = 16;
+
+/// And they do where all cores together make more than so many steps in the ticks of a lag.
+pub const BUSY: u64 = 200;
 
 /// How far actors are driven.
 #[derive(Clone, Copy)]
