@@ -11,6 +11,7 @@ mod line;
 mod name_table;
 mod numbers;
 mod place;
+mod plain_line;
 mod read;
 mod read_fault;
 mod reader;

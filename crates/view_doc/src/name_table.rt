@@ -13,7 +13,12 @@ use tab_core::{MAX_VCPUS, Name, NoMemory, VcpuNo};
 pub(crate) struct NameTable<'a> {
     names: Vec<Name>,
     numbers: BTreeMap<&'a [u8], VcpuNo, Global>,
+    // at a name's place the number of a vCPU that may have it
+    hints: [u8; PLACES],
 }
+
+// How many places there are for hints, a power of two.
+const PLACES: usize = 2048;
 
 impl<'a> Model for NameTable<'a> {
     ghost use Rattle.std.specs.Prelude.{ℕ, ◌≤◌, List, length};
@@ -35,11 +40,36 @@ impl<'a> NameTable<'a> {
         NameTable {
             names: Vec::new(alloc),
             numbers: BTreeMap::new(alloc),
+            hints: [0; PLACES],
         }
+    }
+
+    // The number of the vCPU of this name, if a hint names it.
+    pub(crate) fn hinted(&self, name: &[u8]) -> Option<VcpuNo>
+        ensures { IfSome result (λ vcpu. (vcpu < length self.now) × (name_at self.now vcpu ≡ name.now)
+            × IsName name.now) }
+    {
+        let place = place_of(name);
+        if let Some(vcpu) = hinted_at(&self.names, &self.hints, place, name) {
+            return Some(vcpu);
+        }
+        hinted_at(&self.names, &self.hints, place ^ 1, name)
     }
 
     // The number of the vCPU of this name, if it is known.
     pub(crate) fn find(&self, name: &[u8]) -> Option<VcpuNo>
+        ensures known { IfSome result (λ vcpu. (vcpu < length self.now) × (name_at self.now vcpu ≡ name.now)
+            × (is_known self.now name.now ≡ true)) }
+        ensures unknown { IfNone result (is_known self.now name.now ≡ false) }
+    {
+        if let Some(vcpu) = self.hinted(name) {
+            return Some(vcpu);
+        }
+        self.found_in_map(name)
+    }
+
+    // The same by the map alone.
+    fn found_in_map(&self, name: &[u8]) -> Option<VcpuNo>
         ensures known { IfSome result (λ vcpu. (vcpu < length self.now) × (name_at self.now vcpu ≡ name.now)
             × (is_known self.now name.now ≡ true)) }
         ensures unknown { IfNone result (is_known self.now name.now ≡ false) }
@@ -71,6 +101,7 @@ impl<'a> NameTable<'a> {
             self.names.pop();
             return Err(AllocError);
         }
+        put_hint(&mut self.hints, name, vcpu);
         Ok(Some(vcpu))
     }
 
@@ -79,5 +110,49 @@ impl<'a> NameTable<'a> {
         ensures { result.items ≡ self.entry }
     {
         self.names
+    }
+}
+
+// The place of a name's hint.
+fn place_of(name: &[u8]) -> usize
+    ensures { result < 2048 }
+{
+    let mut sum = 0u32;
+    for byte in name {
+        sum = sum.wrapping_mul(0x9E37_79B1).wrapping_add(u32::from(*byte));
+    }
+    (sum.wrapping_mul(0x9E37_79B1) >> 21) as usize
+}
+
+// The vCPU that the hint at the place names, if that has this name.
+fn hinted_at(names: &[Name], hints: &[u8], place: usize, name: &[u8]) -> Option<VcpuNo>
+    ensures { IfSome result (λ vcpu. (vcpu < length names.now) × (name_at names.now vcpu ≡ name.now)
+        × IsName name.now) }
+{
+    if place >= hints.len() {
+        return None;
+    }
+    let at = usize::from(hints[place]);
+    if at >= names.len() {
+        return None;
+    }
+    let held = names[at].bytes();
+    if held == name {
+        Some(VcpuNo(at as u32))
+    } else {
+        None
+    }
+}
+
+// Puts a hint at the place of a name or, where that is taken, at the one beside it.
+fn put_hint(hints: &mut [u8], name: &[u8], vcpu: VcpuNo) {
+    let place = place_of(name);
+    if place >= hints.len() {
+        return;
+    }
+    if hints[place] == 0 {
+        hints[place] = vcpu.0 as u8;
+    } else if (place ^ 1) < hints.len() {
+        hints[place ^ 1] = vcpu.0 as u8;
     }
 }

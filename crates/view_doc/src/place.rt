@@ -1,4 +1,5 @@
-ghost use Rattle.std.specs.Prelude.{◌≡◌, ℕ, [], ◌∷◌, MatchOption, nat_lt};
+ghost use Rattle.std.specs.Prelude.{◌≡◌, ℕ, ◌&&◌, [], ◌∷◌, IfSome, MatchOption, Some, nat_le, nat_lt};
+ghost use Rattle.tab_core.specs.declared.TheConstants.{ROUND};
 ghost use Rattle.view_doc.specs.Grammar.{goes_on, may_end, place_behind};
 ghost use Rattle.view_doc.specs.Inside.Statements.{told_by};
 ghost use Rattle.view_doc.specs.Items.{Line};
@@ -62,6 +63,31 @@ pub(crate) fn row_at(place: &Place) -> Option<(CoreNo, u32)>
     }
 }
 
+// The place behind a segment that ends at this tick, if the place is in a row and it may stand there.
+pub(crate) fn row_behind(place: &Place, end: u32) -> Option<Place>
+    ensures { IfSome result (λ next. (held : Held) → place_behind place.now (segment end held) ≡ Some next) }
+{
+    match *place {
+        Place::Row { cores, core, from } => row_up_to(cores, core, from, end),
+        _ => None,
+    }
+}
+
+// In a row whose segments end at `from` so far one more goes up to `end`, if it has ticks of the round.
+fn row_up_to(cores: u32, core: CoreNo, from: u32, end: u32) -> Option<Place>
+    ensures { result ≡ goes_on (nat_lt from end && nat_le end ROUND) (Row cores core end) }
+{
+    if from < end && end <= ROUND {
+        Some(Place::Row {
+            cores,
+            core,
+            from: end,
+        })
+    } else {
+        None
+    }
+}
+
 fn behind_start(statement: &Statement<'_>) -> Option<Place>
     ensures { (words : Line) → result ≡ place_behind Start (told_by words statement.now) }
 {
@@ -106,11 +132,7 @@ fn behind_segment(cores: u32, core: CoreNo, from: u32, statement: &Statement<'_>
     ensures { (words : Line) → result ≡ place_behind (Row cores core from) (told_by words statement.now) }
 {
     match *statement {
-        Statement::Segment { end, .. } if from < end && end <= ROUND => Some(Place::Row {
-            cores,
-            core,
-            from: end,
-        }),
+        Statement::Segment { end, .. } => row_up_to(cores, core, from, end),
         Statement::Core(next) if from == ROUND && next.0 == core.0 + 1 && next.0 < cores => {
             Some(Place::Row {
                 cores,

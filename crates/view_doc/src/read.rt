@@ -3,7 +3,6 @@ ghost use Rattle.view_doc.specs.Texts.{IsFirstBad};
 ghost use Rattle.view_doc.specs.Views.{IsViewOf};
 ghost use Rattle.view_doc.specs.declared.view.View.{View as ViewValue};
 
-use crate::line::statement_of;
 use crate::read_fault::ReadView;
 use crate::reader::Reader;
 use crate::view::View;
@@ -26,10 +25,7 @@ pub fn read_view(alloc: Global, bytes: &[u8]) -> Result<View, ReadView>
     let mut number = 0;
     for line in Lines::over(bytes) {
         number += 1;
-        let Some(statement) = statement_of(line) else {
-            return Err(ReadView::BadLine { line: number });
-        };
-        if !reader.take(alloc, &statement)? {
+        if !reader.take_line(alloc, line)? {
             return Err(ReadView::BadLine { line: number });
         }
     }

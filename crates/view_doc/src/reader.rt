@@ -1,16 +1,19 @@
 ghost use Rattle.std.specs.Prelude.{◌≡◌, [], IfOk, IsTrue, None, false};
 ghost use Rattle.tab_core.specs.Name.{IsName};
+ghost use Rattle.tab_words.specs.Words.{words_of};
 ghost use Rattle.view_doc.specs.Grammar.{front_behind, may_end, start};
-ghost use Rattle.view_doc.specs.Inside.Reading.{CantBePut, HasNames, HasRead, IsPut, IsTaken};
+ghost use Rattle.view_doc.specs.Inside.Reading.{CantBePut, HasNames, HasRead, IsBadLine, IsLineTaken, IsPut, IsTaken};
 ghost use Rattle.view_doc.specs.Inside.Statements.{held_by, told_by};
 ghost use Rattle.view_doc.specs.Items.{Line};
 ghost use Rattle.view_doc.specs.Lines.{IsGoodHolder, IsGoodOwner, entry, segment, stint, task};
 
+use crate::line::statement_of;
 use crate::name_table::NameTable;
-use crate::place::{Place, may_end, place_behind, row_at};
+use crate::place::{Place, may_end, place_behind, row_at, row_behind};
+use crate::plain_line::plain_line;
 use crate::statement::{Holder, Statement};
-use crate::uses::{holder_of, owner_of};
-use crate::view::{Entry, Stretch, Task, View};
+use crate::uses::{holder_of, owner_of, plain_owner};
+use crate::view::{Entry, Stretch, Task, Use, View};
 use std::alloc::{AllocError, Global};
 use std::marker::Model;
 use tab_core::{CoreNo, MAX_CORES, NoMemory};
@@ -94,12 +97,47 @@ impl<'a> Reader<'a> {
         }
     }
 
+    // Takes a line, if it says something that may stand there.
+    pub(crate) fn take_line(&mut self, alloc: Global, line: &'a [u8]) -> Result<bool, NoMemory>
+        ensures taken { IfOk result (λ taken. IsTrue taken → IsLineTaken (words_of line.now) self.old self.new) }
+        ensures refused { IfOk result (λ taken. taken ≡ false → IsBadLine self.old.front (words_of line.now)) }
+    {
+        if self.take_plain(line)? {
+            return Ok(true);
+        }
+        let Some(statement) = statement_of(line) else {
+            return Ok(false);
+        };
+        self.take(alloc, &statement)
+    }
+
+    // Takes a line of a row that is read at once: a number, one space and `-` or a name that a hint names. False where
+    // it isn't such a line, or may not stand there.
+    fn take_plain(&mut self, line: &[u8]) -> Result<bool, NoMemory>
+        ensures taken { IfOk result (λ taken. IsTrue taken → IsLineTaken (words_of line.now) self.old self.new) }
+        ensures other { IfOk result (λ taken. taken ≡ false → self.new ≡ self.old) }
+    {
+        let Some((core, from)) = row_at(&self.place) else {
+            return Ok(false);
+        };
+        let Some((end, word)) = plain_line(line) else {
+            return Ok(false);
+        };
+        let Some(place) = row_behind(&self.place, end) else {
+            return Ok(false);
+        };
+        let Some(by) = plain_owner(&self.table, word) else {
+            return Ok(false);
+        };
+        if self.slots.push(slot_of(core, from, end, by)).is_err() {
+            return Err(AllocError);
+        }
+        self.place = place;
+        Ok(true)
+    }
+
     // Takes what a line says, if it may stand there.
-    pub(crate) fn take(
-        &mut self,
-        alloc: Global,
-        statement: &Statement<'a>,
-    ) -> Result<bool, NoMemory>
+    fn take(&mut self, alloc: Global, statement: &Statement<'a>) -> Result<bool, NoMemory>
         requires { (words : Line) → HasNames (told_by words statement.now) }
         ensures taken { IfOk result (λ taken. IsTrue taken
             → (words : Line) → IsTaken (told_by words statement.now) self.old self.new) }
@@ -191,15 +229,7 @@ impl<'a> Reader<'a> {
         let Some((core, from)) = row_at(&self.place) else {
             return Ok(true);
         };
-        let slot = Stretch {
-            core,
-            from,
-            end,
-            used: 0,
-            seen: 0,
-            by,
-        };
-        if self.slots.push(slot).is_err() {
+        if self.slots.push(slot_of(core, from, end, by)).is_err() {
             return Err(AllocError);
         }
         Ok(true)
@@ -240,5 +270,19 @@ impl<'a> Reader<'a> {
             return Err(AllocError);
         }
         Ok(true)
+    }
+}
+
+// A segment of a plan as a stretch, which counts nothing.
+fn slot_of(core: CoreNo, from: u32, end: u32, by: Use) -> Stretch
+    ensures { result ≡ (record { core = core; from = from; end = end; used = 0; seen = 0; by = by }) }
+{
+    Stretch {
+        core,
+        from,
+        end,
+        used: 0,
+        seen: 0,
+        by,
     }
 }

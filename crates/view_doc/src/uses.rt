@@ -1,6 +1,6 @@
-ghost use Rattle.std.specs.Prelude.{◌≡◌, ℕ, IfOk, MatchOption, None, Some};
+ghost use Rattle.std.specs.Prelude.{◌≡◌, ℕ, IfOk, IfSome, MatchOption, None, Some};
 ghost use Rattle.view_doc.specs.Grammar.{names_behind};
-ghost use Rattle.view_doc.specs.Inside.Reading.{names_with};
+ghost use Rattle.view_doc.specs.Inside.Reading.{IsPlainOwner, names_with};
 ghost use Rattle.view_doc.specs.Inside.Statements.{held_by};
 ghost use Rattle.view_doc.specs.Lines.{IsGoodHolder, IsGoodOwner, segment};
 ghost use Rattle.view_doc.specs.Views.{holder_named};
@@ -25,6 +25,19 @@ pub(crate) fn owner_of(table: &NameTable<'_>, holder: &Holder<'_>) -> Option<Use
             let vcpu = table.find(name)?;
             Some(Use::Slot(vcpu))
         }
+    }
+}
+
+// Whoever the word of a segment names, if that is nobody or a hint says who it is.
+pub(crate) fn plain_owner(table: &NameTable<'_>, word: &[u8]) -> Option<Use>
+    ensures { IfSome result (IsPlainOwner table.now word.now) }
+{
+    if word == b"-".as_slice() {
+        return Some(Use::Idle);
+    }
+    match table.hinted(word) {
+        Some(vcpu) => Some(Use::Slot(vcpu)),
+        None => None,
     }
 }
 

@@ -1,14 +1,18 @@
 -- The parts that the reader has read.
-use Rattle.std.specs.Prelude.{◌≡◌, ℕ, ◌⊎◌, List, ◌++◌, map, Option, Some, None}
+use Rattle.std.specs.Prelude.{◌≡◌, ℕ, ◌⊎◌, List, [], ◌∷◌, ◌++◌, map, Option, Some, None}
 use Rattle.tab_core.specs.Name.{IsName}
 use Rattle.view_doc.specs.Grammar.{Front, ends_behind, front_behind, names_behind, with_name}
-use Rattle.view_doc.specs.Lines.{IsGoodHolder, IsGoodOwner, Told, nobody, in_slot, in_unused, segment, stint, task}
+use Rattle.tab_words.specs.Words.{words_of}
+use Rattle.view_doc.specs.Items.{Line}
+use Rattle.view_doc.specs.Lines.{IsGoodHolder, IsGoodOwner, Says, SaysNothing, Told, nobody, in_slot, in_unused, owner_word, segment, stint, task}
 use Rattle.view_doc.specs.Lines.{Holder as Held}
-use Rattle.view_doc.specs.Views.{cores_behind, entries_in, is_run, slots_in, stints_in, stretch_told, tasks_in}
+use Rattle.view_doc.specs.Texts.{IsMisplaced}
+use Rattle.view_doc.specs.Views.{cores_behind, entries_in, holder_named, is_run, slots_in, stints_in, stretch_told, tasks_in}
 use Rattle.view_doc.specs.declared.view.View.{View}
 use Rattle.view_doc.specs.declared.view.Entry.{Entry}
 use Rattle.view_doc.specs.declared.view.Stretch.{Stretch}
 use Rattle.view_doc.specs.declared.view.Task.{Task}
+use Rattle.view_doc.specs.declared.view.Use.{Use}
 
 -- what was read so far
 pub record Reading : Type 0 where
@@ -48,6 +52,22 @@ pub record IsTaken (told : Told) (old new : Reading) : Type 0 where
   pub slots : AreAppended new.front.names old.slots new.slots (slots_in old.front.place told)
   pub entries : new.entries ≡ old.entries ++ entries_in told
   pub stints : AreAppended new.front.names old.stints new.stints (stints_in told)
+
+-- the line was read, and says something
+pub record IsLineTaken (words : Line) (old new : Reading) : Type 0 where
+  pub told : Told
+  pub says : Says words told
+  pub taken : IsTaken told old new
+
+-- the line says nothing, or what may not stand there
+abbrev pub IsBadLine : Front → Line → Type 0
+IsBadLine front words = SaysNothing words ⊎ IsMisplaced front words
+
+-- the word is that of a known vCPU, or of nobody
+pub record IsPlainOwner (names : List (List ℕ)) (word : List ℕ) (by : Use) : Type 0 where
+  pub alone : words_of word ≡ owner_word (holder_named names by) ∷ []
+  pub good : IsGoodOwner (holder_named names by)
+  pub known : (end : ℕ) → names_behind names (segment end (holder_named names by)) ≡ Some names
 
 -- the names in what is told have the form of names
 abbrev pub HasNames : Told → Type 0

@@ -1,7 +1,8 @@
 use Rattle.std.proofs.Common.{◌≡◌, ◌∷◌, refl, subst, rules}
 use Rattle.tab_words.specs.Lines.{lines_of}
-use Rattle.tab_words.specs.Words.{words_of}
+use Rattle.view_doc.specs.Inside.Reading.{IsLineTaken}
 use Rattle.view_doc.proofs.ReadLemmas.{AreRead, more_read, none_read}
+use Rattle.tab_words.specs.Words.{words_of}
 use Rattle.view_doc.proofs.read.read_view.Goals as goal
 
 pub loop-line-init : goal.loop-line-init
@@ -14,5 +15,6 @@ loop-line-preserved c =
     let at : AreRead c.args.bytes.now c.loop-line.number c.loop-line.reader (c.in-Some.line.now ∷ c.next.new.self) =
     subst (AreRead c.args.bytes.now c.loop-line.number c.loop-line.reader) c.in-Some.ensures.steps
     c.loop-line.invariant in
-    more_read _ _ _ _ _ _ _ at c.in-Some-statement_of.ensures
-    (c.in_ok-take.ensures.taken c.if-not-branch.false (words_of c.in-Some.line.now))
+    let line : IsLineTaken (words_of c.in-Some.line.now) c.loop-line.reader c.take_line.new.self =
+    c.in_ok-take_line.ensures.taken c.if-not-branch.false in
+    more_read _ _ _ _ _ _ _ at line.says line.taken

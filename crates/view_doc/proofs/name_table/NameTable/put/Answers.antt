@@ -14,8 +14,8 @@ invariant_of-self-then-is_err-2 c =
     let unchanged : IsUnchanged c.self.inside.numbers c.insert.new.self = search rules in
     rw items (c.self.invariant.0, unchanged_numbers _ _ _ unchanged c.self.invariant.1)
 
-pub invariant_of-self-else-is_err-2 : goal.invariant_of-self-else-is_err-2
-invariant_of-self-else-is_err-2 c =
+pub invariant_of-self-2 : goal.invariant_of-self-2
+invariant_of-self-2 c =
     let pushed : c.push.new.self.items ≡ c.self.inside.names.items ++ c.args.name.now ∷ [] =
     grind (arith, common_steps) in
     let size : length c.push.new.self.items ≤ MAX_VCPUS = grind (arith, common_steps) in
