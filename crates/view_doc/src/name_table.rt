@@ -18,7 +18,7 @@ pub(crate) struct NameTable<'a> {
 }
 
 // How many places there are for hints, a power of two.
-const PLACES: usize = 2048;
+const PLACES: usize = 4096;
 
 impl<'a> Model for NameTable<'a> {
     ghost use Rattle.std.specs.Prelude.{ℕ, ◌≤◌, List, length};
@@ -115,13 +115,13 @@ impl<'a> NameTable<'a> {
 
 // The place of a name's hint.
 fn place_of(name: &[u8]) -> usize
-    ensures { result < 2048 }
+    ensures { result < 4096 }
 {
     let mut sum = 0u32;
     for byte in name {
         sum = sum.wrapping_mul(0x9E37_79B1).wrapping_add(u32::from(*byte));
     }
-    (sum.wrapping_mul(0x9E37_79B1) >> 21) as usize
+    (sum.wrapping_mul(0x9E37_79B1) >> 20) as usize
 }
 
 // The vCPU that the hint at the place names, if that has this name.

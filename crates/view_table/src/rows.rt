@@ -1,5 +1,5 @@
-ghost use Rattle.std.specs.Prelude.{◌<◌, ◌^◌, ◌≡◌, ◌*◌, ◌-◌};
-ghost use Rattle.tab_core.specs.declared.TheConstants.{ROUND};
+ghost use Rattle.std.specs.Prelude.{◌<◌, ◌^◌, ◌≡◌, ◌*◌, ◌-◌, ℕ, slice_index};
+ghost use Rattle.tab_core.specs.declared.TheConstants.{MAX_CORES, ROUND};
 ghost use Rattle.view_table.specs.Cells.{count_cell, millis_cell};
 ghost use Rattle.view_table.specs.Inside.CellTexts.{cell_text};
 ghost use Rattle.view_table.specs.Loads.{is_slot, load_of, ticks_on};
@@ -47,6 +47,20 @@ pub(crate) fn asked_of(vcpus: &[Vcpu], name: &[u8]) -> Option<Reservation>
         }
     }
     None
+}
+
+// The load of each core, by one pass over the slots.
+pub(crate) fn loads_of(slots: &[Stretch]) -> [u32; 32]
+    ensures { (core : ℕ) → core < MAX_CORES → slice_index result core ≡ load_of slots.now core }
+{
+    let mut loads = [0u32; 32];
+    for slot in slots {
+        let core = slot.core.index();
+        loads[core] = loads[core]
+            .saturating_add(ticks_on(slot, slot.core.0))
+            .min(ROUND);
+    }
+    loads
 }
 
 // The load of a core.

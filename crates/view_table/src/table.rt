@@ -1,14 +1,15 @@
-ghost use Rattle.std.specs.Prelude.{◌≡◌, ◌<◌, ◌≤◌, length, option_copied};
+ghost use Rattle.std.specs.Prelude.{◌≡◌, ◌<◌, ◌≤◌, ℕ, length, option_copied, slice_index};
 ghost use Rattle.tab_core.specs.declared.TheConstants.{MAX_CORES};
 ghost use Rattle.tab_io.specs.Sinks.{Writes};
 ghost use Rattle.tab_words.specs.Texts.{texts_below};
 ghost use Rattle.view_table.specs.Figures.{AreFigures};
+ghost use Rattle.view_table.specs.Loads.{load_of};
 ghost use Rattle.view_table.specs.Table.{asked_cells, core_cells, core_head, core_row, core_word, core_words, head_text, plain_cells, row_cells, table_of, table_text, vcpu_row};
 
 use crate::cells::{Cell, put_cells, put_left};
 use crate::figures::Figures;
 use crate::rows::{
-    asked_cell, asked_of, core_cell, kept_cell, load_of, name_at, of_round, period_cell,
+    asked_cell, asked_of, core_cell, kept_cell, load_of, loads_of, name_at, of_round, period_cell,
     promised_cell, rest_of_round, share_of, wait_cell, width_of,
 };
 use tab_core::{MAX_CORES, Reservation, Vcpu};
@@ -259,16 +260,27 @@ pub(crate) fn put_cores<K: Sink>(sink: &mut K, view: &View) -> Result<(), WriteF
     ensures { Writes (K.state sink.old) (K.state sink.new)
         (texts_below (core_row view.now.slots.items) view.now.cores) result }
 {
+    let loads = loads_of(&view.slots);
     for core in 0..view.cores {
-        put_core(sink, &view.slots, core)?;
+        put_core(sink, &view.slots, &loads, core)?;
     }
     Ok(())
 }
 
-fn put_core<K: Sink>(sink: &mut K, slots: &[Stretch], core: u32) -> Result<(), WriteFault>
+fn put_core<K: Sink>(
+    sink: &mut K,
+    slots: &[Stretch],
+    loads: &[u32; 32],
+    core: u32,
+) -> Result<(), WriteFault>
+    requires { (core : ℕ) → core < MAX_CORES → slice_index loads.now core ≡ load_of slots.now core }
     ensures { Writes (K.state sink.old) (K.state sink.new) (core_row slots.now core) result }
 {
-    let load = load_of(slots, core);
+    let load = if core < MAX_CORES {
+        loads[core as usize]
+    } else {
+        load_of(slots, core)
+    };
     put_core_cells(sink, core, load)
 }
 

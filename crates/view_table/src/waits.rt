@@ -28,7 +28,7 @@ pub(crate) fn waits_of(
     Ok((waits, marks))
 }
 
-// The segments by their begin.
+// The segments by their begin. The sort goes by the runs that rise: each core's segments are one.
 fn by_begin(alloc: Global, slots: &[Stretch]) -> Result<Vec<Stretch>, NoMemory>
     ensures { IfOk result (λ order. AreByBegin slots.now order.items) }
 {
@@ -36,7 +36,7 @@ fn by_begin(alloc: Global, slots: &[Stretch]) -> Result<Vec<Stretch>, NoMemory>
     for slot in slots {
         order.push(*slot)?;
     }
-    order.sort_unstable_by_key(|slot| slot.from);
+    order.sort_by_key(|slot| slot.from)?;
     Ok(order)
 }
 

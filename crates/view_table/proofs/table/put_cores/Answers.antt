@@ -9,13 +9,13 @@ loop-core-init g c = none_written _ _ (tt {0})
 pub returns-in_err-put_core : goal.returns-in_err-put_core
 returns-in_err-put_core g c =
     let p = err_from_is_err_and c.from_residual.result c.from_residual.ensures.1 in
-    let core = rw c.deref.ensures.value at c.put_core.ensures in
+    let core = rw c.deref-in-loop-core.ensures.value at c.put_core.ensures in
     rw p.1 (next_broken _ _ _ (core_row c.args.view.now.slots.items) c.loop-core.core _ (tt {0}) _ c.in_err-put_core.field-0.0
     c.loop-core-test.true c.loop-core.invariant core c.in_err-put_core.was)
 
 pub loop-core-preserved : goal.loop-core-preserved
 loop-core-preserved g c =
-    let core = rw c.deref.ensures.value at c.put_core.ensures in
+    let core = rw c.deref-in-loop-core.ensures.value at c.put_core.ensures in
     next_written _ _ _ (core_row c.args.view.now.slots.items) c.loop-core.core (tt {0}) c.in_ok-put_core.field-0 _
     c.loop-core.invariant core c.in_ok-put_core.was
 

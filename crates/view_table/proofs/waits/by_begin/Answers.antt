@@ -11,9 +11,9 @@ returns c =
     let all : c.loop-slot.order.items ≡ c.args.slots.now =
     c.loop-slot.invariant ∙ take_all c.loop-slot.slot-index c.args.slots.now (omega arith) in
     record {
-      rise = IsNonDecreasingBy-from_sort_by_key (λ (s : Stretch). s.from) _ c.sort_unstable_by_key.ensures.sorted
+      rise = IsNonDecreasingBy-from_sort_by_key (λ (s : Stretch). s.from) _ c.in_ok-sort_by_key.ensures.sorted
           (λ a r q k. search rules);
       same = λ v place.
-          sym (list_any-IsPermutation (serves v place) _ _ c.sort_unstable_by_key.ensures.permutation)
+          sym (list_any-IsPermutation (serves v place) _ _ c.sort_by_key.ensures.permutation)
           ∙ ap (list_any (serves v place)) all;
     }
