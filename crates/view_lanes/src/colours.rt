@@ -2,7 +2,7 @@ ghost use Rattle.std.specs.Prelude.{◌≡◌, ◌<◌, ◌≤◌, ◌||◌, ℕ
 ghost use Rattle.tab_core.specs.VcpuSets.{has_vcpu};
 ghost use Rattle.tab_core.specs.declared.TheConstants.{MAX_CORES, MAX_VCPUS};
 ghost use Rattle.view_lanes.specs.Colours.{colours_of, is_home, is_taken, next_colour, runs_on, stands_on};
-ghost use Rattle.view_lanes.specs.Inside.Standing.{AreMet, AreOn};
+ghost use Rattle.view_lanes.specs.Inside.Standing.{AreMet, AreOn, AreWhole, HaveAlso};
 ghost use Rattle.view_lanes.specs.Shown.{has_it};
 
 use std::alloc::{AllocError, Global};
@@ -35,37 +35,43 @@ pub(crate) fn colours_of(
 fn sets_of(alloc: Global, stretches: &[Stretch], tasks: &[Task]) -> Result<Vec<VcpuSet>, NoMemory>
     ensures { IfOk result (λ sets. AreOn sets.items (stands_on stretches.now tasks.now)) }
 {
+    let mut sets = home_sets(alloc, tasks)?;
+    put_runners(&mut sets, stretches);
+    Ok(sets)
+}
+
+// For each core the vCPUs whose home it is.
+fn home_sets(alloc: Global, tasks: &[Task]) -> Result<Vec<VcpuSet>, NoMemory>
+    ensures on { IfOk result (λ sets. AreOn sets.items (λ core v. is_home (slice_get tasks.now v) core)) }
+    ensures whole { IfOk result (λ sets. AreWhole sets.items) }
+{
     let mut sets = Vec::new(alloc);
     for core in 0..MAX_CORES {
-        if sets.push(set_of(stretches, tasks, core)).is_err() {
+        if sets.push(home_set(tasks, core)).is_err() {
             return Err(AllocError);
         }
     }
     Ok(sets)
 }
 
-// The vCPUs that stand on a core.
-fn set_of(stretches: &[Stretch], tasks: &[Task], core: u32) -> VcpuSet
-    ensures { (v : ℕ) → v < MAX_VCPUS
-        → has_vcpu result v ≡ stands_on stretches.now tasks.now core v }
+// The vCPUs whose home is a core.
+fn home_set(tasks: &[Task], core: u32) -> VcpuSet
+    ensures size { length result ≡ MAX_VCPUS }
+    ensures members { (v : ℕ) → v < MAX_VCPUS → has_vcpu result v ≡ is_home (slice_get tasks.now v) core }
 {
     let mut set = VcpuSet::empty();
-    put_runners(&mut set, stretches, core);
     put_homes(&mut set, tasks, core);
     set
 }
 
-// Puts those that have a stretch on the core.
-fn put_runners(set: &mut VcpuSet, stretches: &[Stretch], core: u32)
-    requires { length set.old ≡ MAX_VCPUS }
-    ensures size { length set.new ≡ MAX_VCPUS }
-    ensures members { (v : ℕ) → v < MAX_VCPUS
-        → has_vcpu set.new v ≡ (has_vcpu set.old v || runs_on stretches.now core v) }
+// Puts those that have a stretch on a core to the vCPUs of that core.
+fn put_runners(sets: &mut [VcpuSet], stretches: &[Stretch])
+    requires count { length sets.old ≡ MAX_CORES }
+    requires whole { AreWhole sets.old }
+    ensures { HaveAlso (runs_on stretches.now) sets.old sets.new }
 {
     for stretch in stretches {
-        if stretch.core.0 == core {
-            put_holder(set, &stretch.by);
-        }
+        put_holder(&mut sets[stretch.core.index()], &stretch.by);
     }
 }
 
