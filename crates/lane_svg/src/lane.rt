@@ -6,6 +6,7 @@ ghost use Rattle.tab_words.specs.Texts.{texts_below};
 ghost use Rattle.lane_svg.specs.Frames.{letters_of};
 ghost use Rattle.lane_svg.specs.Lanes.{bar_box, bar_name, bars_text, box_of, cut_line, cut_of, is_of, line_in, name_text, names_begin, note_of, path_begin, path_end, titled_path, top_in, vcpu_path, vcpu_paths, way_class, way_word, width_of};
 
+use crate::gather::put_at_once;
 use crate::holders::holders_of;
 use crate::marks::put_box;
 use crate::paths::{put_path_begin, put_path_end};
@@ -319,7 +320,7 @@ fn put_cut<K: Sink>(
 fn put_cut_line<K: Sink>(sink: &mut K, x: u64, y: u32, high: u32) -> Result<(), WriteFault>
     ensures { Writes (K.state sink.old) (K.state sink.new) (cut_line x y high) result }
 {
-    put_pieces(
+    put_at_once(
         sink,
         &[
             TextPiece::Text(b"M"),
@@ -426,7 +427,7 @@ pub(crate) fn line_in(y: u32, high: u32, letters: u32) -> u32
 fn put_name<K: Sink>(sink: &mut K, x: u64, y: u32, name: &[u8]) -> Result<(), WriteFault>
     ensures { Writes (K.state sink.old) (K.state sink.new) (name_text x y name.now) result }
 {
-    put_pieces(
+    put_at_once(
         sink,
         &[
             TextPiece::Text(b"<text x=\""),

@@ -5,6 +5,7 @@
 #![tactic(auto)]
 
 mod columns;
+mod gather;
 mod holders;
 mod labels;
 mod lane;

@@ -2,8 +2,9 @@ ghost use Rattle.std.specs.Prelude.{◌≡◌};
 ghost use Rattle.tab_io.specs.Sinks.{Writes};
 ghost use Rattle.lane_svg.specs.Marks.{box_path, short_dots, short_front};
 
+use crate::gather::put_at_once;
 use tab_io::{Sink, WriteFault};
-use tab_words::{TextPiece, put_pieces};
+use tab_words::TextPiece;
 
 /// The letters of a name that fit into a list.
 pub fn short_front(name: &[u8]) -> &[u8]
@@ -29,7 +30,7 @@ pub fn short_dots(name: &[u8]) -> &'static [u8]
 pub fn put_box<K: Sink>(sink: &mut K, x0: u64, y0: u64, x1: u64, y1: u64) -> Result<(), WriteFault>
     ensures { Writes (K.state sink.old) (K.state sink.new) (box_path x0 y0 x1 y1) result }
 {
-    put_pieces(
+    put_at_once(
         sink,
         &[
             TextPiece::Text(b"M"),
