@@ -6,6 +6,7 @@
 mod letters;
 mod options;
 mod text_chart;
+mod window;
 
 pub use options::TextOptions;
 pub use text_chart::write_text_chart;

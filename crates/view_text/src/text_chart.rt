@@ -1,23 +1,27 @@
-ghost use Rattle.std.specs.Prelude.{◌≡◌, ◌<◌, ◌≤◌, IfOk, IsErrOf, Ok, Err, [], ◌∷◌, length, true};
+ghost use Rattle.std.specs.Prelude.{◌≡◌, ◌+◌, ◌<◌, ◌≤◌, IfOk, IsErrOf, Ok, Err, [], ◌∷◌, length, true};
 ghost use Rattle.tab_core.specs.declared.TheConstants.{MAX_CORES, MAX_VCPUS};
 ghost use Rattle.tab_io.specs.Sinks.{Writes};
 ghost use Rattle.tab_words.specs.Texts.{texts_below};
 ghost use Rattle.vcpu_names.specs.Names.{name_at as name_of};
+ghost use Rattle.view_lanes.specs.Columns.{edge_of};
 ghost use Rattle.view_lanes.specs.Shown.{shows_nothing};
 ghost use Rattle.view_lanes.specs.Titles.{head_of};
+ghost use Rattle.view_text.specs.Inside.Windows.{AreBefore, AreBehind};
 ghost use Rattle.view_text.specs.TextCharts.{by_core, cell_at, gap_before, gap_behind, head_lines, key_at, key_gap, key_name, letter_of, line_at, line_begin, line_end, line_of, text_chart, text_of};
 ghost use Rattle.view_lanes.specs.declared.fault.ChartFault.TheVariants as fault;
 
 use crate::letters::{letter_at, letter_of};
 use crate::options::TextOptions;
+use crate::window::{first_behind, first_from, rise};
 use std::alloc::Global;
 use tab_core::Name;
 use tab_io::{Sink, WriteFault, write_all};
 use tab_words::{TextPiece, put_pieces};
 use view_doc::{Stretch, View};
 use view_lanes::{
-    Bar, ChartFault, ChartOptions, Frame, Head, Lane, cores_in, frame_of, head_of, held_in,
-    lanes_from, lanes_of, name_at, per_mille, put_sub, put_title, shown_in, shows_nothing, span_of,
+    Bar, ChartFault, ChartOptions, Frame, Head, Lane, cores_in, edge_of, frame_of, head_of,
+    held_in, lanes_from, lanes_of, name_at, per_mille, put_sub, put_title, shown_in, shows_nothing,
+    span_of,
 };
 
 /// Draws a view of at most 32 cores and 256 vCPUs as a text: a line for each core, in it a letter for each
@@ -273,27 +277,41 @@ fn put_cells<K: Sink>(
     ensures { Writes (K.state sink.old) (K.state sink.new)
         (texts_below (cell_at frame.now columns vcpus bars.now) columns) result }
 {
+    let rise = rise(bars);
+    let mut start = 0;
     for j in 0..columns {
-        put_cell(sink, frame, columns, vcpus, bars, j)?;
+        start = first_from(bars, start, edge_of(frame, columns, j));
+        let stop = first_behind(bars, rise, start, edge_of(frame, columns, j + 1));
+        put_cell(sink, frame, columns, vcpus, bars, start, stop, j)?;
     }
     Ok(())
 }
 
+// Writes the letter of a column, in which the bars from `start` up to `stop` alone have ticks.
 fn put_cell<K: Sink>(
     sink: &mut K,
     frame: &Frame,
     columns: u32,
     vcpus: usize,
     bars: &[Bar],
+    start: usize,
+    stop: usize,
     j: u32,
 ) -> Result<(), WriteFault>
     requires vcpus { vcpus ≤ MAX_VCPUS }
     requires there { j < columns }
     requires few { columns ≤ 8000 }
+    requires order { start ≤ stop }
+    requires within { stop ≤ length bars.now }
+    requires before { AreBefore (edge_of frame.now columns j) bars.now start }
+    requires behind { AreBehind (edge_of frame.now columns (j + 1)) bars.now stop }
     ensures { Writes (K.state sink.old) (K.state sink.new)
         (cell_at frame.now columns vcpus bars.now j) result }
 {
-    write_all(sink, &[letter_at(frame, columns, vcpus, bars, j)])
+    write_all(
+        sink,
+        &[letter_at(frame, columns, vcpus, &bars[start..stop], j)],
+    )
 }
 
 // Writes the vCPUs' letters.

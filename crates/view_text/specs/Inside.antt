@@ -1,0 +1,2 @@
+-- What is kept on the way, private to this crate.
+pub mod Windows
