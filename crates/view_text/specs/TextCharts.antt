@@ -9,7 +9,7 @@ use Rattle.view_doc.specs.declared.view.View.{View}
 use Rattle.view_lanes.specs.Amounts.{per_mille}
 use Rattle.view_lanes.specs.Columns.{ticks_in, ticks_of, width_at}
 use Rattle.view_lanes.specs.Shown.{chart_lanes, cores_in, frame_of, held_in, shown_in}
-use Rattle.view_lanes.specs.Titles.{head_of, sub_text, title_text}
+use Rattle.view_lanes.specs.Titles.{head_of, plural, sub_text, title_text}
 use Rattle.view_lanes.specs.declared.frame.Bar.{Bar}
 use Rattle.view_lanes.specs.declared.frame.ChartOptions.{ChartOptions}
 use Rattle.view_lanes.specs.declared.frame.Frame.{Frame}
@@ -82,8 +82,19 @@ key_name name gap = codes "=" ++ (name ++ gap)
 abbrev pub key_gap : ℕ → ℕ → List ℕ
 key_gap vcpus v = if (v % 8 == 7) || (v + 1 == vcpus) then codes "\n" else codes " "
 
+-- so many of the vCPUs have a letter of their own: those below 52
+abbrev pub lettered : ℕ → ℕ
+lettered vcpus = min 52 vcpus
+
 abbrev pub key_at : List (List ℕ) → ℕ → List ℕ
-key_at names v = letter_of v ∷ key_name (name_at names v) (key_gap (length names) v)
+key_at names v = letter_of v ∷ key_name (name_at names v) (key_gap (lettered (length names)) v)
+
+-- how many have none, where some haven't
+unfoldable pub more_line : ℕ → List ℕ → List ℕ
+more_line more many = codes "#=" ++ (decimal more ++ (codes " more vCPU" ++ (many ++ codes "\n")))
+
+abbrev pub more_text : ℕ → List ℕ
+more_text vcpus = if nat_lt 52 vcpus then more_line (vcpus - 52) (plural (vcpus - 52)) else []
 
 abbrev pub head_lines : Head → List ℕ
 head_lines h = title_text h ++ (codes "\n" ++ (sub_text h ++ codes "\n"))
@@ -92,7 +103,7 @@ head_lines h = title_text h ++ (codes "\n" ++ (sub_text h ++ codes "\n"))
 abbrev pub text_of : Frame → List Stretch → ℕ → ℕ → ℕ → List (List ℕ) → List (List Bar) → List ℕ
 text_of f stretches columns first cores names lanes = head_lines (head_of f stretches cores (length names) lanes)
     ++ (texts_below (line_at f columns (length names) first lanes) (length lanes)
-    ++ texts_below (key_at names) (length names))
+    ++ (texts_below (key_at names) (lettered (length names)) ++ more_text (length names)))
 
 -- a text has the lanes and ticks of a picture by core
 abbrev pub by_core : TextOptions → ChartOptions

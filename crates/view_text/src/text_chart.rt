@@ -5,9 +5,9 @@ ghost use Rattle.tab_words.specs.Texts.{texts_below};
 ghost use Rattle.vcpu_names.specs.Names.{name_at as name_of};
 ghost use Rattle.view_lanes.specs.Columns.{edge_of};
 ghost use Rattle.view_lanes.specs.Shown.{shows_nothing};
-ghost use Rattle.view_lanes.specs.Titles.{head_of};
+ghost use Rattle.view_lanes.specs.Titles.{head_of, plural};
 ghost use Rattle.view_text.specs.Inside.Windows.{AreBefore, AreBehind};
-ghost use Rattle.view_text.specs.TextCharts.{by_core, cell_at, gap_before, gap_behind, head_lines, key_at, key_gap, key_name, letter_of, line_at, line_begin, line_end, line_of, text_chart, text_of};
+ghost use Rattle.view_text.specs.TextCharts.{by_core, cell_at, gap_before, gap_behind, head_lines, key_at, key_gap, key_name, letter_of, lettered, line_at, line_begin, line_end, line_of, more_line, more_text, text_chart, text_of};
 ghost use Rattle.view_lanes.specs.declared.fault.ChartFault.TheVariants as fault;
 
 use crate::letters::{letter_at, letter_of};
@@ -25,7 +25,7 @@ use view_lanes::{
 };
 
 /// Draws a view of at most 32 cores and 256 vCPUs as a text: a line for each core, in it a letter for each
-/// column, and below the letters' vCPUs.
+/// column, and below the letters' vCPUs, and how many have no letter of their own.
 ///
 /// A column's letter is that of the vCPU that has the most of its ticks, and a dot where nobody had more.
 /// A fault of writing leaves a front of the text in the sink; nothing is written where there is no memory,
@@ -109,7 +109,8 @@ fn put_text<K: Sink>(
 {
     put_text_head(sink, frame, stretches, cores, names, lanes)?;
     put_lines(sink, frame, columns, names.len(), first, lanes)?;
-    put_keys(sink, names)
+    put_keys(sink, names)?;
+    put_more(sink, names.len())
 }
 
 fn put_text_head<K: Sink>(
@@ -317,16 +318,63 @@ fn put_cell<K: Sink>(
 // Writes the vCPUs' letters.
 fn put_keys<K: Sink>(sink: &mut K, names: &[Name]) -> Result<(), WriteFault>
     ensures { Writes (K.state sink.old) (K.state sink.new)
-        (texts_below (key_at names.now) (length names.now)) result }
+        (texts_below (key_at names.now) (lettered (length names.now))) result }
 {
-    for v in 0..names.len() {
+    for v in 0..lettered(names.len()) {
         put_key_at(sink, names, v)?;
     }
     Ok(())
 }
 
+// How many of so many vCPUs have a letter of their own.
+fn lettered(vcpus: usize) -> usize
+    ensures { result ≡ lettered vcpus }
+{
+    vcpus.min(52)
+}
+
+// Writes how many of so many vCPUs have no letter of their own, if some have none.
+fn put_more<K: Sink>(sink: &mut K, vcpus: usize) -> Result<(), WriteFault>
+    ensures { Writes (K.state sink.old) (K.state sink.new) (more_text vcpus) result }
+{
+    if vcpus > 52 {
+        put_more_line(sink, (vcpus - 52) as u64)
+    } else {
+        Ok(())
+    }
+}
+
+#[tactic(auto, unfolding(crate::specs::TextCharts::more_line))]
+fn put_more_of<K: Sink>(sink: &mut K, more: u64, many: &[u8]) -> Result<(), WriteFault>
+    ensures { Writes (K.state sink.old) (K.state sink.new) (more_line more many.now) result }
+{
+    put_pieces(
+        sink,
+        &[
+            TextPiece::Text(b"#="),
+            TextPiece::Wide(more),
+            TextPiece::Text(b" more vCPU"),
+            TextPiece::Text(many),
+            TextPiece::Text(b"\n"),
+        ],
+    )
+}
+
+fn put_more_line<K: Sink>(sink: &mut K, more: u64) -> Result<(), WriteFault>
+    ensures { Writes (K.state sink.old) (K.state sink.new) (more_line more (plural more)) result }
+{
+    put_more_of(sink, more, plural(more))
+}
+
+// The ending of a word for so many.
+fn plural(n: u64) -> &'static [u8]
+    ensures { result.now ≡ plural n }
+{
+    if n == 1 { b"" } else { b"s" }
+}
+
 fn put_key_at<K: Sink>(sink: &mut K, names: &[Name], v: usize) -> Result<(), WriteFault>
-    requires { v < length names.now }
+    requires { v < lettered (length names.now) }
     ensures { Writes (K.state sink.old) (K.state sink.new) (key_at names.now v) result }
 {
     put_letter(sink, v)?;
@@ -340,11 +388,11 @@ fn put_letter<K: Sink>(sink: &mut K, v: usize) -> Result<(), WriteFault>
 }
 
 fn put_key_name<K: Sink>(sink: &mut K, names: &[Name], v: usize) -> Result<(), WriteFault>
-    requires { v < length names.now }
+    requires { v < lettered (length names.now) }
     ensures { Writes (K.state sink.old) (K.state sink.new)
-        (key_name (name_of names.now v) (key_gap (length names.now) v)) result }
+        (key_name (name_of names.now v) (key_gap (lettered (length names.now)) v)) result }
 {
-    put_named(sink, name_at(names, v), key_gap(names.len(), v))
+    put_named(sink, name_at(names, v), key_gap(lettered(names.len()), v))
 }
 
 // What stands behind a vCPU's name, of so many.

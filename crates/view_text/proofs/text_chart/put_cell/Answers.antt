@@ -1,4 +1,4 @@
-use Rattle.std.proofs.Common.{◌∙◌, arith}
+use Rattle.std.proofs.Common.{◌∙◌}
 use Rattle.view_text.proofs.WindowLemmas.{letter_window}
 use Rattle.view_text.proofs.text_chart.put_cell.Goals as goal
 

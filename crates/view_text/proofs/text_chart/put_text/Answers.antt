@@ -14,8 +14,16 @@ returns-in_err-put_lines g c =
     let at0 = left_behind _ _ _ _ _ _ _ _ _ (all_left _ _) refl c.put_text_head.ensures c.in_ok-put_text_head.was in
     rw p.1 (left_broken _ _ _ _ _ _ _ _ _ at0 refl c.put_lines.ensures c.in_err-put_lines.was)
 
+pub returns-in_err-put_keys : goal.returns-in_err-put_keys
+returns-in_err-put_keys g c =
+    let p = err_from_is_err_and c.from_residual-in_err-put_keys.result c.from_residual-in_err-put_keys.ensures.1 in
+    let at0 = left_behind _ _ _ _ _ _ _ _ _ (all_left _ _) refl c.put_text_head.ensures c.in_ok-put_text_head.was in
+    let at1 = left_behind _ _ _ _ _ _ _ _ _ at0 refl c.put_lines.ensures c.in_ok-put_lines.was in
+    rw p.1 (left_broken _ _ _ _ _ _ _ _ _ at1 refl c.put_keys.ensures c.in_err-put_keys.was)
+
 pub returns : goal.returns
 returns g c =
     let at0 = left_behind _ _ _ _ _ _ _ _ _ (all_left _ _) refl c.put_text_head.ensures c.in_ok-put_text_head.was in
     let at1 = left_behind _ _ _ _ _ _ _ _ _ at0 refl c.put_lines.ensures c.in_ok-put_lines.was in
-    left_last _ _ _ _ _ _ at1 c.put_keys.ensures
+    let at2 = left_behind _ _ _ _ _ _ _ _ _ at1 refl c.put_keys.ensures c.in_ok-put_keys.was in
+    left_last _ _ _ _ _ _ at2 c.put_more.ensures
