@@ -9,6 +9,7 @@ pub mod Moves
 pub mod Ends
 pub mod Cells
 pub mod Nets
+pub mod Pushed
 pub mod Pushes
 pub mod Links
 pub mod Reading
