@@ -1,10 +1,12 @@
-use Rattle.std.proofs.Common.{◌≡◌, ℕ, ◌-◌, ◌<◌, length, refl, arith, ap, ◌∙◌}
+use Rattle.std.proofs.Common.{◌≡◌, ℕ, ◌-◌, ◌<◌, length, refl, arith, ap, sym, ◌∙◌}
 use Rattle.flow_net.specs.declared.demands.Demands.{Demands}
 use Rattle.flow_net.specs.declared.flow.Flow.{Flow}
 use Rattle.flow_net.specs.declared.reach.Reach.{Reach}
 use Rattle.flow_net.specs.declared.reach.Link.{Link}
+use Rattle.flow_net.specs.Load.{Load, job, span}
 use Rattle.flow_net.specs.Flows.{flow_of}
 use Rattle.flow_net.specs.Inside.Demanded.{load}
+use Rattle.flow_net.specs.Inside.Reach.{IsKeptTo, IsSearch, Reached}
 use Rattle.flow_net.specs.Inside.Reaching.{reached_of, link_at, HasPlaces, IsSearchOf}
 use Rattle.flow_net.proofs.Pushes.{tail_le}
 use Rattle.flow_net.proofs.Along.{kept_start, kept_more}
@@ -71,3 +73,78 @@ loop-link-preserved c =
       lacks = c.shift.ensures.lacks ∙ inv.lacks;
       kept = rw b kept;
     }
+
+pub shift-requires-clause-vcpu : goal.shift-requires-clause-vcpu
+shift-requires-clause-vcpu c =
+    let inv = c.loop-link.invariant in
+    rw inv.is (c.requires.search.vcpu c.loop-link.x inv.within)
+
+pub shift-requires-clause-to : goal.shift-requires-clause-to
+shift-requires-clause-to c =
+    let inv = c.loop-link.invariant in
+    rw inv.is (c.requires.search.interval c.loop-link.x inv.within)
+
+pub shift-requires-clause-short : goal.shift-requires-clause-short
+shift-requires-clause-short c =
+    let inv = c.loop-link.invariant in
+    let s = rw (← c.take_room.ensures.rows) at c.requires.search in
+    rw inv.is (rw (inv.kept.here c.loop-link.x (omega arith)) (s.short c.loop-link.x inv.within))
+
+pub shift-requires-clause-same : goal.shift-requires-clause-same
+shift-requires-clause-same c =
+    let inv = c.loop-link.invariant in
+    let b = ap (λ (l : Link). l.back) inv.is in
+    rw (c.link_of-before.ensures, inv.is)
+    (c.requires.search.from_job c.loop-link.x inv.within (omega (arith, b, c.loop-link-test.true)))
+
+pub shift-requires-clause-some : goal.shift-requires-clause-some
+shift-requires-clause-some c =
+    let inv = c.loop-link.invariant in
+    let s = rw (← c.take_room.ensures.rows) at c.requires.search in
+    let b = ap (λ (l : Link). l.back) inv.is in
+    rw (c.link_of-before.ensures, inv.is)
+    (rw (inv.kept.before c.loop-link.x (omega arith) (omega (arith, b, c.loop-link-test.true)))
+    (s.from_some c.loop-link.x inv.within (omega (arith, b, c.loop-link-test.true))))
+
+pub give-requires-clause-interval : goal.give-requires-clause-interval
+give-requires-clause-interval c =
+    let inv = c.loop-link.invariant in
+    rw inv.is (c.requires.search.interval c.loop-link.x inv.within)
+
+-- the last link moves a tick that the root's job lacks
+at_root : (l : Load) (f : ℕ → ℕ → ℕ) (rv rk : ℕ) (q : Reached) (x : ℕ) → IsSearch l f rv rk q → x < q.tail
+    → q.back x ≡ 0 → rk ≡ job l rv (q.at x)
+at_root l f rv rk q x s h last =
+    sym (s.root_job x h last) ∙ ap (λ v. job l v (q.at x)) (s.root_vcpu x h last)
+
+-- and its interval has fewer ticks of the root's vCPU than it is long
+root_short : (l : Load) (f g : ℕ → ℕ → ℕ) (rv rk : ℕ) (q : Reached) (x : ℕ) → IsSearch l f rv rk q
+    → IsKeptTo f g q x → x < q.tail → q.back x ≡ 0 → g rv (q.at x) < span l (q.at x)
+root_short l f g rv rk q x s kept h last =
+    rw (← s.root_vcpu x h last, kept.here x (omega arith)) (s.short x h)
+
+pub give-requires-clause-job : goal.give-requires-clause-job
+give-requires-clause-job c =
+    let inv = c.loop-link.invariant in
+    let r = c.args.reach.now in
+    let b = ap (λ (l : Link). l.back) inv.is in
+    rw inv.is (at_root (load c.args.demands.now) (flow_of c.args.flow.now.rows.items) r.root_vcpu r.root_job
+    (reached_of r) c.loop-link.x c.requires.search inv.within (omega (arith, b, c.loop-link-test.false)))
+
+pub give-requires-clause-short : goal.give-requires-clause-short
+give-requires-clause-short c =
+    let inv = c.loop-link.invariant in
+    let r = c.args.reach.now in
+    let b = ap (λ (l : Link). l.back) inv.is in
+    rw inv.is (root_short (load c.args.demands.now) (flow_of c.take_room.new.flow.rows.items)
+    (flow_of c.loop-link.flow.rows.items) r.root_vcpu r.root_job (reached_of r) c.loop-link.x
+    (rw (← c.take_room.ensures.rows) at c.requires.search) inv.kept inv.within
+    (omega (arith, b, c.loop-link-test.false)))
+
+pub give-requires-clause-lacks : goal.give-requires-clause-lacks
+give-requires-clause-lacks c =
+    rw (c.loop-link.invariant.lacks, c.take_room.ensures.lacks) c.requires.lacks
+
+pub returns-clause-lacks : goal.returns-clause-lacks
+returns-clause-lacks c =
+    rw (c.give.ensures.lacks, c.loop-link.invariant.lacks, c.take_room.ensures.lacks) refl
