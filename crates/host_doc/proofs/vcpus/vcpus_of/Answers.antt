@@ -1,4 +1,4 @@
-use Rattle.std.proofs.Common.{◌≡◌, ℕ, List, ◌∷◌, [], ◌++◌, ◌||◌, Some, None, Ok, false, bytes_eq, length, rules, sym, ◌∙◌, arith}
+use Rattle.std.proofs.Common.{◌≡◌, ℕ, List, ◌∷◌, [], ◌++◌, ◌||◌, Some, None, Ok, false, bytes_eq, length, refl, sym, inr, ◌∙◌, arith}
 use Rattle.std.proofs.lemmas.Grind.{common_steps}
 use Rattle.std.specs.List.{list_any}
 use Rattle.toml.specs.Data.{as_table}
@@ -16,7 +16,9 @@ returns-in_default-clause-fault c =
     let here = fault_from c.args.values.now (names c.loop-index.vcpus.items) c.loop-index.index
     c.index-values-index.result c.loop-index-test.true c.index-values-index.is
     c.loop-index.invariant.rest in
-    grind (arith, common_steps)
+    let none : as_table (view c.index-values-index.result) ≡ None =
+    sym (rw c.in_default.is at c.as_table.ensures) in
+    inr (here ∙ rw (none, c.of_vcpu.ensures) refl)
 
 pub returns-in_err-text-clause-fault : goal.returns-in_err-text-clause-fault
 returns-in_err-text-clause-fault c =
@@ -45,7 +47,7 @@ returns-in_err-vcpu-clause-fault c =
     let number = c.loop-index.index in
     let found = table_view c.in-Some.table.now in
     let value = c.index-values-index.result in
-    let table_is : as_table (view value) ≡ Some found = grind (arith, common_steps) in
+    let table_is : as_table (view value) ≡ Some found = sym (rw c.in-Some.is at c.as_table.ensures) in
     let named : name_of number found ≡ Ok c.in_ok-name.name = grind (arith, common_steps) in
     let absent : has_text c.loop-index.names c.in_ok-name.name ≡ false =
     rw c.in_ok-name.ensures.same
@@ -65,17 +67,20 @@ loop-index-preserved c =
     let found = table_view c.in-Some.table.now in
     let value = c.index-values-index.result in
     let vcpu = c.in_ok-vcpu.vcpu in
-    let table_is : as_table (view value) ≡ Some found = grind (arith, common_steps) in
+    let table_is : as_table (view value) ≡ Some found = sym (rw c.in-Some.is at c.as_table.ensures) in
     let named : name_of number found ≡ Ok vcpu.name = grind (arith, common_steps) in
-    let absent : has_text c.loop-index.names vcpu.name ≡ false = grind (arith, common_steps) in
-    let settled : settings_fault number found ≡ None = grind (arith, common_steps) in
+    let absent : has_text c.loop-index.names vcpu.name ≡ false =
+    rw (c.in_ok-vcpu.ensures.name, c.in_ok-name.ensures.same)
+    (absent_if_new c.in_ok-add_text.field-0 c.loop-index.names c.in_ok-text.text.now
+    c.if-not-branch.false c.in_ok-add_text.ensures.added) in
+    let settled : settings_fault number found ≡ None = sym c.in_ok-vcpu.ensures.fault in
     let this : IsVcpuOf number found vcpu =
-    record { name = named; reservation = search rules; runnable = search rules; capped = search rules } in
+    record { name = named; reservation = c.in_ok-vcpu.ensures.reservation; runnable = c.in_ok-vcpu.ensures.runnable; capped = c.in_ok-vcpu.ensures.capped } in
     let adds : (text : List ℕ) → has_text c.add_text.new.texts text
     ≡ (bytes_eq text vcpu.name || has_text c.loop-index.names text) =
-    grind (arith, common_steps) in
+    rw (c.in_ok-vcpu.ensures.name, c.in_ok-name.ensures.same) c.in_ok-add_text.ensures.holds in
     let pushed : c.push.new.self.items ≡ c.loop-index.vcpus.items ++ vcpu ∷ [] =
-    grind (arith, common_steps) in
+    c.in_ok-push.ensures.items in
     rw pushed
     (read_more c.args.values.now number c.loop-index.names c.add_text.new.texts
     c.loop-index.vcpus.items vcpu value found c.loop-index.invariant c.loop-index-test.true
