@@ -1,10 +1,12 @@
 use Rattle.std.proofs.Common.{◌≡◌, arith, ◌∙◌}
+use Rattle.std.proofs.lemmas.Bool.{false≢true}
 use Rattle.flow_net.specs.Flows.{flow_of, lack_of}
 use Rattle.flow_net.specs.Inside.Demanded.{load}
 use Rattle.flow_net.specs.Counts.{admitted, job_count}
 use Rattle.flow_net.specs.Inside.Reach.{scanned}
 use Rattle.flow_net.specs.Inside.Reaching.{reached_of}
 use Rattle.flow_net.proofs.Searched.{no_lacks, lacks_less, scanned_le, cost_bound, rooted_at}
+use Rattle.flow_net.proofs.Back.{due_is}
 use Rattle.flow_net.proofs.search.search_once.Goals as goal
 
 pub returns-in-None-clause-done : goal.returns-in-None-clause-done
@@ -47,3 +49,29 @@ returns-in-Some-find_room-clause-cost g c =
     c.find_room.ensures.search in
     let bound = cost_bound l.count (admitted l) (job_count l) (scanned l (reached_of r)) most in
     omega (arith, bound, c.first_lacking.ensures.cost, c.read_job.ensures.cost, c.find_room.ensures.cost)
+
+pub begin-requires-clause-due : goal.begin-requires-clause-due
+begin-requires-clause-due g c =
+    let d = c.args.demands.now in
+    let known = c.in-Some.ensures in
+    due_is (load d) c.in-Some.at.0
+    (omega (arith, known.lacks, c.requires.net.flow.due c.in-Some.at.0 c.in-Some.at.1 known.vcpu known.job))
+
+pub returns-in-None-find_room-clause-net : goal.returns-in-None-find_room-clause-net
+returns-in-None-find_room-clause-net g c = c.requires.net
+
+pub returns-in-None-find_room-clause-raised : goal.returns-in-None-find_room-clause-raised
+returns-in-None-find_room-clause-raised g c t =
+    absurd (false≢true (rw c.in-None-find_room.is at c.find_room.ensures.found))
+
+pub returns-in-None-find_room-clause-done : goal.returns-in-None-find_room-clause-done
+returns-in-None-find_room-clause-done g c e =
+    absurd (false≢true (rw c.in-None-find_room.is at c.find_room.ensures.found))
+
+pub returns-in-None-find_room-clause-cost : goal.returns-in-None-find_room-clause-cost
+returns-in-None-find_room-clause-cost g c =
+    absurd (false≢true (rw c.in-None-find_room.is at c.find_room.ensures.found))
+
+pub returns-in-None-find_room-clause-last : goal.returns-in-None-find_room-clause-last
+returns-in-None-find_room-clause-last g c e =
+    absurd (false≢true (rw c.in-None-find_room.is at c.find_room.ensures.found))
