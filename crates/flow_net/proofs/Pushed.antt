@@ -10,5 +10,6 @@ pub push_numbers : (xs : List ℕ) (x n : ℕ) (P : ℕ → ℕ → Type 0) → 
     → P i (get_or (xs ++ x ∷ []) i 0)
 push_numbers xs x n P len old new i h = elim (cases_eq i n) [
   | inl e ↦ rw (e, ← len, get_or-append_seam xs x [] 0, len) new
-  | inr ne ↦ rw (get_or_append_left xs (x ∷ []) 0 i (omega (arith, h, ne, len))) (old i (omega (arith, h, ne)))
+  | inr ne ↦ rw (get_or_append_left xs (x ∷ []) 0 i (omega (arith, h, ne, len)))
+      (old i (omega (arith, h, ne)))
 ]

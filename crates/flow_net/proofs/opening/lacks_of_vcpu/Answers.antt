@@ -35,7 +35,8 @@ loop-i-init c =
     let period = get_or_read d.periods.items c.args.v c.index-period.result.now
     (omega (arith, d.same_len, c.requires.vcpu)) c.index-period.ensures 0 in
     let cost = get_or_read d.costs.items c.args.v c.index.result.now c.requires.vcpu c.index.ensures 0 in
-    rw (period, cost, c.in_ok-lacks.ensures.items) (lacks_start (load d) d.ok (flow_of c.args.rows.now.items) c.args.v c.requires.vcpu)
+    rw (period, cost, c.in_ok-lacks.ensures.items)
+    (lacks_start (load d) d.ok (flow_of c.args.rows.now.items) c.args.v c.requires.vcpu)
 
 pub returns-clause-len : goal.returns-clause-len
 returns-clause-len c =

@@ -54,7 +54,12 @@ overflow_cast-share c =
     let share = share_is d v c.args.i c.from.result c.from-length.result c.from-in-loop-v.result
     (c.from.ensures ∙ cost) (c.from-length.ensures ∙ c.length.ensures)
     (c.from-in-loop-v.ensures ∙ period) in
-    omega (arith, share, fluid_short (load d) d.ok v c.args.i within, span_le (load d) d.ok c.args.i c.requires)
+    omega (
+      arith,
+      share,
+      fluid_short (load d) d.ok v c.args.i within,
+      span_le (load d) d.ok c.args.i c.requires,
+    )
 
 pub loop-v-preserved : goal.loop-v-preserved
 loop-v-preserved c =
@@ -70,7 +75,9 @@ loop-v-preserved c =
     (c.from-in-loop-v.ensures ∙ period) in
     let n = c.from.result * c.from-length.result / c.from-in-loop-v.result in
     record {
-      len = rw c.in_ok-push.ensures.items (length-append c.loop-v.row.items (n ∷ []) ∙ ap (λ k. k + 1) inv.len);
+      len = rw c.in_ok-push.ensures.items
+          (length-append c.loop-v.row.items (n ∷ []) ∙ ap (λ k. k + 1) inv.len);
       shares = rw c.in_ok-push.ensures.items
-          (push_numbers c.loop-v.row.items n v (λ w x. x ≡ fluid (load d) w c.args.i) inv.len inv.shares share);
+          (push_numbers c.loop-v.row.items n v (λ w x. x ≡ fluid (load d) w c.args.i) inv.len
+          inv.shares share);
     }

@@ -12,7 +12,8 @@ loop-i-preserved c =
     let inv = c.loop-i.invariant in
     let left = c.room_left.result in
     record {
-      len = rw c.in_ok-push.ensures.items (length-append c.loop-i.room.items (left ∷ []) ∙ ap (λ n. n + 1) inv.len);
+      len = rw c.in_ok-push.ensures.items
+          (length-append c.loop-i.room.items (left ∷ []) ∙ ap (λ n. n + 1) inv.len);
       fits = rw c.in_ok-push.ensures.items
           (push_numbers c.loop-i.room.items left c.loop-i.i (λ j x. x + used l f j ≡ l.cores * span l j)
           inv.len inv.fits c.room_left.ensures);

@@ -75,7 +75,12 @@ loop-index-preserved c =
     c.if-not-branch.false c.in_ok-add_text.ensures.added) in
     let settled : settings_fault number found ≡ None = sym c.in_ok-vcpu.ensures.fault in
     let this : IsVcpuOf number found vcpu =
-    record { name = named; reservation = c.in_ok-vcpu.ensures.reservation; runnable = c.in_ok-vcpu.ensures.runnable; capped = c.in_ok-vcpu.ensures.capped } in
+    record {
+      name = named;
+      reservation = c.in_ok-vcpu.ensures.reservation;
+      runnable = c.in_ok-vcpu.ensures.runnable;
+      capped = c.in_ok-vcpu.ensures.capped;
+    } in
     let adds : (text : List ℕ) → has_text c.add_text.new.texts text
     ≡ (bytes_eq text vcpu.name || has_text c.loop-index.names text) =
     rw (c.in_ok-vcpu.ensures.name, c.in_ok-name.ensures.same) c.in_ok-add_text.ensures.holds in
