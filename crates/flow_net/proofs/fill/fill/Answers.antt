@@ -1,5 +1,4 @@
-use Rattle.std.proofs.Common.{◌≡◌, ◌+◌, ◌*◌, ◌≤◌, arith}
-use Rattle.flow_net.specs.Counts.{admitted}
+use Rattle.std.proofs.Common.{◌≡◌, arith}
 use Rattle.flow_net.specs.Inside.Demanded.{load}
 use Rattle.flow_net.proofs.fill.fill.Goals as goal
 
