@@ -3,7 +3,8 @@ ghost use Rattle.tab_core.specs.Vcpus.{runnable_at_first};
 ghost use Rattle.tab_core.specs.declared.TheConstants.{MAX_CHANGES, MAX_EVENTS};
 ghost use Rattle.tab_core.specs.declared.over.Over.{Over};
 ghost use Rattle.tab_core.specs.declared.periodic.Periodic.{Periodic};
-ghost use Rattle.table_form.specs.Tables.Plans.{PlanView};
+ghost use Rattle.table_form.specs.Tables.Plans.{IsPlanFor, PlanView};
+ghost use Rattle.table_form.specs.Tables.Views.{plan_view};
 ghost use Rattle.period_choice.specs.Tasks.{AreTasksOf, IsFirstWithoutPeriod};
 ghost use Rattle.worst_fit.specs.Bound.{IsWithinBound};
 ghost use Rattle.plan_make.specs.Planned.{IsFirstWithoutRoom, IsPlanned};
@@ -20,7 +21,7 @@ use script_doc::{Act, Edits, Event, Script};
 use std::alloc::Global;
 use std::thread::Threads;
 use tab_core::{Host, NoMemory, VcpuSet};
-use table_form::Outline;
+use table_form::{Outline, Plan};
 
 impl LiveBook {
     /// The live book of a host and a script, whose vCPUs are the host's. Only the host is planned, and
@@ -49,20 +50,28 @@ impl LiveBook {
             → IfErr result (λ fault. fault ≡ PlanFault.NoMemory) }
     {
         let plan = plan(rt, alloc, host)?;
-        let events = script.events();
-        let outline = outline_in(alloc, host, events)?;
-        let changes = changes_of(alloc, events)?;
-        let counts = counts_of(alloc, events)?;
-        let cells = empty_cells(alloc, changes.len())?;
-        Ok(LiveBook {
-            host: host.copy(alloc)?,
-            plan,
-            outline,
-            changes,
-            counts,
-            cells,
-        })
+        Ok(book_of(alloc, host, script, plan)?)
     }
+}
+
+// The live book of a host, whose plan is known, and a script.
+fn book_of(alloc: Global, host: &Host, script: &Script, plan: Plan) -> Result<LiveBook, NoMemory>
+    requires within { AreWithin (length host.now.vcpus) script.now }
+    requires planned { IsPlanned host.now (plan_view plan) }
+    requires fits { IsPlanFor host.now (plan_view plan) }
+    ensures { IfOk result (IsLiveBookOf host.now script.now) }
+{
+    let events = script.events();
+    let outline = outline_in(alloc, host, events)?;
+    let (changes, counts, cells) = changes_in(alloc, events)?;
+    Ok(LiveBook {
+        host: host.copy(alloc)?,
+        plan,
+        outline,
+        changes,
+        counts,
+        cells,
+    })
 }
 
 // The outline of the events, whose ticks never fall.
@@ -90,6 +99,25 @@ fn runnable_sets(alloc: Global, first: VcpuSet, events: &[Event]) -> Result<Vec<
         sets.push(runnable.copy())?;
     }
     Ok(sets)
+}
+
+// The edits of each change of the events, how many changes there are among each count of them, and a cell for
+// each change.
+fn changes_in(
+    alloc: Global,
+    events: &[Event],
+) -> Result<(Vec<Edits>, Vec<u32>, Vec<OnceBox<Made>>), NoMemory>
+    requires { changes_in events.now ≤ MAX_CHANGES }
+    ensures changes { IfOk result (λ r. r.0.items ≡ edits_in events.now) }
+    ensures count { IfOk result (λ r. length r.1.items ≡ length events.now + 1) }
+    ensures each { IfOk result (λ r. (n : ℕ) → n ≤ length events.now
+        → slice_index r.1.items n ≡ changes_in (take n events.now)) }
+    ensures cells { IfOk result (λ r. length r.2.items ≡ length r.0.items) }
+{
+    let changes = changes_of(alloc, events)?;
+    let counts = counts_of(alloc, events)?;
+    let cells = empty_cells(alloc, changes.len())?;
+    Ok((changes, counts, cells))
 }
 
 // What an event makes of the runnable vCPUs.
