@@ -1,6 +1,6 @@
 -- A live run: how it begins, and what its actors tell of the state as which its view reads.
 use Rattle.std.proofs.Common.{◌≡◌, false, ℕ, suc, ◌+◌, ◌*◌, ◌<◌, ◌≤◌, List, [], ◌∷◌, ◌++◌, length, Option, None, Some, refl, sym, ap, ◌∙◌, subst, arith}
-use Rattle.std.specs.Prelude.{IfNone, is_some, slice_get, slice_index, take}
+use Rattle.std.specs.Prelude.{is_some, slice_get, slice_index, take}
 use Rattle.std.proofs.Math.Seq.{take-suc}
 use Rattle.std.proofs.lemmas.List.{length-map}
 use Rattle.std.proofs.lemmas.Option.{get_or_from_slice_get, slice_get_within}
@@ -41,10 +41,10 @@ use Rattle.live_plan.proofs.CrewsLemmas.{held_crew, run}
 use Rattle.live_run.specs.Inside.Telling.{AreTold, accounts_of, first_used, used_in}
 use Rattle.live_run.specs.LiveRuns.{RunsSoFar}
 
--- where there is nothing, what follows from that
-pub of_none : (o : Option ℕ) (P : Type 0) → is_some o ≡ false → IfNone o P → P
-of_none None P is holds = holds
-of_none (Some x) P is holds = absurd cc
+-- what is not something is nothing
+pub is_none : (o : Option ℕ) → is_some o ≡ false → o ≡ None
+is_none None is = refl
+is_none (Some x) is = absurd cc
 
 -- ---- the beginning
 

@@ -1,10 +1,13 @@
-ghost use Rattle.std.specs.Prelude.{◌≡◌, ◌≤◌, IfErr, IfOk, length};
+ghost use Rattle.std.specs.Prelude.{◌≡◌, ◌≤◌, IfErr, IfOk, None, length};
 ghost use Rattle.tab_core.specs.declared.TheConstants.{MAX_ROUNDS};
 ghost use Rattle.script_doc.specs.Script.{AreInRun, AreWithin};
 ghost use Rattle.round_words.specs.Seats.{view_of, IsSeatOf};
 ghost use Rattle.round_words.specs.Views.{opening};
+ghost use Rattle.round_words.specs.declared.view.View.{View};
+ghost use Rattle.core_workers.specs.Crews.{IsFresh};
 ghost use Rattle.live_plan.specs.Books.{IsLiveBookOf};
-ghost use Rattle.live_run.specs.Inside.Readies.{HasRoomToTell, IsReady};
+ghost use Rattle.live_plan.specs.Crews.{AllAgree, IsCrewOf, bare};
+ghost use Rattle.live_run.specs.Inside.Readies.{HasRoomToTell, HasRun, IsReady};
 ghost use Rattle.live_run.specs.LiveRuns.{IsRunOf, IsUnplanned, LeavesView};
 
 use crate::telling::tell;
@@ -15,7 +18,7 @@ use plan_book::{BookFault, Outcome, PlanBook};
 use plan_make::PlanFault;
 use round_words::{RoundBoard, RoundSeat};
 use script_doc::Script;
-use std::alloc::Global;
+use std::alloc::{AllocError, Global};
 use std::marker::Model;
 use std::sync::Wait;
 use std::thread::Threads;
@@ -82,24 +85,87 @@ pub fn run_script<R: Threads + Wait + Sync, G: Gate>(
         Ok(taken) => taken,
         Err(fault) => return Err((seat, LiveFault::NotBegun(fault))),
     };
+    let (seat, crew, stopped) = run_ready(rt, alloc, &live, crew, rounds, board, seat, gate);
+    match ran_of(rt, alloc, host, script, rounds, live, crew, &seat, stopped) {
+        Ok(ran) => Ok((seat, ran)),
+        Err(_) => Err((seat, LiveFault::Stopped)),
+    }
+}
+
+// Starts the board and runs what is ready. The third part is the change for which memory ran out, if it did.
+fn run_ready<R: Threads + Wait + Sync, G: Gate>(
+    rt: &R,
+    alloc: Global,
+    live: &LiveBook,
+    crew: LiveCrew,
+    rounds: u32,
+    board: &RoundBoard,
+    mut seat: RoundSeat,
+    gate: &G,
+) -> (RoundSeat, LiveCrew, Option<u32>)
+    requires crew { IsCrewOf live.now crew }
+    requires rounds { crew.rounds ≡ rounds }
+    requires agree { (v : View) → IsFresh (bare live.now) v → AllAgree live.now crew v }
+    requires board { IsSeatOf board.now seat }
+    requires opening { view_of seat ≡ opening }
+    ensures board { IsSeatOf board.now result.0 }
+    ensures ran { HasRun live.now rounds result.1 (view_of result.0) result.2 }
+{
     let outline = live.outline();
     board.start(&mut seat, outline.lag(), outline.cores(), outline.count());
-    let (seat, crew, stopped) = run_live(rt, alloc, board, seat, crew, &live, gate);
+    run_live(rt, alloc, board, seat, crew, live, gate)
+}
+
+// The run that was made, if memory didn't run out for a change and doesn't for what is told.
+fn ran_of<R: Threads + Sync>(
+    rt: &R,
+    alloc: Global,
+    host: &Host,
+    script: &Script,
+    rounds: u32,
+    live: LiveBook,
+    crew: LiveCrew,
+    seat: &RoundSeat,
+    stopped: Option<u32>,
+) -> Result<Ran, NoMemory>
+    requires within { AreWithin (length host.now.vcpus) script.now }
+    requires few { rounds ≤ MAX_ROUNDS }
+    requires live { IsLiveBookOf host.now script.now live }
+    requires ran { HasRun live rounds crew (view_of seat.now) stopped }
+    ensures { IfOk result (IsRunOf rounds host.now script.now (view_of seat.now)) }
+{
     if stopped.is_some() {
-        return Err((seat, LiveFault::Stopped));
+        return Err(AllocError);
     }
-    let Ok((book, changes, mut report)) = room_to_tell(rt, alloc, live, host, script, rounds) else {
-        return Err((seat, LiveFault::Stopped));
-    };
+    told(rt, alloc, host, script, rounds, live, &crew, seat)
+}
+
+// The run that was made, with what its actors tell of it.
+fn told<R: Threads + Sync>(
+    rt: &R,
+    alloc: Global,
+    host: &Host,
+    script: &Script,
+    rounds: u32,
+    live: LiveBook,
+    crew: &LiveCrew,
+    seat: &RoundSeat,
+) -> Result<Ran, NoMemory>
+    requires within { AreWithin (length host.now.vcpus) script.now }
+    requires few { rounds ≤ MAX_ROUNDS }
+    requires live { IsLiveBookOf host.now script.now live }
+    requires ran { HasRun live rounds crew.now (view_of seat.now) None }
+    ensures { IfOk result (IsRunOf rounds host.now script.now (view_of seat.now)) }
+{
+    let (book, changes, mut report) = room_to_tell(rt, alloc, live, host, script, rounds)?;
     seat.shown();
     let course = book.course();
-    tell(course, course.cores(), &crew, rounds, &mut report);
-    let ran = Ran {
+    tell(course, course.cores(), crew, rounds, &mut report);
+    Ok(Ran {
         book,
         changes,
         report,
-    };
-    Ok((seat, ran))
+    })
 }
 
 // What a run begins with: the live book, and the actors.
