@@ -11,7 +11,7 @@ ghost use Rattle.script_doc.specs.Script.{AreInRun, AreWithin, changes_in};
 ghost use Rattle.plan_book.specs.After.{IsKnownAfter};
 ghost use Rattle.plan_book.specs.Books.{IsBookOf, NameVcpusBelow};
 ghost use Rattle.plan_book.specs.Courses.{ticks_of};
-ghost use Rattle.plan_book.specs.Inside.Making.{IsBookMade};
+ghost use Rattle.plan_book.specs.Inside.Making.{BookInvariant, IsBookMade};
 ghost use Rattle.plan_book.specs.Mades.{AreMadeOf, IsMadeOf};
 ghost use Rattle.plan_book.specs.States.{BookState};
 
@@ -118,6 +118,35 @@ fn book_of<R: Threads + Sync>(
     requires made { AreMadeOf host.now script.now made.old }
     ensures { IfOk result (IsBookMade host.now script.now) }
 {
+    let (so_far, counts) = known_at_end(rt, alloc, host, script, first, made)?;
+    let ticks = ticks_in(alloc, script.events())?;
+    let course = Course::of(
+        host.cores,
+        host.lag,
+        host.quantum,
+        ticks,
+        so_far.plans,
+        counts.numbers,
+        counts.runnable,
+    );
+    Ok(PlanBook::of(course, so_far.outcomes))
+}
+
+// What is known after the last event, and the plan's number and the runnable vCPUs after each count of events.
+fn known_at_end<R: Threads + Sync>(
+    rt: &R,
+    alloc: Global,
+    host: &Host,
+    script: &Script,
+    first: Plan,
+    made: &mut [Option<Result<Plan, Outcome>>],
+) -> Result<(BookSoFar, Counts), NoMemory>
+    requires within { AreWithin (length host.now.vcpus) script.now }
+    requires first { IsMadeOf host.now (Ok first) }
+    requires made { AreMadeOf host.now script.now made.old }
+    ensures { IfOk result (λ r. BookInvariant host.now script.now (length script.now) r.0
+        r.1.numbers.items r.1.runnable.items) }
+{
     let events = script.events();
     let mut so_far = BookSoFar::start(alloc, host, first)?;
     let mut counts = Counts::with_room(alloc, events.len() + 1)?;
@@ -126,16 +155,7 @@ fn book_of<R: Threads + Sync>(
         so_far.apply(rt, alloc, &event.act, made)?;
         counts.add(&so_far)?;
     }
-    let course = Course::of(
-        host.cores,
-        host.lag,
-        host.quantum,
-        ticks_in(alloc, events)?,
-        so_far.plans,
-        counts.numbers,
-        counts.runnable,
-    );
-    Ok(PlanBook::of(course, so_far.outcomes))
+    Ok((so_far, counts))
 }
 
 /// The ticks of the events, in their order. Fails only for want of memory.

@@ -1,106 +1,34 @@
-use Rattle.std.proofs.Common.{◌≡◌, ◌+◌, ◌<◌, List, [], ◌∷◌, ◌++◌, length, get_or, ap, subst, sym, ◌∙◌}
-use Rattle.script_doc.specs.declared.event.Event.{Event}
+use Rattle.std.proofs.Common.{ap, subst, sym, ◌∙◌}
 use Rattle.table_form.specs.Running.CourseViews.{course_view}
 use Rattle.table_form.specs.Running.Courses.{IsCourseForm}
 use Rattle.plan_book.specs.Courses.{ticks_of}
-use Rattle.plan_book.specs.Inside.Making.{known_of}
-use Rattle.plan_book.proofs.CourseOfBook.{book_is, form_of, invariant_at_end, outcomes_few}
-use Rattle.plan_book.proofs.MadesLemmas.{made_left, next_made}
-use Rattle.plan_book.proofs.MakingLemmas.{few_plans, known_next, invariant_first, invariant_next, next_within}
+use Rattle.plan_book.proofs.CourseOfBook.{book_is, form_of, outcomes_few}
 use Rattle.plan_book.proofs.make.book_of.Goals as goal
-
-pub loop-event-init : goal.loop-event-init
-loop-event-init g c =
-    let start = c.in_ok-so_far.ensures in
-    let numbers = c.in_ok-add.ensures.numbers
-    ∙ ap (λ ns. ns ++ (known_of c.in_ok-so_far.so_far).number ∷ [])
-    c.in_ok-counts.ensures.numbers in
-    let runnable = c.in_ok-add.ensures.runnable
-    ∙ ap (λ sets. sets ++ c.in_ok-so_far.so_far.runnable ∷ [])
-    c.in_ok-counts.ensures.runnable in
-    record {
-      book = invariant_first c.args.host.now c.args.script.now c.in_ok-so_far.so_far _ _ start.first
-          start.one_plan start.fits numbers runnable;
-      made = c.requires.made;
-    }
-
-pub apply-requires-clause-within : goal.apply-requires-clause-within
-apply-requires-clause-within g c _ _ =
-    let same = c.events-events.ensures.same in
-    next_within c.args.host.now c.args.script.now c.loop-event.event-index c.event-item.result
-    c.loop-event.so_far _ _ c.loop-event.invariant.book c.requires.within
-    (subst (λ (es : List Event). c.loop-event.event-index < length es) same c.loop-event-test.true)
-    (subst (λ (es : List Event). c.event-item.result
-    ≡ get_or es c.loop-event.event-index c.event-item.result) same c.event-item.is)
-
-pub add-requires-in-loop-event-clause-few : goal.add-requires-in-loop-event-clause-few
-add-requires-in-loop-event-clause-few g c =
-    let same = c.events-events.ensures.same in
-    few_plans c.args.host.now c.args.script.now (c.loop-event.event-index + 1) c.apply.new.self
-    (known_next c.args.host.now c.args.script.now c.loop-event.event-index c.event-item.result
-    c.loop-event.so_far c.apply.new.self c.loop-event.invariant.book.known
-    (subst (λ (es : List Event). c.loop-event.event-index < length es) same c.loop-event-test.true)
-    (subst (λ (es : List Event). c.event-item.result
-    ≡ get_or es c.loop-event.event-index c.event-item.result) same c.event-item.is)
-    c.in_ok-apply.ensures.applies) c.events-events.ensures.few_changes
-
-pub loop-event-preserved : goal.loop-event-preserved
-loop-event-preserved g c =
-    let same = c.events-events.ensures.same in
-    record {
-      book = invariant_next c.args.host.now c.args.script.now c.loop-event.event-index c.event-item.result
-          c.loop-event.so_far c.apply.new.self _ _ _ _ c.loop-event.invariant.book
-          (subst (λ (es : List Event). c.loop-event.event-index < length es) same c.loop-event-test.true)
-          (subst (λ (es : List Event). c.event-item.result
-          ≡ get_or es c.loop-event.event-index c.event-item.result) same c.event-item.is)
-          c.in_ok-apply.ensures.applies c.in_ok-apply.ensures.keeps_plans
-          (c.in_ok-apply.ensures.fits c.loop-event.invariant.book.fits)
-          c.in_ok-add-2.ensures.numbers c.in_ok-add-2.ensures.runnable;
-      made = made_left c.args.host.now c.args.script.now c.loop-event.made c.apply.new.made
-          c.loop-event.invariant.made c.in_ok-apply.ensures.left;
-    }
 
 pub of-course-requires : goal.of-course-requires
 of-course-requires g c =
-    let same = c.events-events.ensures.same in
-    let script = c.args.script.now in
-    let made = invariant_at_end c.args.host.now _ script c.loop-event.event-index c.loop-event.so_far _ _
-    c.loop-event.invariant.book same c.loop-event.auto.event-index-end c.loop-event-test.false in
-    let form = form_of c.args.host.now script c.loop-event.so_far _ _ made
-    c.events-events.ensures.order c.events-events.ensures.few in
-    let ticks = c.in_ok-ticks_in.ensures ∙ ap ticks_of same in
+    let known = c.in_ok-so_far.so_far in
+    let counts = c.in_ok-so_far.counts in
+    let form = form_of c.args.host.now c.args.script.now known _ _ c.in_ok-so_far.ensures
+    c.events.ensures.order c.events.ensures.few in
+    let ticks = c.in_ok-ticks.ensures ∙ ap ticks_of c.events.ensures.same in
     subst (λ ts. IsCourseForm
     (course_view c.args.host.now.cores c.args.host.now.lag c.args.host.now.quantum ts
-    c.loop-event.so_far.plans.items c.loop-event.counts.numbers.items
-    c.loop-event.counts.runnable.items)) (sym ticks) form
+    known.plans.items counts.numbers.items counts.runnable.items)) (sym ticks) form
 
 pub of-requires : goal.of-requires
 of-requires g c =
-    let same = c.events-events.ensures.same in
-    let script = c.args.script.now in
-    let made = invariant_at_end c.args.host.now _ script c.loop-event.event-index c.loop-event.so_far _ _
-    c.loop-event.invariant.book same c.loop-event.auto.event-index-end c.loop-event-test.false in
-    outcomes_few c.args.host.now script c.loop-event.so_far _ _ made c.events-events.ensures.few_changes
-
-pub apply-requires-clause-made : goal.apply-requires-clause-made
-apply-requires-clause-made g c _ _ =
-    let same = c.events-events.ensures.same in
-    next_made c.args.host.now c.args.script.now c.loop-event.event-index c.event-item.result c.loop-event.so_far
-    c.loop-event.made c.loop-event.invariant.book.known
-    (subst (λ (es : List Event). c.loop-event.event-index < length es) same c.loop-event-test.true)
-    (subst (λ (es : List Event). c.event-item.result
-    ≡ get_or es c.loop-event.event-index c.event-item.result) same c.event-item.is) c.loop-event.invariant.made
+    outcomes_few c.args.host.now c.args.script.now c.in_ok-so_far.so_far _ _ c.in_ok-so_far.ensures c.events.ensures.few_changes
 
 pub returns : goal.returns
 returns g c =
-    let same = c.events-events.ensures.same in
-    let script = c.args.script.now in
+    let known = c.in_ok-so_far.so_far in
+    let counts = c.in_ok-so_far.counts in
     record {
-      so_far = c.loop-event.so_far;
-      numbers = c.loop-event.counts.numbers.items;
-      runnable = c.loop-event.counts.runnable.items;
-      invariant = invariant_at_end c.args.host.now _ script c.loop-event.event-index c.loop-event.so_far _ _
-          c.loop-event.invariant.book same c.loop-event.auto.event-index-end c.loop-event-test.false;
-      is = book_is c.args.host.now _ script c.loop-event.so_far _ _ _ c.of-course.result c.of.result same
-          c.in_ok-ticks_in.ensures c.of-course.ensures c.of.ensures;
+      so_far = known;
+      numbers = counts.numbers.items;
+      runnable = counts.runnable.items;
+      invariant = c.in_ok-so_far.ensures;
+      is = book_is c.args.host.now _ c.args.script.now known _ _ _ c.of-course.result c.of.result c.events.ensures.same
+          c.in_ok-ticks.ensures c.of-course.ensures c.of.ensures;
     }

@@ -1,6 +1,6 @@
 use Rattle.plan_book.specs.Inside.Making.{BookInvariant}
 use Rattle.plan_book.specs.Mades.{AreMadeOf}
-use Rattle.plan_book.proofs.make.book_of.Given as goal
+use Rattle.plan_book.proofs.make.known_at_end.Given as goal
 
 abbrev pub invariant-loop-event : goal.invariant-loop-event
 invariant-loop-event g l = record {
