@@ -147,14 +147,28 @@ fn known_at_end<R: Threads + Sync>(
     ensures { IfOk result (λ r. BookInvariant host.now script.now (length script.now) r.0
         r.1.numbers.items r.1.runnable.items) }
 {
-    let events = script.events();
-    let mut so_far = BookSoFar::start(alloc, host, first)?;
-    let mut counts = Counts::with_room(alloc, events.len() + 1)?;
-    counts.add(&so_far)?;
-    for event in events {
+    let (mut so_far, mut counts) = known_at_first(alloc, host, script, first)?;
+    for event in script.events() {
         so_far.apply(rt, alloc, &event.act, made)?;
         counts.add(&so_far)?;
     }
+    Ok((so_far, counts))
+}
+
+// What is known before the first event, with room for what is known after each.
+fn known_at_first(
+    alloc: Global,
+    host: &Host,
+    script: &Script,
+    first: Plan,
+) -> Result<(BookSoFar, Counts), NoMemory>
+    requires { IsMadeOf host.now (Ok first) }
+    ensures { IfOk result (λ r. BookInvariant host.now script.now 0 r.0 r.1.numbers.items
+        r.1.runnable.items) }
+{
+    let so_far = BookSoFar::start(alloc, host, first)?;
+    let mut counts = Counts::with_room(alloc, script.events().len() + 1)?;
+    counts.add(&so_far)?;
     Ok((so_far, counts))
 }
 
