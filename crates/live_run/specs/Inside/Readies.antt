@@ -1,5 +1,5 @@
 -- What a live run begins with, what it comes to, and what it is told with.
-use Rattle.std.specs.Prelude.{◌≡◌, ℕ, IfNone, List, Option, length}
+use Rattle.std.specs.Prelude.{◌≡◌, ℕ, IfNone, List, Option, Some, length}
 use Rattle.tab_core.specs.declared.host.Host.{Host}
 use Rattle.script_doc.specs.declared.event.Event.{Event}
 use Rattle.table_form.specs.Running.Courses.{CourseView, IsCourse}
