@@ -1,0 +1,6 @@
+pub mod GatheredLemmas
+pub mod LineBytes
+pub mod NearLemmas
+pub mod RoomLemmas
+pub mod StintLineLemmas
+pub mod TailLemmas

@@ -1,8 +1,16 @@
 //! The line of a stint, as a trace has it and the text of a replay.
 //!
-//! It is the `stint_line` of `specs/StintLine.antt`.
+//! It is the `stint_line` of `specs/StintLine.antt`. `StintLines` gathers the lines of a run before it
+//! writes them.
 #![tactic(auto)]
 
+mod first_owner;
+mod line_bytes;
+mod line_parts;
+mod lines;
 mod stint_line;
+mod tail;
+mod tails;
 
+pub use lines::StintLines;
 pub use stint_line::{put_owned_stint, put_stint};

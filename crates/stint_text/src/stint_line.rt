@@ -85,7 +85,7 @@ fn owner_at_begin(course: &Course, core: CoreNo, stint: &Stint) -> Option<VcpuNo
     rows[core.index()].cell(stint.from % ROUND)
 }
 
-fn is_other(owner: &Option<VcpuNo>, ran: &VcpuNo) -> bool
+pub(crate) fn is_other(owner: &Option<VcpuNo>, ran: &VcpuNo) -> bool
     ensures { result ≡ runs_other owner.now (Some ran.now) }
 {
     match owner {

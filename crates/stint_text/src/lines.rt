@@ -1,0 +1,132 @@
+ghost use Rattle.std.specs.Prelude.{◌≡◌, ◌+◌, ◌<◌, ◌≤◌, [], ◌++◌, IfOk, codes, decimal, flat_map, length, take};
+ghost use Rattle.tab_io.specs.Sinks.{Writes};
+ghost use Rattle.tab_words.specs.Blocks.{PutsBehind};
+ghost use Rattle.tab_words.specs.Pieces.{piece_text};
+ghost use Rattle.vcpu_names.specs.Names.{names_of};
+ghost use Rattle.stint_text.specs.StintLine.{stint_line};
+ghost use Rattle.stint_text.specs.StintLines.{StintLinesView};
+ghost use Rattle.stint_text.specs.Inside.Tails.{MakesRoom};
+ghost use Rattle.stint_text.specs.declared.line_bytes.TheConstants.{BLOCK};
+ghost use Rattle.stint_text.specs.declared.line_parts.TheConstants.{LINE};
+
+use crate::first_owner::first_owner;
+use crate::line_bytes::{BLOCK, Block, FULL};
+use crate::line_parts::put_parts;
+use crate::tail::Tail;
+use crate::tails::{tail_place, tails_of};
+use std::marker::Model;
+use tab_core::{CoreNo, Stint, Vcpu};
+use tab_io::{Sink, WriteFault, write_all};
+use tab_words::{TextPiece, put_pieces};
+use table_form::Course;
+
+/// The lines of a run, which are gathered and written many at once. Contracts see the names of the vCPUs
+/// and the bytes that are gathered.
+///
+/// The owner of a stint's first tick is looked for near that of the core's stint before.
+#[derive(Drop)]
+pub struct StintLines<'a> {
+    vcpus: &'a [Vcpu],
+    tails: [Tail; 257],
+    // of the block the first `count` bytes are gathered
+    block: Block,
+    count: usize,
+    // for each core where the segment of its last stint's begin stands in its row
+    places: [usize; 32],
+}
+
+impl<'a> Model for StintLines<'a> {
+    ghost use Rattle.std.specs.Prelude.{take};
+    ghost use Rattle.vcpu_names.specs.Names.{names_of};
+    ghost use Rattle.stint_text.specs.StintLines.{StintLinesView};
+    ghost use Rattle.stint_text.specs.Inside.Tails.{HoldsLines};
+
+    ghost Value = { StintLinesView };
+
+    ghost view = { λ lines. record {
+      names = names_of lines.vcpus.now;
+      gathered = take lines.count lines.block;
+    } };
+
+    ghost invariant = { λ lines. HoldsLines (names_of lines.vcpus.now) lines.tails lines.count };
+}
+
+impl<'a> StintLines<'a> {
+    /// No lines, for these vCPUs.
+    pub fn of(vcpus: &'a [Vcpu]) -> StintLines<'a>
+        ensures names { result.names ≡ names_of vcpus.now }
+        ensures none { result.gathered ≡ [] }
+    {
+        StintLines {
+            vcpus,
+            tails: tails_of(vcpus),
+            block: [0; BLOCK],
+            count: 0,
+            places: [0; 32],
+        }
+    }
+
+    /// Puts the line of a core's stint behind the gathered ones, of which a front may be written.
+    ///
+    /// The core is below the course's cores, and the stint has a count of the course's events. A fault
+    /// leaves a front of the lines in the sink. Nothing is settled.
+    pub fn put_stint<K: Sink>(
+        &mut self,
+        sink: &mut K,
+        course: &Course,
+        core: CoreNo,
+        stint: &Stint,
+    ) -> Result<(), WriteFault>
+        requires core { core < course.now.cores }
+        requires used { stint.now.used ≤ length course.now.ticks }
+        ensures names { self.new.names ≡ self.old.names }
+        ensures bytes { PutsBehind (K.state sink.old) (K.state sink.new) self.old.gathered self.new.gathered
+            (stint_line self.old.names course.now core stint.now) result }
+    {
+        let found = first_owner(course, core, stint, self.places[core.index()]);
+        let at = make_room(sink, &self.block, self.count)?;
+        let tail = self.tails[tail_place(&stint.ran)];
+        self.count = put_parts(&mut self.block, at, core, stint, &found.owner, &tail);
+        self.places[core.index()] = found.place;
+        Ok(())
+    }
+
+    /// Writes the gathered lines and then these pieces, with nothing between them.
+    ///
+    /// A fault leaves a front of them in the sink. Nothing is settled.
+    pub fn put_pieces<K: Sink>(
+        &mut self,
+        sink: &mut K,
+        pieces: &[TextPiece<'_>],
+    ) -> Result<(), WriteFault>
+        ensures names { self.new.names ≡ self.old.names }
+        ensures bytes { PutsBehind (K.state sink.old) (K.state sink.new) self.old.gathered self.new.gathered
+            (flat_map piece_text pieces.now) result }
+    {
+        self.write(sink)?;
+        self.count = 0;
+        put_pieces(sink, pieces)
+    }
+
+    /// Writes the gathered lines.
+    ///
+    /// A fault leaves a front of the lines in the sink. Nothing is settled.
+    pub fn write<K: Sink>(&self, sink: &mut K) -> Result<(), WriteFault>
+        ensures { Writes (K.state sink.old) (K.state sink.new) self.now.gathered result }
+    {
+        write_all(sink, &self.block[..self.count])
+    }
+}
+
+// Writes the gathered bytes where they fill the block, and answers how many are gathered then.
+fn make_room<K: Sink>(sink: &mut K, block: &Block, count: usize) -> Result<usize, WriteFault>
+    requires { count ≤ BLOCK }
+    ensures room { IfOk result (λ left. left + LINE ≤ BLOCK) }
+    ensures bytes { MakesRoom (K.state sink.old) (K.state sink.new) block.now count result }
+{
+    if count < FULL {
+        return Ok(count);
+    }
+    write_all(sink, &block[..count])?;
+    Ok(0)
+}
