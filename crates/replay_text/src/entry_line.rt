@@ -1,20 +1,25 @@
-ghost use Rattle.tab_io.specs.Sinks.{Writes};
+ghost use Rattle.std.specs.Prelude.{◌≡◌};
+ghost use Rattle.tab_words.specs.Blocks.{PutsBehind};
 ghost use Rattle.replay_text.specs.ReplayText.{entry_line};
 
+use stint_text::StintLines;
 use tab_core::{CoreNo, Entry};
 use tab_io::{Sink, WriteFault};
-use tab_words::{TextPiece, put_pieces};
+use tab_words::TextPiece;
 
-// Writes the line of a core's entry into a round.
+// Puts the line of a core's entry into a round behind the gathered ones.
 #[tactic(auto, unfolding(crate::specs::ReplayText::entry_line))]
 pub(crate) fn put_entry<K: Sink>(
     sink: &mut K,
+    lines: &mut StintLines<'_>,
     core: CoreNo,
     entry: &Entry,
 ) -> Result<(), WriteFault>
-    ensures { Writes (K.state sink.old) (K.state sink.new) (entry_line core entry.now) result }
+    ensures names { lines.new.names ≡ lines.old.names }
+    ensures bytes { PutsBehind (K.state sink.old) (K.state sink.new) lines.old.gathered lines.new.gathered
+        (entry_line core entry.now) result }
 {
-    put_pieces(
+    lines.put_pieces(
         sink,
         &[
             TextPiece::Text(b"core "),

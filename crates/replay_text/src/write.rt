@@ -1,12 +1,13 @@
 ghost use Rattle.std.specs.Prelude.{◌≡◌, flat_map};
 ghost use Rattle.tab_io.specs.Sinks.{Writes};
+ghost use Rattle.tab_words.specs.Blocks.{PutsBehind};
 ghost use Rattle.vcpu_names.specs.Names.{names_of};
 ghost use Rattle.replay_text.specs.ReplayText.{made_line, posted_line, replay_text};
 ghost use Rattle.step_machine.specs.Traces.{AreOfCourse, IsOfCourse};
 
 use crate::entry_line::put_entry;
 use step_machine::{Made, Trace};
-use stint_text::put_stint;
+use stint_text::StintLines;
 use tab_core::{Host, Vcpu};
 use tab_io::{Sink, WriteFault};
 use tab_words::put_numbered;
@@ -35,7 +36,7 @@ pub fn write_replay<K: Sink>(
     put_posted(sink, trace.posted)
 }
 
-// Writes a line for each of these.
+// Writes a line for each of these. They are gathered, since a run has up to some 100,000 of them.
 fn put_all_made<K: Sink>(
     sink: &mut K,
     vcpus: &[Vcpu],
@@ -46,27 +47,28 @@ fn put_all_made<K: Sink>(
     ensures { Writes (K.state sink.old) (K.state sink.new)
         (flat_map (made_line (names_of vcpus.now) course.now) made.now) result }
 {
+    let mut lines = StintLines::of(vcpus);
     for one in made {
-        if let Err(fault) = put_made(sink, vcpus, course, one) {
-            return Err(fault);
-        }
+        put_made(sink, &mut lines, course, one)?;
     }
-    Ok(())
+    lines.write(sink)
 }
 
+// Puts the line behind the gathered ones.
 fn put_made<K: Sink>(
     sink: &mut K,
-    vcpus: &[Vcpu],
+    lines: &mut StintLines<'_>,
     course: &Course,
     made: &Made,
 ) -> Result<(), WriteFault>
     requires { IsOfCourse course.now made.now }
-    ensures { Writes (K.state sink.old) (K.state sink.new)
-        (made_line (names_of vcpus.now) course.now made.now) result }
+    ensures names { lines.new.names ≡ lines.old.names }
+    ensures bytes { PutsBehind (K.state sink.old) (K.state sink.new) lines.old.gathered lines.new.gathered
+        (made_line lines.old.names course.now made.now) result }
 {
     match made {
-        Made::Entered { core, entry } => put_entry(sink, *core, entry),
-        Made::Ran { core, stint } => put_stint(sink, vcpus, course, *core, stint),
+        Made::Entered { core, entry } => put_entry(sink, lines, *core, entry),
+        Made::Ran { core, stint } => lines.put_stint(sink, course, *core, stint),
     }
 }
 

@@ -1,10 +1,14 @@
-use Rattle.std.proofs.Common.{take, flat_map, Ok}
-use Rattle.tab_io.specs.Sinks.{Writes}
+use Rattle.std.proofs.Common.{◌≡◌, ◌++◌, drop, flat_map}
+use Rattle.tab_io.specs.Sinks.{IsLeft}
 use Rattle.vcpu_names.specs.Names.{names_of}
 use Rattle.replay_text.specs.ReplayText.{made_line}
 use Rattle.replay_text.proofs.write.put_all_made.Given as goal
 
--- the lines so far came
+-- the gathered lines are left, and those from this one on
 abbrev pub invariant-loop-one : goal.invariant-loop-one
-invariant-loop-one g l = Writes {U = Unit {0}} (g.K.Sink.state l.fn.sink) (g.K.Sink.state l.sink)
-    (flat_map (made_line (names_of l.vcpus) l.course) (take l.one-index l.made)) (Ok (tt {0}))
+invariant-loop-one g l = record {
+  names : l.lines.names ≡ names_of l.vcpus;
+  left : IsLeft (g.K.Sink.state l.fn.sink) (g.K.Sink.state l.sink)
+      (flat_map (made_line (names_of l.vcpus) l.course) l.made)
+      (l.lines.gathered ++ flat_map (made_line (names_of l.vcpus) l.course) (drop l.one-index l.made));
+}
