@@ -1,7 +1,9 @@
 pub mod EventsLemmas
 pub mod OneScript
 pub mod OneStepList
+pub mod PlainStepLemmas
 pub mod ReadingLemmas
 pub mod ScriptLemmas
+pub mod SkippedLemmas
 pub mod StatementLemmas
 pub mod StepsLemmas

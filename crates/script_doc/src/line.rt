@@ -8,6 +8,10 @@ use tab_words::Words;
 pub fn is_skipped(line: &[u8]) -> bool
     ensures { result ≡ is_skipped line.now }
 {
+    // nearly all lines begin with a letter or a digit
+    if !line.is_empty() && line[0] > b'#' {
+        return false;
+    }
     Words::of(line).next().is_none() || is_comment(line)
 }
 

@@ -1,4 +1,4 @@
-ghost use Rattle.std.specs.Prelude.{◌≡◌, ℕ, ◌<◌, ◌≤◌, ◌^◌, ◌⊎◌, [], ◌∷◌, length, IfOk, IsErrOf, MatchOption};
+ghost use Rattle.std.specs.Prelude.{◌≡◌, ℕ, ◌<◌, ◌≤◌, ◌^◌, ◌⊎◌, [], ◌∷◌, ◌++◌, codes, length, IfOk, IfSome, IsErrOf, MatchOption};
 ghost use Rattle.tab_core.specs.declared.TheConstants.{MAX_CORES};
 ghost use Rattle.tab_words.specs.Words.{words_of};
 ghost use Rattle.script_doc.specs.Statements.{statements_of};
@@ -91,12 +91,58 @@ fn step_of(line: &[u8], cores: u32) -> Option<Step>
     requires { cores ≤ MAX_CORES }
     ensures { MatchOption result (IsNoStep cores (words_of line.now)) (IsStep cores (words_of line.now)) }
 {
+    if let Some(step) = plain_step(line, cores) {
+        return Some(step);
+    }
     let mut words = Words::of(line);
     match (words.next(), words.next(), words.next()) {
         (Some(name), None, _) => step_of_all(name),
         (Some(name), Some(word), None) => step_of_core(name, word, cores),
         _ => None,
     }
+}
+
+// The step that the line is, where it is a `see` or a `run` with one space. Most lines of a long list are so.
+fn plain_step(line: &[u8], cores: u32) -> Option<Step>
+    requires { cores ≤ MAX_CORES }
+    ensures { IfSome result (IsStep cores (words_of line.now)) }
+{
+    if let Some(word) = behind_four(line, b"see ") {
+        return see_of(word, cores);
+    }
+    if let Some(word) = behind_four(line, b"run ") {
+        return run_of(word, cores);
+    }
+    None
+}
+
+fn see_of(word: &[u8], cores: u32) -> Option<Step>
+    requires { cores ≤ MAX_CORES }
+    ensures { IfSome result (IsStep cores (words_of (codes "see " ++ word.now))) }
+{
+    let core = read_core(word, cores)?;
+    Some(Step::See(core))
+}
+
+fn run_of(word: &[u8], cores: u32) -> Option<Step>
+    requires { cores ≤ MAX_CORES }
+    ensures { IfSome result (IsStep cores (words_of (codes "run " ++ word.now))) }
+{
+    let core = read_core(word, cores)?;
+    Some(Step::Run(core))
+}
+
+// What follows these bytes, if the line begins with them.
+fn behind_four<'a>(line: &'a [u8], front: &[u8; 4]) -> Option<&'a [u8]>
+    ensures { IfSome result (λ rest. line.now ≡ front.now ++ rest.now) }
+{
+    if line.len() < 4 || line[0] != front[0] || line[1] != front[1] {
+        return None;
+    }
+    if line[2] != front[2] || line[3] != front[3] {
+        return None;
+    }
+    Some(&line[4..])
 }
 
 // The step of one word.
