@@ -1,4 +1,3 @@
-pub mod NearLemmas
 pub mod OneReport
 pub mod SoFarLemmas
 pub mod SumLemmas

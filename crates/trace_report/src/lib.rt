@@ -9,7 +9,6 @@
 mod adding;
 mod change_line;
 mod filling;
-mod first_owner;
 mod laws;
 mod report;
 mod report_lines;

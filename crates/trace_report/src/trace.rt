@@ -4,8 +4,7 @@ ghost use Rattle.tab_io.specs.Sinks.{Writes};
 ghost use Rattle.vcpu_names.specs.Names.{names_of};
 ghost use Rattle.trace_report.specs.TraceText.{trace_text};
 
-use crate::first_owner::first_owner;
-use stint_text::put_owned_stint;
+use stint_text::StintLines;
 use tab_core::{CoreNo, Host, Stint, Vcpu};
 use tab_io::{Sink, WriteFault};
 use table_form::Course;
@@ -29,8 +28,7 @@ pub fn write_trace<K: Sink>(
     put_stints(sink, host.vcpus.items(), course, core, stints)
 }
 
-// Writes the lines for these vCPUs. The segment of one stint's begin is where the next one's is looked
-// for first.
+// Writes the lines for these vCPUs, many at once.
 fn put_stints<K: Sink>(
     sink: &mut K,
     vcpus: &[Vcpu],
@@ -43,11 +41,9 @@ fn put_stints<K: Sink>(
     ensures { Writes (K.state sink.old) (K.state sink.new)
         (trace_text (names_of vcpus.now) course.now core stints.now) result }
 {
-    let mut near = 0;
+    let mut lines = StintLines::of(vcpus);
     for stint in stints {
-        let found = first_owner(course, core, stint, near);
-        near = found.place;
-        put_owned_stint(sink, vcpus, core, stint, &found.owner)?;
+        lines.put_stint(sink, course, core, stint)?;
     }
-    Ok(())
+    lines.write(sink)
 }
