@@ -1,5 +1,5 @@
 -- What the steps of a run make: that each step of a core makes something, and that nothing is lost.
-use Rattle.std.proofs.Common.{◌≡◌, ◌≢◌, ℕ, zero, suc, ◌+◌, ◌<◌, ◌≤◌, ◌/◌, inl, inr, List, [], ◌∷◌, ◌++◌, length, length-append, append_assoc, append-nil, get_or, Some, refl, ap, sym, subst, ◌∙◌, arith}
+use Rattle.std.proofs.Common.{◌≡◌, ◌≢◌, ℕ, zero, suc, ◌<◌, ◌/◌, inl, inr, List, [], ◌∷◌, ◌++◌, length, length-append, append_assoc, append-nil, Some, refl, ap, sym, subst, ◌∙◌, arith}
 use Rattle.std.specs.Prelude.{slice_get, slice_set, slice_index_or}
 use Rattle.std.specs.List.{All}
 use Rattle.std.proofs.lemmas.List.Elements.{All-append, All-nil}
@@ -9,7 +9,7 @@ use Rattle.tab_core.specs.declared.entry.Entry.{Entry}
 use Rattle.tab_core.specs.declared.stint.Stint.{Stint}
 use Rattle.table_form.specs.Running.Courses.{CourseView, IsCourse}
 use Rattle.table_form.specs.Running.Invariant.{StateInvariant}
-use Rattle.table_form.specs.Running.State.{State, CoreState, opening, opening_core}
+use Rattle.table_form.specs.Running.State.{State, CoreState, opening_core}
 use Rattle.script_doc.specs.declared.step.Step.{Step}
 use Rattle.script_doc.specs.declared.step.Step.TheVariants as steps
 use Rattle.step_machine.specs.declared.trace.Made.{Made}
@@ -22,7 +22,6 @@ use Rattle.step_machine.specs.Runs.{Leads}
 use Rattle.step_machine.specs.Traces.{AreMadeBy, AreOfCourse, EndsWith, IsOfCourse, IsTrace}
 use Rattle.step_machine.proofs.InvariantLemmas.{moves_keep}
 use Rattle.step_machine.proofs.Lists.{push_new, set_here}
-use Rattle.run_promises.proofs.Lists.{within}
 
 -- the core that a step wrote is the one that a reader of its number finds
 core_written : (old new : State) (c : ℕ) (core changed : CoreState) → slice_get old.cores c ≡ Some core

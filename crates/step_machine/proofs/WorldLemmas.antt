@@ -1,6 +1,5 @@
 -- The slice tables of each core, made core by core.
-use Rattle.std.proofs.Common.{◌≡◌, ℕ, ◌+◌, List, [], ◌∷◌, ◌++◌, inl, inr, length, length-append, Some, refl, subst, arith}
-use Rattle.std.specs.Prelude.{slice_get}
+use Rattle.std.proofs.Common.{ℕ, ◌+◌, List, [], ◌∷◌, ◌++◌, inl, inr, length-append, refl, subst, arith}
 use Rattle.tab_core.proofs.Lists.{push_split}
 use Rattle.table_form.specs.Running.Courses.{CourseView}
 use Rattle.slice_table.specs.CoreSlices.{AreSlicesOf}

@@ -1,7 +1,8 @@
-ghost use Rattle.std.specs.Prelude.{◌≡◌, ◌≢◌, ◌+◌, ◌*◌, ◌/◌, ◌^◌, ◌<◌, ◌≤◌, ◌↔◌, ℕ, false, IsTrue, IfSome, IfNone, Some, length, slice_get};
+ghost use Rattle.std.specs.Prelude.{◌≡◌, ◌≢◌, ◌+◌, ◌*◌, ◌/◌, ◌^◌, ◌<◌, ◌≤◌, ◌↔◌, ℕ, false, true, IsTrue, IfSome, IfNone, Some, length, slice_get};
 ghost use Rattle.tab_core.specs.declared.TheConstants.{MAX_CORES, MAX_ROUNDS};
 ghost use Rattle.tab_core.specs.declared.entry.Entry.{Entry as EntryValue};
 ghost use Rattle.table_form.specs.Running.Phases.{phase_of};
+ghost use Rattle.table_form.specs.Running.State.{CoreState};
 ghost use Rattle.table_form.specs.Running.Waiting.{AreWithinLag, IsFirstBehind, HasUpTo};
 ghost use Rattle.step_machine.specs.declared.core_log.CoreLog.{CoreLog as LogValue};
 ghost use Rattle.step_machine.specs.Answers.{shown};
@@ -49,8 +50,39 @@ pub(crate) struct Low {
     pub(crate) clock: u32,
 }
 
-// The lowest core, other than the one that is skipped, whose clock is below the tick less the lag.
+// The lowest core, other than the one that is skipped, whose clock is below the tick less the lag. Mostly
+// there is none.
 pub(crate) fn lowest_behind(logs: &[CoreLog], lag: u32, skip: Option<u32>, tick: u32) -> Option<Low>
+    requires few { length logs.now ≤ MAX_CORES }
+    requires small { (k : ℕ) (log : LogValue) → slice_get logs.now k ≡ Some log → log.clock + lag < 2 ^ 32 }
+    ensures some { IfSome result (λ low. IsFirstBehind lag (cores_of logs.now) skip tick low.core low.clock) }
+    ensures none { IfNone result (AreWithinLag lag (cores_of logs.now) skip tick) }
+{
+    if are_within(logs, lag, tick) {
+        return None;
+    }
+    first_behind(logs, lag, skip, tick)
+}
+
+// Whether no clock is below the tick less the lag. It stays out of the step, so that its loop has the
+// registers to itself.
+#[inline(never)]
+fn are_within(logs: &[CoreLog], lag: u32, tick: u32) -> bool
+    ensures { result ≡ true → (d : ℕ) (other : CoreState) → slice_get (cores_of logs.now) d ≡ Some other
+        → tick ≤ other.clock + lag }
+{
+    let least = tick.saturating_sub(lag);
+    for log in logs {
+        if log.clock < least {
+            return false;
+        }
+    }
+    true
+}
+
+// The same as `lowest_behind`, by a test of each core.
+#[inline(never)]
+fn first_behind(logs: &[CoreLog], lag: u32, skip: Option<u32>, tick: u32) -> Option<Low>
     requires few { length logs.now ≤ MAX_CORES }
     requires small { (k : ℕ) (log : LogValue) → slice_get logs.now k ≡ Some log → log.clock + lag < 2 ^ 32 }
     ensures some { IfSome result (λ low. IsFirstBehind lag (cores_of logs.now) skip tick low.core low.clock) }

@@ -1,5 +1,4 @@
-use Rattle.std.proofs.Common.{◌≡◌, ◌+◌, List, sym, subst, arith}
-use Rattle.slice_table.specs.declared.full_span.FullSpan.{FullSpan}
+use Rattle.std.proofs.Common.{◌+◌, sym, subst, arith}
 use Rattle.step_machine.specs.Inside.Worlds.{HaveFirstSlices}
 use Rattle.step_machine.proofs.WorldLemmas.{slices_none, slices_more}
 use Rattle.step_machine.proofs.world.new_slices.Goals as goal

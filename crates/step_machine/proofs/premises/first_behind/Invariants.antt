@@ -2,7 +2,7 @@ use Rattle.std.proofs.Common.{◌≡◌, ◌≢◌, ℕ, ◌+◌, ◌<◌, ◌�
 use Rattle.std.specs.Prelude.{slice_get}
 use Rattle.table_form.specs.Running.State.{CoreState}
 use Rattle.step_machine.specs.Inside.Logs.{cores_of}
-use Rattle.step_machine.proofs.premises.lowest_behind.Given as goal
+use Rattle.step_machine.proofs.premises.first_behind.Given as goal
 
 abbrev pub invariant-loop-d : goal.invariant-loop-d
 invariant-loop-d l = (k : ℕ) (core : CoreState) → k < l.d

@@ -6,7 +6,7 @@ use Rattle.step_machine.specs.declared.core_log.CoreLog.{CoreLog}
 use Rattle.table_form.specs.Running.State.{CoreState}
 use Rattle.step_machine.specs.Inside.Logs.{core_of}
 use Rattle.step_machine.proofs.LogLemmas.{log_at, core_at, found_at, core_within}
-use Rattle.step_machine.proofs.premises.lowest_behind.Goals as goal
+use Rattle.step_machine.proofs.premises.first_behind.Goals as goal
 
 pub returns-then-is_behind-clause-some : goal.returns-then-is_behind-clause-some
 returns-then-is_behind-clause-some c = record {
