@@ -52,6 +52,11 @@ pub both_behind : (before middle after a b : List ℕ) → middle ≡ before ++ 
 both_behind before middle after a b first second =
     second ∙ (ap (λ xs. xs ++ b) first ∙ append_assoc before a b)
 
+-- six parts and an end, in one row
+pub in_a_row_of_three : (a m b n c o f : List ℕ)
+    → (((a ++ m) ++ (b ++ n)) ++ (c ++ o)) ++ f ≡ a ++ (m ++ (b ++ (n ++ (c ++ (o ++ f)))))
+in_a_row_of_three a m b n c o f = simp append_assoc
+
 -- of what came behind them a front counts
 pub front_behind : (old new piece : List ℕ) (at end n k : ℕ) → end ≡ at + n → k ≤ n → at ≤ length old
     → take end new ≡ take at old ++ piece → take (at + k) new ≡ take at old ++ take k piece

@@ -1,3 +1,4 @@
 pub mod Inside
+pub mod NumbersLine
 pub mod StintLine
 pub mod StintLines

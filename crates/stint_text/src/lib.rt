@@ -8,9 +8,12 @@ mod first_owner;
 mod line_bytes;
 mod line_parts;
 mod lines;
+mod number_parts;
+mod numbered;
 mod stint_line;
 mod tail;
 mod tails;
 
 pub use lines::StintLines;
+pub use numbered::Numbered;
 pub use stint_line::{put_owned_stint, put_stint};

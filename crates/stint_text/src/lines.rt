@@ -1,9 +1,9 @@
 ghost use Rattle.std.specs.Prelude.{◌≡◌, ◌+◌, ◌<◌, ◌≤◌, [], ◌++◌, IfOk, codes, decimal, flat_map, length, take};
 ghost use Rattle.tab_io.specs.Sinks.{Writes};
 ghost use Rattle.tab_words.specs.Blocks.{PutsBehind};
-ghost use Rattle.tab_words.specs.Pieces.{piece_text};
 ghost use Rattle.vcpu_names.specs.Names.{names_of};
 ghost use Rattle.stint_text.specs.StintLine.{stint_line};
+ghost use Rattle.stint_text.specs.NumbersLine.{numbers_line};
 ghost use Rattle.stint_text.specs.StintLines.{StintLinesView};
 ghost use Rattle.stint_text.specs.Inside.Tails.{MakesRoom};
 ghost use Rattle.stint_text.specs.declared.line_bytes.TheConstants.{BLOCK};
@@ -12,12 +12,13 @@ ghost use Rattle.stint_text.specs.declared.line_parts.TheConstants.{LINE};
 use crate::first_owner::first_owner;
 use crate::line_bytes::{BLOCK, Block, FULL};
 use crate::line_parts::put_parts;
+use crate::number_parts::put_three;
+use crate::numbered::Numbered;
 use crate::tail::Tail;
 use crate::tails::{tail_place, tails_of};
 use std::marker::Model;
 use tab_core::{CoreNo, Stint, Vcpu};
 use tab_io::{Sink, WriteFault, write_all};
-use tab_words::{TextPiece, put_pieces};
 use table_form::Course;
 
 /// The lines of a run, which are gathered and written many at once. Contracts see the names of the vCPUs
@@ -91,21 +92,24 @@ impl<'a> StintLines<'a> {
         Ok(())
     }
 
-    /// Writes the gathered lines and then these pieces, with nothing between them.
+    /// Puts a line of three numbers, each behind its text, behind the gathered ones, of which a front may be
+    /// written.
     ///
-    /// A fault leaves a front of them in the sink. Nothing is settled.
-    pub fn put_pieces<K: Sink>(
+    /// A fault leaves a front of the lines in the sink. Nothing is settled.
+    pub fn put_numbers<K: Sink>(
         &mut self,
         sink: &mut K,
-        pieces: &[TextPiece<'_>],
+        first: &Numbered<'_>,
+        second: &Numbered<'_>,
+        third: &Numbered<'_>,
     ) -> Result<(), WriteFault>
         ensures names { self.new.names ≡ self.old.names }
         ensures bytes { PutsBehind (K.state sink.old) (K.state sink.new) self.old.gathered self.new.gathered
-            (flat_map piece_text pieces.now) result }
+            (numbers_line first.now second.now third.now) result }
     {
-        self.write(sink)?;
-        self.count = 0;
-        put_pieces(sink, pieces)
+        let at = make_room(sink, &self.block, self.count)?;
+        self.count = put_three(&mut self.block, at, first, second, third);
+        Ok(())
     }
 
     /// Writes the gathered lines.
