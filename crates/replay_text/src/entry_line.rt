@@ -2,10 +2,9 @@ ghost use Rattle.std.specs.Prelude.{◌≡◌};
 ghost use Rattle.tab_words.specs.Blocks.{PutsBehind};
 ghost use Rattle.replay_text.specs.ReplayText.{entry_line};
 
-use stint_text::StintLines;
+use stint_text::{Numbered, StintLines};
 use tab_core::{CoreNo, Entry};
 use tab_io::{Sink, WriteFault};
-use tab_words::TextPiece;
 
 // Puts the line of a core's entry into a round behind the gathered ones.
 #[tactic(auto, unfolding(crate::specs::ReplayText::entry_line))]
@@ -19,16 +18,17 @@ pub(crate) fn put_entry<K: Sink>(
     ensures bytes { PutsBehind (K.state sink.old) (K.state sink.new) lines.old.gathered lines.new.gathered
         (entry_line core entry.now) result }
 {
-    lines.put_pieces(
-        sink,
-        &[
-            TextPiece::Text(b"core "),
-            TextPiece::Number(core.0),
-            TextPiece::Text(b" round "),
-            TextPiece::Number(entry.round),
-            TextPiece::Text(b" count "),
-            TextPiece::Number(entry.used),
-            TextPiece::Text(b"\n"),
-        ],
-    )
+    let core = Numbered {
+        text: b"core ",
+        number: core.0,
+    };
+    let round = Numbered {
+        text: b" round ",
+        number: entry.round,
+    };
+    let count = Numbered {
+        text: b" count ",
+        number: entry.used,
+    };
+    lines.put_numbers(sink, &core, &round, &count)
 }
