@@ -1,5 +1,4 @@
-ghost use Rattle.std.specs.Prelude.{◌≡◌, ℕ, ◌+◌, ◌<◌, ◌≤◌, List, [], ◌∷◌, ◌++◌, codes, decimal, take};
-ghost use Rattle.tab_core.specs.declared.TheConstants.{MAX_CORES};
+ghost use Rattle.std.specs.Prelude.{◌≡◌, ℕ, ◌+◌, ◌≤◌, List, [], ◌∷◌, ◌++◌, codes, decimal, take};
 ghost use Rattle.table_form.specs.Running.Choice.{runs_other};
 ghost use Rattle.stint_text.specs.StintLine.{how_word, owned_line};
 ghost use Rattle.stint_text.specs.Inside.Tails.{tail_bytes, tail_text};

@@ -1,10 +1,9 @@
-ghost use Rattle.std.specs.Prelude.{◌≡◌, ◌+◌, ◌<◌, ◌≤◌, [], ◌++◌, IfOk, codes, decimal, flat_map, length, take};
+ghost use Rattle.std.specs.Prelude.{◌≡◌, ◌+◌, ◌<◌, ◌≤◌, [], IfOk, length};
 ghost use Rattle.tab_io.specs.Sinks.{Writes};
 ghost use Rattle.tab_words.specs.Blocks.{PutsBehind};
 ghost use Rattle.vcpu_names.specs.Names.{names_of};
 ghost use Rattle.stint_text.specs.StintLine.{stint_line};
 ghost use Rattle.stint_text.specs.NumbersLine.{numbers_line};
-ghost use Rattle.stint_text.specs.StintLines.{StintLinesView};
 ghost use Rattle.stint_text.specs.Inside.Tails.{MakesRoom};
 ghost use Rattle.stint_text.specs.declared.line_bytes.TheConstants.{BLOCK};
 ghost use Rattle.stint_text.specs.declared.line_parts.TheConstants.{LINE};
