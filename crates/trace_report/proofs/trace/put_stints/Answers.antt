@@ -1,4 +1,4 @@
-use Rattle.std.proofs.Common.{subst, sym, ◌∙◌}
+use Rattle.std.proofs.Common.{◌∙◌}
 use Rattle.std.proofs.lemmas.Result.{err_from_is_err_and}
 use Rattle.vcpu_names.specs.Names.{names_of}
 use Rattle.stint_text.proofs.GatheredLemmas.{gathered_last, next_gathered, next_torn}
