@@ -1,6 +1,6 @@
 -- Room in the block for one more line.
-use Rattle.std.proofs.Common.{◌≡◌, ℕ, List, ◌++◌, Err, sym, ap, ◌∙◌, append_assoc}
-use Rattle.tab_io.specs.Sinks.{IsLeft, Writes}
+use Rattle.std.proofs.Common.{ℕ, List, ◌++◌, Err}
+use Rattle.tab_io.specs.Sinks.{Writes}
 use Rattle.tab_io.specs.Views.{SinkView}
 use Rattle.tab_io.specs.declared.sink.WriteFault.{WriteFault}
 use Rattle.tab_io.proofs.SinkLemmas.{writes_stopped}
@@ -9,16 +9,6 @@ use Rattle.tab_io.proofs.SinkLemmas.{writes_stopped}
 pub failed_alike : {U W : Type 0} (s t : SinkView) (text : List ℕ) (e : WriteFault)
     → Writes {U = U} s t text (Err e) → Writes {U = W} s t text (Err e)
 failed_alike s t text e wrote = record { later = wrote.later; bytes = wrote.bytes; fits = wrote.fits }
-
--- a line that is put behind those for which room was made
-pub put_behind : (s t : SinkView) (before left behind line : List ℕ) → IsLeft s t before left
-    → behind ≡ left ++ line → IsLeft s t (before ++ line) behind
-put_behind s t before left behind line room put = record {
-  front = room.front;
-  whole = ap (λ l. l ++ line) room.whole ∙ (append_assoc room.front left line
-      ∙ ap (λ l. room.front ++ l) (sym put));
-  written = room.written;
-}
 
 -- where no room was made, a front of the lines with that one is out
 pub put_torn : (s t : SinkView) (before line : List ℕ) (e : WriteFault)

@@ -1,11 +1,11 @@
 -- The tails of lines, by whoever ran.
-use Rattle.std.proofs.Common.{◌≡◌, ◌≢◌, ℕ, ◌+◌, ◌<◌, ◌≤◌, ◌&&◌, nat_le, not, List, get_or, length, replicate, set, Option, Some, None, ap, subst, sym, ◌∙◌, inl, inr, arith}
+use Rattle.std.proofs.Common.{◌≡◌, ◌≢◌, ℕ, ◌+◌, ◌<◌, ◌≤◌, ◌&&◌, nat_le, not, List, get_or, length, replicate, set, Some, None, ap, subst, sym, ◌∙◌, inl, inr, arith}
 use Rattle.std.specs.List.{list_all}
 use Rattle.std.proofs.lemmas.Bool.{and_parts, cases_eq, leb-true}
 use Rattle.std.proofs.lemmas.List.{get_or-replicate, get_or-set_other, get_or-set_same}
 use Rattle.tab_core.specs.Name.{IsName, is_byte_of_name, is_lone_dash}
-use Rattle.tab_core.specs.declared.TheConstants.{MAX_NAME, MAX_VCPUS}
-use Rattle.stint_text.specs.Inside.Tails.{AreTails, tail_bytes, tail_place, tail_text}
+use Rattle.tab_core.specs.declared.TheConstants.{MAX_NAME}
+use Rattle.stint_text.specs.Inside.Tails.{AreTails, tail_bytes, tail_text}
 use Rattle.stint_text.specs.declared.tail.Tail.{Tail}
 
 -- a name has so many bytes at most
@@ -40,11 +40,3 @@ tail_more names tails vcpu tail room are is (Some v) d low = elim (cases_eq v vc
       (get_or-set_other tails (vcpu + 1) (v + 1) tail d (λ same. other (omega (arith, same))))
       ∙ are (Some v) d (let apart : v ≢ vcpu = other in omega (arith, apart))
 ]
-
--- what stands at an owner's place is its tail
-pub tail_found : (names : List (List ℕ)) (tails : List Tail) (owner : Option ℕ) (place : ℕ) (d : Tail)
-    → AreTails names MAX_VCPUS tails → place ≡ tail_place owner → place ≤ MAX_VCPUS
-    → tail_bytes (get_or tails place d) ≡ tail_text names owner
-tail_found names tails owner place d are at small =
-    let low : tail_place owner ≤ MAX_VCPUS = subst (λ n. n ≤ MAX_VCPUS) at small in
-    ap (λ n. tail_bytes (get_or tails n d)) at ∙ are owner d low
