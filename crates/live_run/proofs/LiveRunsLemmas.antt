@@ -16,7 +16,7 @@ use Rattle.table_form.specs.Running.Promises.{KeepsPromises}
 use Rattle.plan_book.proofs.CourseOfBook.{fits_rounds}
 use Rattle.round_words.specs.declared.view.View.{View}
 use Rattle.round_words.specs.Shown.{ViewInvariant}
-use Rattle.round_words.specs.Views.{IsStarted, holds, just_started, part}
+use Rattle.round_words.specs.Views.{IsStarted, just_started, part}
 use Rattle.dispatch_core.specs.Accounts.{IsAccountOf}
 use Rattle.dispatch_core.specs.declared.account.CoreAccount.{CoreAccount}
 use Rattle.board_state.proofs.FinishedLemmas.{counts_used}
