@@ -1,4 +1,4 @@
-ghost use Rattle.std.specs.Prelude.{◌≡◌, ◌+◌, ◌*◌, ◌/◌, ◌%◌, ◌<◌, ◌≤◌, length, true};
+ghost use Rattle.std.specs.Prelude.{◌≡◌, ◌+◌, ◌-◌, ◌*◌, ◌/◌, ◌%◌, ◌<◌, ◌≤◌, length, true};
 ghost use Rattle.tab_core.specs.declared.TheConstants.{ROUND};
 ghost use Rattle.table_form.specs.Running.Courses.{InEachCourse};
 ghost use Rattle.table_form.specs.Tables.Plans.{PlanView};
@@ -16,7 +16,7 @@ ghost use Rattle.dispatch_core.specs.Told.{BeginsNext, EndTold, StaysWhereBehind
 use crate::answer::Ended;
 use crate::log::{CoreLog, note};
 use round_words::{RoundBoard, RoundSeat, hear_all};
-use second_level::{Begin, next_stint};
+use second_level::{Begin, next_stint_in};
 use slice_table::SliceTable;
 use tab_core::{CoreNo, ROUND, Stint};
 use table_form::{Outline, Span};
@@ -54,7 +54,19 @@ pub(crate) fn end(
     // the clock's round is the last one that was entered
     let start = (log.used.len() as u32 - 1) * ROUND;
     let span = table.span_near(log.clock - start, place);
-    run_at(board, seat, outline, log, seen, used, &span)
+    let ended = run_at(board, seat, outline, log, start, seen, used, &span);
+    *place = place_after(*place, &ended, start.wrapping_add(span.end));
+    ended
+}
+
+// A guess at the number of the next span, which is the one behind where a stint ended this one. Counted and not branched
+// on, since whether a stint ends its span can't be foreseen.
+#[inline(always)]
+fn place_after(place: u32, ended: &Ended, end: u32) -> u32 {
+    match *ended {
+        Ended::Ran(stint) => place.wrapping_add((stint.end == end) as u32),
+        Ended::Behind { core: _, tick: _ } => place,
+    }
 }
 
 // The core hears the others and runs its next stint, at this span, if none of them is too far behind.
@@ -64,10 +76,12 @@ fn run_at(
     seat: &mut RoundSeat,
     outline: &Outline,
     log: &mut CoreLog,
+    start: u32,
     seen: u32,
     used: u32,
     span: &Span<'_>,
 ) -> Ended
+    requires start { start ≡ log.old.clock - log.old.clock % ROUND }
     requires board { IsSeatOf board.now seat.old }
     requires log { IsLog log.old }
     requires stands { Stands outline.now (log_view log.old) (view_of seat.old) }
@@ -95,7 +109,7 @@ fn run_at(
         used,
         last: log.last,
     };
-    let next = next_stint(outline, CoreNo(log.core), &begin, span);
+    let next = next_stint_in(outline, CoreNo(log.core), &begin, start, span);
     match hear_all(
         board,
         seat,

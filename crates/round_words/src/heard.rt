@@ -61,6 +61,7 @@ impl HeardClocks {
     }
 
     // The clocks, each by itself.
+    #[cold]
     #[inline(never)]
     pub(crate) fn spread(&self) -> [u32; 32]
         ensures { result ≡ self.now }

@@ -1,5 +1,5 @@
 //! The plain numbers of a seat, from which its calls work. They agree with its view.
-ghost use Rattle.std.specs.Prelude.{◌≡◌, ◌<◌, ◌≤◌, ◌-◌, ◌/◌, ℕ, suc, cond, length, replicate, slice_index, true, false};
+ghost use Rattle.std.specs.Prelude.{◌≡◌, ◌<◌, ◌≤◌, ◌-◌, ◌/◌, ℕ, suc, cond, min, length, replicate, slice_index, true, false};
 ghost use Rattle.tab_core.specs.declared.TheConstants.{MAX_CORES, MAX_EVENTS};
 ghost use Rattle.tab_core.specs.declared.entry.Entry.{Entry};
 ghost use Rattle.tab_core.specs.declared.stint.Stint.{Stint};
@@ -61,6 +61,7 @@ fn posted_of(mine: u32, theirs: u32, held: u64) -> u32
 }
 
 // The least of the numbers.
+#[cold]
 #[inline(never)]
 fn least_of(clocks: &[u32; 32]) -> u32
     ensures { (d : ℕ) → d < 32 → result ≤ slice_index clocks.now d }
@@ -70,6 +71,16 @@ fn least_of(clocks: &[u32; 32]) -> u32
         least = least.min(clocks[at]);
     }
     least
+}
+
+// The floor isn't above the tick from then on. Clocks rise, so this is a test and seldom a store.
+#[inline(always)]
+fn lower_to(floor: &mut u32, tick: u32)
+    ensures { floor.new ≡ min floor.old tick }
+{
+    if tick < *floor {
+        *floor = tick;
+    }
 }
 
 // The clocks at the start: 0 for each of the first so many, and behind them what is above every clock, so that the
@@ -223,7 +234,7 @@ impl Numbers {
             → NumbersAgree self.new (with_part v core (runs (part v core) s)) }
     {
         self.clocks[core] = end;
-        self.floor = self.floor.min(end);
+        lower_to(&mut self.floor, end);
         self.sights[core] = 0;
     }
 }

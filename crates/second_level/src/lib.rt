@@ -11,4 +11,4 @@ mod round_robin;
 mod stints;
 
 pub use round_robin::pick;
-pub use stints::{Begin, Next, next_stint};
+pub use stints::{Begin, Next, next_stint, next_stint_in};

@@ -64,6 +64,41 @@ pub fn next_stint(outline: &Outline, core: CoreNo, begin: &Begin, span: &Span<'_
         span.now.sharers.now span.now.end → InEachCourse outline.now begin.now.used plan
         (λ course. result.last ≡ last_after course core begin.now.last result.stint) }
 {
+    let start = begin.from - begin.from % ROUND;
+    next_stint_in(outline, core, begin, start, span)
+}
+
+/// The same, for a caller that knows where the round begins in which the stint does: at `start`, in ticks of the run.
+#[inline(always)]
+pub fn next_stint_in(
+    outline: &Outline,
+    core: CoreNo,
+    begin: &Begin,
+    start: u32,
+    span: &Span<'_>,
+) -> Next
+    requires start { start ≡ begin.now.from - begin.now.from % ROUND }
+    requires from { begin.now.from ≤ 2 ^ 31 }
+    requires seen { begin.now.seen ≤ length outline.now.ticks }
+    requires after { begin.now.from % ROUND < span.now.end }
+    requires within { span.now.end ≤ ROUND }
+    ensures from { result.stint.from ≡ begin.now.from }
+    ensures seen { result.stint.seen ≡ begin.now.seen }
+    ensures used { result.stint.used ≡ begin.now.used }
+    ensures some { result.stint.from < result.stint.end }
+    ensures in_round { result.stint.end ≤ (result.stint.from / ROUND + 1) * ROUND }
+    ensures follows { (plan : PlanView) → IsSpan plan core (begin.now.from % ROUND) span.now.owner
+        span.now.sharers.now span.now.end → InEachCourse outline.now begin.now.used plan
+        (λ course. (earlier : List StintValue) → begin.now.last ≡ last_shared course core earlier
+        → IsDispatch course core earlier result.stint) }
+    ensures shared { (plan : PlanView) → IsSpan plan core (begin.now.from % ROUND) span.now.owner
+        span.now.sharers.now span.now.end → InEachCourse outline.now begin.now.used plan
+        (λ course. result.shared ≡ is_shared course core result.stint) }
+    ensures last { (plan : PlanView) → IsSpan plan core (begin.now.from % ROUND) span.now.owner
+        span.now.sharers.now span.now.end → InEachCourse outline.now begin.now.used plan
+        (λ course. result.last ≡ last_after course core begin.now.last result.stint) }
+    ensures picked { result.last ≡ (if result.shared then result.stint.ran else begin.now.last) }
+{
     let (lag, quantum) = (outline.lag(), outline.quantum());
     let Begin {
         from,
@@ -74,7 +109,7 @@ pub fn next_stint(outline: &Outline, core: CoreNo, begin: &Begin, span: &Span<'_
     let ran = choose(span, outline.runnable_after(seen), last);
     let shared = is_other(span, &ran);
     let last = last_pick(shared, &ran, &last);
-    let end = end_of(span.end, from, lag, quantum, shared);
+    let end = end_of(start, span.end, from, lag, quantum, shared);
     Next {
         stint: Stint {
             from,
@@ -127,8 +162,10 @@ fn last_pick(shared: bool, ran: &Option<VcpuNo>, last: &Option<VcpuNo>) -> Optio
     if shared { *ran } else { *last }
 }
 
-// The end of the span in the round, or of the lag, or of a shared stint's quantum, whichever is first.
-fn end_of(span_end: u32, from: u32, lag: u32, quantum: u32, shared: bool) -> u32
+// The end of the span in the round that begins at `start`, or of the lag, or of a shared stint's quantum, whichever is
+// first.
+fn end_of(start: u32, span_end: u32, from: u32, lag: u32, quantum: u32, shared: bool) -> u32
+    requires start { start ≡ from - from % ROUND }
     requires from { from ≤ 2 ^ 31 }
     requires span { span_end ≤ ROUND }
     requires lag { lag ≤ ROUND }
@@ -137,7 +174,7 @@ fn end_of(span_end: u32, from: u32, lag: u32, quantum: u32, shared: bool) -> u32
         ≡ (if shared then min (min (from - from % ROUND + span_end) (from + lag))
         (from + quantum) else min (from - from % ROUND + span_end) (from + lag)) }
 {
-    let slot = min(from - from % ROUND + span_end, from + lag);
+    let slot = min(start + span_end, from + lag);
     if shared {
         min(slot, from + quantum)
     } else {

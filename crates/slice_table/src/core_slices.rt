@@ -109,16 +109,28 @@ impl SliceTable {
         ensures holds { HoldsTick (ends_of self.now) result tick }
         ensures small { result < 2 ^ 32 }
     {
-        // counted and not branched on, since whether a stint ends its span can't be foreseen
-        let number = guess + self.is_past(guess, tick) as usize;
-        if self.holds(number, tick) {
-            return number;
+        if self.holds(guess, tick) {
+            return guess;
+        }
+        self.number_behind(tick, guess)
+    }
+
+    // The same, where the span isn't the guessed one. It stands apart, so that the way of a right guess is short.
+    #[cold]
+    #[inline(never)]
+    fn number_behind(&self, tick: u32, guess: usize) -> usize
+        requires tick { tick < ROUND }
+        requires small { guess < 2 ^ 32 }
+        ensures holds { HoldsTick (ends_of self.now) result tick }
+        ensures small { result < 2 ^ 32 }
+    {
+        if self.holds(guess + 1, tick) {
+            return guess + 1;
         }
         self.number_of(tick)
     }
 
     // The number of the span that holds the tick, where nobody counts the steps.
-    #[inline(never)]
     fn number_of(&self, tick: u32) -> usize
         requires { tick < ROUND }
         ensures holds { HoldsTick (ends_of self.now) result tick }

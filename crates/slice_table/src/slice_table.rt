@@ -117,11 +117,6 @@ impl SliceTable {
             && (number == 0 || self.spans.end(number - 1) <= tick)
     }
 
-    // Whether there is a span of the number, and it ends at the tick or before.
-    pub(crate) fn is_past(&self, number: usize, tick: u32) -> bool {
-        number < self.spans.len() && self.spans.end(number) <= tick
-    }
-
     /// How many spans there are.
     pub fn spans(&self) -> u32
         ensures { (plan : PlanView) (c : ℕ) → IsTableOf plan c self.now → HasSpans plan c ROUND result }

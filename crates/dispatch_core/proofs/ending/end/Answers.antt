@@ -17,5 +17,5 @@ returns-clause-plans c = λ plan of plans numbers is follows.
     let ahead = (c.shown.ensures.cores log.core s.core).timeline.ahead in
     let place : log.clock - (c.len.result - 1) * ROUND ≡ log.clock % ROUND = omega (arith, c.len.ensures, few, long, ahead, s.clock) in
     let span = c.span_near-span.result in
-    c.run_at.ensures.plans plan (subst (λ (x : ℕ). IsSpan plan log.core x span.owner span.sharers.now span.end) place
+    c.run_at-ended.ensures.plans plan (subst (λ (x : ℕ). IsSpan plan log.core x span.owner span.sharers.now span.end) place
     (c.span_near-span.ensures.span plan log.core of)) plans numbers is follows

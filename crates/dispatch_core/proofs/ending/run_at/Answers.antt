@@ -26,9 +26,9 @@ advance-requires-clause-begins c =
     let log : CoreLog = c.args.log.now in
     let p : Part = part (view_of c.args.seat.now) log.core in
     let q : Part = part (view_of c.hear_all.new.seat) log.core in
-    let n = c.next_stint-next.ensures in
-    begins_same p q c.next_stint-next.result.stint (heard_same log.core _ _ _ p q c.in-None.ensures.heard)
-    (begins_next p c.next_stint-next.result.stint log.clock c.args.seen c.args.used log.used.items c.requires.stands.used c.requires.begun.entered
+    let n = c.next_stint_in-next.ensures in
+    begins_same p q c.next_stint_in-next.result.stint (heard_same log.core _ _ _ p q c.in-None.ensures.heard)
+    (begins_next p c.next_stint_in-next.result.stint log.clock c.args.seen c.args.used log.used.items c.requires.stands.used c.requires.begun.entered
     c.requires.stands.clock c.requires.begun.sight.last n.from n.seen n.used)
 
 pub returns-in-Some-clause-stands : goal.returns-in-Some-clause-stands
@@ -44,19 +44,19 @@ returns-in-Some-clause-told c = λ plan shown plans numbers is follows.
     let log : CoreLog = c.args.log.now in
     let o : OutlineView = c.args.outline.now in
     let p : Part = part (view_of c.args.seat.now) log.core in
-    let n = c.next_stint-next.ensures in
+    let n = c.next_stint_in-next.ensures in
     let low = c.in-Some.ensures.low in (
       record {
-        stint = c.next_stint-next.result.stint;
+        stint = c.next_stint_in-next.result.stint;
         next = record {
-          begins = begins_next p c.next_stint-next.result.stint log.clock c.args.seen c.args.used log.used.items c.requires.stands.used c.requires.begun.entered
+          begins = begins_next p c.next_stint_in-next.result.stint log.clock c.args.seen c.args.used log.used.items c.requires.stands.used c.requires.begun.entered
               c.requires.stands.clock c.requires.begun.sight.last n.from n.seen n.used;
           follows = n.follows plan shown plans numbers is p.stints follows.last;
         };
         core = omega (arith, low.core, c.cores.ensures.cores);
         other = low.other;
         heard = low.heard;
-        near = subst (λ (l : ℕ). HearsCores log.core l c.next_stint-next.result.stint.end c.in-Some.low.core p low.heard) c.lag.ensures.lag low.near;
+        near = subst (λ (l : ℕ). HearsCores log.core l c.next_stint_in-next.result.stint.end c.in-Some.low.core p low.heard) c.lag.ensures.lag low.near;
         low = omega (arith, low.low, c.lag.ensures.lag);
         becomes = low.becomes;
       },
@@ -85,13 +85,13 @@ returns-in-None-clause-stands c =
     let u : View = view_of c.hear_all.new.seat in
     let q : Part = part u log.core in
     let hs = heard_same log.core _ _ _ (part v log.core) q c.in-None.ensures.heard in
-    let n = c.next_stint-next.ensures in
+    let n = c.next_stint_in-next.ensures in
     let t = c.note.ensures in
-    stands_ran c.args.outline.now (record (log_view log) { known = c.hear_all.new.known }) (log_view c.note.new.log) u _ c.next_stint-next.result.stint c.next_stint-next.result.shared c.args.seen
+    stands_ran c.args.outline.now (record (log_view log) { known = c.hear_all.new.known }) (log_view c.note.new.log) u _ c.next_stint_in-next.result.stint c.next_stint_in-next.result.shared c.args.seen
     (stands_same c.args.outline.now (log_view log) v u c.hear_all.new.known c.requires.stands c.in-None.ensures.changes (run_of_same (part v log.core) q hs) c.in-None.ensures.known)
     c.requires.begun.unfinished (heard_seen c.args.outline.now c.args.seen (part v log.core) q hs c.requires.begun.sight)
-    (begins_same (part v log.core) q c.next_stint-next.result.stint hs
-    (begins_next (part v log.core) c.next_stint-next.result.stint log.clock c.args.seen c.args.used log.used.items c.requires.stands.used c.requires.begun.entered
+    (begins_same (part v log.core) q c.next_stint_in-next.result.stint hs
+    (begins_next (part v log.core) c.next_stint_in-next.result.stint log.clock c.args.seen c.args.used log.used.items c.requires.stands.used c.requires.begun.entered
     c.requires.stands.clock c.requires.begun.sight.last n.from n.seen n.used))
     n.some n.in_round c.advance.ensures.changes c.advance.ensures.becomes t.same.0 t.same.1 t.same.2 t.clock t.used.0 t.stints t.account t.known
 
@@ -101,15 +101,15 @@ returns-in-None-clause-told c = λ plan shown plans numbers is follows.
     let o : OutlineView = c.args.outline.now in
     let p : Part = part (view_of c.args.seat.now) log.core in
     let q : Part = part (view_of c.hear_all.new.seat) log.core in
-    let n = c.next_stint-next.ensures in
+    let n = c.next_stint_in-next.ensures in
     record {
       next = record {
-        begins = begins_next p c.next_stint-next.result.stint log.clock c.args.seen c.args.used log.used.items c.requires.stands.used c.requires.begun.entered
+        begins = begins_next p c.next_stint_in-next.result.stint log.clock c.args.seen c.args.used log.used.items c.requires.stands.used c.requires.begun.entered
             c.requires.stands.clock c.requires.begun.sight.last n.from n.seen n.used;
         follows = n.follows plan shown plans numbers is p.stints follows.last;
       };
       heard = q;
-      near = hears_same log.core c.lag.result o.lag c.next_stint-next.result.stint.end c.cores.result o.cores p q c.lag.ensures.lag c.cores.ensures.cores c.in-None.ensures.heard;
+      near = hears_same log.core c.lag.result o.lag c.next_stint_in-next.result.stint.end c.cores.result o.cores p q c.lag.ensures.lag c.cores.ensures.cores c.in-None.ensures.heard;
       becomes = c.advance.ensures.becomes;
     }
 
@@ -120,11 +120,11 @@ returns-in-None-clause-plans c = λ plan shown plans numbers is follows.
     let u : View = view_of c.hear_all.new.seat in
     let q : Part = part u log.core in
     let hs = heard_same log.core _ _ _ (part v log.core) q c.in-None.ensures.heard in
-    let n = c.next_stint-next.ensures in
+    let n = c.next_stint_in-next.ensures in
     let t = c.note.ensures in
     let course : CourseView = with_plans c.args.outline.now plans numbers in
     let heard : FollowsPlans course (log_view log) q = plans_same course (log_view log) (log_view log) (part v log.core) q refl refl refl hs.stints follows in
     subst (FollowsPlans course (log_view c.note.new.log)) (sym c.advance.ensures.becomes)
-    (plans_ran course (log_view log) (log_view c.note.new.log) q c.next_stint-next.result.stint c.next_stint-next.result.shared heard
+    (plans_ran course (log_view log) (log_view c.note.new.log) q c.next_stint_in-next.result.stint c.next_stint_in-next.result.shared heard
     (n.follows plan shown plans numbers is q.stints heard.last) (n.shared plan shown plans numbers is) t.same.0
-    (t.last ∙ n.last plan shown plans numbers is) t.account)
+    (t.last ∙ (sym n.picked ∙ n.last plan shown plans numbers is)) t.account)

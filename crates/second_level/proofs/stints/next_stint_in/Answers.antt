@@ -4,7 +4,7 @@ use Rattle.table_form.specs.Running.Choice.{IsChoice, runs_other}
 use Rattle.table_form.specs.Running.Courses.{CourseView, runnable_after, with_plans}
 use Rattle.second_level.proofs.DispatchLemmas.{end_in_round, follows_by, shared_by}
 use Rattle.second_level.proofs.PickLemmas.{pick_of_span}
-use Rattle.second_level.proofs.stints.next_stint.Goals as goal
+use Rattle.second_level.proofs.stints.next_stint_in.Goals as goal
 
 pub returns-clause-some : goal.returns-clause-some
 returns-clause-some c = (end_in_round c.is_other-shared.result c.args.begin.now.from c.end_of-end.result
