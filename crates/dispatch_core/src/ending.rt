@@ -14,7 +14,7 @@ ghost use Rattle.dispatch_core.specs.States.{FollowsPlans, HasBegun, IsSameCore,
 ghost use Rattle.dispatch_core.specs.Told.{BeginsNext, EndTold, StaysWhereBehind};
 
 use crate::answer::Ended;
-use crate::log::{CoreLog, note};
+use crate::log::{CoreLog, note, note_counts};
 use round_words::{RoundBoard, RoundSeat, hear_all};
 use second_level::{Begin, next_stint_in};
 use slice_table::SliceTable;
@@ -53,20 +53,76 @@ pub(crate) fn end(
     seat.shown();
     // the clock's round is the last one that was entered
     let start = (log.used.len() as u32 - 1) * ROUND;
-    let span = table.span_near(log.clock - start, place);
-    let ended = run_at(board, seat, outline, log, start, seen, used, &span);
-    *place = place_after(*place, &ended, start.wrapping_add(span.end));
-    ended
+    let Some(span) = table.span_guessed(log.clock - start, *place) else {
+        return end_anew(board, seat, outline, log, place, seen, used, table);
+    };
+    let begin = Begin {
+        from: log.clock,
+        seen,
+        used,
+        last: log.last,
+    };
+    let next = next_stint_in(outline, CoreNo(log.core), &begin, start, &span);
+    let (cores, lag) = (outline.cores(), outline.lag());
+    let keeps = log.stints.len() < log.keep as usize;
+    if keeps || !seat.is_near(log.core, cores, lag, next.stint.end) {
+        return end_anew(board, seat, outline, log, place, seen, used, table);
+    }
+    match hear_all(board, seat, log.core, &mut log.known, cores, lag, next.stint.end) {
+        Some(other) => Ended::Behind {
+            core: other.core,
+            tick: other.clock,
+        },
+        None => {
+            advance(board, seat, log.core, &next.stint);
+            note_counts(log, &next);
+            *place = place_behind(*place, &next.stint, start.wrapping_add(span.end));
+            Ended::Ran(next.stint)
+        }
+    }
 }
 
-// A guess at the number of the next span, which is the one behind where a stint ended this one. Counted and not branched
-// on, since whether a stint ends its span can't be foreseen.
+// The same, whatever has to be looked up, heard or kept. It stands apart, so that the usual way is short.
+#[inline(never)]
+fn end_anew(
+    board: &RoundBoard,
+    seat: &mut RoundSeat,
+    outline: &Outline,
+    log: &mut CoreLog,
+    place: &mut u32,
+    seen: u32,
+    used: u32,
+    table: &SliceTable,
+) -> Ended
+    requires board { IsSeatOf board.now seat.old }
+    requires log { IsLog log.old }
+    requires stands { Stands outline.now (log_view log.old) (view_of seat.old) }
+    requires begun { HasBegun outline.now (log_view log.old) (view_of seat.old) seen used }
+    ensures board { IsSeatOf board.now seat.new }
+    ensures log { IsLog log.new }
+    ensures stands { Stands outline.now (log_view log.new) (view_of seat.new) }
+    ensures same { IsSameCore (log_view log.old) (log_view log.new) }
+    ensures changes { ChangesOnly (view_of seat.old) (view_of seat.new) log.old.core }
+    ensures told { (plan : PlanView) → IsTableOf plan log.old.core table.now → InEachCourse outline.now used plan
+        (λ course. FollowsPlans course (log_view log.old) (part (view_of seat.old) log.old.core)
+        → EndTold course log.old.core (view_of seat.old) result (view_of seat.new)) }
+    ensures waits { StaysWhereBehind log.old.core (view_of seat.old) result (view_of seat.new) }
+    ensures plans { (plan : PlanView) → IsTableOf plan log.old.core table.now → InEachCourse outline.now used plan
+        (λ course. FollowsPlans course (log_view log.old) (part (view_of seat.old) log.old.core)
+        → FollowsPlans course (log_view log.new) (part (view_of seat.new) log.old.core)) }
+{
+    seat.shown();
+    // the clock's round is the last one that was entered
+    let start = (log.used.len() as u32 - 1) * ROUND;
+    let span = table.span_near(log.clock - start, place);
+    run_at(board, seat, outline, log, start, seen, used, &span)
+}
+
+// A guess at the number of the next span, which is the one behind where the stint ends this one, whose end is given.
+// Counted and not branched on, since whether a stint ends its span can't be foreseen.
 #[inline(always)]
-fn place_after(place: u32, ended: &Ended, end: u32) -> u32 {
-    match *ended {
-        Ended::Ran(stint) => place.wrapping_add((stint.end == end) as u32),
-        Ended::Behind { core: _, tick: _ } => place,
-    }
+fn place_behind(place: u32, stint: &Stint, end: u32) -> u32 {
+    place.wrapping_add((stint.end == end) as u32)
 }
 
 // The core hears the others and runs its next stint, at this span, if none of them is too far behind.

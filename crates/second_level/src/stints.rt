@@ -99,7 +99,6 @@ pub fn next_stint_in(
         (λ course. result.last ≡ last_after course core begin.now.last result.stint) }
     ensures picked { result.last ≡ (if result.shared then result.stint.ran else begin.now.last) }
 {
-    let (lag, quantum) = (outline.lag(), outline.quantum());
     let Begin {
         from,
         seen,
@@ -109,6 +108,7 @@ pub fn next_stint_in(
     let ran = choose(span, outline.runnable_after(seen), last);
     let shared = is_other(span, &ran);
     let last = last_pick(shared, &ran, &last);
+    let (lag, quantum) = (outline.lag(), outline.quantum());
     let end = end_of(start, span.end, from, lag, quantum, shared);
     Next {
         stint: Stint {

@@ -1,4 +1,4 @@
-ghost use Rattle.std.specs.Prelude.{◌≡◌, ◌^◌, ◌<◌, ◌≤◌, IfOk, ℕ, Some, length, slice_get};
+ghost use Rattle.std.specs.Prelude.{◌≡◌, ◌^◌, ◌<◌, ◌≤◌, IfOk, IfSome, ℕ, Some, length, slice_get};
 ghost use Rattle.tab_core.specs.declared.TheConstants.{ROUND};
 ghost use Rattle.table_form.specs.Running.Courses.{plan_after, plan_number_after};
 ghost use Rattle.table_form.specs.Tables.Plans.{PlanView};
@@ -100,6 +100,20 @@ impl SliceTable {
         let number = self.number_near(tick, *place as usize);
         *place = number as u32;
         self.numbered(number, tick)
+    }
+
+    /// The span of the number, if there is one and it holds the tick, for a caller that has a guess.
+    pub fn span_guessed(&self, tick: u32, guess: u32) -> Option<Span<'_>>
+        ensures after { IfSome result (λ span. tick < span.end) }
+        ensures within { IfSome result (λ span. span.end ≤ ROUND) }
+        ensures span { IfSome result (λ span. (plan : PlanView) (c : ℕ) → IsTableOf plan c self.now
+            → IsSpan plan c tick span.owner span.sharers.now span.end) }
+    {
+        let number = guess as usize;
+        if !self.holds(number, tick) {
+            return None;
+        }
+        Some(self.numbered(number, tick))
     }
 
     // The number of the span that holds the tick, sought at a guess and behind it first.

@@ -1,21 +1,164 @@
-use Rattle.std.proofs.Common.{◌≡◌, ◌-◌, ◌*◌, ◌/◌, ◌%◌, ℕ, length, ap, ◌∙◌, subst, arith}
+use Rattle.std.proofs.Common.{◌≡◌, ◌-◌, ◌*◌, ◌/◌, ◌%◌, ◌++◌, ◌∷◌, [], ℕ, Bool, false, cond, nat_lt, length, refl, sym, ap, ◌∙◌, subst, arith}
+use Rattle.std.proofs.lemmas.Bool.{le-ltb}
 use Rattle.tab_core.specs.declared.TheConstants.{ROUND}
 use Rattle.table_form.specs.Tables.Spans.{IsSpan}
 use Rattle.run_promises.proofs.Lists.{within}
+use Rattle.table_form.specs.Running.Courses.{CourseView, with_plans}
+use Rattle.table_form.specs.Running.Outlines.{OutlineView}
+use Rattle.round_words.specs.declared.view.Part.{Part}
+use Rattle.round_words.specs.declared.view.View.{View}
+use Rattle.round_words.specs.Hearing.{HearsCores}
 use Rattle.round_words.specs.Seats.{view_of}
 use Rattle.round_words.specs.Views.{part}
+use Rattle.round_words.proofs.HearingLemmas.{heard_same}
 use Rattle.dispatch_core.specs.declared.log.CoreLog.{CoreLog}
+use Rattle.dispatch_core.specs.Inside.Logs.{log_view}
+use Rattle.dispatch_core.specs.States.{FollowsPlans}
 use Rattle.dispatch_core.proofs.EntryLemmas.{count_used}
+use Rattle.dispatch_core.proofs.PartLemmas.{SameRun}
+use Rattle.dispatch_core.proofs.StateLemmas.{plans_same, stands_same}
+use Rattle.dispatch_core.proofs.StintLemmas.{begins_next, begins_same, plans_ran, stands_ran}
+use Rattle.dispatch_core.proofs.ToldLemmas.{heard_seen, hears_same, low_same, low_stays, run_of_same}
 use Rattle.dispatch_core.proofs.ending.end.Goals as goal
 
-pub returns-clause-plans : goal.returns-clause-plans
-returns-clause-plans c = λ plan of plans numbers is follows.
+pub advance-requires-clause-sight : goal.advance-requires-clause-sight
+advance-requires-clause-sight c =
+    let hs = heard_same c.args.log.now.core _ _ _ _ _ c.in-None.ensures.heard in
+    omega (arith, ap length hs.sights, c.requires.begun.sight.some)
+
+pub advance-requires-clause-begins : goal.advance-requires-clause-begins
+advance-requires-clause-begins c =
+    let log : CoreLog = c.args.log.now in
+    let p : Part = part (view_of c.args.seat.now) log.core in
+    let q : Part = part (view_of c.hear_all.new.seat) log.core in
+    let n = c.next_stint_in-next.ensures in
+    begins_same p q c.next_stint_in-next.result.stint (heard_same log.core _ _ _ p q c.in-None.ensures.heard)
+    (begins_next p c.next_stint_in-next.result.stint log.clock c.args.seen c.args.used log.used.items c.requires.stands.used c.requires.begun.entered
+    c.requires.stands.clock c.requires.begun.sight.last n.from n.seen n.used)
+
+pub returns-in-Some-hear_all-clause-stands : goal.returns-in-Some-hear_all-clause-stands
+returns-in-Some-hear_all-clause-stands c =
+    let log : CoreLog = c.args.log.now in
+    let v : View = view_of c.args.seat.now in
+    let w : View = view_of c.hear_all.new.seat in
+    let low = c.in-Some-hear_all.ensures.low in
+    stands_same c.args.outline.now (log_view log) v w c.hear_all.new.known c.requires.stands c.in-Some-hear_all.ensures.changes (low_same log.core _ _ _ _ (part v log.core) low.heard (part w log.core) low.near low.becomes) c.in-Some-hear_all.ensures.known
+
+pub returns-in-Some-hear_all-clause-told : goal.returns-in-Some-hear_all-clause-told
+returns-in-Some-hear_all-clause-told c = λ plan of plans numbers is follows.
     let log : CoreLog = c.args.log.now in
     let s = c.requires.stands in
     let few = within log.used.items (log.clock / ROUND) c.args.used c.requires.begun.entered in
     let long : length log.used.items ≡ length (part (view_of c.args.seat.now) log.core).entries = ap length s.used ∙ count_used (part (view_of c.args.seat.now) log.core).entries in
     let ahead = (c.shown.ensures.cores log.core s.core).timeline.ahead in
     let place : log.clock - (c.len.result - 1) * ROUND ≡ log.clock % ROUND = omega (arith, c.len.ensures, few, long, ahead, s.clock) in
-    let span = c.span_near-span.result in
-    c.run_at-ended.ensures.plans plan (subst (λ (x : ℕ). IsSpan plan log.core x span.owner span.sharers.now span.end) place
-    (c.span_near-span.ensures.span plan log.core of)) plans numbers is follows
+    let span = c.in-Some.span in
+    let shown = subst (λ (x : ℕ). IsSpan plan log.core x span.owner span.sharers.now span.end) place (c.in-Some.ensures.span plan log.core of) in
+    let o : OutlineView = c.args.outline.now in
+    let p : Part = part (view_of c.args.seat.now) log.core in
+    let n = c.next_stint_in-next.ensures in
+    let low = c.in-Some-hear_all.ensures.low in (
+      record {
+        stint = c.next_stint_in-next.result.stint;
+        next = record {
+          begins = begins_next p c.next_stint_in-next.result.stint log.clock c.args.seen c.args.used log.used.items c.requires.stands.used c.requires.begun.entered
+              c.requires.stands.clock c.requires.begun.sight.last n.from n.seen n.used;
+          follows = n.follows plan shown plans numbers is p.stints follows.last;
+        };
+        core = omega (arith, low.core, c.cores-cores.ensures.cores);
+        other = low.other;
+        heard = low.heard;
+        near = subst (λ (l : ℕ). HearsCores log.core l c.next_stint_in-next.result.stint.end c.in-Some-hear_all.other.core p low.heard) c.lag-lag.ensures.lag low.near;
+        low = omega (arith, low.low, c.lag-lag.ensures.lag);
+        becomes = low.becomes;
+      },
+      low.exact,
+    )
+
+pub returns-in-Some-hear_all-clause-waits : goal.returns-in-Some-hear_all-clause-waits
+returns-in-Some-hear_all-clause-waits c =
+    let core : ℕ = c.args.log.now.core in
+    let low = c.in-Some-hear_all.ensures.low in
+    low_stays core _ _ _ _ (part (view_of c.args.seat.now) core) low.heard (part (view_of c.hear_all.new.seat) core) low.near low.becomes
+
+pub returns-in-Some-hear_all-clause-plans : goal.returns-in-Some-hear_all-clause-plans
+returns-in-Some-hear_all-clause-plans c = λ plan of plans numbers is follows.
+    let log : CoreLog = c.args.log.now in
+    let s = c.requires.stands in
+    let few = within log.used.items (log.clock / ROUND) c.args.used c.requires.begun.entered in
+    let long : length log.used.items ≡ length (part (view_of c.args.seat.now) log.core).entries = ap length s.used ∙ count_used (part (view_of c.args.seat.now) log.core).entries in
+    let ahead = (c.shown.ensures.cores log.core s.core).timeline.ahead in
+    let place : log.clock - (c.len.result - 1) * ROUND ≡ log.clock % ROUND = omega (arith, c.len.ensures, few, long, ahead, s.clock) in
+    let span = c.in-Some.span in
+    let shown = subst (λ (x : ℕ). IsSpan plan log.core x span.owner span.sharers.now span.end) place (c.in-Some.ensures.span plan log.core of) in
+    let v : View = view_of c.args.seat.now in
+    let w : View = view_of c.hear_all.new.seat in
+    let low = c.in-Some-hear_all.ensures.low in
+    let same : SameRun (part v log.core) (part w log.core) = low_same log.core _ _ _ _ (part v log.core) low.heard (part w log.core) low.near low.becomes in
+    plans_same _ (log_view log) _ (part v log.core) (part w log.core) refl refl refl same.stints follows
+
+pub returns-in-None-clause-stands : goal.returns-in-None-clause-stands
+returns-in-None-clause-stands c =
+    let log : CoreLog = c.args.log.now in
+    let v : View = view_of c.args.seat.now in
+    let u : View = view_of c.hear_all.new.seat in
+    let q : Part = part u log.core in
+    let hs = heard_same log.core _ _ _ (part v log.core) q c.in-None.ensures.heard in
+    let n = c.next_stint_in-next.ensures in
+    let t = c.note_counts.ensures in
+    let full : nat_lt (length log.stints.items) log.keep ≡ false = le-ltb (length log.stints.items) log.keep (let f = c.if-keeps.false in omega (arith, c.len-2.ensures)) in
+    stands_ran c.args.outline.now (record (log_view log) { known = c.hear_all.new.known }) (log_view c.note_counts.new.log) u _ c.next_stint_in-next.result.stint c.next_stint_in-next.result.shared c.args.seen
+    (stands_same c.args.outline.now (log_view log) v u c.hear_all.new.known c.requires.stands c.in-None.ensures.changes (run_of_same (part v log.core) q hs) c.in-None.ensures.known)
+    c.requires.begun.unfinished (heard_seen c.args.outline.now c.args.seen (part v log.core) q hs c.requires.begun.sight)
+    (begins_same (part v log.core) q c.next_stint_in-next.result.stint hs
+    (begins_next (part v log.core) c.next_stint_in-next.result.stint log.clock c.args.seen c.args.used log.used.items c.requires.stands.used c.requires.begun.entered
+    c.requires.stands.clock c.requires.begun.sight.last n.from n.seen n.used))
+    n.some n.in_round c.advance.ensures.changes c.advance.ensures.becomes t.same.0 t.same.1 t.same.2 t.clock t.used.0 (t.stints ∙ sym (ap (λ (b : Bool). cond b (log.stints.items ++ c.next_stint_in-next.result.stint ∷ []) log.stints.items) full)) t.account t.known
+
+pub returns-in-None-clause-told : goal.returns-in-None-clause-told
+returns-in-None-clause-told c = λ plan of plans numbers is follows.
+    let log : CoreLog = c.args.log.now in
+    let s = c.requires.stands in
+    let few = within log.used.items (log.clock / ROUND) c.args.used c.requires.begun.entered in
+    let long : length log.used.items ≡ length (part (view_of c.args.seat.now) log.core).entries = ap length s.used ∙ count_used (part (view_of c.args.seat.now) log.core).entries in
+    let ahead = (c.shown.ensures.cores log.core s.core).timeline.ahead in
+    let place : log.clock - (c.len.result - 1) * ROUND ≡ log.clock % ROUND = omega (arith, c.len.ensures, few, long, ahead, s.clock) in
+    let span = c.in-Some.span in
+    let shown = subst (λ (x : ℕ). IsSpan plan log.core x span.owner span.sharers.now span.end) place (c.in-Some.ensures.span plan log.core of) in
+    let o : OutlineView = c.args.outline.now in
+    let p : Part = part (view_of c.args.seat.now) log.core in
+    let q : Part = part (view_of c.hear_all.new.seat) log.core in
+    let n = c.next_stint_in-next.ensures in
+    record {
+      next = record {
+        begins = begins_next p c.next_stint_in-next.result.stint log.clock c.args.seen c.args.used log.used.items c.requires.stands.used c.requires.begun.entered
+            c.requires.stands.clock c.requires.begun.sight.last n.from n.seen n.used;
+        follows = n.follows plan shown plans numbers is p.stints follows.last;
+      };
+      heard = q;
+      near = hears_same log.core c.lag-lag.result o.lag c.next_stint_in-next.result.stint.end c.cores-cores.result o.cores p q c.lag-lag.ensures.lag c.cores-cores.ensures.cores c.in-None.ensures.heard;
+      becomes = c.advance.ensures.becomes;
+    }
+
+pub returns-in-None-clause-plans : goal.returns-in-None-clause-plans
+returns-in-None-clause-plans c = λ plan of plans numbers is follows.
+    let log : CoreLog = c.args.log.now in
+    let s = c.requires.stands in
+    let few = within log.used.items (log.clock / ROUND) c.args.used c.requires.begun.entered in
+    let long : length log.used.items ≡ length (part (view_of c.args.seat.now) log.core).entries = ap length s.used ∙ count_used (part (view_of c.args.seat.now) log.core).entries in
+    let ahead = (c.shown.ensures.cores log.core s.core).timeline.ahead in
+    let place : log.clock - (c.len.result - 1) * ROUND ≡ log.clock % ROUND = omega (arith, c.len.ensures, few, long, ahead, s.clock) in
+    let span = c.in-Some.span in
+    let shown = subst (λ (x : ℕ). IsSpan plan log.core x span.owner span.sharers.now span.end) place (c.in-Some.ensures.span plan log.core of) in
+    let v : View = view_of c.args.seat.now in
+    let u : View = view_of c.hear_all.new.seat in
+    let q : Part = part u log.core in
+    let hs = heard_same log.core _ _ _ (part v log.core) q c.in-None.ensures.heard in
+    let n = c.next_stint_in-next.ensures in
+    let t = c.note_counts.ensures in
+    let course : CourseView = with_plans c.args.outline.now plans numbers in
+    let heard : FollowsPlans course (log_view log) q = plans_same course (log_view log) (log_view log) (part v log.core) q refl refl refl hs.stints follows in
+    subst (FollowsPlans course (log_view c.note_counts.new.log)) (sym c.advance.ensures.becomes)
+    (plans_ran course (log_view log) (log_view c.note_counts.new.log) q c.next_stint_in-next.result.stint c.next_stint_in-next.result.shared heard
+    (n.follows plan shown plans numbers is q.stints heard.last) (n.shared plan shown plans numbers is) t.same.0
+    (t.last ∙ (sym n.picked ∙ n.last plan shown plans numbers is)) t.account)
