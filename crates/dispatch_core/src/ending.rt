@@ -54,7 +54,7 @@ pub(crate) fn end(
     // the clock's round is the last one that was entered
     let start = (log.used.len() as u32 - 1) * ROUND;
     let Some(span) = table.span_guessed(log.clock - start, *place) else {
-        return end_anew(board, seat, outline, log, place, seen, used, table);
+        return end_otherwise(board, seat, outline, log, place, seen, used, table);
     };
     let begin = Begin {
         from: log.clock,
@@ -66,7 +66,7 @@ pub(crate) fn end(
     let (cores, lag) = (outline.cores(), outline.lag());
     let keeps = log.stints.len() < log.keep as usize;
     if keeps || !seat.is_near(log.core, cores, lag, next.stint.end) {
-        return end_anew(board, seat, outline, log, place, seen, used, table);
+        return end_otherwise(board, seat, outline, log, place, seen, used, table);
     }
     match hear_all(board, seat, log.core, &mut log.known, cores, lag, next.stint.end) {
         Some(other) => Ended::Behind {
@@ -82,7 +82,43 @@ pub(crate) fn end(
     }
 }
 
+// The same by `end_anew`. Its answer is taken to pieces, so that the answer of the usual way needs no memory.
+#[inline(always)]
+fn end_otherwise(
+    board: &RoundBoard,
+    seat: &mut RoundSeat,
+    outline: &Outline,
+    log: &mut CoreLog,
+    place: &mut u32,
+    seen: u32,
+    used: u32,
+    table: &SliceTable,
+) -> Ended
+    requires board { IsSeatOf board.now seat.old }
+    requires log { IsLog log.old }
+    requires stands { Stands outline.now (log_view log.old) (view_of seat.old) }
+    requires begun { HasBegun outline.now (log_view log.old) (view_of seat.old) seen used }
+    ensures board { IsSeatOf board.now seat.new }
+    ensures log { IsLog log.new }
+    ensures stands { Stands outline.now (log_view log.new) (view_of seat.new) }
+    ensures same { IsSameCore (log_view log.old) (log_view log.new) }
+    ensures changes { ChangesOnly (view_of seat.old) (view_of seat.new) log.old.core }
+    ensures told { (plan : PlanView) → IsTableOf plan log.old.core table.now → InEachCourse outline.now used plan
+        (λ course. FollowsPlans course (log_view log.old) (part (view_of seat.old) log.old.core)
+        → EndTold course log.old.core (view_of seat.old) result (view_of seat.new)) }
+    ensures waits { StaysWhereBehind log.old.core (view_of seat.old) result (view_of seat.new) }
+    ensures plans { (plan : PlanView) → IsTableOf plan log.old.core table.now → InEachCourse outline.now used plan
+        (λ course. FollowsPlans course (log_view log.old) (part (view_of seat.old) log.old.core)
+        → FollowsPlans course (log_view log.new) (part (view_of seat.new) log.old.core)) }
+{
+    match end_anew(board, seat, outline, log, place, seen, used, table) {
+        Ended::Ran(stint) => Ended::Ran(stint),
+        Ended::Behind { core, tick } => Ended::Behind { core, tick },
+    }
+}
+
 // The same, whatever has to be looked up, heard or kept. It stands apart, so that the usual way is short.
+#[cold]
 #[inline(never)]
 fn end_anew(
     board: &RoundBoard,
