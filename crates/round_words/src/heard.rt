@@ -55,14 +55,23 @@ impl HeardClocks {
             self.floor = self.floor.max(tick);
             return;
         }
+        self.rise_each(actor, cores, tick);
+    }
+
+    // The same, clock by clock. It stands apart, since its lists would be cleared on the usual way too.
+    #[cold]
+    #[inline(never)]
+    fn rise_each(&mut self, actor: u32, cores: u32, tick: u32)
+        requires { cores ≤ MAX_CORES }
+        ensures long { length self.old ≡ 32 }
+        ensures raised { (d : ℕ) → slice_index self.new d ≡ slice_index (raised actor tick cores self.old) d }
+    {
         let mut clocks = self.spread();
         raise(&mut clocks, actor, tick, cores);
         self.keep(clocks);
     }
 
     // The clocks, each by itself.
-    #[cold]
-    #[inline(never)]
     pub(crate) fn spread(&self) -> [u32; 32]
         ensures { result ≡ self.now }
     {
