@@ -68,7 +68,15 @@ pub(crate) fn end(
     if keeps || !seat.is_near(log.core, cores, lag, next.stint.end) {
         return end_otherwise(board, seat, outline, log, place, seen, used, table);
     }
-    match hear_all(board, seat, log.core, &mut log.known, cores, lag, next.stint.end) {
+    match hear_all(
+        board,
+        seat,
+        log.core,
+        &mut log.known,
+        cores,
+        lag,
+        next.stint.end,
+    ) {
         Some(other) => Ended::Behind {
             core: other.core,
             tick: other.clock,
