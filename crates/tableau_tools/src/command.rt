@@ -18,7 +18,7 @@ pub(crate) fn command<'a>(alloc: Global) -> Result<Command<'a>, AllocError> {
 }
 
 // The command with another below it. (One alone is held where memory is wanting: to let go of several takes minutes
-// of proof.)
+// of proof. So it is with arguments: none is held while another is added.)
 fn with_command<'a>(
     command: Command<'a>,
     other: Result<Command<'a>, AllocError>,
@@ -28,26 +28,28 @@ fn with_command<'a>(
 
 // The words of `chart`.
 fn chart_command<'a>(alloc: Global) -> Result<Command<'a>, AllocError> {
-    let cores = Arg::new(alloc, "cores")
-        .long("cores")
-        .value_name("FIRST-LAST")
-        .help("The cores to draw; without it, all");
-    let vcpus = Arg::new(alloc, "vcpus")
-        .long("vcpus")
-        .value_name("FIRST-LAST")
-        .help("With --by vcpu, the vCPUs to draw, by number from 0; without it, all");
-    let by = Arg::new(alloc, "by")
-        .long("by")
-        .value_name("LANES")
-        .value_parser(["core", "vcpu"].as_slice())
-        .help("A lane for each core, or for each vCPU with its longest wait; without it, core");
-    Command::new(alloc, "chart")
+    let command = Command::new(alloc, "chart")
         .about("Draws a plan, replay or trace as a picture, in SVG or as a text")
         .arg(file_arg(alloc))?
         .arg(text_arg(alloc))?
-        .arg(by)?
-        .arg(cores)?
-        .arg(vcpus)?
+        .arg(by_arg(alloc))?;
+    with_part(alloc, with_lanes(alloc, command)?)
+}
+
+// The command with the lanes that are drawn.
+fn with_lanes<'a>(alloc: Global, command: Command<'a>) -> Result<Command<'a>, AllocError> {
+    command
+        .arg(lanes_arg(alloc, "cores", "The cores to draw; without it, all"))?
+        .arg(lanes_arg(
+            alloc,
+            "vcpus",
+            "With --by vcpu, the vCPUs to draw, by number from 0; without it, all",
+        ))
+}
+
+// The command with the part of the time that is drawn, and its size.
+fn with_part<'a>(alloc: Global, command: Command<'a>) -> Result<Command<'a>, AllocError> {
+    command
         .arg(number_arg(
             alloc,
             "from",
@@ -62,6 +64,23 @@ fn chart_command<'a>(alloc: Global) -> Result<Command<'a>, AllocError> {
         ))?
         .arg(width_arg(alloc))?
         .arg(tick_arg(alloc))
+}
+
+// Whether lanes are those of cores or of vCPUs.
+fn by_arg<'a>(alloc: Global) -> Arg<'a> {
+    Arg::new(alloc, "by")
+        .long("by")
+        .value_name("LANES")
+        .value_parser(["core", "vcpu"].as_slice())
+        .help("A lane for each core, or for each vCPU with its longest wait; without it, core")
+}
+
+// Which lanes are drawn.
+fn lanes_arg<'a>(alloc: Global, name: &'a str, help: &'a str) -> Arg<'a> {
+    Arg::new(alloc, name)
+        .long(name)
+        .value_name("FIRST-LAST")
+        .help(help)
 }
 
 // A number.
@@ -94,45 +113,54 @@ fn width_arg<'a>(alloc: Global) -> Arg<'a> {
 
 // The words of `export`.
 fn export_command<'a>(alloc: Global) -> Result<Command<'a>, AllocError> {
-    let format = Arg::new(alloc, "FORMAT")
-        .required(true)
-        .value_parser(["csv", "chrome", "json"].as_slice())
-        .help("The text to write: comma-separated values, trace events, or JSON");
     Command::new(alloc, "export")
         .about("Writes a plan, replay or trace for other programs")
-        .arg(format)?
+        .arg(format_arg(alloc))?
         .arg(file_arg(alloc))?
         .arg(tick_arg(alloc))
+}
+
+// The form of an export.
+fn format_arg<'a>(alloc: Global) -> Arg<'a> {
+    Arg::new(alloc, "FORMAT")
+        .required(true)
+        .value_parser(["csv", "chrome", "json"].as_slice())
+        .help("The text to write: comma-separated values, trace events, or JSON")
 }
 
 // The words of `table`.
 fn table_command<'a>(alloc: Global) -> Result<Command<'a>, AllocError> {
-    let by = Arg::new(alloc, "by")
-        .long("by")
-        .value_name("ROWS")
-        .value_parser(["vcpu", "vm"].as_slice())
-        .default_value("vcpu")
-        .help("A row for each vCPU, or for each VM: its name's part before the last dot");
     Command::new(alloc, "table")
         .about("Writes the shares, waits and loads of a plan, beside what its host asks for")
-        .arg(by)?
+        .arg(rows_arg(alloc))?
         .arg(file_arg(alloc))?
         .arg(tick_arg(alloc))
 }
 
+// Whether rows are those of vCPUs or of VMs.
+fn rows_arg<'a>(alloc: Global) -> Arg<'a> {
+    Arg::new(alloc, "by")
+        .long("by")
+        .value_name("ROWS")
+        .value_parser(["vcpu", "vm"].as_slice())
+        .default_value("vcpu")
+        .help("A row for each vCPU, or for each VM: its name's part before the last dot")
+}
+
 // The words of `diff`.
 fn diff_command<'a>(alloc: Global) -> Result<Command<'a>, AllocError> {
-    let old = Arg::new(alloc, "OLD").required(true).help("A plan text");
-    let new = Arg::new(alloc, "NEW")
-        .required(true)
-        .help("Another plan text");
     Command::new(alloc, "diff")
         .about(
             "Writes what differs between two plans; ends with 1 where they differ, 3 for a fault",
         )
-        .arg(old)?
-        .arg(new)?
+        .arg(plan_arg(alloc, "OLD", "A plan text"))?
+        .arg(plan_arg(alloc, "NEW", "Another plan text"))?
         .arg(tick_arg(alloc))
+}
+
+// A plan to compare.
+fn plan_arg<'a>(alloc: Global, name: &'a str, help: &'a str) -> Arg<'a> {
+    Arg::new(alloc, name).required(true).help(help)
 }
 
 // The words of `sections`.
@@ -149,20 +177,28 @@ fn sections_command<'a>(alloc: Global) -> Result<Command<'a>, AllocError> {
 
 // The words of `host`.
 fn host_command<'a>(alloc: Global) -> Result<Command<'a>, AllocError> {
-    let cores = Arg::new(alloc, "cores")
+    Command::new(alloc, "host")
+        .about("Writes the host document of sizes of VMs")
+        .arg(cores_arg(alloc))?
+        .arg(sizes_arg(alloc))
+}
+
+// How many cores the host has.
+fn cores_arg<'a>(alloc: Global) -> Arg<'a> {
+    Arg::new(alloc, "cores")
         .long("cores")
         .value_name("N")
         .required(true)
         .value_parser(value_parser!(u32).range(1..=i64::from(MAX_CORES)))
-        .help("The host's cores, 1 to 32");
-    let sizes = Arg::new(alloc, "SIZE")
+        .help("The host's cores, 1 to 32")
+}
+
+// The sizes of its VMs.
+fn sizes_arg<'a>(alloc: Global) -> Arg<'a> {
+    Arg::new(alloc, "SIZE")
         .action(ArgAction::Append)
         .num_args(1..)
-        .help("VMs of a size, as \"small 18 x 2 20% 20ms\"; without it, lines of standard input");
-    Command::new(alloc, "host")
-        .about("Writes the host document of sizes of VMs")
-        .arg(cores)?
-        .arg(sizes)
+        .help("VMs of a size, as \"small 18 x 2 20% 20ms\"; without it, lines of standard input")
 }
 
 // The file to read.
