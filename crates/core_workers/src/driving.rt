@@ -75,14 +75,15 @@ fn is_far(extent: Extent, course: &Course, lead: &Lead, roster: &Roster) -> bool
         Extent::Whole => false,
         Extent::Until(tick) => {
             roster.guess.is_from(tick)
-                && (!roster.clocks.posting || has_posted(course, lead.control.posted(), tick))
+                && (!roster.clocks.posting || is_later(course, lead.control.posted(), tick))
         }
     }
 }
 
-// Whether these first events are all those before the tick.
-fn has_posted(course: &Course, posted: u32, tick: u32) -> bool {
-    posted >= course.count() || course.tick_of(posted) >= tick
+// Whether there is an event behind these first ones, and it is at the tick or later. Where there is none, the controller
+// makes one more step, which finds that.
+fn is_later(course: &Course, posted: u32, tick: u32) -> bool {
+    posted < course.count() && course.tick_of(posted) >= tick
 }
 
 // The same, of a team.
