@@ -1,4 +1,4 @@
-ghost use Rattle.std.specs.Prelude.{◌≡◌, ◌^◌, ◌<◌, ◌≤◌, IfOk, IfSome, ℕ, Some, length, slice_get};
+ghost use Rattle.std.specs.Prelude.{◌≡◌, ◌^◌, ◌<◌, ◌≤◌, IfNone, IfOk, IfSome, ℕ, Some, length, slice_get};
 ghost use Rattle.tab_core.specs.declared.TheConstants.{ROUND};
 ghost use Rattle.table_form.specs.Running.Courses.{plan_after, plan_number_after};
 ghost use Rattle.table_form.specs.Tables.Plans.{PlanView};
@@ -104,6 +104,7 @@ impl SliceTable {
 
     /// The span of the number, if there is one and it holds the tick, for a caller that has a guess.
     pub fn span_guessed(&self, tick: u32, guess: u32) -> Option<Span<'_>>
+        ensures none { IfNone result (HoldsTick (ends_of self.now) guess tick → ⊥) }
         ensures after { IfSome result (λ span. tick < span.end) }
         ensures within { IfSome result (λ span. span.end ≤ ROUND) }
         ensures span { IfSome result (λ span. (plan : PlanView) (c : ℕ) → IsTableOf plan c self.now

@@ -1,4 +1,4 @@
-ghost use Rattle.std.specs.Prelude.{◌≡◌, ◌+◌, ◌^◌, ◌<◌, ◌≤◌, ℕ, IfOk, length, true};
+ghost use Rattle.std.specs.Prelude.{◌≡◌, ◌+◌, ◌^◌, ◌<◌, ◌≤◌, ℕ, IfOk, false, length, true};
 ghost use Rattle.tab_core.specs.declared.TheConstants.{ROUND};
 ghost use Rattle.table_form.specs.Tables.Plans.{PlanView};
 ghost use Rattle.table_form.specs.Tables.Spans.{IsSpan};
@@ -111,6 +111,7 @@ impl SliceTable {
     pub(crate) fn holds(&self, number: usize, tick: u32) -> bool
         ensures holds { result ≡ true → HoldsTick (ends_of self.now) number tick }
         ensures small { result ≡ true → number < 2 ^ 32 }
+        ensures misses { result ≡ false → HoldsTick (ends_of self.now) number tick → ⊥ }
     {
         number < self.spans.len()
             && tick < self.spans.end(number)
