@@ -1,4 +1,4 @@
-ghost use Rattle.std.specs.Prelude.{◌≡◌, ◌+◌, ◌*◌, ◌/◌, ◌<◌, ◌≤◌, ◌^◌, ◌↔◌, ◌≢◌, All, IsTrue, Some, length, slice_get, true, vec_capacity};
+ghost use Rattle.std.specs.Prelude.{◌≡◌, ◌+◌, ◌*◌, ◌/◌, ◌<◌, ◌≤◌, ◌^◌, ◌↔◌, All, IsTrue, Some, length, slice_get, true, vec_capacity};
 ghost use Rattle.tab_core.specs.declared.TheConstants.{ROUND};
 ghost use Rattle.tab_core.specs.declared.entry.Entry.{Entry as EntryValue};
 ghost use Rattle.table_form.specs.Running.Courses.{CourseView};
@@ -67,95 +67,9 @@ pub(crate) fn enter(
     used[rounds - 1]
 }
 
-// What a core used in its clock's round, which it has entered.
-#[inline(always)]
-fn entered(seat: &RoundSeat, core: u32, clock: u32, used: &Vec<u32>) -> u32
-    requires core { HoldsCore (view_of seat.now) core × (core < 32) }
-    requires clock { (part (view_of seat.now) core).clock ≡ clock }
-    requires small { clock ≤ 2 ^ 31 }
-    requires counts { All (λ (e : EntryValue). e.used ≤ (view_of seat.now).events) (part (view_of seat.now) core).entries }
-    requires used { used.now.items ≡ used_counts (part (view_of seat.now) core).entries }
-    requires entered { length used.now.items * ROUND ≢ clock }
-    ensures enters { ComesToEnter (part (view_of seat.now) core) (part (view_of seat.now) core) }
-    ensures within { result ≤ (view_of seat.now).events }
-    ensures count { slice_get used.now.items (clock / ROUND) ≡ Some result }
-{
-    seat.shown();
-    let _ = (core, clock);
-    used[used.len() - 1]
-}
-
 // The begin of a step, on what a state keeps inside.
 #[inline(always)]
 pub(crate) fn begin(
-    board: &RoundBoard,
-    seat: &mut RoundSeat,
-    outline: &Outline,
-    log: &mut CoreLog,
-) -> Begun
-    requires board { IsSeatOf board.now seat.old }
-    requires log { IsLog log.old }
-    requires stands { Stands outline.now (log_view log.old) (view_of seat.old) }
-    ensures board { IsSeatOf board.now seat.new }
-    ensures log { IsLog log.new }
-    ensures stands { Stands outline.now (log_view log.new) (view_of seat.new) }
-    ensures same { IsSameCore (log_view log.old) (log_view log.new) }
-    ensures changes { ChangesOnly (view_of seat.old) (view_of seat.new) log.old.core }
-    ensures told { BegunTold outline.now log.old.rounds log.old.core (view_of seat.old) result (log_view log.new)
-        (view_of seat.new) }
-    ensures plans { (course : CourseView)
-        → FollowsPlans course (log_view log.old) (part (view_of seat.old) log.old.core)
-        → FollowsPlans course (log_view log.new) (part (view_of seat.new) log.old.core) }
-{
-    seat.shown();
-    if log.used.len() as u32 * ROUND == log.clock {
-        return begin_otherwise(board, seat, outline, log);
-    }
-    let count = board.see(seat, CoreNo(log.core));
-    if !has_events(outline, count, log.clock) {
-        return Begun::Behind {
-            seen: count,
-            tick: outline.tick_of(count),
-        };
-    }
-    let used = entered(seat, log.core, log.clock, &log.used);
-    Begun::At { seen: count, used }
-}
-
-// The same by `begin_round`. Its answer is taken to pieces, so that the answer of the usual way needs no memory.
-#[inline(always)]
-fn begin_otherwise(
-    board: &RoundBoard,
-    seat: &mut RoundSeat,
-    outline: &Outline,
-    log: &mut CoreLog,
-) -> Begun
-    requires board { IsSeatOf board.now seat.old }
-    requires log { IsLog log.old }
-    requires stands { Stands outline.now (log_view log.old) (view_of seat.old) }
-    ensures board { IsSeatOf board.now seat.new }
-    ensures log { IsLog log.new }
-    ensures stands { Stands outline.now (log_view log.new) (view_of seat.new) }
-    ensures same { IsSameCore (log_view log.old) (log_view log.new) }
-    ensures changes { ChangesOnly (view_of seat.old) (view_of seat.new) log.old.core }
-    ensures told { BegunTold outline.now log.old.rounds log.old.core (view_of seat.old) result (log_view log.new)
-        (view_of seat.new) }
-    ensures plans { (course : CourseView)
-        → FollowsPlans course (log_view log.old) (part (view_of seat.old) log.old.core)
-        → FollowsPlans course (log_view log.new) (part (view_of seat.new) log.old.core) }
-{
-    match begin_round(board, seat, outline, log) {
-        Begun::Finished => Begun::Finished,
-        Begun::Behind { seen, tick } => Begun::Behind { seen, tick },
-        Begun::At { seen, used } => Begun::At { seen, used },
-    }
-}
-
-// The same, for a core that may be at the run's end or has its clock's round still to enter. It stands apart, so that
-// the usual way is short.
-#[cold]
-#[inline(never)]
-fn begin_round(
     board: &RoundBoard,
     seat: &mut RoundSeat,
     outline: &Outline,
