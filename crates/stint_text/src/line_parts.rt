@@ -1,11 +1,10 @@
-ghost use Rattle.std.specs.Prelude.{◌≡◌, ℕ, ◌+◌, ◌≤◌, List, [], ◌∷◌, ◌++◌, codes, decimal, take};
+ghost use Rattle.std.specs.Prelude.{◌≡◌, ℕ, ◌+◌, ◌≤◌, List, [], ◌∷◌, ◌++◌, Some, codes, decimal, take};
 ghost use Rattle.table_form.specs.Running.Choice.{runs_other};
 ghost use Rattle.stint_text.specs.StintLine.{how_word, owned_line};
 ghost use Rattle.stint_text.specs.Inside.Tails.{tail_bytes, tail_text};
 ghost use Rattle.stint_text.specs.declared.line_bytes.TheConstants.{BLOCK};
 
 use crate::line_bytes::{Block, put_byte, put_number, put_short, put_tail};
-use crate::stint_line::is_other;
 use crate::tail::Tail;
 use tab_core::{CoreNo, Stint, VcpuNo};
 
@@ -83,5 +82,15 @@ fn put_how(block: &mut Block, at: usize, owner: &Option<VcpuNo>, ran: &Option<Vc
         put_short(block, at, b"shared\n\0", 7)
     } else {
         put_short(block, at, b"slot\n\0\0\0", 5)
+    }
+}
+
+// Whoever ran isn't the owner.
+fn is_other(owner: &Option<VcpuNo>, ran: &VcpuNo) -> bool
+    ensures { result ≡ runs_other owner.now (Some ran.now) }
+{
+    match owner {
+        Some(owner) => owner != ran,
+        None => true,
     }
 }

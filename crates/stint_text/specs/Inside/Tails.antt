@@ -23,8 +23,8 @@ tail_place (Some vcpu) = vcpu + 1
 
 -- each tail stands at its place, up to the last one
 abbrev pub AreTails : List (List ℕ) → ℕ → List Tail → Type 0
-AreTails names last tails = (owner : Option ℕ) (d : Tail) → tail_place owner ≤ last
-    → tail_bytes (slice_index_or tails (tail_place owner) d) ≡ tail_text names owner
+AreTails names last tails = (ran : Option ℕ) (d : Tail) → tail_place ran ≤ last
+    → tail_bytes (slice_index_or tails (tail_place ran) d) ≡ tail_text names ran
 
 -- the tails are those of these names, and no more is gathered than there is room for
 pub record HoldsLines (names : List (List ℕ)) (tails : List Tail) (count : ℕ) : Type 0 where
