@@ -1,15 +1,6 @@
-ghost use Rattle.std.specs.Prelude.{◌≤◌};
-ghost use Rattle.tab_core.specs.declared.TheConstants.{MAX_TICK_NS, MIN_TICK_NS};
-
-use crate::samples::{host_of, vcpu_of};
-use period_choice::{TaskFault, choose, tasks_of};
+use period_choice::choose;
 use reservation::cost_of;
-use std::alloc::{AllocError, Global};
-use std::test::Fail;
-use tab_core::{
-    Host, MAX_LATENCY_NS, MAX_TICK_NS, MIN_TICK_NS, Name, Reservation, Tasks, VcpuNo, Vcpus,
-    WHOLE_PPM,
-};
+use tab_core::{MAX_LATENCY_NS, MAX_TICK_NS, MIN_TICK_NS, Reservation, WHOLE_PPM};
 
 // The share in ppm, the period and the cost in ticks.
 const COSTS: [(u32, u32, u32); 8] = [
@@ -66,61 +57,5 @@ fn least_demand_and_of_those_the_largest(rt: HostRuntime) {
             expected,
             "{share_ppm} ppm within {latency_ns} ns, tick {tick_ns} ns"
         );
-    }
-}
-
-fn one_vcpu(
-    alloc: Global,
-    name: Name,
-    tick_ns: u32,
-    reservation: Option<Reservation>,
-) -> Result<Host, AllocError>
-    requires at_least { MIN_TICK_NS ≤ tick_ns }
-    requires at_most { tick_ns ≤ MAX_TICK_NS }
-{
-    let mut items = Vec::new(alloc);
-    items.push(vcpu_of(name, reservation))?;
-    Ok(host_of(tick_ns, 1, 30, Vcpus::of(items)))
-}
-
-#[test]
-fn each_vcpu_has_the_chosen_task(rt: HostRuntime) -> Result<(), Fail> {
-    let within = Reservation {
-        share_ppm: 100_000,
-        latency_ns: 180_180,
-    };
-    let beyond = Reservation {
-        share_ppm: 100_000,
-        latency_ns: 180_179,
-    };
-    let cases = [
-        (1001, None, Ok(None)),
-        (1001, Some(within), Ok(Some((100, 10)))),
-        (
-            1001,
-            Some(beyond),
-            Err(TaskFault::NoPeriod { vcpu: VcpuNo(0) }),
-        ),
-        (500, Some(within), Ok(Some((200, 20)))),
-        (
-            2002,
-            Some(within),
-            Err(TaskFault::NoPeriod { vcpu: VcpuNo(0) }),
-        ),
-    ];
-    for (tick_ns, reservation, expected) in cases {
-        assert!(rt; MIN_TICK_NS <= tick_ns && tick_ns <= MAX_TICK_NS);
-        let name = Name::of(rt.alloc(), b"a")?;
-        let host = one_vcpu(rt.alloc(), name, tick_ns, reservation)?;
-        let found = tasks_of(rt.alloc(), &host).map(|tasks| numbers_of(&tasks));
-        assert_eq!(rt; found, expected);
-    }
-    Ok(())
-}
-
-fn numbers_of(tasks: &Tasks) -> Option<(u32, u32)> {
-    match tasks.items().first() {
-        Some(Some(task)) => Some((task.period, task.cost)),
-        _ => None,
     }
 }

@@ -15,8 +15,6 @@ mod names;
 #[cfg(test)]
 mod placement;
 #[cfg(test)]
-mod plans;
-#[cfg(test)]
 mod rows;
 #[cfg(test)]
 mod samples;

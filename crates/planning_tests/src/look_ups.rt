@@ -3,8 +3,7 @@ ghost use Rattle.tab_core.specs.declared.TheConstants.{MAX_CORES, MAX_LATENCY_NS
 ghost use Rattle.table_form.specs.Tables.Homes.{is_housed};
 
 use crate::checks::{A, B, IDLE, Part, rows_of};
-use crate::plans::{host_with, patient};
-use crate::samples::number_of;
+use crate::samples::{host_with, number_of, patient};
 use plan_make::plan;
 use slice_table::SliceTable;
 use std::alloc::Global;

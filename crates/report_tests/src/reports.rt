@@ -4,13 +4,13 @@ ghost use Rattle.tab_core.specs.declared.TheConstants.{MAX_ROUNDS, MAX_VCPUS, RO
 ghost use Rattle.tab_core.specs.declared.stint.Stint.{Stint as StintValue};
 ghost use Rattle.dispatch_core.specs.Accounts.{IsWithin};
 
-use crate::samples::{book_of, halved_host, host_of};
+use crate::samples::{book_of, halved_host};
 use dispatch_core::CoreAccount;
 use plan_book::Outcome;
 use std::alloc::Global;
 use std::cmp::min;
 use std::test::Fail;
-use tab_core::{CoreNo, Host, MAX_ROUNDS, MAX_VCPUS, NoMemory, ROUND, Stint, VcpuNo, Vcpus};
+use tab_core::{CoreNo, Host, MAX_ROUNDS, MAX_VCPUS, NoMemory, ROUND, Stint, VcpuNo};
 use tab_io::{MemSink, WriteFault};
 use table_form::Course;
 use trace_report::{Report, write_report, write_trace};
@@ -117,47 +117,6 @@ fn reports_of_two_rounds(rt: HostRuntime) -> Result<(), Fail> {
     assert_eq!(rt; sink.bytes(), BY_OLD_PLAN);
     let sink = report_of(alloc, &host, book.course(), &planned, 1, 2, &new)?;
     assert_eq!(rt; sink.bytes(), BY_NEW_PLAN);
-    Ok(())
-}
-
-const REFUSED: &[u8] = b"run 1 rounds 1 cores 0 events
-change 0 at 20000: no room for a
-change 1 at 40000: no period for a
-round 0 plan 0
-vcpu a offered 51300 slots 51300 shared 0 gap 51300
-core 0 slots 51300 shared 0 idle 51300
-done
-";
-
-#[test]
-fn a_refused_change_says_why(rt: HostRuntime) -> Result<(), Fail> {
-    let alloc = rt.alloc();
-    let host = halved_host(alloc)?;
-    let book = book_of(&rt, alloc, &host, b"")?;
-    let changes = [
-        (20_000, Outcome::NoRoom { vcpu: VcpuNo(0) }),
-        (40_000, Outcome::NoPeriod { vcpu: VcpuNo(0) }),
-    ];
-    let account = account_of(51_300, 0, 51_300);
-    let sink = report_of(alloc, &host, book.course(), &changes, 0, 1, &account)?;
-    assert_eq!(rt; sink.bytes(), REFUSED);
-    Ok(())
-}
-
-const IDLE: &[u8] = b"run 10000 rounds 1 cores 0 events
-round 0 plan 0
-core 0 slots 0 shared 0 idle 1026000000
-done
-";
-
-#[test]
-fn ten_thousand_idle_rounds(rt: HostRuntime) -> Result<(), Fail> {
-    let alloc = rt.alloc();
-    let host = host_of(Vcpus::of(Vec::new(alloc)));
-    let book = book_of(&rt, alloc, &host, b"")?;
-    let account = account_of(0, 0, 1_026_000_000);
-    let sink = report_of(alloc, &host, book.course(), &[], 0, 10_000, &account)?;
-    assert_eq!(rt; sink.bytes(), IDLE);
     Ok(())
 }
 

@@ -87,73 +87,56 @@ const BOTH: [bool; 2] = [true, true];
 
 const NOBODY: [bool; 2] = [false, false];
 
-const PLANNED: Outcome = Outcome::Planned;
-
-const NO_PERIOD_A: Outcome = Outcome::NoPeriod { vcpu: VcpuNo(0) };
-
-const NO_PERIOD_B: Outcome = Outcome::NoPeriod { vcpu: VcpuNo(1) };
-
-const NO_ROOM_A: Outcome = Outcome::NoRoom { vcpu: VcpuNo(0) };
+// A script, and for each count the plan's number, who has a task and who is runnable.
+const CASES: [(&[u8], &[(u32, [bool; 2], [bool; 2])]); 9] = [
+    (b"", &[(0, A, A)]),
+    (
+        b"20000 change set a 250000 102702600\n40000 change set a 1000 0\n60000 change set a 1000000 0",
+        &[(0, A, A), (1, A, A), (1, A, A), (2, A, A)],
+    ),
+    (
+        b"5 change leave a set a 1 102702600",
+        &[(0, A, A), (1, A, A)],
+    ),
+    (
+        b"5 change set a 1 102702600 leave a",
+        &[(0, A, A), (1, NOBODY, A)],
+    ),
+    (
+        b"5 change set b 600000 102702600\n5 change set b 500000 102702600",
+        &[(0, A, A), (0, A, A), (1, BOTH, A)],
+    ),
+    (
+        b"5 change leave a set b 1000 0\n6 change set b 500000 102702600",
+        &[(0, A, A), (0, A, A), (1, BOTH, A)],
+    ),
+    (
+        b"5 wake b\n5 block a\n6 block b",
+        &[(0, A, A), (0, A, BOTH), (0, A, B), (0, A, NOBODY)],
+    ),
+    (
+        b"5 change leave b\n5 wake b\n5 change leave b",
+        &[(0, A, A), (1, A, A), (1, A, BOTH), (2, A, BOTH)],
+    ),
+    (
+        b"5 wake b\n5 change leave a\n5 block a\n6 change set a 500000 102702600",
+        &[
+            (0, A, A),
+            (0, A, BOTH),
+            (1, NOBODY, BOTH),
+            (1, NOBODY, B),
+            (2, A, B),
+        ],
+    ),
+];
 
 // a has half of the core and is runnable, b isn't admitted and isn't runnable.
 #[test]
 fn each_count_has_its_plan_and_set(rt: HostRuntime) -> Result<(), Fail> {
     let host = host_of(rt.alloc(), patient(500_000), None)?;
-    // a script, the outcomes of its changes, and for each count the plan's number, who has a task and
-    // who is runnable
-    let cases: [(&[u8], &[Outcome], &[(u32, [bool; 2], [bool; 2])]); 9] = [
-        (b"", &[], &[(0, A, A)]),
-        (
-            b"20000 change set a 250000 102702600\n40000 change set a 1000 0\n60000 change set a 1000000 0",
-            &[PLANNED, NO_PERIOD_A, PLANNED],
-            &[(0, A, A), (1, A, A), (1, A, A), (2, A, A)],
-        ),
-        (
-            b"5 change leave a set a 1 102702600",
-            &[PLANNED],
-            &[(0, A, A), (1, A, A)],
-        ),
-        (
-            b"5 change set a 1 102702600 leave a",
-            &[PLANNED],
-            &[(0, A, A), (1, NOBODY, A)],
-        ),
-        (
-            b"5 change set b 600000 102702600\n5 change set b 500000 102702600",
-            &[NO_ROOM_A, PLANNED],
-            &[(0, A, A), (0, A, A), (1, BOTH, A)],
-        ),
-        (
-            b"5 change leave a set b 1000 0\n6 change set b 500000 102702600",
-            &[NO_PERIOD_B, PLANNED],
-            &[(0, A, A), (0, A, A), (1, BOTH, A)],
-        ),
-        (
-            b"5 wake b\n5 block a\n6 block b",
-            &[],
-            &[(0, A, A), (0, A, BOTH), (0, A, B), (0, A, NOBODY)],
-        ),
-        (
-            b"5 change leave b\n5 wake b\n5 change leave b",
-            &[PLANNED, PLANNED],
-            &[(0, A, A), (1, A, A), (1, A, BOTH), (2, A, BOTH)],
-        ),
-        (
-            b"5 wake b\n5 change leave a\n5 block a\n6 change set a 500000 102702600",
-            &[PLANNED, PLANNED],
-            &[
-                (0, A, A),
-                (0, A, BOTH),
-                (1, NOBODY, BOTH),
-                (1, NOBODY, B),
-                (2, A, B),
-            ],
-        ),
-    ];
-    for (text, outcomes, rows) in cases {
+    for (text, rows) in CASES {
         assert!(rt; text.len() < 1000);
         let book = book_of(&rt, rt.alloc(), &host, text)?;
-        assert_eq!(rt; book.outcomes(), outcomes, "of {text:?}");
         let count = book.course().count();
         assert_eq!(rt; count as usize + 1, rows.len(), "of {text:?}");
         for n in 0..count + 1 {
@@ -189,31 +172,7 @@ fn the_course_has_the_ticks_and_the_numbers_of_the_host(rt: HostRuntime) -> Resu
     let outcomes = book.outcomes();
     assert_eq!(rt; outcomes.len(), 1);
     if outcomes.len() == 1 {
-        assert_eq!(rt; book.outcome_of(0), NO_PERIOD_B);
-    }
-    Ok(())
-}
-
-#[test]
-fn a_host_without_a_plan_has_no_book(rt: HostRuntime) -> Result<(), Fail> {
-    let impatient = Some(Reservation {
-        share_ppm: 1000,
-        latency_ns: 0,
-    });
-    let large = patient(600_000);
-    // the reservations of a and b, and the phrase of the refusal
-    let cases = [
-        (large, large, "no room for vCPU 1, 61560 ticks left"),
-        (large, impatient, "no period for vCPU 1"),
-    ];
-    for (first, second, phrase) in cases {
-        let host = host_of(rt.alloc(), first, second)?;
-        let script = read_script(rt.alloc(), b"5 change leave b", &host, 1)?;
-        let fault = make_book(&rt, rt.alloc(), &host, &script)
-            .err()
-            .ok_or("the host has no plan")?;
-        let text = format!(in rt.alloc(); "{fault}")?;
-        assert_eq!(rt; text.as_str(), phrase);
+        assert_eq!(rt; book.outcome_of(0), Outcome::NoPeriod { vcpu: VcpuNo(1) });
     }
     Ok(())
 }

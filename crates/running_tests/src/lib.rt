@@ -5,8 +5,6 @@
 #[cfg(test)]
 mod books;
 #[cfg(test)]
-mod capping;
-#[cfg(test)]
 mod machine;
 #[cfg(test)]
 mod samples;

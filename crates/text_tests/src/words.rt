@@ -199,49 +199,6 @@ const COMMANDS: [(&str, Command); 14] = [
     ("--version", Command::Version),
 ];
 
-// Words with a space between that are no command, and the place of their fault.
-const USAGES: [(&str, u32); 39] = [
-    ("plan plan", 1),
-    ("check check", 1),
-    ("check 1", 1),
-    ("replay", 1),
-    ("replay 0", 1),
-    ("replay 0 x", 1),
-    ("replay 10001", 1),
-    ("replay 01", 1),
-    ("replay +1", 1),
-    ("replay ", 1),
-    ("replay x 1", 1),
-    ("replay 4294967297", 1),
-    ("replay 18446744073709551617", 1),
-    ("replay 1 x", 2),
-    ("replay 10000 1", 2),
-    ("replay 1 2 3", 2),
-    ("plan --help", 1),
-    ("--help plan", 1),
-    ("--version --version x", 1),
-    ("Plan", 0),
-    ("pla", 0),
-    ("Check", 0),
-    ("replay1", 0),
-    ("1 replay", 0),
-    ("plans x", 0),
-    ("", 0),
-    ("run", 1),
-    ("run 10001", 1),
-    ("run 1 traces", 2),
-    ("run 1 trace x", 3),
-    ("run 1 burst trace", 3),
-    ("run 1 live trace", 3),
-    ("run live", 1),
-    ("gen 1 33 1", 2),
-    ("gen 1 1 101", 3),
-    ("gen 1 1 1 1", 4),
-    ("selftest 18446744073709551616", 1),
-    ("plan whole x", 2),
-    ("plan --version x", 1),
-];
-
 fn read(alloc: Global, line: &str) -> Result<Result<Command, Usage>, Fail> {
     let mut words = Vec::new(alloc);
     for word in line.split(' ') {
@@ -255,16 +212,6 @@ fn reads_commands(rt: HostRuntime) -> Result<(), Fail> {
     for (line, command) in &COMMANDS {
         assert_eq!(rt; read(rt.alloc(), line)?, Ok(*command), "of {line}");
     }
-    Ok(())
-}
-
-#[test]
-fn places_the_faults_of_no_commands(rt: HostRuntime) -> Result<(), Fail> {
-    for (line, place) in &USAGES {
-        let fault = Usage { place: *place };
-        assert_eq!(rt; read(rt.alloc(), line)?, Err(fault), "of {line}");
-    }
-    assert_eq!(rt; read_words(&[]), Err(Usage { place: 0 }), "of no words");
     Ok(())
 }
 

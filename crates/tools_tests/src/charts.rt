@@ -1,6 +1,5 @@
-// The picture of a plan, whole and where the sink fails.
+// The picture of a plan where the sink fails.
 
-use crate::pictures::PLAN_SVG;
 use crate::samples::{PLAN, read};
 use std::alloc::Global;
 use std::test::Fail;
@@ -8,6 +7,9 @@ use tab_io::MemSink;
 use view_chart::write_chart;
 use view_lanes::ChartOptions;
 use view_table::figures_of;
+
+// The first 50 bytes of the picture.
+const FRONT: &str = "<svg xmlns=\"http://www.w3.org/2000/svg\" width=\"116";
 
 const PART: ChartOptions = ChartOptions {
     by_vcpu: false,
@@ -35,18 +37,9 @@ fn draw(
 }
 
 #[test]
-fn a_picture_of_a_plan(rt: HostRuntime) -> Result<(), Fail> {
-    let mut sink = MemSink::with_room(rt.alloc(), 20_000)?;
-    assert!(rt; draw(rt.alloc(), PLAN, &PART, &mut sink)?);
-    assert_eq!(rt; sink.bytes(), PLAN_SVG.as_bytes());
-    Ok(())
-}
-
-#[test]
 fn a_fault_leaves_a_front_of_the_picture(rt: HostRuntime) -> Result<(), Fail> {
     let mut sink = MemSink::with_room(rt.alloc(), 50)?;
     assert!(rt; !draw(rt.alloc(), PLAN, &PART, &mut sink)?);
-    let front = PLAN_SVG.as_bytes();
-    assert_eq!(rt; sink.bytes(), &front[..50]);
+    assert_eq!(rt; sink.bytes(), FRONT.as_bytes());
     Ok(())
 }
