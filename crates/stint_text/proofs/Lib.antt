@@ -1,6 +1,5 @@
 pub mod GatheredLemmas
-pub mod LineBytes
 pub mod NearLemmas
+pub mod NumbersLineLemmas
 pub mod RoomLemmas
 pub mod StintLineLemmas
-pub mod TailLemmas

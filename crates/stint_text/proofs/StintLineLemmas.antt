@@ -5,7 +5,7 @@ use Rattle.tab_words.specs.Texts.{line_of}
 use Rattle.table_form.specs.Running.Choice.{runs_other}
 use Rattle.vcpu_names.specs.Names.{owner_word}
 use Rattle.stint_text.specs.StintLine.{how_word, owned_line}
-use Rattle.stint_text.specs.Inside.Tails.{tail_text}
+use Rattle.line_bytes.specs.Tails.{tail_text}
 
 -- the parts of a line in one row
 in_a_row : (c s u e f core from end used seen name how : List ℕ)
@@ -33,7 +33,7 @@ words_in_parts core from end used seen name how =
 
 -- in their order they are the line
 pub line_in_parts : (names : List (List ℕ)) (core : ℕ) (owner : Option ℕ) (s : Stint) (tail : List ℕ)
-    → tail ≡ tail_text names s.ran
+    → tail ≡ tail_text names 32 s.ran
     → ((((codes "core " ++ (decimal core ++ 32 ∷ []))
     ++ (decimal s.from ++ 32 ∷ decimal s.end))
     ++ (codes " used " ++ (decimal s.used ++ (codes " seen " ++ decimal s.seen))))

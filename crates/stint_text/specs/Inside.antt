@@ -1,3 +1,3 @@
 -- What the code keeps on its way, private to this crate.
+pub mod Gathered
 pub mod Near
-pub mod Tails

@@ -5,13 +5,10 @@
 #![tactic(auto)]
 
 mod first_owner;
-mod line_bytes;
 mod line_parts;
 mod lines;
 mod number_parts;
 mod numbered;
-mod tail;
-mod tails;
 
 pub use lines::StintLines;
 pub use numbered::Numbered;

@@ -1,15 +1,11 @@
 ghost use Rattle.std.specs.Prelude.{◌≡◌, ℕ, ◌+◌, ◌≤◌, List, [], ◌∷◌, ◌++◌, Some, codes, decimal, take};
 ghost use Rattle.table_form.specs.Running.Choice.{runs_other};
 ghost use Rattle.stint_text.specs.StintLine.{how_word, owned_line};
-ghost use Rattle.stint_text.specs.Inside.Tails.{tail_bytes, tail_text};
-ghost use Rattle.stint_text.specs.declared.line_bytes.TheConstants.{BLOCK};
+ghost use Rattle.line_bytes.specs.Tails.{tail_bytes, tail_text};
+ghost use Rattle.line_bytes.specs.declared.block.TheConstants.{BLOCK, LINE};
 
-use crate::line_bytes::{Block, put_byte, put_number, put_short, put_tail};
-use crate::tail::Tail;
+use line_bytes::{Block, Tail, put_byte, put_number, put_short, put_tail};
 use tab_core::{CoreNo, Stint, VcpuNo};
-
-/// A line takes up at most so many bytes of a block.
-pub(crate) const LINE: usize = 128;
 
 // Puts the line of a core's stint behind the gathered bytes, which end at `at`, and answers where they end
 // with it. The owner is that of the stint's first tick, and the tail that of whoever ran.
@@ -23,7 +19,7 @@ pub(crate) fn put_parts(
 ) -> usize
     requires { at + LINE ≤ BLOCK }
     ensures end { result ≤ BLOCK }
-    ensures bytes { (names : List (List ℕ)) → tail_bytes tail.now ≡ tail_text names stint.now.ran
+    ensures bytes { (names : List (List ℕ)) → tail_bytes tail.now ≡ tail_text names 32 stint.now.ran
         → take result block.new ≡ take at block.old ++ owned_line names core owner.now stint.now }
 {
     let ticks = put_core(block, at, core);

@@ -1,20 +1,15 @@
-ghost use Rattle.std.specs.Prelude.{◌≡◌, ◌+◌, ◌<◌, ◌≤◌, [], IfOk, length};
+ghost use Rattle.std.specs.Prelude.{◌≡◌, ◌<◌, ◌≤◌, [], length};
 ghost use Rattle.tab_io.specs.Sinks.{Writes};
 ghost use Rattle.tab_words.specs.Blocks.{PutsBehind};
 ghost use Rattle.vcpu_names.specs.Names.{names_of};
 ghost use Rattle.stint_text.specs.StintLine.{stint_line};
 ghost use Rattle.stint_text.specs.NumbersLine.{numbers_line};
-ghost use Rattle.stint_text.specs.Inside.Tails.{MakesRoom};
-ghost use Rattle.stint_text.specs.declared.line_bytes.TheConstants.{BLOCK};
-ghost use Rattle.stint_text.specs.declared.line_parts.TheConstants.{LINE};
 
 use crate::first_owner::first_owner;
-use crate::line_bytes::{BLOCK, Block, FULL};
 use crate::line_parts::put_parts;
 use crate::number_parts::put_three;
 use crate::numbered::Numbered;
-use crate::tail::Tail;
-use crate::tails::{tail_place, tails_of};
+use line_bytes::{BLOCK, Block, Tail, make_room, tail_place, tails_of};
 use std::marker::Model;
 use tab_core::{CoreNo, Stint, Vcpu};
 use tab_io::{Sink, WriteFault, write_all};
@@ -39,7 +34,7 @@ impl<'a> Model for StintLines<'a> {
     ghost use Rattle.std.specs.Prelude.{take};
     ghost use Rattle.vcpu_names.specs.Names.{names_of};
     ghost use Rattle.stint_text.specs.StintLines.{StintLinesView};
-    ghost use Rattle.stint_text.specs.Inside.Tails.{HoldsLines};
+    ghost use Rattle.stint_text.specs.Inside.Gathered.{HoldsLines};
 
     ghost Value = { StintLinesView };
 
@@ -59,7 +54,7 @@ impl<'a> StintLines<'a> {
     {
         StintLines {
             vcpus,
-            tails: tails_of(vcpus),
+            tails: tails_of(vcpus, b' '),
             block: [0; BLOCK],
             count: 0,
             places: [0; 32],
@@ -119,17 +114,4 @@ impl<'a> StintLines<'a> {
     {
         write_all(sink, &self.block[..self.count])
     }
-}
-
-// Writes the gathered bytes where they fill the block, and answers how many are gathered then.
-fn make_room<K: Sink>(sink: &mut K, block: &Block, count: usize) -> Result<usize, WriteFault>
-    requires { count ≤ BLOCK }
-    ensures room { IfOk result (λ left. left + LINE ≤ BLOCK) }
-    ensures bytes { MakesRoom (K.state sink.old) (K.state sink.new) block.now count result }
-{
-    if count < FULL {
-        return Ok(count);
-    }
-    write_all(sink, &block[..count])?;
-    Ok(0)
 }

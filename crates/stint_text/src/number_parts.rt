@@ -1,10 +1,9 @@
 ghost use Rattle.std.specs.Prelude.{◌≡◌, ◌+◌, ◌≤◌, ◌++◌, decimal, length, take};
 ghost use Rattle.stint_text.specs.NumbersLine.{numbers_line};
-ghost use Rattle.stint_text.specs.declared.line_bytes.TheConstants.{BLOCK};
-ghost use Rattle.stint_text.specs.declared.line_parts.TheConstants.{LINE};
+ghost use Rattle.line_bytes.specs.declared.block.TheConstants.{BLOCK, LINE};
 
-use crate::line_bytes::{Block, put_byte, put_number};
 use crate::numbered::Numbered;
+use line_bytes::{Block, put_byte, put_number};
 
 // Puts the line of three of them behind the gathered bytes, which end at `at`, and answers where they end
 // with it.

@@ -1,6 +1,6 @@
 use Rattle.std.proofs.Common.{◌++◌, take, ap, ◌∙◌}
-use Rattle.stint_text.specs.Inside.Tails.{tail_bytes}
-use Rattle.stint_text.proofs.LineBytes.{both_behind}
+use Rattle.line_bytes.specs.Tails.{tail_bytes}
+use Rattle.line_bytes.proofs.BlockLemmas.{both_behind}
 use Rattle.stint_text.proofs.StintLineLemmas.{line_in_parts}
 use Rattle.stint_text.proofs.line_parts.put_parts.Goals as goal
 

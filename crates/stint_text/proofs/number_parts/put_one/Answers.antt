@@ -1,4 +1,4 @@
-use Rattle.stint_text.proofs.LineBytes.{both_behind}
+use Rattle.line_bytes.proofs.BlockLemmas.{both_behind}
 use Rattle.stint_text.proofs.number_parts.put_one.Goals as goal
 
 pub returns-clause-bytes : goal.returns-clause-bytes

@@ -1,5 +1,6 @@
 use Rattle.std.proofs.Common.{◌++◌, ◌∷◌, [], codes, decimal, take, ap, ◌∙◌}
-use Rattle.stint_text.proofs.LineBytes.{both_behind, in_a_row_of_three}
+use Rattle.line_bytes.proofs.BlockLemmas.{both_behind}
+use Rattle.stint_text.proofs.NumbersLineLemmas.{in_a_row_of_three}
 use Rattle.stint_text.proofs.number_parts.put_three.Goals as goal
 
 pub returns-clause-bytes : goal.returns-clause-bytes
