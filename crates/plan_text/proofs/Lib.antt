@@ -1,7 +1,6 @@
 pub mod FirstBadLemmas
 pub mod FirstLineLemmas
 pub mod HomeLemmas
-pub mod LineBytes
 pub mod LineWordLemmas
 pub mod MeaningLemmas
 pub mod OneMeaning

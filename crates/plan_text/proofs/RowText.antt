@@ -8,6 +8,7 @@ use Rattle.tab_io.specs.declared.sink.WriteFault.{WriteFault}
 use Rattle.tab_io.proofs.SinkLemmas.{left_behind, left_broken}
 use Rattle.table_form.specs.declared.segment.Segment.{Segment}
 use Rattle.table_form.specs.Tables.Segments.{segment_view}
+use Rattle.line_bytes.proofs.RoomLemmas.{failed_alike}
 use Rattle.plan_text.specs.PlanText.{segment_line}
 
 -- the lines of these segments
@@ -28,11 +29,6 @@ pub no_line_left : (names : List (List ℕ)) (ss : List Segment) (k : ℕ) (gath
 no_line_left names ss k gathered past = rw (drop_all k ss past) (append-nil gathered)
 
 -- ---- lines that are gathered
-
--- a fault is one for each call that answers it
-pub failed_alike : {U W : Type 0} (s t : SinkView) (text : List ℕ) (e : WriteFault)
-    → Writes {U = U} s t text (Err e) → Writes {U = W} s t text (Err e)
-failed_alike s t text e wrote = record { later = wrote.later; bytes = wrote.bytes; fits = wrote.fits }
 
 -- of the gathered bytes a front was written, and then a line was put behind those that were left
 pub line_behind : (s t v : SinkView) (text gathered still now line rest whole : List ℕ)

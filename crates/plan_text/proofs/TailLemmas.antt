@@ -1,60 +1,23 @@
--- The tails of lines, by their owners.
-use Rattle.std.proofs.Common.{◌≡◌, ◌≢◌, ℕ, ◌+◌, ◌<◌, ◌≤◌, ◌&&◌, nat_le, not, List, ◌∷◌, ◌++◌, codes, decimal, get_or, length, replicate, set, Option, Some, None, ap, subst, sym, ◌∙◌, inl, inr, arith, append_assoc}
-use Rattle.std.specs.List.{list_all}
-use Rattle.std.proofs.lemmas.Bool.{and_parts, cases_eq, leb-true}
-use Rattle.std.proofs.lemmas.List.{get_or-replicate, get_or-set_other, get_or-set_same}
-use Rattle.tab_core.specs.Name.{IsName, is_byte_of_name, is_lone_dash}
-use Rattle.tab_core.specs.declared.TheConstants.{MAX_NAME, MAX_VCPUS}
-use Rattle.table_form.specs.Tables.Segments.{SegmentView}
+-- The lines of segments, as they are put together from the tails of owners.
+use Rattle.std.proofs.Common.{◌≡◌, ℕ, ◌≤◌, List, ◌∷◌, ◌++◌, codes, decimal, get_or, Option, ap, subst, sym, ◌∙◌, append_assoc}
+use Rattle.tab_core.specs.declared.TheConstants.{MAX_VCPUS}
 use Rattle.tab_words.specs.Texts.{line_of}
 use Rattle.vcpu_names.specs.Names.{owner_word}
+use Rattle.table_form.specs.Tables.Segments.{SegmentView}
+use Rattle.line_bytes.specs.Tails.{AreTails, tail_bytes, tail_place, tail_text}
+use Rattle.line_bytes.specs.declared.tail.Tail.{Tail}
 use Rattle.plan_text.specs.PlanText.{segment_line}
-use Rattle.plan_text.specs.Inside.Tails.{AreTails, tail_bytes, tail_place, tail_text}
-use Rattle.plan_text.specs.declared.tail.Tail.{Tail}
-
--- a name has so many bytes at most
-pub name_fits : (name : List ℕ) → IsName name → length name ≤ MAX_NAME
-name_fits name good =
-    let parts = and_parts ((nat_le 1 (length name) && nat_le (length name) MAX_NAME) && not (is_lone_dash name))
-    (list_all is_byte_of_name name) good in
-    let sized = and_parts (nat_le 1 (length name) && nat_le (length name) MAX_NAME)
-    (not (is_lone_dash name)) parts.0 in
-    let long = and_parts (nat_le 1 (length name)) (nat_le (length name) MAX_NAME) sized.0 in
-    leb-true (length name) MAX_NAME long.1
-
--- at first idle cells have their tail
-pub idle_tail : (names : List (List ℕ)) (tail : Tail) (n : ℕ) → 0 < n
-    → tail_bytes tail ≡ tail_text names None → AreTails names 0 (replicate n tail)
-idle_tail names tail n some is None d low =
-    ap tail_bytes (get_or-replicate n 0 tail d some) ∙ is
-idle_tail names tail n some is (Some vcpu) d low = absurd (omega arith)
-
--- and then one vCPU more
-pub tail_more : (names : List (List ℕ)) (tails : List Tail) (vcpu : ℕ) (tail : Tail) → vcpu + 1 < length tails
-    → AreTails names vcpu tails → tail_bytes tail ≡ tail_text names (Some vcpu)
-    → AreTails names (vcpu + 1) (set tails (vcpu + 1) tail)
-tail_more names tails vcpu tail room are is None d low =
-    ap tail_bytes (get_or-set_other tails (vcpu + 1) 0 tail d (λ same. omega (arith, same)))
-    ∙ are None d (omega arith)
-tail_more names tails vcpu tail room are is (Some v) d low = elim (cases_eq v vcpu) [
-  | inl same ↦ subst
-      (λ w. tail_bytes (get_or (set tails (vcpu + 1) tail) (w + 1) d) ≡ tail_text names (Some w)) (sym same)
-      (ap tail_bytes (get_or-set_same tails (vcpu + 1) tail d room) ∙ is)
-  | inr other ↦ ap tail_bytes
-      (get_or-set_other tails (vcpu + 1) (v + 1) tail d (λ same. other (omega (arith, same))))
-      ∙ are (Some v) d (let apart : v ≢ vcpu = other in omega (arith, apart))
-]
 
 -- a segment's line is its end and its owner's tail
 pub line_parts : (names : List (List ℕ)) (s : SegmentView)
-    → decimal s.end ++ tail_text names s.owner ≡ segment_line names s
+    → decimal s.end ++ tail_text names 10 s.owner ≡ segment_line names s
 unfolding segment_line line_of
 line_parts names s = sym (append_assoc (decimal s.end) (32 ∷ owner_word names s.owner) (codes "\n"))
 
 -- what stands at an owner's place is its tail
 pub tail_found : (names : List (List ℕ)) (tails : List Tail) (owner : Option ℕ) (place : ℕ) (d : Tail)
-    → AreTails names MAX_VCPUS tails → place ≡ tail_place owner → place ≤ MAX_VCPUS
-    → tail_bytes (get_or tails place d) ≡ tail_text names owner
+    → AreTails names 10 MAX_VCPUS tails → place ≡ tail_place owner → place ≤ MAX_VCPUS
+    → tail_bytes (get_or tails place d) ≡ tail_text names 10 owner
 tail_found names tails owner place d are at small =
     let low : tail_place owner ≤ MAX_VCPUS = subst (λ n. n ≤ MAX_VCPUS) at small in
     ap (λ n. tail_bytes (get_or tails n d)) at ∙ are owner d low

@@ -1,3 +1,2 @@
--- What the reader and the writer of a plan text keep on their way, private to this crate.
+-- What the reader of a plan text keeps on its way, private to this crate.
 pub mod Reading
-pub mod Tails

@@ -6,12 +6,10 @@ ghost use Rattle.tab_words.specs.Texts.{text_of};
 ghost use Rattle.vcpu_names.specs.Names.{names_of};
 ghost use Rattle.plan_text.specs.PlanLines.{core_lines, core_words};
 ghost use Rattle.plan_text.specs.PlanText.{view_words};
-ghost use Rattle.plan_text.specs.Inside.Tails.{AreTails};
+ghost use Rattle.line_bytes.specs.Tails.{AreTails};
 
-use crate::line_bytes::{BLOCK, Block};
 use crate::rows::put_row;
-use crate::tail::Tail;
-use crate::tails::tails_of;
+use line_bytes::{BLOCK, Block, Tail, tails_of};
 use tab_core::Vcpu;
 use tab_io::{Sink, WriteFault};
 use tab_words::{TextPiece, put_line};
@@ -28,7 +26,7 @@ pub(crate) fn put_cores<K: Sink>(
         (text_of (core_lines (view_words (names_of vcpus.now)) 0
         (map (segments_from 0) rows.now))) result }
 {
-    let tails = tails_of(vcpus);
+    let tails = tails_of(vcpus, b'\n');
     let mut block = [0; BLOCK];
     for core in 0..rows.len() {
         put_core(sink, &tails, &mut block, core as u32, &rows[core])?;
@@ -44,7 +42,7 @@ fn put_core<K: Sink>(
     core: u32,
     row: &CoreTable,
 ) -> Result<(), WriteFault>
-    ensures { (names : List (List ℕ)) → AreTails names MAX_VCPUS tails.now
+    ensures { (names : List (List ℕ)) → AreTails names 10 MAX_VCPUS tails.now
         → Writes (K.state sink.old) (K.state sink.new)
         (text_of (core_words core ∷ map (view_words names) (segments_from 0 row.now))) result }
 {

@@ -8,7 +8,6 @@
 
 mod cores;
 mod laws;
-mod line_bytes;
 mod line_words;
 mod lines_left;
 mod plain_line;
@@ -18,8 +17,6 @@ mod read_fault;
 mod read_vcpus;
 mod refusal;
 mod rows;
-mod tail;
-mod tails;
 mod vcpus;
 mod write;
 

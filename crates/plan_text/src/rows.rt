@@ -1,21 +1,15 @@
-ghost use Rattle.std.specs.Prelude.{◌≡◌, ◌+◌, ◌≤◌, ℕ, List, ◌++◌, IfOk, flat_map, map, take};
+ghost use Rattle.std.specs.Prelude.{◌≡◌, ◌+◌, ◌≤◌, ℕ, List, ◌++◌, flat_map, map, take};
 ghost use Rattle.tab_core.specs.declared.TheConstants.{MAX_VCPUS, ROUND};
 ghost use Rattle.tab_io.specs.Sinks.{Writes};
 ghost use Rattle.table_form.specs.Tables.Rows.{RisesTo};
 ghost use Rattle.table_form.specs.Tables.Segments.{segment_view};
 ghost use Rattle.plan_text.specs.PlanText.{segment_line};
-ghost use Rattle.plan_text.specs.Inside.Tails.{AreTails, MakesRoom};
-ghost use Rattle.plan_text.specs.declared.line_bytes.TheConstants.{BLOCK};
-ghost use Rattle.plan_text.specs.declared.rows.TheConstants.{LINE};
+ghost use Rattle.line_bytes.specs.Tails.{AreTails};
+ghost use Rattle.line_bytes.specs.declared.block.TheConstants.{BLOCK, LINE};
 
-use crate::line_bytes::{BLOCK, Block, put_number, put_tail};
-use crate::tail::Tail;
-use crate::tails::tail_place;
+use line_bytes::{Block, Tail, make_room, put_six, put_tail, tail_place};
 use tab_io::{Sink, WriteFault, write_all};
 use table_form::Segment;
-
-// A line takes up at most so many bytes of a block.
-const LINE: usize = 46;
 
 // Writes the lines of a row's segments. They are gathered, since a plan has up to a million of them. What
 // stands in the block means nothing.
@@ -26,7 +20,7 @@ pub(crate) fn put_row<K: Sink>(
     segments: &[Segment],
 ) -> Result<(), WriteFault>
     requires { RisesTo 0 segments.now ROUND }
-    ensures { (names : List (List ℕ)) → AreTails names MAX_VCPUS tails.now
+    ensures { (names : List (List ℕ)) → AreTails names 10 MAX_VCPUS tails.now
         → Writes (K.state sink.old) (K.state sink.new)
         (flat_map (segment_line names) (map segment_view segments.now)) result }
 {
@@ -38,27 +32,14 @@ pub(crate) fn put_row<K: Sink>(
     write_all(sink, &block[..count])
 }
 
-// Writes the gathered bytes where no line fits behind them, and answers how many are gathered then.
-fn make_room<K: Sink>(sink: &mut K, block: &Block, count: usize) -> Result<usize, WriteFault>
-    requires { count ≤ BLOCK }
-    ensures room { IfOk result (λ left. left + LINE ≤ BLOCK) }
-    ensures bytes { MakesRoom (K.state sink.old) (K.state sink.new) block.now count result }
-{
-    if count + LINE <= BLOCK {
-        return Ok(count);
-    }
-    write_all(sink, &block[..count])?;
-    Ok(0)
-}
-
 // Puts a segment's line behind the gathered bytes, and answers where they end with it.
 fn put_segment(block: &mut Block, at: usize, tails: &[Tail; 257], segment: &Segment) -> usize
     requires room { at + LINE ≤ BLOCK }
     requires in_round { segment.now.end ≤ ROUND }
     ensures end { result ≤ BLOCK }
-    ensures bytes { (names : List (List ℕ)) → AreTails names MAX_VCPUS tails.now
+    ensures bytes { (names : List (List ℕ)) → AreTails names 10 MAX_VCPUS tails.now
         → take result block.new ≡ take at block.old ++ segment_line names (segment_view segment.now) }
 {
-    let behind = put_number(block, at, segment.end);
+    let behind = put_six(block, at, segment.end);
     put_tail(block, behind, &tails[tail_place(&segment.owner)])
 }

@@ -1,7 +1,7 @@
 use Rattle.std.proofs.Common.{◌++◌, decimal, get_or, take, ap, ◌∙◌}
 use Rattle.table_form.specs.Tables.Segments.{segment_view}
-use Rattle.plan_text.specs.Inside.Tails.{tail_bytes}
-use Rattle.plan_text.proofs.LineBytes.{both_behind}
+use Rattle.line_bytes.specs.Tails.{tail_bytes}
+use Rattle.line_bytes.proofs.BlockLemmas.{both_behind}
 use Rattle.plan_text.proofs.TailLemmas.{line_parts, tail_found}
 use Rattle.plan_text.proofs.rows.put_segment.Goals as goal
 
@@ -13,7 +13,7 @@ returns-clause-bytes c names are =
     let tail = tail_found names c.args.tails.now segment.owner c.tail_place.result found are
     c.tail_place.ensures.place c.tail_place.ensures.small in
     both_behind before _ _ (decimal segment.end)
-    (tail_bytes (get_or c.args.tails.now c.tail_place.result found)) c.put_number-behind.ensures.bytes
+    (tail_bytes (get_or c.args.tails.now c.tail_place.result found)) c.put_six-behind.ensures.bytes
     c.put_tail.ensures.bytes
     ∙ ap (λ xs. before ++ xs)
     (ap (λ t. decimal segment.end ++ t) tail ∙ line_parts names (segment_view segment))
