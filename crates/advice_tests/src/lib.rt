@@ -3,10 +3,10 @@
 #![tactic(auto)]
 
 #[cfg(test)]
+mod ends;
+#[cfg(test)]
 mod host_advice;
 #[cfg(test)]
 mod kept_bytes;
-#[cfg(test)]
-mod line_advice;
 #[cfg(test)]
 mod samples;
