@@ -5,7 +5,7 @@
 #![tactic(auto)]
 
 mod names;
-mod owner;
+mod vcpu_name;
 
 pub use names::Names;
-pub use owner::{name_in, owner_in};
+pub use vcpu_name::name_in;

@@ -1,5 +1,5 @@
 ghost use Rattle.std.specs.Prelude.{◌≡◌};
-ghost use Rattle.vcpu_names.specs.Names.{name_at, names_of, owner_word};
+ghost use Rattle.vcpu_names.specs.Names.{name_at, names_of};
 
 use tab_core::{Vcpu, VcpuNo};
 
@@ -10,15 +10,5 @@ pub fn name_in<'a>(vcpus: &'a [Vcpu], vcpu: &VcpuNo) -> &'a [u8]
     match vcpus.get(vcpu.index()) {
         Some(found) => found.name.bytes(),
         None => &[],
-    }
-}
-
-/// An owner as a line has it: the vCPU's name, or `-` where nobody is.
-pub fn owner_in<'a>(vcpus: &'a [Vcpu], owner: &Option<VcpuNo>) -> &'a [u8]
-    ensures { result.now ≡ owner_word (names_of vcpus.now) owner.now }
-{
-    match owner {
-        None => b"-",
-        Some(vcpu) => name_in(vcpus, vcpu),
     }
 }
