@@ -102,7 +102,7 @@ fn split_in(rows: &[CoreTable]) -> u64 {
 fn owners_of(row: &CoreTable) -> u64 {
     let mut own = 0;
     for segment in row.segments() {
-        own |= bit_of(segment.owner);
+        own |= bit_of(segment.owner.vcpu());
     }
     own
 }

@@ -59,14 +59,6 @@ swap_needs_end pieces sliver x y z v is can = subst (λ w. NoEnd pieces w x.end 
     inside : Some can.second ≡ Some v → can.second ≡ v
     inside e = cc
 
--- owners that don't differ are one
-pub same_unless_differ : (o u : Option ℕ) → false ≡ not (option_eq eqb o u) → o ≡ u
-same_unless_differ o u e = by_test (option_eq eqb o u) refl
-  where
-    by_test : (b : Bool) → option_eq eqb o u ≡ b → o ≡ u
-    by_test true same = same_owner o u same
-    by_test false differ = absurd (false≢true (e ∙ ap not differ))
-
 -- no such tick of the vCPU's piece lies strictly between two ticks
 abbrev pub NoneAt : (Piece → ℕ) → List Piece → ℕ → ℕ → ℕ → Type 0
 NoneAt offset pieces vcpu low high = (at k : ℕ) (p : Piece) → slice_get pieces at ≡ Some p → p.vcpu ≡ vcpu →

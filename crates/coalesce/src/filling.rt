@@ -5,29 +5,23 @@ ghost use Rattle.table_form.specs.Tables.Segments.{AreMaximal, segment_view, seg
 ghost use Rattle.coalesce.specs.Joining.{filled, is_given};
 ghost use Rattle.coalesce.specs.Inside.Passing.{given_all};
 
-use tab_core::{VcpuNo, VcpuSet};
-use table_form::{CoreTable, Segment};
+use tab_core::VcpuSet;
+use table_form::{CoreTable, Owner, Segment};
 
 // Whether the segment is short and idle, and the owner of the one before it, which ends at `start`,
 // may have it.
-fn is_given(
-    before: &Option<VcpuNo>,
-    start: u32,
-    segment: &Segment,
-    may_grow: &VcpuSet,
-    sliver: u32,
-) -> bool
+fn is_given(before: Owner, start: u32, segment: &Segment, may_grow: &VcpuSet, sliver: u32) -> bool
     requires { start ≤ segment.now.end }
-    ensures { result ≡ is_given (has_vcpu may_grow.now) sliver before.now segment.now.owner
+    ensures { result ≡ is_given (has_vcpu may_grow.now) sliver before segment.now.owner
         (segment.now.end - start) }
 {
-    let Some(vcpu) = before else {
+    let Some(vcpu) = before.vcpu() else {
         return false;
     };
-    if segment.owner.is_some() || sliver <= segment.end - start {
+    if segment.owner.vcpu().is_some() || sliver <= segment.end - start {
         return false;
     }
-    may_grow.has(*vcpu)
+    may_grow.has(vcpu)
 }
 
 // Gives each short idle segment to the vCPU before it, if that may have more, and answers whether
@@ -39,16 +33,15 @@ fn give_all(segments: &mut Vec<Segment>, may_grow: &VcpuSet, sliver: u32) -> boo
     ensures none { result ≡ false → segments.new.items ≡ segments.old.items }
 {
     let mut some = false;
-    let mut before: Option<VcpuNo> = None;
+    let mut before = Owner::of(None);
     let mut start = 0;
     for at in 0..segments.len() {
         let segment = segments[at];
-        if is_given(&before, start, &segment, may_grow, sliver) {
-            let owned = Segment {
+        if is_given(before, start, &segment, may_grow, sliver) {
+            segments[at] = Segment {
                 owner: before,
                 end: segment.end,
             };
-            segments[at] = owned;
             some = true;
         }
         before = segment.owner;

@@ -49,10 +49,10 @@ pub(crate) fn can_swap(
         → (IsTrue result
         ↔ CanSwap pieces sliver (segment_view x.now) (segment_view y.now) (segment_view z.now)) }
 {
-    let (Some(first), Some(second)) = (x.owner, y.owner) else {
+    let (Some(first), Some(second)) = (x.owner.vcpu(), y.owner.vcpu()) else {
         return false;
     };
-    if x.owner != z.owner {
+    if !x.owner.same(z.owner) {
         return false;
     }
     if sliver <= y.end - x.end {

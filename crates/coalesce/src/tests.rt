@@ -6,7 +6,7 @@ use crate::plain::plain_join;
 use std::alloc::{AllocError, Global};
 use std::test::Fail;
 use tab_core::{CoreNo, MAX_VCPUS, Piece, Pieces, ROUND, Tasks, VcpuNo, VcpuSet};
-use table_form::{CoreTable, Draft, Homes, Rows, Segment, Tables};
+use table_form::{CoreTable, Draft, Homes, Owner, Rows, Segment, Tables};
 
 // In these tests an owner is 0 where the core is idle, and otherwise one more than the vCPU's
 // number; a row is a list of owners and ends.
@@ -20,8 +20,8 @@ fn owner_of(code: u32) -> Option<VcpuNo> {
     }
 }
 
-fn code_of(owner: &Option<VcpuNo>) -> u32 {
-    match owner {
+fn code_of(owner: Owner) -> u32 {
+    match owner.vcpu() {
         None => 0,
         Some(vcpu) => vcpu.0.saturating_add(1),
     }
@@ -31,7 +31,7 @@ fn row_of(alloc: Global, codes: &[(u32, u32)]) -> Result<CoreTable, Fail> {
     let mut segments = Vec::new(alloc);
     for (code, end) in codes {
         segments.push(Segment {
-            owner: owner_of(*code),
+            owner: Owner::of(owner_of(*code)),
             end: *end,
         })?;
     }
@@ -41,7 +41,7 @@ fn row_of(alloc: Global, codes: &[(u32, u32)]) -> Result<CoreTable, Fail> {
 fn codes_of(alloc: Global, row: &CoreTable) -> Result<Vec<(u32, u32)>, AllocError> {
     let mut codes = Vec::new(alloc);
     for segment in row.segments() {
-        codes.push((code_of(&segment.owner), segment.end))?;
+        codes.push((code_of(segment.owner), segment.end))?;
     }
     Ok(codes)
 }
@@ -117,32 +117,37 @@ fn slivers_are_shorter_than_the_sliver(rt: HostRuntime) -> Result<(), Fail> {
 }
 
 // A core with vCPU 0 in the ticks before 102,087 alone.
+const IDLE_AT_LAST: [(u32, u32); 2] = [(1, 102_087), (0, 102_600)];
+
+const IDLE_BETWEEN: [(u32, u32); 5] = [(0, 20), (1, 40), (0, 60), (2, 80), (0, 102_600)];
+
+// A row, whether vCPU 0 may have more, the sliver, and the row then.
+const IDLE_SLIVERS: [(&[(u32, u32)], bool, u32, &[(u32, u32)]); 8] = [
+    (&IDLE_AT_LAST, true, 1000, &[(1, 102_600)]),
+    (&IDLE_AT_LAST, true, 514, &[(1, 102_600)]),
+    (&IDLE_AT_LAST, true, 513, &IDLE_AT_LAST),
+    (&IDLE_AT_LAST, true, 0, &IDLE_AT_LAST),
+    (&IDLE_AT_LAST, false, 1000, &IDLE_AT_LAST),
+    (
+        &IDLE_BETWEEN,
+        true,
+        21,
+        &[(0, 20), (1, 60), (2, 80), (0, 102_600)],
+    ),
+    (&IDLE_BETWEEN, true, 20, &IDLE_BETWEEN),
+    (&IDLE_BETWEEN, false, 1000, &IDLE_BETWEEN),
+];
+
 #[test]
 fn idle_slivers_go_to_a_vcpu_with_one_piece(rt: HostRuntime) -> Result<(), Fail> {
-    let before = [(1, 102_087), (0, 102_600)];
-    let after_idle = [(0, 20), (1, 40), (0, 60), (2, 80), (0, 102_600)];
     let pieces = [whole(0, false), whole(1, false)];
-    let nobody = VcpuSet::empty();
-    let mut first = VcpuSet::empty();
-    first.put(VcpuNo(0));
-    let cases: [(&[(u32, u32)], &VcpuSet, u32, &[(u32, u32)]); 8] = [
-        (&before, &first, 1000, &[(1, 102_600)]),
-        (&before, &first, 514, &[(1, 102_600)]),
-        (&before, &first, 513, &before),
-        (&before, &first, 0, &before),
-        (&before, &nobody, 1000, &before),
-        (
-            &after_idle,
-            &first,
-            21,
-            &[(0, 20), (1, 60), (2, 80), (0, 102_600)],
-        ),
-        (&after_idle, &first, 20, &after_idle),
-        (&after_idle, &nobody, 1000, &after_idle),
-    ];
-    for (row, may_grow, sliver, expected) in cases {
-        let after = joined(rt.alloc(), row, &pieces, may_grow, sliver)?;
-        assert_eq!(rt; &after[..], expected, "of {row:?} at {sliver}");
+    for (row, grows, sliver, expected) in &IDLE_SLIVERS {
+        let mut may_grow = VcpuSet::empty();
+        if *grows {
+            may_grow.put(VcpuNo(0));
+        }
+        let after = joined(rt.alloc(), row, &pieces, &may_grow, *sliver)?;
+        assert_eq!(rt; &after[..], *expected, "of {row:?} at {sliver}");
     }
     Ok(())
 }
@@ -151,7 +156,7 @@ fn idle_slivers_go_to_a_vcpu_with_one_piece(rt: HostRuntime) -> Result<(), Fail>
 fn idle_draft(alloc: Global) -> Result<Draft, Fail> {
     let mut segments = Vec::new(alloc);
     segments.push(Segment {
-        owner: None,
+        owner: Owner::of(None),
         end: ROUND,
     })?;
     let mut rows = Vec::new(alloc);
@@ -199,35 +204,36 @@ fn windowed(vcpu: u32) -> Piece
     }
 }
 
+// Whether the window is the first's, the ends of vCPU 0, vCPU 1 and vCPU 0, and whether they swap.
+const SWAPS: [(bool, u32, u32, u32, bool); 14] = [
+    (false, 55, 60, 80, false),
+    (false, 50, 60, 80, false),
+    (false, 40, 50, 59, true),
+    (false, 40, 50, 60, true),
+    (false, 40, 50, 61, false),
+    (false, 60, 70, 80, true),
+    (false, 59, 70, 80, false),
+    (false, 60, 70, 160, true),
+    (false, 60, 70, 161, false),
+    (true, 31, 40, 50, true),
+    (true, 30, 40, 50, true),
+    (true, 29, 40, 50, false),
+    (true, 10, 20, 30, true),
+    (true, 10, 20, 31, false),
+];
+
 #[test]
 fn no_swap_past_a_window(rt: HostRuntime) -> Result<(), Fail> {
     let nobody = VcpuSet::empty();
-    // whether the window is the first's, the ends of vCPU 0, vCPU 1 and vCPU 0, and whether they swap
-    let cases = [
-        (false, 55, 60, 80, false),
-        (false, 50, 60, 80, false),
-        (false, 40, 50, 59, true),
-        (false, 40, 50, 60, true),
-        (false, 40, 50, 61, false),
-        (false, 60, 70, 80, true),
-        (false, 59, 70, 80, false),
-        (false, 60, 70, 160, true),
-        (false, 60, 70, 161, false),
-        (true, 31, 40, 50, true),
-        (true, 30, 40, 50, true),
-        (true, 29, 40, 50, false),
-        (true, 10, 20, 30, true),
-        (true, 10, 20, 31, false),
-    ];
-    for (first, x, y, z, moves) in cases {
-        let pieces = if first {
+    for (first, x, y, z, moves) in &SWAPS {
+        let pieces = if *first {
             [windowed(0), whole(1, false)]
         } else {
             [whole(0, false), windowed(1)]
         };
-        let before = [(1, x), (2, y), (1, z), (0, 102_600)];
+        let before = [(1, *x), (2, *y), (1, *z), (0, 102_600)];
         let after = joined(rt.alloc(), &before, &pieces, &nobody, 12)?;
-        assert_eq!(rt; after.len(), if moves { 3 } else { 4 }, "of {x} {y} {z}");
+        assert_eq!(rt; after.len(), if *moves { 3 } else { 4 }, "of {x} {y} {z}");
     }
     Ok(())
 }

@@ -13,7 +13,7 @@ use crate::pending::{FEW, FEW_JOBS, NO_JOBS, Pending};
 use crate::turn::{next_event, put_first_begins, run_turn};
 use std::alloc::{AllocError, Global};
 use tab_core::{MAX_VCPUS, Piece, ROUND};
-use table_form::{CoreTable, RowBuilder, Segment, push_segment};
+use table_form::{CoreTable, Owner, RowBuilder, Segment, push_segment};
 
 // The maximal segments of the ticks below `end`, of pieces that fit. What stands in `begins` and
 // `jobs` means nothing.
@@ -43,7 +43,7 @@ fn first_segments_in(
         event = next_event(pieces, begins, jobs, &mut count, tick, event);
         let turn = run_turn(pieces, begins, jobs, &mut count, tick, event.min(end));
         let segment = Segment {
-            owner: turn.owner,
+            owner: Owner::of(turn.owner),
             end: turn.end,
         };
         push_segment(&mut segments, segment)?;
@@ -81,7 +81,7 @@ fn push_all(row: &mut RowBuilder, segments: &[Segment]) -> Result<(), AllocError
 {
     let mut start = 0;
     for segment in segments {
-        row.push_run(segment.owner, segment.end - start)?;
+        row.push_run(segment.owner.vcpu(), segment.end - start)?;
         start = segment.end;
     }
     Ok(())

@@ -60,7 +60,7 @@ fn slots_of(course: &Course, core: u32, count: u32, vcpu: usize) -> u64 {
     let mut sum: u64 = 0;
     let mut from = 0;
     for segment in row.segments() {
-        if let Some(owner) = segment.owner {
+        if let Some(owner) = segment.owner.vcpu() {
             if owner.index() == vcpu {
                 sum = sum.saturating_add(u64::from(segment.end.saturating_sub(from)));
             }

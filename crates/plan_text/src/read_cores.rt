@@ -17,7 +17,7 @@ use crate::read_fault::ReadPlan;
 use std::alloc::{AllocError, Global};
 use tab_core::{Periodic, VcpuNo};
 use tab_words::{TextPiece, Words, read_number};
-use table_form::{Segment, Segments};
+use table_form::{Owner, Segment, Segments};
 use vcpu_names::Names;
 
 // Reads the lines of the cores and the end.
@@ -141,7 +141,10 @@ fn segment_with(
         × (decimal end ∷ owner.now ∷ [] ≡ segment_words names.now s)) }
 {
     if owner == b"-".as_slice() {
-        return Some(Segment { owner: None, end });
+        return Some(Segment {
+            owner: Owner::of(None),
+            end,
+        });
     }
     let Some(vcpu) = names.number_of(owner) else {
         return None;
@@ -150,7 +153,7 @@ fn segment_with(
         return None;
     }
     Some(Segment {
-        owner: Some(vcpu),
+        owner: Owner::of(Some(vcpu)),
         end,
     })
 }

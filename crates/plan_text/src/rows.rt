@@ -41,5 +41,5 @@ fn put_segment(block: &mut Block, at: usize, tails: &[Tail; 257], segment: &Segm
         → take result block.new ≡ take at block.old ++ segment_line names (segment_view segment.now) }
 {
     let behind = put_six(block, at, segment.end);
-    put_tail(block, behind, &tails[tail_place(&segment.owner)])
+    put_tail(block, behind, &tails[tail_place(&segment.owner.vcpu())])
 }

@@ -9,7 +9,7 @@ use std::alloc::{AllocError, Global};
 use std::test::Fail;
 use tab_core::{CoreNo, Periodic, Tasks, VcpuNo};
 use table_check::check;
-use table_form::{Homes, RawRows, RawTables, Segment, Segments};
+use table_form::{Homes, Owner, RawRows, RawTables, Segment, Segments};
 
 // A segment: its end, and the number of its owner.
 pub(crate) type Part = (u32, Option<u32>);
@@ -47,7 +47,7 @@ fn segments_of(
     let mut segments = Vec::new(alloc);
     for (end, owner) in parts {
         segments.push(Segment {
-            owner: owner_of(tasks, *owner),
+            owner: Owner::of(owner_of(tasks, *owner)),
             end: *end,
         })?;
     }

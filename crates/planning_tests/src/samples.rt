@@ -50,7 +50,7 @@ pub(crate) fn begins_with(row: &CoreTable, expected: &[(Option<u32>, u32)]) -> b
     }
     for i in 0..expected.len() {
         let segment = &segments[i];
-        if (number_of(segment.owner), segment.end) != expected[i] {
+        if (number_of(segment.owner.vcpu()), segment.end) != expected[i] {
             return false;
         }
     }

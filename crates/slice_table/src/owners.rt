@@ -71,7 +71,7 @@ fn owners_in(row: &CoreTable) -> VcpuSet
     let segments = row.segments();
     let mut owners = nobody();
     for at in 0..segments.len() {
-        put_owner(&mut owners, segments[at].owner);
+        put_owner(&mut owners, segments[at].owner.vcpu());
     }
     owners
 }

@@ -36,7 +36,7 @@ pub(crate) fn look(plan: &Plan, scope: &Scope, numbers: &mut [usize; ROWS], plac
     let (number, segment) = segment_from(&rows[core], numbers[core], place);
     numbers[core] = number;
     let mut spot = Spot {
-        owner: segment.owner,
+        owner: segment.owner.vcpu(),
         away: nobody(),
         end: segment.end,
     };
@@ -60,7 +60,7 @@ fn take_other(spot: &mut Spot, home: &VcpuSet, segment: &Segment)
         × (segment.now.owner ≡ Some v)))) }
 {
     spot.end = min(spot.end, segment.end);
-    if let Some(vcpu) = segment.owner {
+    if let Some(vcpu) = segment.owner.vcpu() {
         if home.has(vcpu) {
             spot.away.put(vcpu);
         }

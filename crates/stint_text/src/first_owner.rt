@@ -34,7 +34,7 @@ fn owner_near(segments: &[Segment], tick: u32, near: usize) -> Found
 {
     let place = place_near(segments, tick, near);
     Found {
-        owner: segments[place].owner,
+        owner: segments[place].owner.vcpu(),
         place,
     }
 }

@@ -149,7 +149,7 @@ fn cells_of(alloc: Global, row: &CoreTable) -> Result<Vec<u32>, NoMemory> {
     let mut cells = Vec::with_capacity(alloc, ROUND as usize)?;
     let mut from = 0;
     for segment in row.segments() {
-        let owner = number_of(segment.owner);
+        let owner = number_of(segment.owner.vcpu());
         for _ in from..segment.end {
             cells.push(owner)?;
         }

@@ -49,7 +49,7 @@ fn add_segment(counters: &mut Vec<u32>, tasks: &[Option<Periodic>], segment: &Se
     ensures grown { GrowBy tasks.now (ticks_given segment.now.owner from segment.now.end)
         counters.old.items counters.new.items }
 {
-    let Some(vcpu) = segment.owner else {
+    let Some(vcpu) = segment.owner.vcpu() else {
         return;
     };
     if vcpu.index() >= tasks.len() {

@@ -73,7 +73,7 @@ fn mark_segment(marks: &mut Vec<u64>, segment: &Segment, from: u32) -> bool
     ensures marked { result ≡ true → (v x : ℕ) → segment.now.owner ≡ Some v → from ≤ x
         → x < segment.now.end → IsNewMark marks.old.items marks.new.items v x }
 {
-    let Some(vcpu) = segment.owner else {
+    let Some(vcpu) = segment.owner.vcpu() else {
         return true;
     };
     if vcpu.index() * WORDS + WORDS > marks.len() {

@@ -18,8 +18,8 @@ fn shared_owner(here: &Segment, there: &Segment) -> Option<VcpuNo>
     ensures both { IfSome result (λ v. (here.now.owner ≡ Some v) × (there.now.owner ≡ Some v)) }
     ensures none { IfNone result ((v : ℕ) → here.now.owner ≡ Some v → there.now.owner ≡ Some v → ⊥) }
 {
-    if here.owner == there.owner {
-        here.owner
+    if here.owner.same(there.owner) {
+        here.owner.vcpu()
     } else {
         None
     }

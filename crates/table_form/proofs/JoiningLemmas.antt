@@ -2,7 +2,7 @@
 use Rattle.std.proofs.Common.{◌≡◌, ◌≢◌, ℕ, zero, suc, ◌+◌, ◌<◌, ◌≤◌, Bool, true, false, not, eqb, List, [], ◌∷◌, ◌++◌, length, map, take, drop, get_or, set, slice_get, Option, Some, refl, ap, subst, sym, ◌∙◌, inl, inr, arith, add-one, append_assoc, length-set}
 use Rattle.std.proofs.Math.Seq.{drop-cons}
 use Rattle.std.specs.Option.{option_eq}
-use Rattle.std.specs.Prelude.{IsTrue}
+use Rattle.std.specs.Prelude.{◌↔◌, IsTrue}
 use Rattle.std.proofs.lemmas.Bool.{false≢true}
 use Rattle.std.proofs.lemmas.List.{append-nil, drop-set-lt, drop_all, map-append, take_more_set}
 use Rattle.std.proofs.lemmas.Option.{get_or_from_slice_get, slice_get_within}
@@ -66,28 +66,26 @@ some_segment [] i lt = absurd (omega arith)
 some_segment (s ∷ ss) zero lt = (s, refl)
 some_segment (s ∷ ss) (suc i) lt = some_segment ss i (omega arith)
 
--- a segment ends a segment as the next one tells
-pub ends_by_next : (ss : List Segment) (i : ℕ) (s a b : Segment) (test : Bool) → slice_get ss i ≡ Some s
-    → i + 1 < length ss
-    → test ≡ not (option_eq eqb (get_or ss i a).owner (get_or ss (i + 1) b).owner)
-    → (IsTrue test → BeginsOther s.owner (map segment_view (drop (i + 1) ss))) ×
-    (BeginsOther s.owner (map segment_view (drop (i + 1) ss)) → IsTrue test)
-ends_by_next ss i s a b test is lt tells =
-    let n = get_or ss (i + 1) b in
-    let rest : drop (i + 1) ss ≡ n ∷ drop (suc (i + 1)) ss = drop-cons ss (i + 1) b lt in
-    let tells' : test ≡ not (option_eq eqb s.owner n.owner) = tells ∙ ap
-    (λ (x : Segment). not (option_eq eqb x.owner n.owner)) (get_or_from_slice_get ss i s a is) in
-    subst (λ ts. (IsTrue test → BeginsOther s.owner (map segment_view ts)) ×
-    (BeginsOther s.owner (map segment_view ts) → IsTrue test)) (sym rest) (
-      λ holds same. false≢true (sym (tells' ∙ ap not
-          (ap (λ o. option_eq eqb o n.owner) same ∙ same_as_itself n.owner)) ∙ holds),
-      λ differ. tells' ∙ by_test n.owner (option_eq eqb s.owner n.owner) refl differ,
+-- a segment is the last of its owner exactly where the next one is of another
+pub ends_by_next : (ss : List Segment) (i : ℕ) (s a b : Segment) (one : Bool) → slice_get ss i ≡ Some s
+    → i + 1 < length ss → (IsTrue one ↔ ((get_or ss i a).owner ≡ (get_or ss (i + 1) b).owner))
+    → (IsTrue (not one) ↔ BeginsOther s.owner (map segment_view (drop (i + 1) ss)))
+ends_by_next ss i s a b one is lt tells =
+    let next = get_or ss (i + 1) b in
+    let tells' : IsTrue one ↔ (s.owner ≡ next.owner) =
+    subst (λ (x : Segment). IsTrue one ↔ (x.owner ≡ next.owner)) (get_or_from_slice_get ss i s a is) tells in
+    subst (λ ts. IsTrue (not one) ↔ BeginsOther s.owner (map segment_view ts)) (sym (drop-cons ss (i + 1) b lt)) (
+      λ other owners. differs one other (tells'.1 owners),
+      λ differ. is_other one (λ holds. differ (tells'.0 holds)),
     )
   where
-    by_test : (o : Option ℕ) (e : Bool) → option_eq eqb s.owner o ≡ e → s.owner ≢ o → not
-        (option_eq eqb s.owner o) ≡ true
-    by_test o true same differ = absurd (differ (same_owner s.owner o same))
-    by_test o false other differ = ap not other
+    differs : (b : Bool) → IsTrue (not b) → IsTrue b → ⊥
+    differs true other holds = false≢true other
+    differs false other holds = false≢true holds
+
+    is_other : (b : Bool) → (IsTrue b → ⊥) → IsTrue (not b)
+    is_other true never = absurd (never refl)
+    is_other false never = refl
 
 -- the segments kept so far are the maximal ones before this index
 pub record HasJoined (old now : List Segment) (kept at : ℕ) : Type 0 where

@@ -15,7 +15,7 @@ fn is_last_owner(segments: &[Segment], next: &Segment) -> bool
     if segments.is_empty() {
         return false;
     }
-    segments[segments.len() - 1].owner == next.owner
+    segments[segments.len() - 1].owner.same(next.owner)
 }
 
 /// Appends a segment. The last one goes on to its end where that has the same owner.
@@ -42,7 +42,7 @@ fn ends_maximal(segments: &[Segment], at: usize) -> bool
     if at + 1 == segments.len() {
         return true;
     }
-    segments[at].owner != segments[at + 1].owner
+    !segments[at].owner.same(segments[at + 1].owner)
 }
 
 // Joins neighbours of one owner, in place: of each maximal segment the last one stays.

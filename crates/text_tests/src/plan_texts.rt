@@ -7,7 +7,7 @@ use plan_text::{ReadPlan, read_plan};
 use std::alloc::{AllocError, Global};
 use std::test::Fail;
 use tab_core::{CoreNo, Host, Name, Periodic, Tasks, VcpuNo, Vcpus};
-use table_form::{RawTables, Segment};
+use table_form::RawTables;
 
 // Two cores, and the vCPUs a, b and c.1.
 fn three_vcpus(alloc: Global) -> Result<Host, Fail>
@@ -47,23 +47,12 @@ fn read(alloc: Global, text: &[u8]) -> Result<Result<RawTables, ReadPlan>, Fail>
 
 const HOMES: [Option<CoreNo>; 3] = [Some(CoreNo(1)), None, Some(CoreNo(0))];
 
-const SEGMENTS: [Segment; 4] = [
-    Segment {
-        owner: Some(VcpuNo(0)),
-        end: 7,
-    },
-    Segment {
-        owner: Some(VcpuNo(2)),
-        end: 7,
-    },
-    Segment {
-        owner: None,
-        end: 4_294_967_295,
-    },
-    Segment {
-        owner: None,
-        end: 0,
-    },
+// The owners and ends of the segments.
+const SEGMENTS: [(Option<VcpuNo>, u32); 4] = [
+    (Some(VcpuNo(0)), 7),
+    (Some(VcpuNo(2)), 7),
+    (None, 4_294_967_295),
+    (None, 0),
 ];
 
 #[test]
@@ -84,6 +73,9 @@ end";
         return Err(Fail::from("two rows"));
     };
     assert!(rt; first.items().is_empty());
-    assert_eq!(rt; second.items(), SEGMENTS.as_slice());
+    assert_eq!(rt; second.items().len(), SEGMENTS.len());
+    for (segment, expected) in second.items().iter().zip(&SEGMENTS) {
+        assert_eq!(rt; (segment.owner.vcpu(), segment.end), *expected);
+    }
     Ok(())
 }

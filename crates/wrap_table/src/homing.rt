@@ -26,7 +26,7 @@ fn add_cells(cells: &mut Vec<u32>, segment: &Segment, from: u32)
         ≡ slice_index cells.old.items v
         + (segment.now.end - from) * cond (is_cell_of v segment.now.owner) 1 0 }
 {
-    let Some(vcpu) = segment.owner else {
+    let Some(vcpu) = segment.owner.vcpu() else {
         return;
     };
     let v = vcpu.index();

@@ -1,20 +1,19 @@
-use Rattle.std.proofs.Common.{◌<◌, ◌≤◌, refl, sym, ◌∙◌, arith, length}
+use Rattle.std.proofs.Common.{◌≡◌, ◌<◌, ◌≤◌, None, Some, refl, subst, sym, ◌∙◌, arith, length}
 use Rattle.std.proofs.lemmas.Bool.{false≢true}
 use Rattle.tab_core.specs.VcpuSets.{has_vcpu}
 use Rattle.table_form.specs.Tables.Segments.{segment_view}
-use Rattle.coalesce.proofs.Filled.{all_given, given_unless, given_when, next_given, none_given, one_given, one_left}
+use Rattle.coalesce.proofs.Filled.{HasGiven, all_given, given_unless, given_when, next_given, none_given, one_given, one_left}
 use Rattle.coalesce.proofs.filling.give_all.Goals.{then-is_given, else-is_given}
 use Rattle.coalesce.proofs.filling.give_all.Goals as goal
 
 pub loop-at-init : goal.loop-at-init
 loop-at-init c = record {
-  given = none_given (has_vcpu c.args.may_grow.now) c.args.sliver c.args.segments.now.items c.requires;
+  given = subst (λ owner. HasGiven (has_vcpu c.args.may_grow.now) c.args.sliver c.args.segments.now.items
+      c.args.segments.now.items 0 (record { owner = owner; end = 0 })) (sym c.of-before.ensures)
+      (none_given (has_vcpu c.args.may_grow.now) c.args.sliver c.args.segments.now.items c.requires);
   none = λ same. refl;
-  small = λ vcpu is. absurd cc;
+  small = λ vcpu is. (let none : None ≡ Some vcpu = sym c.of-before.ensures ∙ is in absurd cc);
 }
-
-pub invariant_of-owned : goal.invariant_of-owned
-invariant_of-owned c = record { owner_small = c.loop-at.invariant.small }
 
 pub is_given-requires : goal.is_given-requires
 is_given-requires c =

@@ -57,17 +57,17 @@ invariant_of-result c =
     let n = 102600 - 0 in
     let row : c.in-Ok.row ≡ replicate n None =
     c.in-Ok.ensures.row ∙ ap (cells_from 0) c.in_ok-push.ensures.items
-    ∙ idle_segments _ _ c.new-segments.ensures.items refl in
-    let rows : c.of-5.result ≡ replicate n None ∷ []
-    = c.of-5.ensures ∙ c.in_ok-push-in-Ok.ensures.items
+    ∙ idle_segments _ _ c.new-segments.ensures.items c.of.ensures in
+    let rows : c.of-6.result ≡ replicate n None ∷ []
+    = c.of-6.ensures ∙ c.in_ok-push-in-Ok.ensures.items
     ∙ ap (λ rs. rs ++ c.in-Ok.row ∷ []) c.new-rows.ensures.items
     ∙ ap (λ r. r ∷ []) row in
-    let tasks : c.of-2.result ≡ [] = c.of-2.ensures ∙ c.new.ensures.items in
-    let pieces : c.of-3.result ≡ [] = c.of-3.ensures ∙ c.new-2.ensures.items in
-    let homes : c.of-4.result ≡ [] = c.of-4.ensures ∙ c.new-3.ensures.items in
-    let draft = subst (λ ts. IsDraft ts c.of-3.result c.of-4.result c.of-5.result) (sym tasks)
-    (subst (λ ps. IsDraft [] ps c.of-4.result c.of-5.result) (sym pieces)
-    (subst (λ hs. IsDraft [] [] hs c.of-5.result) (sym homes)
+    let tasks : c.of-3.result ≡ [] = c.of-3.ensures ∙ c.new.ensures.items in
+    let pieces : c.of-4.result ≡ [] = c.of-4.ensures ∙ c.new-2.ensures.items in
+    let homes : c.of-5.result ≡ [] = c.of-5.ensures ∙ c.new-3.ensures.items in
+    let draft = subst (λ ts. IsDraft ts c.of-4.result c.of-5.result c.of-6.result) (sym tasks)
+    (subst (λ ps. IsDraft [] ps c.of-5.result c.of-6.result) (sym pieces)
+    (subst (λ hs. IsDraft [] [] hs c.of-6.result) (sym homes)
     (subst (IsDraft [] [] []) (sym rows) (idle_is_draft n)))) in
     record {
       serves = draft.serves;

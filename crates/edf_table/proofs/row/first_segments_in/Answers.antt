@@ -54,7 +54,8 @@ loop-tick-preserved c =
     ≡ put_before (map segment_view old) (record { owner = owner; end = c.loop-tick.tick + n } ∷ []) =
     subst (λ e. map segment_view new ≡ put_before (map segment_view old)
     (record { owner = owner; end = e } ∷ []))
-    (sym at) c.in_ok-push_segment.ensures.ok in
+    (sym at) (c.in_ok-push_segment.ensures.ok
+    ∙ ap (λ o. put_before (map segment_view old) (record { owner = o; end = end } ∷ [])) c.of.ensures) in
     record {
       in_time = omega (arith, c.run_turn-turn.ensures.within, c.min.ensures);
       in_round = c.next_event-event.ensures.in_round;

@@ -45,7 +45,8 @@ loop-segment-preserved c =
       rises = (left_rise c.args.segments.now i c.loop-segment.start
           (length (cells_from 0 c.args.segments.now)) s c.loop-segment-test.true c.segment-item.is
           c.loop-segment.invariant.rises).1;
-      row_is = ap (λ row. row ++ rest) c.in_ok-push_run.ensures.ok
+      row_is = ap (λ row. row ++ rest) (c.in_ok-push_run.ensures.ok
+          ∙ ap (λ owner. c.loop-segment.row ++ replicate (s.end - c.loop-segment.start) owner) c.vcpu.ensures)
           ∙ append_assoc c.loop-segment.row cells rest
           ∙ ap (λ more. c.loop-segment.row ++ more)
           (sym (left_cells c.args.segments.now i c.loop-segment.start s c.loop-segment-test.true

@@ -31,6 +31,8 @@ loop-at-preserved c =
     let end : s.end ≡ (get_or ss i s).end = ap (λ (u : Segment). u.end) c.index-segments-at.is in
     let low : was.begin < s.end = (let least = was.low i s (omega arith) lt in omega arith) in
     let put = c.put_owner.ensures in
+    let is_owner : c.vcpu.result ≡ s.owner =
+    c.vcpu.ensures ∙ ap (λ (u : Segment). u.owner) (sym c.index-segments-at.is) in
     record {
       begin = s.end;
       low = λ k d from less.
@@ -41,7 +43,7 @@ loop-at-preserved c =
       size = put.size;
       all = λ x v less small at. (put.members v small).1 (elim (cases_lt x was.begin) [
         | inl before ↦ inl (was.all x v before small at)
-        | inr later ↦ inr (ap (λ (u : Segment). u.owner) (sym c.index-segments-at.is)
+        | inr later ↦ inr (is_owner
             ∙ same_Some {A = Option ℕ} s.owner (Some v)
             (sym (ahead_here ss x i s lt c.index-segments-at.is (was.ahead x later) less) ∙ at))
       ]);
@@ -50,7 +52,7 @@ loop-at-preserved c =
         | inr new ↦ (
           was.begin,
           ahead_here ss was.begin i s lt c.index-segments-at.is (was.ahead was.begin (omega arith)) low
-              ∙ ap Some (ap (λ (u : Segment). u.owner) c.index-segments-at.is ∙ new),
+              ∙ ap Some (sym is_owner ∙ new),
         )
       ];
     }

@@ -11,7 +11,7 @@ returns c =
     let here = c.place_near-place.ensures in
     let s = c.index-segments-place.result in
     let same = sym (ap (λ (x : Segment). x.end) c.index-segments-place.is) in
-    rw (← c.index-segments-place.is)
+    rw (c.vcpu.ensures, ← c.index-segments-place.is)
     (owner_from ss tick c.place_near-place.result tick s c.requires.rises here.inside
     c.index-segments-place.is (parts_here ss tick c.place_near-place.result c.requires.rises here)
     (omega arith) (rw (← same) (here.ends s)))

@@ -14,10 +14,11 @@ overflow_add-end c =
 pub invariant_of-self-2 : goal.invariant_of-self-2
 invariant_of-self-2 c =
     maximal_appended c.self.inside.segments.items c.push_segment.new.segments.items c.self.inside.end c.args.count
-    c.args.owner c.self.invariant c.requires.some c.in_ok-push_segment.ensures.ok
+    c.of.result c.self.invariant c.requires.some c.in_ok-push_segment.ensures.ok
 
 pub returns-clause-ok : goal.returns-clause-ok
 returns-clause-ok c =
     cells_appended c.self.inside.segments.items c.push_segment.new.segments.items c.self.inside.end c.args.count
-    c.args.owner c.self.invariant c.requires.some c.in_ok-push_segment.ensures.ok
-    ∙ ap (λ cells. cells ++ replicate c.args.count c.args.owner) c.self.view_is
+    c.of.result c.self.invariant c.requires.some c.in_ok-push_segment.ensures.ok
+    ∙ ap (λ cells. cells ++ replicate c.args.count c.of.result) c.self.view_is
+    ∙ ap (λ owner. c.args.self.now ++ replicate c.args.count owner) c.of.ensures
