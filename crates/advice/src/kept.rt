@@ -1,16 +1,14 @@
-ghost use Rattle.std.specs.Prelude.{◌≤◌, length};
+ghost use Rattle.std.specs.Prelude.{◌<◌, ◌^◌, length};
 
 mod source;
 
-// The most bytes that are kept: one more than an input may have.
-const KEPT_LIMIT: usize = 4_194_305;
+// The most bytes that are kept, more than any input has.
+const KEPT_LIMIT: usize = 4_294_967_295;
 
-/// A source that keeps the bytes that it gives, as long as there is memory for them and they are no more
-/// than a long input has.
+/// A source that keeps what is handed back to it once it is read, so that it can be looked at later.
 #[derive(Drop)]
 pub struct KeptSource<S: Drop> {
     inner: S,
     kept: Vec<u8>,
-    whole: bool,
-    ghost few: { length kept.items ≤ 4194305 },
+    ghost short: { length kept.items < 2 ^ 32 },
 }

@@ -1,22 +1,17 @@
 use advice::KeptSource;
 use std::test::Fail;
-use tab_io::{MemSource, read_all};
+use tab_io::{MemSource, ReadAll, Source, read_all};
 
 #[test]
-fn keeps_what_is_read(rt: HostRuntime) -> Result<(), Fail> {
-    // how many bytes there are, the reads that fail, and how many are kept; one read asks for 65,536
-    let cases: [(usize, &[u32], Option<usize>); 4] = [
-        (0, &[], Some(0)),
-        (70_000, &[], Some(70_000)),
-        (70_000, &[1], Some(65_536)),
-        (4_200_000, &[], None),
-    ];
-    for (count, fails, kept) in cases {
-        let bytes = vec![in rt.alloc(); 7u8; count]?;
-        let inner = MemSource::of(rt.alloc(), &bytes, fails)?;
-        let mut source = KeptSource::of(rt.alloc(), inner);
-        let _ = read_all(rt.alloc(), &mut source, 4_200_000);
-        assert_eq!(rt; source.kept().map(|bytes| bytes.len()), kept, "of {count}");
-    }
+fn keeps_what_is_handed_back(rt: HostRuntime) -> Result<(), Fail> {
+    let inner = MemSource::of(rt.alloc(), b"cores = 1\n", &[1])?;
+    let mut source = KeptSource::of(rt.alloc(), inner);
+    assert_eq!(rt;
+        read_all(rt.alloc(), &mut source, 100).err(),
+        Some(ReadAll::ReadFault)
+    );
+    assert!(rt; source.kept().is_empty());
+    source.take_back(Vec::from_slice(rt.alloc(), b"cores")?);
+    assert_eq!(rt; source.kept(), b"cores".as_slice());
     Ok(())
 }

@@ -35,6 +35,12 @@ pub trait Source {
         ensures gave { Gave (state self.old) (state self.new) into.new result }
         ensures later { (state self.old).faults ≤ (state self.new).faults }
         ensures sound { StaysSound (state self.old) (state self.new) result };
+
+    /// Takes back what was read of it, when its reader needs that no longer. So a source that is asked
+    /// later for what it gave need not keep a copy; others let it go.
+    fn take_back(&mut self, _read: Vec<u8>)
+        ensures same { state self.new ≡ state self.old }
+    {}
 }
 
 /// Why not all was read.

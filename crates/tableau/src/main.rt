@@ -50,8 +50,6 @@ fn main(rt: HostRuntime) -> ExitCode {
         seat,
         &gate,
     );
-    if let Some(read) = input.kept() {
-        tell(&rt.stderr(), rt.alloc(), words, read, &done.status);
-    }
+    tell(&rt.stderr(), rt.alloc(), words, input.kept(), &done.status);
     ExitCode::from(done.status.exit())
 }

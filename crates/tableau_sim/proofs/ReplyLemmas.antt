@@ -241,3 +241,9 @@ read_lacking old new result all = record {
   later = all.later;
   why_is = HasNoInput.Lacks;
 }
+
+-- an input that was read is one of a source in the same state, of the same bytes
+pub input_still : (old mid new : SourceView) (bytes read : List ℕ) → new ≡ mid → read ≡ bytes
+    → HasInput old mid bytes → HasInput old new read
+input_still old mid new bytes read is same has =
+    subst (λ n. HasInput old n read) (sym is) (subst (HasInput old mid) (sym same) has)

@@ -54,7 +54,11 @@ fn reply_of<R: Threads + Sync, S: Source>(
         Command::Version => Ok(Text::Version),
         Command::Gen { seed, cores, vcpus } => gen_reply(alloc, seed, cores, vcpus),
         command => match read_input(alloc, input) {
-            Ok(bytes) => reply_to_input(rt, alloc, command, &bytes),
+            Ok(bytes) => {
+                let reply = reply_to_input(rt, alloc, command, &bytes);
+                input.take_back(bytes);
+                reply
+            }
             Err(stop) => Err(stop),
         },
     }

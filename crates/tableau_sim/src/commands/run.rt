@@ -1,6 +1,7 @@
 ghost use Rattle.std.specs.Prelude.{◌≡◌, ◌++◌, ◌<◌, ◌≤◌, ◌^◌, ℕ, [], Err, IfErr, IfOk, List, length, slice_index_or};
 ghost use Rattle.tab_core.specs.declared.TheConstants.{MAX_ROUNDS};
 ghost use Rattle.tab_io.specs.Sinks.{Writes as Puts};
+ghost use Rattle.tab_io.specs.Views.{SourceView};
 ghost use Rattle.tab_words.specs.Commands.{IsCommand};
 ghost use Rattle.tab_words.specs.declared.command.Command.TheVariants as called;
 ghost use Rattle.tab_words.specs.declared.command.RunMode.TheVariants.{Burst};
@@ -17,7 +18,8 @@ ghost use Rattle.course_run.specs.Inside.Keeping.{IsShort};
 ghost use Rattle.course_run.specs.RunText.{run_text};
 ghost use Rattle.course_run.specs.Runs.{CanBeTold, kept_stints};
 ghost use Rattle.tableau_sim.specs.Frame.{Answers, WritesReply};
-ghost use Rattle.tableau_sim.specs.Inside.Reply.{Makes};
+ghost use Rattle.tableau_sim.specs.Inside.Reply.{HasInput, Makes};
+ghost use Rattle.tableau_sim.specs.declared.input.TheConstants.{INPUT_LIMIT};
 ghost use Rattle.tableau_sim.specs.Inside.Running.{AnswersBy, HasBurstRoom, IsPrepared};
 ghost use Rattle.tableau_sim.specs.Outcomes.Outcome.{Writes};
 ghost use Rattle.tableau_sim.specs.Replay.{HasScript};
@@ -76,7 +78,35 @@ pub(crate) fn run<R: Threads + Wait + Sync, S: Source, K: Sink, G: Gate>(
             };
         }
     };
-    match cut(&bytes, 2) {
+    let done = run_input(rt, alloc, rounds, mode, &bytes, output, board, seat, gate);
+    input.take_back(bytes);
+    done
+}
+
+// Answers `run` for its input, on a board that isn't started.
+fn run_input<R: Threads + Wait + Sync, K: Sink, G: Gate>(
+    rt: &R,
+    alloc: Global,
+    rounds: u32,
+    mode: RunMode,
+    bytes: &[u8],
+    output: &mut K,
+    board: &RoundBoard,
+    seat: RoundSeat,
+    gate: &G,
+) -> Done
+    requires short { length bytes.now ≤ INPUT_LIMIT }
+    requires some { 1 ≤ rounds }
+    requires few { rounds ≤ MAX_ROUNDS }
+    requires board { IsSeatOf board.now seat }
+    requires opening { view_of seat ≡ opening }
+    ensures board { IsSeatOf board.now result.seat }
+    ensures answers { (words : List (List ℕ)) (from to : SourceView) → IsCommand words (called.Run rounds mode)
+        → HasInput from to bytes.now
+        → Answers (OnSeat (view_of seat) (view_of result.seat)) (LeavesSeat (view_of seat) (view_of result.seat)) words
+        from to (K.state output.old) (K.state output.new) result.status }
+{
+    match cut(bytes, 2) {
         Ok(sections) => run_sections(
             rt, alloc, rounds, mode, &sections, output, board, seat, gate,
         ),

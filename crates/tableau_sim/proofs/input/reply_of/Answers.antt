@@ -3,7 +3,7 @@ use Rattle.tab_words.specs.Commands.{IsCommand}
 use Rattle.tab_words.specs.declared.command.Command.TheVariants as called
 use Rattle.tableau_sim.specs.Commands.{LeavesNothing, Replies}
 use Rattle.tableau_sim.specs.Inside.Reply.{Makes}
-use Rattle.tableau_sim.proofs.ReplyLemmas.{input_reply, no_input_reply, reads_unless, unread_reply}
+use Rattle.tableau_sim.proofs.ReplyLemmas.{input_reply, input_still, no_input_reply, reads_unless, unread_reply}
 use Rattle.tableau_sim.proofs.input.reply_of.Goals as goal
 
 pub returns-in-Help : goal.returns-in-Help
@@ -25,9 +25,10 @@ pub returns-in-Ok : goal.returns-in-Ok
 returns-in-Ok g c words are =
     input_reply Replies LeavesNothing words _ _ c.args.command _ _ are
     (reads_unless c.args.command c.requires.still c.in_default.not-Help c.in_default.not-Version
-    c.in_default.not-Gen) c.in-Ok.ensures.ok (λ lacks. tt {0})
-    (subst (λ i. Makes (Replies c.args.command i) c.reply_to_input.result) c.deref.ensures.value
-    c.reply_to_input.ensures)
+    c.in_default.not-Gen)
+    (input_still _ _ _ _ _ c.take_back.ensures.same refl c.in-Ok.ensures.ok) (λ lacks. tt {0})
+    (subst (λ i. Makes (Replies c.args.command i) c.reply_to_input-reply.result) c.deref.ensures.value
+    c.reply_to_input-reply.ensures)
 
 pub returns-in-Err : goal.returns-in-Err
 returns-in-Err g c words are =
