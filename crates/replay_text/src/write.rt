@@ -25,31 +25,32 @@ pub fn write_replay<K: Sink>(
     course: &Course,
     trace: &Trace,
 ) -> Result<(), WriteFault>
-    requires { AreOfCourse course.now trace.now.made.items }
+    requires { AreOfCourse course.now trace.now.made }
     ensures { Writes (K.state sink.old) (K.state sink.new)
-        (replay_text (names_of host.now.vcpus) course.now trace.now.made.items trace.now.posted) result }
+        (replay_text (names_of host.now.vcpus) course.now trace.now.made trace.now.posted) result }
 {
     let vcpus = host.vcpus.items();
-    if let Err(fault) = put_all_made(sink, vcpus, course, &trace.made) {
+    if let Err(fault) = put_all_made(sink, vcpus, course, trace) {
         return Err(fault);
     }
-    put_posted(sink, trace.posted)
+    put_posted(sink, trace.posted())
 }
 
-// Writes a line for each of these. They are gathered, since a run has up to some 100,000 of them.
+// Writes a line for each entry and stint. They are gathered, since a run has up to some 100,000 of them.
 fn put_all_made<K: Sink>(
     sink: &mut K,
     vcpus: &[Vcpu],
     course: &Course,
-    made: &[Made],
+    trace: &Trace,
 ) -> Result<(), WriteFault>
-    requires { AreOfCourse course.now made.now }
+    requires { AreOfCourse course.now trace.now.made }
     ensures { Writes (K.state sink.old) (K.state sink.new)
-        (flat_map (made_line (names_of vcpus.now) course.now) made.now) result }
+        (flat_map (made_line (names_of vcpus.now) course.now) trace.now.made) result }
 {
     let mut lines = StintLines::of(vcpus);
-    for one in made {
-        put_made(sink, &mut lines, course, one)?;
+    for place in 0..trace.count() {
+        let made = trace.made(place);
+        put_made(sink, &mut lines, course, &made)?;
     }
     lines.write(sink)
 }

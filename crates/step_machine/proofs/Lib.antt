@@ -5,6 +5,7 @@ pub mod InvariantLemmas
 pub mod Lists
 pub mod LogLemmas
 pub mod MachineStateLemmas
+pub mod MarkLemmas
 pub mod NextLemmas
 pub mod OneRun
 pub mod PhaseLemmas

@@ -49,6 +49,7 @@ rooms_edited rounds n old new c before changed last at e room =
           (let was = room k log other.1 in record {
             entries = omega (arith, was.entries);
             stints = omega (arith, was.stints);
+            few = omega (arith, was.few);
           })
     ]
 

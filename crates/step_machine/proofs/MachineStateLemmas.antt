@@ -112,6 +112,7 @@ spare_some rounds n p some spare = record {
       (let room = spare.logs k log h in record {
         entries = omega (arith, room.entries);
         stints = omega (arith, room.stints);
+        few = omega (arith, room.few);
       });
 }
 
@@ -144,6 +145,7 @@ spare_less rounds n p spare = record {
       (let room = spare.logs k log h in record {
         entries = omega (arith, room.entries);
         stints = omega (arith, room.stints);
+        few = omega (arith, room.few);
       });
 }
 

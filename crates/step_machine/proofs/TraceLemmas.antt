@@ -93,7 +93,7 @@ leads_of course rounds old (step ∷ taken) new made trace =
     (trace.0, trace.3, leads_of course rounds trace.0 taken new trace.2 trace.5)
 
 -- a list that ends with something isn't empty
-ends_some : {X : Type 0} (xs : List X) (x : X) → EndsWith xs x → xs ≢ []
+pub ends_some : {X : Type 0} (xs : List X) (x : X) → EndsWith xs x → xs ≢ []
 ends_some xs x ends none =
     let n = ap length ends.1 in
     let m = ap length none in
@@ -101,7 +101,7 @@ ends_some xs x ends none =
     omega arith
 
 -- a core of which something is known is there
-core_there : (cores : List CoreState) (c : ℕ) → (slice_index_or cores c opening_core) ≢ opening_core
+pub core_there : (cores : List CoreState) (c : ℕ) → (slice_index_or cores c opening_core) ≢ opening_core
     → (slice_get cores c ≡ Some (slice_index_or cores c opening_core)) × (c < length cores)
 core_there [] c differs = absurd (differs refl)
 core_there (x ∷ xs) zero differs = (refl, omega arith)
@@ -109,7 +109,7 @@ core_there (x ∷ xs) (suc c) differs =
     let rest = core_there xs c differs in (rest.0, omega (arith, rest.1))
 
 -- what holds of the one thing that a step made holds of all that it made
-only_one : {X : Type 0} (P : X → Type 0) (x : X) → P x → All P (x ∷ [])
+pub only_one : {X : Type 0} (P : X → Type 0) (x : X) → P x → All P (x ∷ [])
 only_one P x is zero d lt = is
 only_one P x is (suc k) d lt = absurd (omega arith)
 

@@ -15,6 +15,7 @@ mod core_log;
 mod fault;
 mod laws;
 mod machine_state;
+mod mark;
 mod next;
 mod premises;
 mod replaying;

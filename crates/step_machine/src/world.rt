@@ -5,7 +5,8 @@ ghost use Rattle.table_form.specs.Running.Courses.{FitsRounds, IsCourse};
 ghost use Rattle.table_form.specs.Running.Invariant.{StateInvariant, IsComplete};
 ghost use Rattle.table_form.specs.Running.State.{CoreState, opening};
 ghost use Rattle.step_machine.specs.Answers.{Answers, NamesCore};
-ghost use Rattle.step_machine.specs.Inside.Logs.{KnowLast, IsNew, AreNew};
+ghost use Rattle.step_machine.specs.Inside.Logs.{cores_of, AreFew, KnowLast, IsNew, AreNew};
+ghost use Rattle.step_machine.specs.Inside.Marks.{AllStand, all_made};
 ghost use Rattle.step_machine.specs.Next.{IsNextStep};
 ghost use Rattle.step_machine.specs.Inside.MachineStates.{state_of, HasSpare};
 ghost use Rattle.step_machine.specs.Inside.Worlds.{HaveSlices};
@@ -16,9 +17,10 @@ ghost use Rattle.step_machine.specs.declared.trace.Made.{Made as MadeValue};
 use crate::answer::Answer;
 use crate::core_log::CoreLog;
 use crate::machine_state::MachineState;
+use crate::mark::Mark;
 use crate::next::next_step;
 use crate::steps::{decide, post, run, see};
-use crate::trace::{Made, Trace};
+use crate::trace::Trace;
 use script_doc::Step;
 use slice_table::{CoreSlices, course_owners};
 use std::alloc::Global;
@@ -36,13 +38,15 @@ pub struct World<'a> {
     rounds: u32,
     spare: u32,
     machine: MachineState,
-    made: Vec<Made>,
+    marks: Vec<Mark>,
 }
 
 impl<'a> Model for World<'a> {
     ghost use Rattle.step_machine.specs.Worlds.{WorldView};
     ghost use Rattle.step_machine.specs.Inside.Worlds.{IsWorld};
+    ghost use Rattle.step_machine.specs.Inside.Logs.{cores_of};
     ghost use Rattle.step_machine.specs.Inside.MachineStates.{state_of};
+    ghost use Rattle.step_machine.specs.Inside.Marks.{all_made};
 
     ghost Value = { WorldView };
 
@@ -51,10 +55,10 @@ impl<'a> Model for World<'a> {
       rounds = w.rounds;
       spare = w.spare;
       state = state_of w.machine;
-      made = w.made.items;
+      made = all_made (cores_of w.machine.logs.items) w.marks.items;
     } };
 
-    ghost invariant = { λ w. IsWorld w.course.now w.slices.items w.rounds w.spare w.machine w.made };
+    ghost invariant = { λ w. IsWorld w.course.now w.slices.items w.rounds w.spare w.machine w.marks };
 }
 
 impl World<'_> {
@@ -82,7 +86,7 @@ impl World<'_> {
         let decided = Vec::with_capacity(alloc, lesser(turns, rounds) as usize)?;
         let logs = new_logs(alloc, course.cores(), rounds, turns)?;
         let slices = new_slices(alloc, course)?;
-        let made = Vec::with_capacity(alloc, turns as usize)?;
+        let marks = Vec::with_capacity(alloc, turns as usize)?;
         let machine = MachineState {
             posted: 0,
             decided,
@@ -94,7 +98,7 @@ impl World<'_> {
             rounds,
             spare: turns,
             machine,
-            made,
+            marks,
         })
     }
 
@@ -121,7 +125,7 @@ impl World<'_> {
             &mut self.machine,
             &step,
         );
-        note(&mut self.made, &self.machine, &step, &answer);
+        note(&mut self.marks, &self.machine, &step, &answer);
         self.spare -= 1;
         answer
     }
@@ -182,13 +186,15 @@ impl World<'_> {
 
     /// What the steps made, and how many events they posted.
     pub fn into_trace(self) -> Trace
-        ensures made { result.made.items ≡ self.entry.made }
+        ensures made { result.made ≡ self.entry.made }
         ensures posted { result.posted ≡ self.entry.state.posted }
     {
-        let World { machine, made, .. } = self;
+        let World { machine, marks, .. } = self;
+        let MachineState { posted, logs, .. } = machine;
         Trace {
-            made,
-            posted: machine.posted,
+            marks,
+            logs,
+            posted,
         }
     }
 }
@@ -218,13 +224,18 @@ fn take_step(
     }
 }
 
-// Notes what the step made, where it is done. It led to this state.
-fn note(made: &mut Vec<Made>, machine: &MachineState, step: &Step, answer: &Answer)
-    requires room { length made.old.items < vec_capacity made.old }
+// Marks what the step made, where it is done. It led to this state.
+fn note(marks: &mut Vec<Mark>, machine: &MachineState, step: &Step, answer: &Answer)
+    requires room { length marks.old.items < vec_capacity marks.old }
+    requires few { AreFew machine.now.logs.items }
     requires makes { answer.now ≡ Done → (more : List MadeValue) × AreMadeBy step.now (state_of machine.now) more }
-    ensures made { AddsMade step.now answer.now (state_of machine.now) made.old.items made.new.items }
-    ensures room { vec_capacity made.new ≡ vec_capacity made.old }
-    ensures few { length made.new.items ≤ length made.old.items + 1 }
+    ensures made { AddsMade step.now answer.now (state_of machine.now)
+        (all_made (cores_of machine.now.logs.items) marks.old.items)
+        (all_made (cores_of machine.now.logs.items) marks.new.items) }
+    ensures stand { AllStand (cores_of machine.now.logs.items) marks.old.items
+        → AllStand (cores_of machine.now.logs.items) marks.new.items }
+    ensures room { vec_capacity marks.new ≡ vec_capacity marks.old }
+    ensures one { length marks.new.items ≤ length marks.old.items + 1 }
 {
     let Answer::Done = *answer else {
         return;
@@ -232,14 +243,14 @@ fn note(made: &mut Vec<Made>, machine: &MachineState, step: &Step, answer: &Answ
     match *step {
         Step::Post | Step::See(_) => {}
         Step::Decide(core) => {
-            let entries = &machine.logs[core.index()].entries;
-            let entry = entries[entries.len() - 1];
-            made.push_reserved(Made::Entered { core, entry });
+            let count = machine.logs[core.index()].entries.len();
+            let place = (count - 1) as u32;
+            marks.push_reserved(Mark::Entered { core, place });
         }
         Step::Run(core) => {
-            let stints = &machine.logs[core.index()].stints;
-            let stint = stints[stints.len() - 1];
-            made.push_reserved(Made::Ran { core, stint });
+            let count = machine.logs[core.index()].stints.len();
+            let place = (count - 1) as u32;
+            marks.push_reserved(Mark::Ran { core, place });
         }
     }
 }

@@ -1,5 +1,5 @@
 -- What the code keeps of each core, and the state that it stands for.
-use Rattle.std.specs.Prelude.{◌≡◌, ℕ, ◌+◌, ◌<◌, ◌≤◌, min, List, Option, Some, None, map, length, slice_get, slice_set, vec_capacity}
+use Rattle.std.specs.Prelude.{◌≡◌, ℕ, ◌+◌, ◌^◌, ◌<◌, ◌≤◌, min, List, Option, Some, None, map, length, slice_get, slice_set, vec_capacity}
 use Rattle.table_form.specs.Running.Choice.{last_shared}
 use Rattle.table_form.specs.Running.Courses.{CourseView}
 use Rattle.table_form.specs.Running.State.{CoreState, opening_core}
@@ -16,13 +16,20 @@ core_of log = record {
 abbrev pub cores_of : List CoreLog → List CoreState
 cores_of logs = map core_of logs
 
--- there is room for so many stints more, and for as many entries or one for each round
+-- there is room for so many stints more, and for as many entries or one for each round; with so many
+-- more, the entries and stints are fewer than 2^32
 pub record HasRoom (rounds n : ℕ) (log : CoreLog) : Type 0 where
   pub entries : min (length log.entries.items + n) rounds ≤ vec_capacity log.entries
   pub stints : length log.stints.items + n ≤ vec_capacity log.stints
+  pub few : length log.entries.items + length log.stints.items + n < 2 ^ 32
 
 abbrev pub HaveRoom : ℕ → ℕ → List CoreLog → Type 0
 HaveRoom rounds n logs = (k : ℕ) (log : CoreLog) → slice_get logs k ≡ Some log → HasRoom rounds n log
+
+-- each log has fewer than 2^32 entries and stints
+abbrev pub AreFew : List CoreLog → Type 0
+AreFew logs = (k : ℕ) (log : CoreLog) → slice_get logs k ≡ Some log
+    → length log.entries.items + length log.stints.items < 2 ^ 32
 
 -- each log knows its core's last shared pick
 abbrev pub KnowLast : CourseView → List CoreLog → Type 0

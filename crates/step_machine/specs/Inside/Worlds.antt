@@ -6,9 +6,10 @@ use Rattle.table_form.specs.Running.Invariant.{StateInvariant}
 use Rattle.slice_table.specs.CoreSlices.{AreSlicesOf}
 use Rattle.slice_table.specs.declared.full_span.FullSpan.{FullSpan}
 use Rattle.step_machine.specs.declared.machine_state.MachineState.{MachineState}
-use Rattle.step_machine.specs.declared.trace.Made.{Made}
-use Rattle.step_machine.specs.Inside.Logs.{KnowLast}
+use Rattle.step_machine.specs.declared.mark.Mark.{Mark}
+use Rattle.step_machine.specs.Inside.Logs.{cores_of, KnowLast}
 use Rattle.step_machine.specs.Inside.MachineStates.{state_of, HasSpare}
+use Rattle.step_machine.specs.Inside.Marks.{AllStand}
 
 -- each of the first n cores has its tables of the course's plans
 pub record HaveFirstSlices (course : CourseView) (n : ℕ) (slices : List (List (List FullSpan))) : Type 0 where
@@ -20,14 +21,15 @@ pub record HaveFirstSlices (course : CourseView) (n : ℕ) (slices : List (List 
 abbrev pub HaveSlices : CourseView → List (List (List FullSpan)) → Type 0
 HaveSlices course slices = HaveFirstSlices course course.cores slices
 
--- the course and its rounds fit, each core has its tables, the state keeps the invariant, there is room for so many steps more,
--- and each log knows its core's last shared pick
+-- the course and its rounds fit, each core has its tables, the state keeps the invariant, there is room for
+-- so many steps more, each mark refers to what is there, and each log knows its core's last shared pick
 pub record IsWorld (course : CourseView) (slices : List (List (List FullSpan))) (rounds spare : ℕ)
-    (p : MachineState) (made : Vec Made Global) : Type 0 where
+    (p : MachineState) (marks : Vec Mark Global) : Type 0 where
   pub sliced : HaveSlices course slices
   pub course_kept : IsCourse course
   pub fits : FitsRounds course rounds
   pub kept : StateInvariant course rounds (state_of p)
   pub room : HasSpare rounds spare p
-  pub made_room : length made.items + spare ≤ vec_capacity made
+  pub marks_room : length marks.items + spare ≤ vec_capacity marks
+  pub stand : AllStand (cores_of p.logs.items) marks.items
   pub last : KnowLast course p.logs.items

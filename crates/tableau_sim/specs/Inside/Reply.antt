@@ -34,14 +34,14 @@ bytes_of (written.Plan host plan) = plan_text (names_of host.vcpus) (plan_view p
 bytes_of written.Checked = codes "ok\n"
 bytes_of (written.Generated host) = host_text host
 bytes_of (written.Replay host book trace) =
-    replay_text (names_of host.vcpus) book.course trace.made.items trace.posted
+    replay_text (names_of host.vcpus) book.course trace.made trace.posted
 
 -- a plan in a text is one for its host, a generated host's vCPUs are admitted, and a trace is of the
 -- book's course, so that they can be written
 abbrev pub IsWritable : Text → Type 0
 IsWritable (written.Plan host plan) = IsPlanFor host (plan_view plan)
 IsWritable (written.Generated host) = AreAdmitted host.vcpus
-IsWritable (written.Replay host book trace) = AreOfCourse book.course trace.made.items
+IsWritable (written.Replay host book trace) = AreOfCourse book.course trace.made
 IsWritable text = Unit {0}
 
 -- the names that a refusal may need

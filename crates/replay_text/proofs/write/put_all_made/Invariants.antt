@@ -5,10 +5,10 @@ use Rattle.replay_text.specs.ReplayText.{made_line}
 use Rattle.replay_text.proofs.write.put_all_made.Given as goal
 
 -- the gathered lines are left, and those from this one on
-abbrev pub invariant-loop-one : goal.invariant-loop-one
-invariant-loop-one g l = record {
+abbrev pub invariant-loop-place : goal.invariant-loop-place
+invariant-loop-place g l = record {
   names : l.lines.names ≡ names_of l.vcpus;
   left : IsLeft (g.K.Sink.state l.fn.sink) (g.K.Sink.state l.sink)
-      (flat_map (made_line (names_of l.vcpus) l.course) l.made)
-      (l.lines.gathered ++ flat_map (made_line (names_of l.vcpus) l.course) (drop l.one-index l.made));
+      (flat_map (made_line (names_of l.vcpus) l.course) l.trace.made)
+      (l.lines.gathered ++ flat_map (made_line (names_of l.vcpus) l.course) (drop l.place l.trace.made));
 }

@@ -22,5 +22,11 @@ returns c = λ before at.
           length-append was.entries.items (c.args.entry ∷ []),
         );
         stints = omega (arith, room.stints);
+        few = omega (
+          arith,
+          ap length c.push_reserved.ensures.items,
+          room.few,
+          length-append was.entries.items (c.args.entry ∷ []),
+        );
       });
     }

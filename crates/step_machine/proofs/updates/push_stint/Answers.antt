@@ -27,5 +27,11 @@ returns c = λ before at.
           c.push_reserved.ensures.capacity,
           length-append was.stints.items (c.args.stint ∷ []),
         );
+        few = omega (
+          arith,
+          ap length c.push_reserved.ensures.items,
+          room.few,
+          length-append was.stints.items (c.args.stint ∷ []),
+        );
       });
     }

@@ -18,5 +18,6 @@ returns c = λ before at.
             entries =
                 omega (arith, room.entries);
             stints = omega (arith, room.stints);
+            few = omega (arith, room.few);
           });
     }

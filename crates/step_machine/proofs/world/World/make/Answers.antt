@@ -1,7 +1,9 @@
 use Rattle.std.proofs.Common.{length, refl, ap, sym, subst, arith}
 use Rattle.table_form.specs.Running.State.{State}
 use Rattle.table_form.specs.Running.Invariant.{StateInvariant}
-use Rattle.step_machine.specs.Inside.Logs.{AreNew}
+use Rattle.std.proofs.lemmas.List.Elements.{All-nil}
+use Rattle.step_machine.specs.Inside.Logs.{cores_of, AreNew}
+use Rattle.step_machine.specs.Inside.Marks.{Stands}
 use Rattle.step_machine.proofs.RunLemmas.{new_state, new_know, new_room, opening_kept}
 use Rattle.step_machine.proofs.world.World.make.Goals as goal
 
@@ -27,7 +29,8 @@ invariant_of-result c =
         );
         logs = new_room course.cores c.args.rounds c.args.turns logs.items new;
       };
-      made_room = omega (arith, ap length c.in_ok-made.ensures.items, c.in_ok-made.ensures.exact);
+      marks_room = omega (arith, ap length c.in_ok-marks.ensures.items, c.in_ok-marks.ensures.exact);
+      stand = rw c.in_ok-marks.ensures.items (All-nil (Stands (cores_of logs.items)));
       last = new_know course course.cores c.args.rounds c.args.turns logs.items new;
     }
 
@@ -41,7 +44,7 @@ returns-clause-opens c =
       new_state course.cores c.args.rounds c.args.turns
           (record { posted = 0; decided = c.in_ok-decided.decided; logs = logs }) refl
           c.in_ok-decided.ensures.items new,
-      c.in_ok-made.ensures.items,
+      c.in_ok-marks.ensures.items,
     ) refl
 
 pub returns-clause-kept : goal.returns-clause-kept
