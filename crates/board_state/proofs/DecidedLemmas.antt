@@ -3,9 +3,9 @@ use Rattle.std.proofs.Common.{◌≡◌, ℕ, zero, suc, ◌<◌, ◌⊎◌, inl
 use Rattle.std.specs.Prelude.{slice_get}
 use Rattle.std.proofs.lemmas.Option.{slice_get_within}
 use Rattle.tab_core.specs.declared.entry.Entry.{Entry}
+use Rattle.tab_core.proofs.Lists.{element_at}
 use Rattle.round_words.specs.declared.view.Part.{Part}
 use Rattle.dispatch_core.specs.Parts.{used_counts}
-use Rattle.run_promises.proofs.Lists.{element_at}
 use Rattle.board_state.specs.Readings.{decided_by, extended_by}
 use Rattle.board_state.proofs.Lists.{in_map, of_map}
 

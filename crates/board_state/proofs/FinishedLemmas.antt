@@ -3,13 +3,13 @@ use Rattle.std.proofs.Common.{◌≡◌, ℕ, zero, suc, ◌<◌, ◌≤◌, len
 use Rattle.std.proofs.lemmas.List.{length-map}
 use Rattle.std.proofs.lemmas.Option.{slice_get_within}
 use Rattle.tab_core.specs.declared.entry.Entry.{Entry}
+use Rattle.tab_core.proofs.Lists.{element_at}
 use Rattle.table_form.specs.Running.Courses.{CourseView}
 use Rattle.table_form.specs.Running.Invariant.{IsComplete}
 use Rattle.table_form.specs.Running.State.{CoreState}
 use Rattle.round_words.specs.declared.view.View.{View}
 use Rattle.round_words.specs.Views.{part}
 use Rattle.dispatch_core.specs.Parts.{used_counts}
-use Rattle.run_promises.proofs.Lists.{element_at}
 use Rattle.board_state.specs.Readings.{state_of}
 use Rattle.board_state.specs.RunViews.{IsFinished, IsRunView}
 use Rattle.board_state.proofs.Lists.{of_map, same_list}

@@ -8,6 +8,7 @@ use Rattle.std.proofs.lemmas.Option.{slice_get_within}
 use Rattle.tab_core.specs.declared.TheConstants.{ROUND}
 use Rattle.tab_core.specs.declared.entry.Entry.{Entry}
 use Rattle.tab_core.specs.declared.stint.Stint.{Stint}
+use Rattle.tab_core.proofs.Lists.{element_at, same}
 use Rattle.table_form.specs.Running.Courses.{CourseView, tick_at}
 use Rattle.table_form.specs.Running.Invariant.{CoreInvariant, IsFresh, SightInvariant, StateInvariant, StintInvariant}
 use Rattle.table_form.specs.Running.OneTable.{HasOneTable, HasOneWinner}
@@ -18,7 +19,6 @@ use Rattle.round_words.specs.Views.{controller, part}
 use Rattle.round_words.specs.Rule.{CoversEarlier, FloorsUpTo, IsCorePart}
 use Rattle.round_words.specs.Shown.{HoldsCore, IsWonBy, KeepsFloors}
 use Rattle.dispatch_core.specs.Parts.{IsPartOf}
-use Rattle.run_promises.proofs.Lists.{element_at, same}
 use Rattle.board_state.specs.Readings.{core_parts, core_state, decided_by, seen_by, state_of}
 use Rattle.board_state.specs.RunViews.{IsRunView}
 use Rattle.board_state.proofs.DecidedLemmas.{decided_has, has_decided}

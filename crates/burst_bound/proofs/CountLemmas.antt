@@ -10,6 +10,7 @@ use Rattle.std.proofs.lemmas.List.Sums.{sum_by-cons, sum_by_more, sum_by_more_le
 use Rattle.std.proofs.lemmas.Option.{get_or_from_slice_get, slice_get_read, slice_get_within}
 use Rattle.tab_core.specs.Timelines.{AreContiguous}
 use Rattle.tab_core.specs.declared.stint.Stint.{Stint}
+use Rattle.tab_core.proofs.TimelineLemmas.{later_from}
 use Rattle.table_form.proofs.OfferedLemmas.{cell_is}
 use Rattle.table_form.specs.Running.Capped.{runs_at, runs_in, ticks_run}
 use Rattle.table_form.specs.Running.Courses.{CourseView, IsCourse}
@@ -92,18 +93,6 @@ runs_there v x st is =
     let going = and_parts (nat_lt x st.end) (is_cell_of v st.ran) begun.1 in
     (leb-true st.from x begun.0, ltb-true x st.end going.0, cell_is v st.ran going.1)
 
--- no stint of a chain begins before the chain
-starts_after : (from to : ℕ) (ss : List Stint) (k : ℕ) (t : Stint) → AreContiguous from ss to
-    → ((i : ℕ) (u : Stint) → slice_get ss i ≡ Some u → u.from < u.end) → slice_get ss k ≡ Some t
-    → from ≤ t.from
-starts_after from to [] k t chain ticks h = absurd cc
-starts_after from to (s ∷ ss) zero t chain ticks h =
-    let e : s ≡ t = cc in
-    let q = ap (λ (u : Stint). u.from) e in
-    omega (arith, chain.0)
-starts_after from to (s ∷ ss) (suc k) t chain ticks h =
-    omega (arith, ticks 0 s refl, chain.0, starts_after s.end to ss k t chain.1 (λ i u g. ticks (suc i) u g) h)
-
 -- one stint of a chain at most covers a tick
 one_place : (from to : ℕ) (ss : List Stint) (x j k : ℕ) (s t : Stint) → AreContiguous from ss to
     → ((i : ℕ) (u : Stint) → slice_get ss i ≡ Some u → u.from < u.end) → slice_get ss j ≡ Some s
@@ -113,11 +102,11 @@ one_place from to (u ∷ us) x zero zero s t chain ticks g h a b a' b' = refl
 one_place from to (u ∷ us) x zero (suc k) s t chain ticks g h a b a' b' =
     let e : u ≡ s = cc in
     let q = ap (λ (y : Stint). y.end) e in
-    absurd (omega (arith, starts_after u.end to us k t chain.1 (λ i v r. ticks (suc i) v r) h))
+    absurd (omega (arith, later_from u.end to us k t chain.1 (λ i v r. ticks (suc i) v r) h))
 one_place from to (u ∷ us) x (suc j) zero s t chain ticks g h a b a' b' =
     let e : u ≡ t = cc in
     let q = ap (λ (y : Stint). y.end) e in
-    absurd (omega (arith, starts_after u.end to us j s chain.1 (λ i v r. ticks (suc i) v r) g))
+    absurd (omega (arith, later_from u.end to us j s chain.1 (λ i v r. ticks (suc i) v r) g))
 one_place from to (u ∷ us) x (suc j) (suc k) s t chain ticks g h a b a' b' =
     ap suc (one_place u.end to us x j k s t chain.1 (λ i v r. ticks (suc i) v r) g h a b a' b')
 

@@ -1,11 +1,11 @@
 -- The stints that a crew keeps are those of the state of its run.
 use Rattle.std.proofs.Common.{◌≡◌, ℕ, ◌<◌, List, Some, ◌∙◌, sym, subst, arith}
 use Rattle.tab_core.specs.declared.stint.Stint.{Stint}
+use Rattle.tab_core.proofs.Lists.{element_at}
 use Rattle.table_form.specs.Running.Courses.{CourseView}
 use Rattle.table_form.specs.Running.State.{State, CoreState, IsCore}
 use Rattle.dispatch_core.specs.States.{StateView}
 use Rattle.core_workers.specs.Groups.{CrewView, actor_of}
-use Rattle.run_promises.proofs.Lists.{element_at}
 use Rattle.burst_bound.specs.Inside.Seeing.{AreInOrder}
 use Rattle.burst_bound.specs.KeptRuns.{IsKeptRun}
 use Rattle.burst_bound.proofs.SeenLemmas.{core_in_order}

@@ -1,6 +1,6 @@
 -- Where a vCPU is offered a tick and has been seen runnable, it runs.
-use Rattle.std.proofs.Common.{◌≡◌, ℕ, suc, ◌*◌, ◌/◌, ◌%◌, ◌<◌, ◌≤◌, inl, inr, Bool, true, false, List, [], ◌∷◌, length, Option, Some, None, refl, subst, ◌∙◌, arith}
-use Rattle.std.specs.Prelude.{slice_get, nat_le, nat_lt, IsTrue, ◌&&◌, ◌||◌}
+use Rattle.std.proofs.Common.{◌≡◌, ℕ, ◌*◌, ◌/◌, ◌%◌, ◌<◌, ◌≤◌, inl, inr, true, length, Option, Some, None, refl, subst, ◌∙◌, arith}
+use Rattle.std.specs.Prelude.{slice_get, nat_le, nat_lt, IsTrue, ◌&&◌}
 use Rattle.std.specs.List.{list_any}
 use Rattle.std.proofs.lemmas.Grind.{common_steps}
 use Rattle.std.proofs.lemmas.Map.Keys.{any_passes_from_place}
@@ -8,41 +8,27 @@ use Rattle.std.proofs.lemmas.Bool.Decides.{nat_tests}
 use Rattle.tab_core.specs.declared.TheConstants.{ROUND}
 use Rattle.tab_core.specs.declared.stint.Stint.{Stint}
 use Rattle.tab_core.specs.VcpuSets.{has_vcpu}
+use Rattle.tab_core.proofs.Lists.{element_at, same}
 use Rattle.table_form.specs.Running.Choice.{owner_runs}
 use Rattle.table_form.specs.Running.Courses.{CourseView, IsCourse, plan_after, plan_number_after, runnable_after, no_plan}
 use Rattle.table_form.specs.Running.Invariant.{IsComplete, StateInvariant}
-use Rattle.table_form.specs.Running.Offered.{is_offered, offers_by, some_row_has}
-use Rattle.table_form.specs.Tables.Rows.{Row}
-use Rattle.table_form.specs.Tables.Serves.{owner_at, flat, is_cell_of}
+use Rattle.table_form.specs.Running.Offered.{is_offered, offers_by}
+use Rattle.table_form.specs.Tables.Serves.{owner_at, is_cell_of}
 use Rattle.table_form.specs.Running.State.{State, CoreState, IsCore}
 use Rattle.table_form.specs.Running.Together.{Covers}
-use Rattle.table_form.proofs.OfferedLemmas.{cell_is}
+use Rattle.table_form.proofs.OfferedLemmas.{has_row}
 use Rattle.table_form.proofs.SpotLemmas.{owner_within}
 use Rattle.run_promises.proofs.BusyLemmas.{is_busy}
-use Rattle.run_promises.proofs.Lists.{either, element_at, same}
+use Rattle.run_promises.proofs.Lists.{either}
 use Rattle.table_form.specs.Running.Capped.{runs_in, runs_at}
 use Rattle.burst_bound.specs.Bursts.{IsSeenFrom}
-
--- the row that has the vCPU at a place
-row_of : (rows : List Row) (v place : ℕ) → some_row_has rows v place ≡ true
-    → (c : ℕ) × (owner_at rows c place ≡ Some v)
-row_of [] v place h = absurd cc
-row_of (row ∷ rows) v place h =
-    by_test (is_cell_of v (flat (slice_get row place))) refl h (λ g. row_of rows v place g)
-  where
-    by_test : (b : Bool) → is_cell_of v (flat (slice_get row place)) ≡ b
-        → (is_cell_of v (flat (slice_get row place)) || some_row_has rows v place) ≡ true
-        → (some_row_has rows v place ≡ true → (c : ℕ) × (owner_at rows c place ≡ Some v))
-        → (c : ℕ) × (owner_at (row ∷ rows) c place ≡ Some v)
-    by_test true is g rest = (0, cell_is v (flat (slice_get row place)) is)
-    by_test false is g rest = (let found = rest (rw is at g) in (suc found.0, found.1))
 
 -- an offered tick is one of a row of its round's plan
 offer_of : (course : CourseView) (count : Option ℕ) (v place : ℕ) → offers_by course count v place ≡ true
     → (d : ℕ) × (c : ℕ) × (count ≡ Some d) × (owner_at (plan_after course d).rows c place ≡ Some v)
 offer_of course None v place h = absurd cc
 offer_of course (Some d) v place h =
-    (let row = row_of (plan_after course d).rows v place h in (d, row.0, refl, row.1))
+    (let row = has_row (plan_after course d).rows v place h in (d, row.0, refl, row.1))
 
 -- a row of a plan is a core's
 core_of_row : (course : CourseView) → IsCourse course → (d c place v : ℕ)

@@ -2,6 +2,7 @@
 use Rattle.std.proofs.Common.{◌≡◌, ℕ, zero, suc, ◌+◌, ◌*◌, ◌<◌, ◌≤◌, ◌⊎◌, inl, inr, max, List, [], ◌∷◌, length, Some, refl, ap, subst, arith}
 use Rattle.std.specs.Prelude.{slice_get}
 use Rattle.std.proofs.lemmas.Bool.{cases_lt}
+use Rattle.std.proofs.lemmas.Option.{slice_get_within}
 use Rattle.tab_core.specs.Timelines.{AreContiguous}
 use Rattle.tab_core.specs.declared.TheConstants.{ROUND}
 use Rattle.tab_core.specs.declared.stint.Stint.{Stint}
@@ -9,7 +10,6 @@ use Rattle.table_form.specs.Running.Courses.{CourseView, IsCourse, tick_at}
 use Rattle.table_form.specs.Running.Invariant.{StateInvariant}
 use Rattle.table_form.specs.Running.State.{State, CoreState, IsCore}
 use Rattle.run_promises.proofs.BusyLemmas.{is_busy}
-use Rattle.run_promises.proofs.Lists.{within}
 use Rattle.burst_bound.specs.Bursts.{IsSeenFrom, IsSeenAt}
 use Rattle.burst_bound.specs.Inside.Seeing.{AreInOrder, IsSeenBelow, SeesFrom}
 use Rattle.burst_bound.proofs.LeastLemmas.{least_of}
@@ -114,7 +114,7 @@ pub seen_in_run : (course : CourseView) (rounds : ℕ) (s : State) (event x : �
 seen_in_run course rounds s event x kept below lt = record {
   in_run = lt;
   seen = seen_by_all s event x (λ c core at. below.sees c core
-      (let small = within s.cores c core at in omega (arith, kept.size)) at);
+      (let small = slice_get_within s.cores c core at in omega (arith, kept.size)) at);
   least = λ y seen. below.least y (λ c core small at. all_see course rounds s event y kept seen c core at);
 }
 

@@ -6,7 +6,7 @@ use Rattle.std.proofs.lemmas.Bool.Decides.{nat_tests}
 use Rattle.std.proofs.lemmas.Option.{get_or_from_slice_get, slice_get_within}
 use Rattle.std.specs.List.Sorted.{IsNonDecreasingBy, IsPartitionPoint}
 use Rattle.tab_core.specs.declared.stint.Stint.{Stint}
-use Rattle.run_promises.proofs.Lists.{element_at}
+use Rattle.tab_core.proofs.Lists.{element_at}
 use Rattle.burst_bound.specs.Inside.Seeing.{AreInOrder, IsUnseenCount, SeesFrom}
 
 -- the seen counts are in order, as bisection needs

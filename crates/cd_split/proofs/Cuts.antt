@@ -1,5 +1,5 @@
 -- Cuts of fewer ticks than one that overloads an interval, and of more.
-use Rattle.std.proofs.Common.{◌≡◌, ℕ, zero, suc, ◌+◌, ◌-◌, ◌*◌, ◌/◌, ◌<◌, ◌≤◌, true, cond, leb, List, [], ◌∷◌, ap, subst, ◌∙◌, inl, inr, ◌⊎◌, arith}
+use Rattle.std.proofs.Common.{◌≡◌, ℕ, zero, suc, ◌+◌, ◌-◌, ◌*◌, ◌/◌, ◌<◌, ◌≤◌, true, cond, leb, List, ap, subst, ◌∙◌, inl, inr, ◌⊎◌, arith}
 use Rattle.std.proofs.lemmas.Bool.{cases_Bool, and_parts, leb-true, le-leb}
 use Rattle.std.proofs.Math.Nat.{mul-le-mul_left, div-mul-le_self}
 use Rattle.std.proofs.lemmas.Nat.{le-div}
@@ -7,12 +7,12 @@ use Rattle.tab_core.specs.declared.TheConstants.{ROUND}
 use Rattle.tab_core.specs.Period.{IsPeriod}
 use Rattle.tab_core.specs.declared.over.Over.{Over}
 use Rattle.tab_core.specs.declared.piece.Piece.{Piece}
-use Rattle.table_form.specs.Planning.Jobs.{Job, Subtask, job_of, first_jobs, jobs_of}
+use Rattle.table_form.specs.Planning.Jobs.{Job, job_of, first_jobs, jobs_of}
 use Rattle.table_form.specs.Planning.Demand.{demand_in, is_inside}
 use Rattle.edf_table.specs.Beside.{FitsBeside, tight}
-use Rattle.edf_table.proofs.Pieces.{first_jobs-suc, first_jobs-zero}
-use Rattle.edf_table.proofs.LoadLemmas.{demand_in-append, demand_in-none, demand_in-one}
-use Rattle.edf_table.proofs.Shorter.{shorter_fits}
+use Rattle.edf_table.proofs.Pieces.{first_jobs-zero}
+use Rattle.edf_table.proofs.LoadLemmas.{demand_in-append, demand_in-none}
+use Rattle.edf_table.proofs.Shorter.{shorter_fits, demand_split}
 use Rattle.cd_split.specs.Cores.{pieces_on}
 use Rattle.cd_split.specs.Splitting.{FitsWith, IsOverloadWith}
 
@@ -36,15 +36,6 @@ longer_misses jobs v x more f t is some le within miss fits =
     miss (fits_down jobs v x f t (more - x) is some (omega arith)
     (subst (λ y. FitsBeside jobs (tight v y f t)) same fits))
 
--- one window more of a subtask adds its cost where it is inside the interval
-demand_next : (s : Subtask) (n from to : ℕ)
-    → demand_in (first_jobs s (suc n)) from to
-    ≡ demand_in (first_jobs s n) from to + cond (is_inside from to (job_of s n)) s.cost 0
-demand_next s n from to =
-    ap (λ js. demand_in js from to) (first_jobs-suc s n)
-    ∙ demand_in-append (first_jobs s n) (job_of s n ∷ []) from to
-    ∙ ap (λ d. demand_in (first_jobs s n) from to + d) (demand_in-one (job_of s n) from to)
-
 -- of the first n windows of cuts of x and of y ticks, those inside an interval: none of x, or count
 -- + 1, which stand a period apart
 record Inside (v x y f t from to n : ℕ) : Type 0 where
@@ -59,8 +50,8 @@ insides : (v x y f t from to n : ℕ) → y ≤ x
     → (demand_in (first_jobs (tight v x f t) n) from to ≡ 0) ⊎ Inside v x y f t from to n
 insides v x y f t from to zero le = inl (rw (first_jobs-zero (tight v x f t)) (demand_in-none from to))
 insides v x y f t from to (suc n) le =
-    let long = demand_next (tight v x f t) n from to in
-    let short = demand_next (tight v y f t) n from to in
+    let long = demand_split (tight v x f t) n from to in
+    let short = demand_split (tight v y f t) n from to in
     elim (cases_Bool (is_inside from to (job_of (tight v x f t) n))) [
       | inl in_x ↦ (let both = and_parts (leb from (n * t + f)) (leb (n * t + (f + x)) to) in_x in
           let low : from ≤ n * t + f = leb-true _ _ both.0 in

@@ -11,11 +11,13 @@ use Rattle.std.proofs.lemmas.Option.{same_Some, slice_get-get_or}
 use Rattle.tab_core.specs.VcpuSets.{has_vcpu}
 use Rattle.tab_core.specs.declared.TheConstants.{MAX_VCPUS}
 use Rattle.tab_core.specs.declared.piece.Piece.{Piece}
+use Rattle.tab_core.proofs.Lists.{get_left, push_new, set_here}
 use Rattle.table_form.specs.Planning.Drafts.{HaveOwnCores, pieces_at}
 use Rattle.table_form.proofs.Filters.{slice_get-filter}
+use Rattle.table_form.proofs.Sets.{nobody_has}
 use Rattle.coalesce.specs.Joining.{has_single_piece}
 use Rattle.coalesce.specs.Inside.Passing.{IsTableOf}
-use Rattle.coalesce.proofs.Members.{slice_get-append_cases, slice_get-append_last, slice_get-append_left, slice_get-set_other, slice_get-set_same}
+use Rattle.coalesce.proofs.Members.{slice_get-append_cases, slice_get-set_other}
 
 -- an empty table
 empty_listed : (n v : ℕ) (p : Piece)
@@ -39,7 +41,7 @@ pub table_more : (pieces : List Piece) (table : List (Option Piece)) (p : Piece)
     → IsTableOf pieces table → IsTableOf (pieces ++ p ∷ []) (set table p.vcpu (Some p))
 table_more pieces table p others is =
     let here : slice_get (set table p.vcpu (Some p)) p.vcpu ≡ Some (Some p) =
-    slice_get-set_same table p.vcpu (Some p)
+    set_here table p.vcpu (Some p)
     (let size = is.size in let small = p.vcpu_small in omega arith) in
     record {
       size = omega (arith, is.size, length-set table p.vcpu (Some p));
@@ -50,12 +52,12 @@ table_more pieces table p others is =
             let is_p : p ≡ q = inside p q (sym here ∙ found) in (
               ap (λ (r : Piece). r.vcpu) (sym is_p) ∙ sym same,
               length pieces,
-              slice_get-append_last pieces p
+              push_new pieces p
                   ∙ ap Some is_p,
             )
         | inr other ↦
             let before = is.listed v q (sym (slice_get-set_other table p.vcpu v (Some p) other) ∙ at) in
-            (before.0, before.1, slice_get-append_left pieces (p ∷ []) before.1 q before.2)
+            (before.0, before.1, get_left pieces (p ∷ []) before.1 q before.2)
       ];
       complete = λ at q listed. elim (slice_get-append_cases pieces (p ∷ []) at q listed) [
         | inl old ↦ slice_get-set_other table p.vcpu q.vcpu (Some p) (others at q old) ∙ is.complete at q old
@@ -162,20 +164,14 @@ pub record HaveSeen (pieces : List Piece) (seen single : List Bool) : Type 0 whe
   pub seen_is : (v : ℕ) → has_vcpu seen v ≡ ltb 0 (count_of v pieces)
   pub single_is : (v : ℕ) → has_vcpu single v ≡ eqb (count_of v pieces) 1
 
--- nobody is in a set that begins empty
-no_member : (n v : ℕ) → has_vcpu (replicate n false) v ≡ false
-no_member zero v = refl
-no_member (suc n) zero = refl
-no_member (suc n) (suc v) = no_member n v
-
 -- before the first piece no vCPU has one
 pub none_seen : HaveSeen [] (replicate MAX_VCPUS false) (replicate MAX_VCPUS false)
 unfolding count_of
 none_seen = record {
   seen_size = length-replicate MAX_VCPUS false;
   single_size = length-replicate MAX_VCPUS false;
-  seen_is = λ v. no_member MAX_VCPUS v;
-  single_is = λ v. no_member MAX_VCPUS v;
+  seen_is = λ v. nobody_has MAX_VCPUS v;
+  single_is = λ v. nobody_has MAX_VCPUS v;
 }
 
 -- a vCPU that is put in or taken out, read back

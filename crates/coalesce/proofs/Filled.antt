@@ -1,8 +1,8 @@
 -- What the second rule keeps: the segments stay maximal, and there are no more of them.
-use Rattle.std.proofs.Common.{◌≡◌, ℕ, zero, suc, ◌+◌, ◌-◌, ◌<◌, ◌≤◌, Bool, true, false, List, [], ◌∷◌, ◌++◌, length, map, take, drop, get_or, set, None, refl, ap, subst, sym, ◌∙◌, arith, add-one, append_assoc, length-set, take_all}
-use Rattle.std.proofs.Math.Seq.{drop-cons}
+use Rattle.std.proofs.Common.{◌≡◌, ℕ, ◌+◌, ◌-◌, ◌<◌, ◌≤◌, Bool, true, false, List, [], ◌∷◌, ◌++◌, length, map, take, drop, get_or, set, None, refl, ap, subst, sym, ◌∙◌, arith, append_assoc, length-set, take_all}
 use Rattle.std.proofs.lemmas.List.{append-nil, drop-set-lt, drop_all, map-append, set-get_or, take_more_set}
 use Rattle.tab_core.specs.declared.TheConstants.{ROUND}
+use Rattle.tab_core.proofs.Lists.{drop_next, rest_later}
 use Rattle.table_form.specs.Tables.Rows.{RisesTo, cells_from}
 use Rattle.table_form.specs.Tables.Segments.{AreMaximal, SegmentView, put_front, segment_view, segments_from}
 use Rattle.table_form.specs.declared.segment.Segment.{Segment}
@@ -119,27 +119,12 @@ pub none_given : (may_grow : ℕ → Bool) (sliver : ℕ) (old : List Segment)
     → HasGiven may_grow sliver old old 0 (record { owner = None; end = 0 })
 none_given may_grow sliver old m = record { size = refl; rest = refl; rises = m; leads = refl }
 
-left_at : (ss : List Segment) (i : ℕ) (s : Segment) → i < length ss → s ≡ get_or ss i s
-    → drop i ss ≡ s ∷ drop (i + 1) ss
-left_at ss i s lt is = rw (add-one i) (drop-cons ss i s lt ∙ ap (λ (x : Segment). x ∷ drop (suc i) ss) (sym is))
-
-rest_later : (old now : List Segment) (at : ℕ) → drop at now ≡ drop at old
-    → drop (at + 1) now ≡ drop (at + 1) old
-rest_later old now at rest =
-    ap (λ n. drop n now) (add-one at) ∙ (one_less at now ∙ (ap (λ ss. drop 1 ss) rest ∙ (sym (one_less at old)
-    ∙ ap (λ n. drop n old) (sym (add-one at)))))
-  where
-    one_less : (n : ℕ) (xs : List Segment) → drop (suc n) xs ≡ drop 1 (drop n xs)
-    one_less zero xs = refl
-    one_less (suc n) [] = refl
-    one_less (suc n) (x ∷ xs) = one_less n xs
-
 -- the next segment in front of those behind it, and what it rises from
 pub next_given : (may_grow : ℕ → Bool) (sliver : ℕ) (old now : List Segment) (at : ℕ) (before : SegmentView)
     (s : Segment) → at < length now → s ≡ get_or now at s → HasGiven may_grow sliver old now at before
     → (drop at old ≡ s ∷ drop (at + 1) old) × (before.end < s.end)
 next_given may_grow sliver old now at before s lt is so_far =
-    let here : drop at old ≡ s ∷ drop (at + 1) old = sym so_far.rest ∙ (left_at now at s lt is
+    let here : drop at old ≡ s ∷ drop (at + 1) old = sym so_far.rest ∙ (drop_next now at s lt is
     ∙ ap (λ ss. s ∷ ss) (rest_later old now at so_far.rest)) in
     (here, (subst (λ ts. AreMaximal before.end (map segment_view ts) ROUND) here so_far.rises).0)
 

@@ -4,12 +4,13 @@ use Rattle.std.specs.List.{count_by}
 use Rattle.std.proofs.lemmas.Bool.{and_parts, cases_lt, false≢true, ne_eqb}
 use Rattle.std.proofs.lemmas.List.{length-replicate}
 use Rattle.std.proofs.lemmas.List.Sums.{sum_by-cons}
+use Rattle.tab_core.proofs.Lists.{get_front}
 use Rattle.table_form.specs.Tables.Rows.{Row}
 use Rattle.table_form.specs.Tables.Serves.{cells_within, is_cell_of}
 use Rattle.table_form.specs.Tables.Segments.{AreMaximal, SegmentView}
 use Rattle.coalesce.specs.Joining.{filled_after, given, is_given}
 use Rattle.coalesce.proofs.Filled.{filled_after_maximal, given_end}
-use Rattle.coalesce.proofs.Moved.{get_behind, get_front, get_replicate}
+use Rattle.coalesce.proofs.Moved.{get_behind, get_replicate}
 use Rattle.table_form.proofs.SegmentLemmas.{cells_of, cells_of-cons, cells_of-nil, cells_of_front}
 
 -- what a cell becomes: it stays, or it was idle and is now of a vCPU that may have more

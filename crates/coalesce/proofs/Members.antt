@@ -1,6 +1,5 @@
 -- Elements of lists, by their places.
-use Rattle.std.proofs.Common.{◌≡◌, ℕ, zero, suc, ◌<◌, ◌⊎◌, List, [], ◌∷◌, ◌++◌, length, set, slice_get, Some, refl, ap, ◌∙◌, inl, inr, arith, length-set, get_or-set_same}
-use Rattle.std.proofs.lemmas.Option.{slice_get-get_or}
+use Rattle.std.proofs.Common.{◌≡◌, ℕ, zero, suc, ◌⊎◌, List, [], ◌∷◌, ◌++◌, set, slice_get, Some, refl, ap, inl, inr}
 
 -- an element of joined lists is one of either
 pub slice_get-append_cases : {X : Type 0} (xs ys : List X) (i : ℕ) (x : X) → slice_get (xs ++ ys) i ≡ Some x
@@ -8,25 +7,6 @@ pub slice_get-append_cases : {X : Type 0} (xs ys : List X) (i : ℕ) (x : X) →
 slice_get-append_cases [] ys i x at = inr (i, at)
 slice_get-append_cases (z ∷ xs) ys zero x at = inl at
 slice_get-append_cases (z ∷ xs) ys (suc i) x at = slice_get-append_cases xs ys i x at
-
--- what stands in the first list stands there in both
-pub slice_get-append_left : {X : Type 0} (xs ys : List X) (i : ℕ) (x : X) → slice_get xs i ≡ Some x
-    → slice_get (xs ++ ys) i ≡ Some x
-slice_get-append_left [] ys i x at = absurd cc
-slice_get-append_left (z ∷ xs) ys zero x at = at
-slice_get-append_left (z ∷ xs) ys (suc i) x at = slice_get-append_left xs ys i x at
-
--- what is appended stands at the old length
-pub slice_get-append_last : {X : Type 0} (xs : List X) (x : X) → slice_get (xs ++ x ∷ []) (length xs) ≡ Some x
-slice_get-append_last [] x = refl
-slice_get-append_last (z ∷ xs) x = slice_get-append_last xs x
-
--- a write
-pub slice_get-set_same : {X : Type 0} (xs : List X) (i : ℕ) (y : X) → i < length xs
-    → slice_get (set xs i y) i ≡ Some y
-slice_get-set_same xs i y lt =
-    slice_get-get_or (set xs i y) i y (omega (arith, length-set xs i y))
-    ∙ ap Some (get_or-set_same xs i y y lt)
 
 -- a write leaves the other places as they are
 pub slice_get-set_other : {X : Type 0} (xs : List X) (i j : ℕ) (y : X) → (j ≡ i → ⊥)

@@ -3,6 +3,7 @@ use Rattle.std.proofs.Common.{◌≡◌, ℕ, zero, suc, ◌+◌, ◌-◌, ◌<�
 use Rattle.std.proofs.lemmas.Bool.{cases_lt}
 use Rattle.std.proofs.lemmas.List.{length-replicate}
 use Rattle.tab_core.specs.declared.piece.Piece.{Piece}
+use Rattle.tab_core.proofs.Lists.{get_front}
 use Rattle.table_form.specs.Tables.Rows.{Row}
 use Rattle.table_form.specs.Tables.Segments.{AreMaximal, SegmentView, put_front}
 use Rattle.coalesce.specs.Joining.{SwapsLeftmost, swapped}
@@ -125,12 +126,6 @@ cells_moved pieces sliver row next end swap m =
           (replicate (z.end - y.end) (Some can.first)
           ++ (replicate (y.end - x.end) (Some can.second) ++ back)));
     }
-
--- reading joined lists of cells
-pub get_front : (xs ys : Row) (i : ℕ) → i < length xs → slice_get (xs ++ ys) i ≡ slice_get xs i
-get_front [] ys i lt = absurd (omega arith)
-get_front (x ∷ xs) ys zero lt = refl
-get_front (x ∷ xs) ys (suc i) lt = get_front xs ys i (omega arith)
 
 -- a cell behind the first list
 pub get_behind : (xs ys : Row) (i j : ℕ) → i ≡ length xs + j → slice_get (xs ++ ys) i ≡ slice_get ys j

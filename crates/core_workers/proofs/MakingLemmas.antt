@@ -3,8 +3,7 @@ use Rattle.std.proofs.Common.{◌≡◌, ℕ, suc, ◌+◌, ◌-◌, ◌*◌, �
 use Rattle.std.specs.Prelude.{slice_index}
 use Rattle.std.proofs.Math.Nat.{div-le_self, div-mul-le_self, le-div_iff_mul-le, mod-add-div', mod-lt}
 use Rattle.std.proofs.lemmas.Nat.{le-div}
-use Rattle.tab_core.proofs.Lists.{push_split}
-use Rattle.run_promises.proofs.Lists.{element_at}
+use Rattle.tab_core.proofs.Lists.{push_split, element_at}
 use Rattle.table_form.specs.Running.Courses.{CourseView, FitsRounds, IsCourse}
 use Rattle.round_words.specs.declared.view.View.{View}
 use Rattle.round_words.specs.Shown.{HoldsCore}

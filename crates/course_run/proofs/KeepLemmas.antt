@@ -8,7 +8,7 @@ use native.Mathlib.Decide.{ℕ_discrete}
 use Rattle.std.proofs.lemmas.List.Sums.{get_or-le-sum_by}
 use Rattle.std.proofs.lemmas.Option.{get_or_from_slice_get}
 use Rattle.std.specs.List.{sum_by}
-use Rattle.run_promises.proofs.Lists.{element_at}
+use Rattle.tab_core.proofs.Lists.{element_at}
 use Rattle.table_form.specs.Running.Courses.{CourseView}
 use Rattle.stint_limit.proofs.OneBound.{one_largest}
 use Rattle.stint_limit.specs.StintBounds.{IsLargestSpans, IsStintBound, stints_of_round}

@@ -6,12 +6,12 @@ use Rattle.std.specs.Prelude.{slice_get}
 use Rattle.tab_core.specs.declared.host.Host.{Host}
 use Rattle.tab_core.specs.declared.stint.Stint.{Stint}
 use Rattle.tab_core.specs.declared.TheConstants.{ROUND}
+use Rattle.tab_core.proofs.Lists.{element_at}
 use Rattle.tab_words.proofs.NumberedTextLemmas.{texts_below-suc, texts_below-zero}
 use Rattle.tab_words.specs.Texts.{texts_below}
 use Rattle.tab_words.specs.declared.command.RunMode.{RunMode}
 use Rattle.tab_words.specs.declared.command.RunMode.TheVariants.{Report, Trace, Burst, Live}
 use Rattle.vcpu_names.specs.Names.{names_of}
-use Rattle.run_promises.proofs.Lists.{element_at}
 use Rattle.table_form.specs.Running.Courses.{CourseView}
 use Rattle.table_form.specs.Running.Invariant.{StateInvariant}
 use Rattle.table_form.specs.Running.State.{CoreState, State}

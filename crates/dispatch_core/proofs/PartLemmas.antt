@@ -1,12 +1,12 @@
 -- What each part of a step keeps of the core's part.
 use Rattle.std.proofs.Common.{◌≡◌, ℕ, ◌+◌, ◌*◌, ◌/◌, ◌<◌, ◌≤◌, [], ◌∷◌, length, length-append, inl, inr, refl, sym, ap, ◌∙◌, subst, arith}
 use Rattle.std.specs.Prelude.{All}
+use Rattle.std.proofs.lemmas.Option.{slice_get_within}
 use Rattle.tab_core.proofs.Lists.{push_split}
 use Rattle.tab_core.specs.declared.TheConstants.{ROUND}
 use Rattle.tab_core.specs.declared.entry.Entry.{Entry}
 use Rattle.tab_core.specs.declared.stint.Stint.{Stint}
 use Rattle.table_form.specs.Running.Outlines.{OutlineView}
-use Rattle.run_promises.proofs.Lists.{within}
 use Rattle.round_words.specs.declared.view.Part.{Part}
 use Rattle.round_words.specs.Views.{enters, last_of, runs}
 use Rattle.round_words.proofs.ListLemmas.{at_get}
@@ -48,7 +48,7 @@ made_timely o rounds count p q kept less seen entries d =
       rising = λ j k x y lt at' at''. elim (push_split p.entries k e y at'') [
         | inl old ↦ elim (push_split p.entries j e x at') [
           | inl before ↦ kept.rising j k x y lt before old
-          | inr last ↦ absurd (let w = within p.entries k y old in omega (arith, last.0))
+          | inr last ↦ absurd (let w = slice_get_within p.entries k y old in omega (arith, last.0))
         ]
         | inr new ↦ elim (push_split p.entries j e x at') [
           | inl before ↦ (let le = at_get (λ (z : Entry). (z.seen ≤ count) × (z.used ≤ count)) p.entries j x before entries in
@@ -117,7 +117,7 @@ ran_timely o rounds count p s kept less sight next in_round =
               let is = ap (λ (z : Stint). z.seen) new'.1 in omega (arith, most, saw, is))
         ]
         | inr new ↦ elim (push_split p.stints k s y h') [
-          | inl old' ↦ absurd (let w = within p.stints k y old' in omega (arith, new.0))
+          | inl old' ↦ absurd (let w = slice_get_within p.stints k y old' in omega (arith, new.0))
           | inr new' ↦ (let is = ap (λ (z : Stint). z.seen) (sym new.1 ∙ new'.1) in omega (arith, is))
         ]
       ];

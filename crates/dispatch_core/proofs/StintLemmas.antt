@@ -1,15 +1,13 @@
 -- The stint that a core runs next, and what its actor keeps then.
 use Rattle.std.proofs.Common.{◌≡◌, ℕ, zero, suc, ◌+◌, ◌*◌, ◌/◌, ◌<◌, ◌≤◌, Bool, true, false, List, [], ◌∷◌, ◌++◌, Option, None, Some, inl, inr, length, take, refl, sym, ap, ◌∙◌, subst, arith}
-use Rattle.std.specs.Option.{ForSome}
 use Rattle.std.specs.Prelude.{nat_lt, slice_get, sum_by, not, ◌&&◌, if◌then◌else◌}
 use Rattle.std.proofs.lemmas.Bool.{cases_lt, le-ltb, lt-ltb}
-use Rattle.std.proofs.lemmas.List.Sums.{fold_push, sum_by_push}
-use denote.Struct.Props.{props}
-use Rattle.tab_core.specs.declared.TheConstants.{MAX_VCPUS, ROUND}
-use Rattle.tab_core.proofs.Lists.{push_split}
+use Rattle.std.proofs.lemmas.List.Sums.{sum_by_push}
+use Rattle.tab_core.specs.declared.TheConstants.{ROUND}
+use Rattle.tab_core.proofs.Lists.{push_split, take_push_old, take_push_new}
 use Rattle.tab_core.specs.declared.stint.Stint.{Stint}
 use Rattle.table_form.specs.Tables.Serves.{is_cell_of}
-use Rattle.table_form.specs.Running.Choice.{IsDispatch, is_shared, last_after, last_shared}
+use Rattle.table_form.specs.Running.Choice.{IsDispatch, is_shared, last_after}
 use Rattle.table_form.specs.Running.Courses.{CourseView}
 use Rattle.round_words.specs.declared.view.Part.{Part}
 use Rattle.table_form.specs.Running.Outlines.{OutlineView}
@@ -18,6 +16,7 @@ use Rattle.round_words.specs.Changes.{ChangesOnly}
 use Rattle.round_words.specs.Views.{last_of, part, runs}
 use Rattle.round_words.proofs.ChangesLemmas.{core_still, started_still}
 use Rattle.round_words.proofs.HearingLemmas.{SamePart}
+use Rattle.run_promises.proofs.ChoiceLemmas.{last_more}
 use Rattle.dispatch_core.specs.declared.account.CoreAccount.{CoreAccount}
 use Rattle.dispatch_core.specs.Accounts.{IsAccountOf, IsWithin, idle_ticks, length_of, shared_ticks, slot_ticks}
 use Rattle.dispatch_core.specs.Inside.Adding.{Adds}
@@ -27,38 +26,6 @@ use Rattle.dispatch_core.specs.Told.{BeginsNext}
 use Rattle.dispatch_core.proofs.EntryLemmas.{used_at}
 use Rattle.dispatch_core.proofs.PartLemmas.{ran_timely}
 use Rattle.dispatch_core.proofs.StateLemmas.{none_taken}
-
--- a stint of these numbers
-build : ℕ → ℕ → ℕ → ℕ → (ran : Option ℕ) → ForSome ran (λ v. v < MAX_VCPUS) → Stint
-build from end seen used ran small =
-    record { from = from; end = end; seen = seen; used = used; ran = ran; ran_small = small }
-
-one_small : (ran : Option ℕ) (x y : ForSome ran (λ v. v < MAX_VCPUS)) → x ≡ y
-one_small ran x y = (let one : IsProp (ForSome ran (λ v. v < MAX_VCPUS)) = hlevel props in one x y)
-
-build_alike : (a b c d : ℕ) (e e' : Option ℕ) (x : ForSome e (λ v. v < MAX_VCPUS)) → e ≡ e'
-    → (y : ForSome e' (λ v. v < MAX_VCPUS)) → build a b c d e x ≡ build a b c d e' y
-build_alike a b c d e e' x is =
-    subst (λ (o : Option ℕ). (y : ForSome o (λ v. v < MAX_VCPUS))
-    → build a b c d e x ≡ build a b c d o y) is
-    (λ y. ap (λ (z : ForSome e (λ v. v < MAX_VCPUS)). build a b c d e z) (one_small e x y))
-
-build_same : (a a' b b' c c' d d' : ℕ) (e e' : Option ℕ) (x : ForSome e (λ v. v < MAX_VCPUS))
-    (y : ForSome e' (λ v. v < MAX_VCPUS)) → a ≡ a' → b ≡ b' → c ≡ c' → d ≡ d' → e ≡ e'
-    → build a b c d e x ≡ build a' b' c' d' e' y
-build_same a a' b b' c c' d d' e e' x y p q r s t = rw (p, q, r, s) (build_alike a' b' c' d' e e' x t y)
-
--- stints are the same if their five fields are
-pub same_stint : (s t : Stint) → s.from ≡ t.from → s.end ≡ t.end → s.seen ≡ t.seen → s.used ≡ t.used
-    → s.ran ≡ t.ran → s ≡ t
-unfolding build
-same_stint s t a b c d e = build_same s.from t.from s.end t.end s.seen t.seen s.used t.used s.ran
-    t.ran s.ran_small t.ran_small a b c d e
-
--- a stint more, and the last shared pick
-last_more : (course : CourseView) (c : ℕ) (stints : List Stint) (s : Stint)
-    → last_shared course c (stints ++ s ∷ []) ≡ last_after course c (last_shared course c stints) s
-last_more course c stints s = fold_push (last_after course c) None stints s
 
 -- a stint of the clock, of what was seen last and of the used count that is kept for the clock's round
 pub begins_next : (p : Part) (s : Stint) (clock seen used : ℕ) (items : List ℕ) → items ≡ used_counts p.entries
@@ -122,15 +89,6 @@ dispatched_more course c ss s old follows k x h = elim (push_split ss k s x h) [
   | inr new ↦ subst (λ (z : Stint). IsDispatch course c (take k (ss ++ s ∷ [])) z) new.1
       (subst (λ (i : ℕ). IsDispatch course c (take i (ss ++ s ∷ [])) s) (sym new.0) (rw (take_push_new ss s) follows))
 ]
-  where
-    take_push_old : (xs : List Stint) (k : ℕ) (x y : Stint) → slice_get xs k ≡ Some y → take k (xs ++ x ∷ []) ≡ take k xs
-    take_push_old [] k x y h = absurd cc
-    take_push_old (z ∷ zs) zero x y h = refl
-    take_push_old (z ∷ zs) (suc k) x y h = ap (λ (t : List Stint). z ∷ t) (take_push_old zs k x y h)
-
-    take_push_new : (xs : List Stint) (x : Stint) → take (length xs) (xs ++ x ∷ []) ≡ xs
-    take_push_new [] x = refl
-    take_push_new (z ∷ zs) x = ap (λ (t : List Stint). z ∷ t) (take_push_new zs x)
 
 -- by the plans of the course, once the core ran a stint more
 pub plans_ran : (course : CourseView) (s t : StateView) (p : Part) (stint : Stint) (shared : Bool) → FollowsPlans course s p

@@ -32,7 +32,7 @@ demand_longer (j ∷ js) s e =
     )
 
 -- one window more adds its cost where it is inside
-demand_split : (p : Subtask) (n s e : ℕ)
+pub demand_split : (p : Subtask) (n s e : ℕ)
     → demand_in (first_jobs p (suc n)) s e
     ≡ demand_in (first_jobs p n) s e + cond (is_inside s e (job_of p n)) p.cost 0
 demand_split p n s e = ap (λ js. demand_in js s e) (first_jobs-suc p n)

@@ -5,13 +5,13 @@ use Rattle.std.proofs.lemmas.List.{length-map}
 use Rattle.std.proofs.Math.Nat.{mul-le-mul_left}
 use Rattle.tab_core.specs.declared.periodic.Periodic.{Periodic}
 use Rattle.std.specs.Prelude.{Option}
-use Rattle.flow_net.specs.Sums.{total}
+use Rattle.tab_core.specs.Sums.{total}
 use Rattle.flow_net.specs.Load.{Load, IsLoad, jobs}
 use Rattle.flow_net.specs.Counts.{admitted, is_due, jobs_due, job_count}
 use Rattle.flow_net.specs.Rows.{ticks_at}
 use Rattle.flow_net.specs.Flows.{IsNet, all_lacks, lack_of}
 use Rattle.flow_net.specs.Allotments.{AreMarks, IsAllotment, load_of_tasks, period_of_task, cost_of_task}
-use Rattle.flow_net.proofs.Totals.{total-point, total-le}
+use Rattle.tab_core.proofs.Totals.{total-point, total-le}
 
 -- what one more search adds to the steps, where each is paid by a tick less of lack
 pub step_cost : (s s' s0 e lacks lacks' lacks0 j : ℕ) (b : Bool) → (b ≡ true → lacks' + 1 ≡ lacks)

@@ -5,7 +5,7 @@ use Rattle.flow_net.proofs.Pushes.{tail_le}
 use Rattle.flow_net.specs.Load.{Load, IsLoad, IsFlow, job}
 use Rattle.flow_net.specs.Counts.{is_due}
 use Rattle.flow_net.specs.Inside.Reach.{Reached, IsSearch, CanReach, IsJobwise}
-use Rattle.flow_net.proofs.Totals.{total-point}
+use Rattle.tab_core.proofs.Totals.{total-point}
 use Rattle.flow_net.proofs.Spans.{job_in}
 
 -- what a vCPU gets in an interval is at most its cost

@@ -4,7 +4,7 @@ use Rattle.std.proofs.lemmas.Bool.{false≢true}
 use Rattle.flow_net.specs.Load.{Load}
 use Rattle.flow_net.specs.Counts.{is_due}
 use Rattle.flow_net.specs.Inside.Reach.{Reached, IsSearch, CanReach, IsJobwise}
-use Rattle.flow_net.proofs.Totals.{total-none}
+use Rattle.tab_core.proofs.Totals.{total-none}
 
 -- a search that has reached nothing
 pub search_begins : (l : Load) (f : ℕ → ℕ → ℕ) (rv rk : ℕ) (q : Reached) → q.tail ≡ 0 → ((i : ℕ)

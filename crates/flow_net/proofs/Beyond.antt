@@ -1,9 +1,9 @@
 -- Beyond the cores' room there is no allotment.
 use Rattle.std.proofs.Common.{◌≡◌, ℕ, ◌+◌, ◌*◌, ◌<◌, ◌≤◌, ap, sym, ◌∙◌, arith, zero-add}
 use Rattle.std.proofs.Math.Nat.{mul_comm}
-use Rattle.flow_net.specs.Sums.{total}
+use Rattle.tab_core.specs.Sums.{total}
 use Rattle.flow_net.specs.Load.{Load, IsLoad, span, jobs, demand, given, used}
-use Rattle.flow_net.proofs.Totals.{total-ext, total-le, total-swap, total-const, total-scale}
+use Rattle.tab_core.proofs.Totals.{total-ext, total-le, total-swap, total-const, total-scale}
 use Rattle.flow_net.proofs.Spans.{by_jobs, spans_sum}
 
 -- the intervals fill the round

@@ -1,8 +1,8 @@
 -- No cut is below the sum of the costs, scaled by the round's length.
 use Rattle.std.proofs.Common.{◌≡◌, ℕ, zero, suc, ◌+◌, ◌*◌, ◌<◌, ◌≤◌, Bool, true, false, cond, refl, arith}
 use Rattle.std.proofs.Math.Nat.{mul-le-mul_right, zero-mul, add-mul}
-use Rattle.flow_net.specs.Sums.{total}
-use Rattle.flow_net.proofs.Totals.{total-le, total-add, total-ext, total-swap, total-none}
+use Rattle.tab_core.specs.Sums.{total}
+use Rattle.tab_core.proofs.Totals.{total-le, total-add, total-ext, total-swap, total-none}
 
 -- chosen v i: the job of v at interval i is in the cut; near i: interval i is on its side
 pub record Cut (vcpus intervals room round : ℕ) (demand length : ℕ → ℕ) (chosen : ℕ → ℕ → Bool) (near : ℕ

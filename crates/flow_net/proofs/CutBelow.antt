@@ -2,10 +2,10 @@
 use Rattle.std.proofs.Common.{◌≡◌, ℕ, ◌+◌, ◌*◌, ◌<◌, ◌≤◌, ◌==◌, Bool, true, false, cond, ap, refl, sym, ◌∙◌, arith, inl, inr}
 use Rattle.std.proofs.lemmas.Bool.{cases_eq, cond-false, ne_eqb}
 use Rattle.std.proofs.Math.Nat.{mul_comm, add-mul, zero-mul, mul-le-mul_right, le_of_mul-le-mul_right}
-use Rattle.flow_net.specs.Sums.{total}
+use Rattle.tab_core.specs.Sums.{total}
 use Rattle.flow_net.specs.Load.{Load, IsLoad, span, job, jobs, demand, over_job}
 use Rattle.flow_net.specs.Flows.{Fits}
-use Rattle.flow_net.proofs.Totals.{total-ext, total-none}
+use Rattle.tab_core.proofs.Totals.{total-ext, total-none}
 use Rattle.flow_net.proofs.Cut.{no_cut_below, scaled}
 use Rattle.flow_net.proofs.Spans.{by_jobs}
 use Rattle.flow_net.proofs.Ends.{fluid_job}

@@ -2,7 +2,7 @@
 use Rattle.std.proofs.Common.{◌≡◌, ℕ, suc, ◌+◌, ◌*◌, ◌<◌, ◌≤◌, Bool, true, false, cond, nat_lt, ap, refl, sym, ◌∙◌, arith, inl, inr}
 use Rattle.std.proofs.lemmas.Bool.{cases_lt, cases_order, cond-false, cond-true, le-ltb, lt-ltb}
 use Rattle.std.proofs.Math.Nat.{mul-le-mul_right}
-use Rattle.flow_net.specs.Sums.{total}
+use Rattle.tab_core.specs.Sums.{total}
 use Rattle.flow_net.specs.Inside.Edges.{IsEdge}
 use Rattle.flow_net.specs.Load.{Load, jobs}
 use Rattle.flow_net.specs.Networks.{IsToInterval, IsToJob}
@@ -10,7 +10,7 @@ use Rattle.flow_net.specs.Counts.{admitted, admitted_below, is_due, job_count, j
 use Rattle.flow_net.specs.declared.edge.Edge.{Edge}
 use Rattle.flow_net.specs.declared.edge.Edge.TheVariants.{ToInterval, ToJob, ToSink}
 use Rattle.flow_net.proofs.Searched.{total-part}
-use Rattle.flow_net.proofs.Totals.{at_most, total-step}
+use Rattle.tab_core.proofs.Totals.{at_most, total-step}
 
 -- an admitted vCPU's jobs are due
 pub all_due : (l : Load) (v : ℕ) → is_due l v ≡ 1 → jobs_due l v ≡ jobs l v

@@ -2,9 +2,9 @@
 use Rattle.std.proofs.Common.{◌≡◌, ℕ, ◌+◌, ◌*◌, ◌<◌, ◌≤◌, ◌==◌, Bool, true, false, cond, ap, refl, sym, ◌∙◌, arith, inl, inr}
 use Rattle.std.proofs.lemmas.Bool.{cases_eq, ne_eqb, cond-false}
 use Rattle.std.proofs.Math.Nat.{mul-le-mul_right}
-use Rattle.flow_net.specs.Sums.{total}
+use Rattle.tab_core.specs.Sums.{total}
 use Rattle.flow_net.specs.Load.{Load, IsLoad, IsFlow, span, job, jobs, demand, given, over_job}
-use Rattle.flow_net.proofs.Totals.{total-ext, total-le, total-lt, total-scale, total-none}
+use Rattle.tab_core.proofs.Totals.{total-ext, total-le, total-lt, total-scale, total-none}
 use Rattle.flow_net.proofs.Spans.{by_jobs, window_of, window_job, spans_fill, job_in}
 use Rattle.flow_net.proofs.Cut.{scaled}
 use Rattle.flow_net.proofs.Stuck.{never_stuck}

@@ -1,10 +1,10 @@
 -- What flows and what is lacking are all demands together.
 use Rattle.std.proofs.Common.{◌≡◌, ℕ, ◌+◌, List, sym, ◌∙◌, arith}
 use Rattle.std.proofs.Math.Nat.{mul_comm}
-use Rattle.flow_net.specs.Sums.{total}
+use Rattle.tab_core.specs.Sums.{total}
 use Rattle.flow_net.specs.Load.{Load, IsLoad, jobs, demand, given}
 use Rattle.flow_net.specs.Flows.{IsNet, all_lacks, lack_of, flow_of, flow_sum}
-use Rattle.flow_net.proofs.Totals.{total-ext, total-add, total-const}
+use Rattle.tab_core.proofs.Totals.{total-ext, total-add, total-const}
 use Rattle.flow_net.proofs.Beyond.{given_used}
 
 -- what flows and what lacks are the demands together

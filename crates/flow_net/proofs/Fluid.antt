@@ -2,10 +2,10 @@
 use Rattle.std.proofs.Common.{◌≡◌, ℕ, ◌+◌, ◌-◌, ◌*◌, ◌/◌, ◌<◌, ◌≤◌, ap, sym, ◌∙◌, arith, ⊎_elim}
 use Rattle.std.proofs.lemmas.Bool.{cases_lt}
 use Rattle.std.proofs.Math.Nat.{mul_comm, mul-le-mul_right, le_of_mul-le-mul_right, div-mul-le_self, le-div_iff_mul-le}
-use Rattle.flow_net.specs.Sums.{total}
+use Rattle.tab_core.specs.Sums.{total}
 use Rattle.flow_net.specs.Load.{Load, IsLoad, span, jobs, demand, given, used, over_job}
 use Rattle.flow_net.specs.Flows.{fluid}
-use Rattle.flow_net.proofs.Totals.{total-le, total-const}
+use Rattle.tab_core.proofs.Totals.{total-le, total-const}
 use Rattle.flow_net.proofs.Cut.{scaled}
 use Rattle.flow_net.proofs.Wrapped.{opening}
 use Rattle.flow_net.proofs.Spans.{window_of, over_window, spans_fill}

@@ -8,7 +8,7 @@ use Rattle.flow_net.specs.Load.{IsLoad, Load, given, job, jobs}
 use Rattle.flow_net.specs.Inside.Lacking.{AreLacksTo, given_before}
 use Rattle.flow_net.proofs.Searched.{total-part}
 use Rattle.flow_net.proofs.Spans.{job_in, job_is}
-use Rattle.flow_net.proofs.Totals.{total-step}
+use Rattle.tab_core.proofs.Totals.{total-step}
 
 -- an interval of another job
 given-else : (l : Load) (f : ℕ → ℕ → ℕ) (v k i : ℕ) → (job l v i ≡ k → ⊥)

@@ -1,4 +1,3 @@
-pub mod Totals
 pub mod Cut
 pub mod Stuck
 pub mod Wrapped

@@ -1,5 +1,5 @@
 -- Tasks on cores are a load, and an allotment of them needs room for all demands.
-use Rattle.std.proofs.Common.{◌≡◌, ℕ, zero, suc, ◌+◌, ◌*◌, ◌/◌, ◌<◌, ◌≤◌, List, [], ◌∷◌, Option, Some, None, length, map, get_or, ap, refl, sym, ◌∙◌, arith, ⊎_elim}
+use Rattle.std.proofs.Common.{◌≡◌, ℕ, ◌+◌, ◌*◌, ◌/◌, ◌<◌, ◌≤◌, List, [], ◌∷◌, Option, Some, None, length, map, get_or, ap, refl, sym, ◌∙◌, arith, ⊎_elim}
 use Rattle.std.proofs.lemmas.List.{get_or-map, length-map}
 use Rattle.std.proofs.lemmas.List.Sums.{sum_by-cons}
 use Rattle.std.proofs.lemmas.Bool.{cases_lt}
@@ -7,7 +7,8 @@ use Rattle.std.proofs.Math.Nat.{le-div_iff_mul-le}
 use Rattle.tab_core.specs.declared.TheConstants.{ROUND}
 use Rattle.tab_core.specs.declared.periodic.Periodic.{Periodic}
 use Rattle.tab_core.proofs.Periods.{period_facts}
-use Rattle.flow_net.specs.Sums.{total}
+use Rattle.tab_core.specs.Sums.{total}
+use Rattle.tab_core.proofs.Totals.{total-front}
 use Rattle.flow_net.specs.Load.{IsLoad}
 use Rattle.flow_net.specs.Flows.{Fits, flow_of, load_of}
 use Rattle.flow_net.specs.Allotments.{cost_of_task, period_of_task, demand_of_task, demands, load_of_tasks, AreMarks, AllotmentView, IsAllotment}
@@ -88,11 +89,6 @@ load_ok costs periods marks cores p m = record {
       m.inside i v (x / t + 1) (omega (arith, a)) (omega (arith, h, p.same_len)) above);
   within = p.within;
 }
-
--- a sum begins with its first value
-total-front : (f : ℕ → ℕ) (n : ℕ) → total f (suc n) ≡ f 0 + total (λ k. f (suc k)) n
-total-front f zero = omega arith
-total-front f (suc n) = omega (arith, total-front f n)
 
 -- the demands by numbers are those by tasks
 pub demands_total : (tasks : List (Option Periodic))

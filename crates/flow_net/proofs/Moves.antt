@@ -1,9 +1,9 @@
 -- One tick more or less, and what it does to a flow.
 use Rattle.std.proofs.Common.{◌≡◌, ℕ, zero, suc, ◌+◌, ◌<◌, ◌≤◌, ◌==◌, cond, ap, refl, sym, ◌∙◌, arith, ⊎_elim, inl, inr}
 use Rattle.std.proofs.lemmas.Bool.{cases_lt, cases_eq, eq-eqb, ne_eqb, cond-true, cond-false}
-use Rattle.flow_net.specs.Sums.{total}
+use Rattle.tab_core.specs.Sums.{total}
 use Rattle.flow_net.specs.Load.{Load, IsFlow, span, job, given, used, hole_at}
-use Rattle.flow_net.proofs.Totals.{total-ext}
+use Rattle.tab_core.proofs.Totals.{total-ext}
 
 -- one tick more of vCPU v at interval i
 pub record Raised (f g : ℕ → ℕ → ℕ) (v i : ℕ) : Type 0 where

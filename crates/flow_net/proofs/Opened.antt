@@ -5,11 +5,11 @@ use Rattle.std.proofs.lemmas.Nat.{mul-le}
 use Rattle.tab_core.specs.declared.TheConstants.{MAX_CORES, ROUND}
 use Rattle.flow_net.specs.declared.demands.Demands.{Demands}
 use Rattle.flow_net.specs.Inside.Demanded.{load}
-use Rattle.flow_net.specs.Sums.{total}
+use Rattle.tab_core.specs.Sums.{total}
 use Rattle.flow_net.specs.Load.{Load, IsLoad, job, jobs, given, span, used, over_job}
 use Rattle.flow_net.specs.Flows.{all_lacks, lack_of, flow_of, fluid, Fits}
 use Rattle.flow_net.specs.Counts.{admitted, is_due, jobs_due, job_count}
-use Rattle.flow_net.proofs.Totals.{total-ext, total-le, total-add, total-none, total-const}
+use Rattle.tab_core.proofs.Totals.{total-ext, total-le, total-add, total-none, total-const}
 use Rattle.flow_net.proofs.Cut.{scaled}
 use Rattle.flow_net.proofs.Nets.{span_le}
 use Rattle.flow_net.proofs.Spans.{by_jobs}

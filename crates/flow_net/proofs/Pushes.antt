@@ -4,7 +4,7 @@ use Rattle.std.proofs.lemmas.Bool.{cases_eq, false≢true}
 use Rattle.flow_net.specs.Load.{Load, span, job, used}
 use Rattle.flow_net.specs.Counts.{is_due}
 use Rattle.flow_net.specs.Inside.Reach.{Reached, IsSearch, CanReach, IsMore, near_count, scanned}
-use Rattle.flow_net.proofs.Totals.{total-ext, total-lt, total-const, total-le}
+use Rattle.tab_core.proofs.Totals.{total-ext, total-lt, total-const, total-le}
 use Rattle.flow_net.proofs.Moves.{Raised, total-more, raised_used, raised_used_else}
 
 -- an edge was read, and nothing was reached by it

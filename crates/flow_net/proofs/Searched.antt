@@ -2,13 +2,13 @@
 use Rattle.std.proofs.Common.{◌≡◌, ℕ, zero, suc, ◌+◌, ◌*◌, ◌<◌, ◌≤◌, List, sym, arith, ⊎_elim}
 use Rattle.std.proofs.lemmas.Bool.{cases_lt}
 use Rattle.std.proofs.Math.Nat.{mul_comm}
-use Rattle.flow_net.specs.Sums.{total}
+use Rattle.tab_core.specs.Sums.{total}
 use Rattle.flow_net.specs.Load.{Load, IsLoad, job, jobs, used}
 use Rattle.flow_net.specs.Rows.{ticks_at}
 use Rattle.flow_net.specs.Flows.{IsNet, all_lacks, lack_of}
 use Rattle.flow_net.specs.Counts.{admitted, is_due}
 use Rattle.flow_net.specs.Inside.Reach.{Reached, IsSearch, IsRooted, scanned}
-use Rattle.flow_net.proofs.Totals.{total-ext, total-le, total-none, total-const}
+use Rattle.tab_core.proofs.Totals.{total-ext, total-le, total-none, total-const}
 use Rattle.flow_net.proofs.Moves.{total-more}
 use Rattle.flow_net.proofs.Nets.{lack_place, lowered_lacks, lowered_at}
 use Rattle.flow_net.proofs.Spans.{window_of, window_job}

@@ -2,9 +2,9 @@
 use Rattle.std.proofs.Common.{◌≡◌, ℕ, zero, suc, ◌+◌, ◌-◌, ◌*◌, ◌<◌, ◌≤◌, ◌==◌, cond, ap, refl, sym, subst, ◌∙◌, arith, ⊎_elim}
 use Rattle.std.proofs.lemmas.Bool.{cases_lt, eq-eqb, ne_eqb, cond-true, cond-false}
 use Rattle.std.proofs.Math.Nat.{le-div_iff_mul-le, div-mul-le_self, mul-le-mul_left, mul-le-mul_right, mul_comm}
-use Rattle.flow_net.specs.Sums.{total}
+use Rattle.tab_core.specs.Sums.{total}
 use Rattle.flow_net.specs.Load.{Load, IsLoad, span, job, jobs, over_job, Window}
-use Rattle.flow_net.proofs.Totals.{total-ext, total-split, total-none, total-swap, total-pick, total-point}
+use Rattle.tab_core.proofs.Totals.{total-ext, total-split, total-none, total-swap, total-pick, total-point}
 
 -- marks rise
 pub marks_rise : (l : Load) → IsLoad l → (i n : ℕ) → i + n ≤ l.count → l.mark i ≤ l.mark (i + n)

@@ -1,8 +1,8 @@
 -- A search that starts at a lacking job reaches an interval with room.
 use Rattle.std.proofs.Common.{◌≡◌, ℕ, ◌+◌, ◌*◌, ◌<◌, Bool, true, false, cond, ap, refl, sym, ◌∙◌, arith}
 use Rattle.std.proofs.Math.Nat.{mul_comm, zero-mul, add-mul}
-use Rattle.flow_net.specs.Sums.{total}
-use Rattle.flow_net.proofs.Totals.{total-ext, total-add, total-swap, total-none}
+use Rattle.tab_core.specs.Sums.{total}
+use Rattle.tab_core.proofs.Totals.{total-ext, total-add, total-swap, total-none}
 use Rattle.flow_net.proofs.Cut.{Cut, no_cut_below, scaled}
 
 -- reached v i: the job of v at interval i was reached; near i: interval i was reached

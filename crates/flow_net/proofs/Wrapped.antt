@@ -3,8 +3,8 @@ use Rattle.std.proofs.Common.{◌≡◌, ℕ, suc, ◌+◌, ◌-◌, ◌*◌, �
 use Rattle.std.proofs.lemmas.Bool.{cases_lt, le-leb, lt-leb, lt-ltb, le-ltb}
 use Rattle.std.proofs.Math.Nat.{mul-le-mul_right, le_of_mul-le-mul_right, mul_comm, add-mul, suc-mul}
 use lib.Dec.{leb, ltb}
-use Rattle.flow_net.specs.Sums.{total}
-use Rattle.flow_net.proofs.Totals.{total-le, total-ext, total-split, total-none, total-blocks, total-const, total-add}
+use Rattle.tab_core.specs.Sums.{total}
+use Rattle.tab_core.proofs.Totals.{total-le, total-ext, total-split, total-none, total-blocks, total-const, total-add}
 use Rattle.flow_net.proofs.Cut.{scaled}
 
 -- position q is in the range of length f from o

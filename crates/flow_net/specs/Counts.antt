@@ -1,6 +1,6 @@
 -- How many jobs and edges the network of a load has.
 use Rattle.std.specs.Prelude.{ℕ, ◌+◌, ◌*◌, cond, nat_lt}
-use Rattle.flow_net.specs.Sums.{total}
+use Rattle.tab_core.specs.Sums.{total}
 use Rattle.flow_net.specs.Load.{Load, jobs}
 
 -- the vCPU is admitted, as a number

@@ -3,7 +3,7 @@
 -- progress: a notion of fairness in resource allocation", Algorithmica 15, 1996.
 use Rattle.std.specs.Prelude.{◌≡◌, ℕ, ◌-◌, ◌*◌, ◌/◌, ◌<◌, ◌≤◌, List, length, slice_index}
 use Rattle.tab_core.specs.declared.TheConstants.{ROUND}
-use Rattle.flow_net.specs.Sums.{total}
+use Rattle.tab_core.specs.Sums.{total}
 use Rattle.flow_net.specs.Load.{Load, IsFlow, demand, jobs, span, used}
 use Rattle.flow_net.specs.Rows.{row_at, ticks_at}
 

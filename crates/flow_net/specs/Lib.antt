@@ -6,4 +6,3 @@ pub mod Inside
 pub mod Load
 pub mod Networks
 pub mod Rows
-pub mod Sums

@@ -2,7 +2,7 @@
 -- Source: the flow network of tasks and intervals of W. A. Horn, "Some simple scheduling
 -- algorithms", Naval Research Logistics Quarterly 21, 1974.
 use Rattle.std.specs.Prelude.{◌≡◌, ℕ, ◌+◌, ◌-◌, ◌*◌, ◌/◌, ◌<◌, ◌≤◌, ◌==◌, cond}
-use Rattle.flow_net.specs.Sums.{total}
+use Rattle.tab_core.specs.Sums.{total}
 
 -- vCPU `v` below `width` is due `cost v` ticks in every `period v` ticks; `mark i` begins interval
 -- `i` of `count`

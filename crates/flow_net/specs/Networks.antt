@@ -3,7 +3,7 @@
 -- 1974: jobs are fed from a source, intervals drain into a sink, and a job may be worked on in the
 -- intervals of its window.
 use Rattle.std.specs.Prelude.{◌≡◌, ℕ, ◌+◌, ◌-◌, ◌*◌, ◌<◌, Bool, if◌then◌else◌, List}
-use Rattle.flow_net.specs.Sums.{total}
+use Rattle.tab_core.specs.Sums.{total}
 use Rattle.flow_net.specs.Load.{IsLoad, Load, given, jobs, span, used}
 use Rattle.flow_net.specs.Flows.{Fits, IsNet, all_lacks, flow_of, flow_sum, load_of}
 use Rattle.flow_net.specs.Counts.{admitted, admitted_below, is_due, job_count, jobs_due}

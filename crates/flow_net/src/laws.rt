@@ -1,5 +1,5 @@
 ghost use Rattle.std.specs.Prelude.{ℕ, ◌≡◌, ◌+◌, ◌*◌, ◌≤◌, Bool, List, Option, cond};
-ghost use Rattle.flow_net.specs.Sums.{total};
+ghost use Rattle.tab_core.specs.Sums.{total};
 ghost use Rattle.flow_net.specs.Load.{IsLoad, Load, job, jobs, span};
 ghost use Rattle.flow_net.specs.Flows.{Fits};
 ghost use Rattle.tab_core.specs.declared.TheConstants.{ROUND};

@@ -1,5 +1,5 @@
 ghost use Rattle.std.specs.Prelude.{ℕ, ◌≡◌, ◌+◌, ◌-◌, ◌*◌, ◌<◌, ◌≤◌, IfOk, length, slice_index};
-ghost use Rattle.flow_net.specs.Sums.{total};
+ghost use Rattle.tab_core.specs.Sums.{total};
 ghost use Rattle.flow_net.specs.Load.{given, jobs, span, used};
 ghost use Rattle.flow_net.specs.Rows.{row_at, ticks_at};
 ghost use Rattle.flow_net.specs.Flows.{all_lacks, flow_of, fluid};

@@ -146,7 +146,7 @@ names-last : (vcpus : List Vcpu) (vcpu : Vcpu) → names (vcpus ++ vcpu ∷ []) 
 names-last vcpus vcpu = map-append (λ (v : Vcpu). v.name) vcpus (vcpu ∷ [])
 
 -- the order in which a set and a list test for a name makes no difference
-or-last : (a b : Bool) → (a || b) ≡ (b || (a || false))
+pub or-last : (a b : Bool) → (a || b) ≡ (b || (a || false))
 or-last true true = refl
 or-last true false = refl
 or-last false true = refl

@@ -5,9 +5,9 @@ use Rattle.std.proofs.lemmas.Option.{get_or_from_slice_get, slice_get_within}
 use Rattle.tab_core.specs.declared.edit.Edit.{Edit}
 use Rattle.tab_core.specs.declared.host.Host.{Host}
 use Rattle.tab_core.specs.Edits.{AreEditsOf, IsEdited}
+use Rattle.tab_core.proofs.Lists.{same}
 use Rattle.plan_make.specs.Planned.{IsPlanned}
 use Rattle.plan_book.proofs.EditedLemmas.{edited_unique, same_count}
-use Rattle.plan_book.proofs.ListsByIndex.{same}
 use Rattle.plan_book.proofs.OneState.{planned_or_unplanned}
 use Rattle.live_plan.specs.Changes.{Becomes, HostAfter, IsEditedBy, IsRefused, IsTaken}
 

@@ -3,12 +3,11 @@ use Rattle.std.proofs.Common.{◌≡◌, ℕ, ◌+◌, ◌<◌, ◌≤◌, true,
 use Rattle.std.specs.Prelude.{IfNone, slice_get}
 use Rattle.std.proofs.lemmas.List.{length-append}
 use Rattle.std.proofs.lemmas.Option.{slice_get_within}
-use Rattle.tab_core.proofs.Lists.{push_split}
+use Rattle.tab_core.proofs.Lists.{push_split, element_at}
 use Rattle.table_form.specs.Running.Courses.{CourseView, FitsRounds, IsCourse, outline_of}
 use Rattle.table_form.specs.Running.Outlines.{OutlineView}
 use Rattle.table_form.specs.Running.Invariant.{IsComplete, StateInvariant}
 use Rattle.table_form.specs.Running.Promises.{KeepsPromises}
-use Rattle.run_promises.proofs.Lists.{element_at}
 use Rattle.run_promises.proofs.PromiseLemmas.{promised}
 use Rattle.round_words.specs.declared.view.View.{View}
 use Rattle.round_words.specs.Shown.{HoldsCore, ViewInvariant}
@@ -35,7 +34,7 @@ use Rattle.live_plan.specs.Inside.Working.{HaveEnded, IsHeld}
 use Rattle.live_plan.proofs.PlacesLemmas.{of_both}
 
 -- the member of an actor
-member_of : (o : Option Member) (a : LiveActorView) → actor_in o ≡ Some a → (m : Member) × (o ≡ Some m) × (m.actor ≡ a)
+pub member_of : (o : Option Member) (a : LiveActorView) → actor_in o ≡ Some a → (m : Member) × (o ≡ Some m) × (m.actor ≡ a)
 member_of None a h = absurd cc
 member_of (Some m) a h = (m, refl, cc)
 

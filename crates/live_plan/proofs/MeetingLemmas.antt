@@ -3,11 +3,11 @@ use Rattle.std.proofs.Common.{◌≡◌, ℕ, ◌+◌, ◌<◌, ◌≤◌, Bool,
 use Rattle.std.specs.Prelude.{slice_get}
 use Rattle.std.proofs.lemmas.List.{length-append}
 use Rattle.std.proofs.lemmas.Option.{slice_get_within}
+use Rattle.tab_core.proofs.Lists.{get_left, element_at}
 use Rattle.round_words.specs.declared.view.View.{View}
 use Rattle.round_words.specs.Views.{both, controller, holds, names, only, without}
 use Rattle.round_words.proofs.MaskLemmas.{holds_both}
 use Rattle.round_words.proofs.ViewsLemmas.{both_mine, both_theirs, only_named, only_others, without_named, without_others}
-use Rattle.run_promises.proofs.Lists.{element_at}
 use Rattle.core_workers.specs.Crews.{SameActors}
 use Rattle.core_workers.specs.Numbers.{NamesFrom}
 use Rattle.core_workers.proofs.CrewLemmas.{SameBoard, lead_part}
@@ -18,7 +18,7 @@ use Rattle.live_plan.specs.Actors.{LiveAgrees}
 use Rattle.live_plan.specs.Books.{LiveView}
 use Rattle.live_plan.specs.Crews.{IsMemberOf}
 use Rattle.live_plan.specs.Inside.Working.{BlockAgrees, IsHeld, IsWorker}
-use Rattle.live_plan.proofs.PlacesLemmas.{in_first, in_second, of_both}
+use Rattle.live_plan.proofs.PlacesLemmas.{in_second, of_both}
 use Rattle.live_plan.proofs.WorkingLemmas.{live_part}
 
 module _ (b : LiveView) (rounds : ℕ) (lower upper : List Member) (lead : Lead) (mask : ℕ) (v : View)
@@ -28,7 +28,7 @@ module _ (b : LiveView) (rounds : ℕ) (lower upper : List Member) (lead : Lead)
 
   -- a member stands there by its number
   lower_is : (i : ℕ) (m : Member) → slice_get lower i ≡ Some m → m.actor.state.core ≡ i
-  lower_is i m at = let is = (held.working.block.each i m (in_first lower upper i m at)).core in omega (arith, is)
+  lower_is i m at = let is = (held.working.block.each i m (get_left lower upper i m at)).core in omega (arith, is)
 
   upper_is : (j : ℕ) (m : Member) → slice_get upper j ≡ Some m → m.actor.state.core ≡ length lower + j
   upper_is j m at = let is = (held.working.block.each (length lower + j) m (in_second lower upper j m at)).core in omega (arith, is)
@@ -57,7 +57,7 @@ module _ (b : LiveView) (rounds : ℕ) (lower upper : List Member) (lead : Lead)
 
   lower_kept : (i : ℕ) (m : Member) → slice_get lower i ≡ Some m → LiveAgrees b m.actor.state (without mask v)
   lower_kept i m at =
-      let agrees = held.working.cores i m (in_first lower upper i m at) in
+      let agrees = held.working.cores i m (get_left lower upper i m at) in
       let kept = without_others mask v m.actor.state.core (subst (λ (k : ℕ). names mask k ≡ false) (sym (lower_is i m at)) (off_lower i (slice_get_within lower i m at))) in
       live_part b m.actor.state v (without mask v) agrees (record { started = refl; lag = refl; cores = refl; events = refl }) (kept.0 ∙ agrees.stands.core.1) kept.1
 
@@ -74,7 +74,7 @@ module _ (b : LiveView) (rounds : ℕ) (lower upper : List Member) (lead : Lead)
       block = record {
         few = omega (arith, few);
         short = held.working.block.short;
-        each = λ i m at. held.working.block.each i m (in_first lower upper i m at);
+        each = λ i m at. held.working.block.each i m (get_left lower upper i m at);
       };
       cores = lower_kept;
       shelf = held.working.shelf;

@@ -1,14 +1,11 @@
 -- What stands at the places of a list of which one place was set or that was lent whole, and of two lists, one after
 -- the other.
-use Rattle.std.proofs.Common.{◌≡◌, ◌≢◌, ◌⊎◌, ℕ, zero, suc, ◌+◌, ◌<◌, Bool, true, inl, inr, List, [], ◌∷◌, ◌++◌, length, take, drop, Some, Option, sym, ap, ◌∙◌, subst, arith}
+use Rattle.std.proofs.Common.{◌≡◌, ◌≢◌, ◌⊎◌, ℕ, zero, suc, ◌+◌, ◌<◌, Bool, true, inl, inr, List, [], ◌∷◌, ◌++◌, length, take, drop, Some, sym, ap, ◌∙◌, subst, arith}
 use Rattle.std.specs.Prelude.{if◌then◌else◌, slice_get, slice_set}
 use Rattle.std.proofs.Math.Seq.{take-append_seam}
 use mathlib.Core.Logic.{dite}
 use native.Mathlib.Decide.{ℕ_discrete}
-use Rattle.tab_core.proofs.Lists.{set_here, set_other}
-
-same_some : {X : Type 0} (o : Option X) (x y : X) → o ≡ Some x → o ≡ Some y → x ≡ y
-same_some o x y h k = cc
+use Rattle.tab_core.proofs.Lists.{set_here, set_other, same}
 
 -- what holds of the new element and of each other one holds of each
 pub set_each : {X : Type 0} (P : ℕ → X → Type 0) (xs : List X) (i : ℕ) (n : X) → i < length xs → P i n
@@ -16,14 +13,8 @@ pub set_each : {X : Type 0} (P : ℕ → X → Type 0) (xs : List X) (i : ℕ) (
     → (j : ℕ) (x : X) → slice_get (slice_set xs i n) j ≡ Some x → P j x
 set_each {X} P xs i n lt new old j x at = dite (ℕ_discrete j i)
     (λ e. let here : slice_get (slice_set xs i n) i ≡ Some x = subst (λ (k : ℕ). slice_get (slice_set xs i n) k ≡ Some x) e at in
-    subst (λ (k : ℕ). P k x) (sym e) (subst (P i) (same_some (slice_get (slice_set xs i n) i) n x (set_here xs i n lt) here) new))
+    subst (λ (k : ℕ). P k x) (sym e) (subst (P i) (same (slice_get (slice_set xs i n) i) n x (set_here xs i n lt) here) new))
     (λ ne. old j x ne (sym (set_other xs i j n ne) ∙ at))
-
--- an element of the first list, or of the second
-pub in_first : {X : Type 0} (xs ys : List X) (k : ℕ) (x : X) → slice_get xs k ≡ Some x → slice_get (xs ++ ys) k ≡ Some x
-in_first [] ys k x at = absurd cc
-in_first (z ∷ zs) ys zero x at = at
-in_first (z ∷ zs) ys (suc k) x at = in_first zs ys k x at
 
 pub in_second : {X : Type 0} (xs ys : List X) (k : ℕ) (x : X) → slice_get ys k ≡ Some x
     → slice_get (xs ++ ys) (length xs + k) ≡ Some x

@@ -3,6 +3,7 @@ use Rattle.std.proofs.Common.{◌≡◌, ◌⊎◌, ℕ, suc, ◌+◌, ◌<◌, 
 use Rattle.tab_core.specs.Edits.{IsEdited}
 use Rattle.tab_core.specs.declared.edit.Edit.{Edit}
 use Rattle.tab_core.specs.declared.host.Host.{Host}
+use Rattle.tab_core.proofs.Lists.{same}
 use Rattle.table_form.specs.Tables.Views.{plan_view}
 use Rattle.plan_make.proofs.OnePlan.{planned_unique}
 use Rattle.plan_make.specs.Planned.{IsPlanned}
@@ -16,7 +17,6 @@ use Rattle.plan_book.specs.Changes.{IsChangeRefused, IsChangeTaken, IsUnplanned}
 use Rattle.plan_book.specs.States.{BookState}
 use Rattle.plan_book.specs.declared.outcome.Outcome.{Outcome}
 use Rattle.plan_book.proofs.EditedLemmas.{edited_unique}
-use Rattle.plan_book.proofs.ListsByIndex.{same}
 use Rattle.plan_book.proofs.OneState.{outcome_unique, planned_or_unplanned}
 use Rattle.plan_book.proofs.SameShape.{changes_more, known_within}
 use Rattle.live_plan.specs.declared.made.Found.{Found}

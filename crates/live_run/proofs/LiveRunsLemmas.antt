@@ -37,7 +37,7 @@ use Rattle.live_plan.specs.Courses.{IsLiveCourse}
 use Rattle.live_plan.specs.Crews.{AllAgree, CrewView, HoldsAll, IsCrewOf, actor_in, actor_of, bare}
 use Rattle.live_plan.specs.Inside.Working.{IsHeld}
 use Rattle.live_plan.proofs.CoursesLemmas.{live_course}
-use Rattle.live_plan.proofs.CrewsLemmas.{held_crew, run}
+use Rattle.live_plan.proofs.CrewsLemmas.{held_crew, run, member_of}
 use Rattle.live_run.specs.Inside.Telling.{AreTold, accounts_of, first_used, used_in}
 use Rattle.live_run.specs.LiveRuns.{RunsSoFar}
 
@@ -82,17 +82,11 @@ module _ (b : LiveView) (v : View) (lag cores events : ℕ) (lag_is : lag ≡ b.
 
 -- ---- the actors' accounts
 
--- who is an actor's member
-actor_is : (o : Option Member) (a : LiveActorView) → actor_in o ≡ Some a
-    → (m : Member) × (o ≡ Some m) × (m.actor ≡ a)
-actor_is None a h = absurd cc
-actor_is (Some m) a h = (m, refl, cc)
-
 -- one core's account more
 pub account_more : (crew : CrewView) (n : ℕ) (a : LiveActorView) → actor_of crew n ≡ Some a
     → take (n + 1) (accounts_of crew) ≡ take n (accounts_of crew) ++ a.state.account ∷ []
 account_more crew n a at =
-    let m = actor_is (slice_get crew.members n) a at in
+    let m = member_of (slice_get crew.members n) a at in
     let x : CoreAccount = m.0.actor.state.account in
     let here : slice_get (accounts_of crew) n ≡ Some x =
     in_map (λ (k : Member). k.actor.state.account) crew.members n m.0 m.1 in
@@ -202,7 +196,7 @@ module _ (b : LiveView) (crew : CrewView) (v : View) (is : IsCrewOf b crew) (agr
             sym (ap (λ (used : List ℕ). slice_get used r) first_decided) ∙ at in
             omega (arith, invariant.decided_posted r count decided, invariant.posted_most);
         within = λ c a at.
-            let m = actor_is (slice_get crew.members c) a at in
+            let m = member_of (slice_get crew.members c) a at in
             let lt = slice_get_within crew.members c m.0 m.1 in
             let stands = (agree.cores c a at (all.cores c lt)).stands in
             let rounds_is : a.state.rounds ≡ crew.rounds =

@@ -5,6 +5,7 @@ use Rattle.std.proofs.lemmas.Option.{slice_get_within}
 use Rattle.std.specs.Prelude.{slice_get, slice_index}
 use Rattle.tab_core.specs.declared.TheConstants.{MAX_CHANGES, MAX_EVENTS, MAX_ROUNDS}
 use Rattle.tab_core.specs.declared.host.Host.{Host}
+use Rattle.tab_core.proofs.Lists.{same}
 use Rattle.table_form.specs.Running.CourseViews.{course_view}
 use Rattle.table_form.specs.Running.Courses.{CourseView, FitsRounds, IsCourseForm, no_plan, plan_after}
 use Rattle.table_form.specs.Tables.Plans.{IsPlanFor, PlanView}
@@ -18,7 +19,7 @@ use Rattle.plan_book.specs.Courses.{IsCourseOf, Shows, ShowsAfter, ticks_of}
 use Rattle.plan_book.specs.Inside.Making.{BookInvariant, IsRecorded, course_of, known_of}
 use Rattle.plan_book.specs.States.{BookState}
 use Rattle.plan_book.specs.declared.book_so_far.BookSoFar.{BookSoFar}
-use Rattle.plan_book.proofs.ListsByIndex.{index_is, index_or_is, same}
+use Rattle.plan_book.proofs.ListsByIndex.{index_is, index_or_is}
 use Rattle.plan_book.proofs.SameShape.{few_outcomes, known_within, same_shape}
 use Rattle.plan_book.proofs.OneState.{known_unique}
 

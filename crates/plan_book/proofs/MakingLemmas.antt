@@ -6,6 +6,7 @@ use Rattle.std.proofs.lemmas.Option.{slice_get-get_or}
 use Rattle.std.specs.Prelude.{slice_get}
 use Rattle.tab_core.specs.declared.TheConstants.{MAX_CHANGES}
 use Rattle.tab_core.specs.declared.host.Host.{Host}
+use Rattle.tab_core.proofs.Lists.{push_old, push_new, there}
 use Rattle.table_form.specs.Running.Courses.{no_plan}
 use Rattle.table_form.specs.Tables.Plans.{IsPlanFor, PlanView}
 use Rattle.table_form.specs.Tables.Views.{plan_view}
@@ -17,7 +18,6 @@ use Rattle.plan_book.specs.After.{Applies, IsKnownAfter}
 use Rattle.plan_book.specs.Inside.Making.{BookInvariant, IsRecorded, KeepsPlans, known_of, plan_of}
 use Rattle.plan_book.specs.States.{IsKnownAtFirst}
 use Rattle.plan_book.specs.declared.book_so_far.BookSoFar.{BookSoFar}
-use Rattle.plan_book.proofs.ListsByIndex.{push_new, push_old, there}
 use Rattle.plan_book.proofs.SameShape.{few_outcomes, same_shape}
 
 -- a plan keeps its number

@@ -17,11 +17,12 @@ use Rattle.plan_make.specs.declared.fault.PlanFault.TheVariants as plan
 use Rattle.plan_book.specs.Changes.{IsChangeRefused, IsChangeTaken, IsUnplanned}
 use Rattle.plan_book.specs.Inside.Making.{known_of, outcome_of_fault, plan_of}
 use Rattle.tab_core.specs.Vcpus.{runnable_at_first}
+use Rattle.tab_core.proofs.Lists.{push_new}
 use Rattle.plan_book.specs.States.{BookState, IsKnownAtFirst}
 use Rattle.plan_book.specs.declared.book_so_far.BookSoFar.{BookSoFar}
 use Rattle.plan_book.specs.declared.outcome.Outcome.{Outcome}
 use Rattle.plan_book.specs.declared.outcome.Outcome.TheVariants as outcome
-use Rattle.plan_book.proofs.ListsByIndex.{index_or_is, push_new}
+use Rattle.plan_book.proofs.ListsByIndex.{index_or_is}
 
 -- a refusal that is an outcome has its cause
 pub told_unplanned : (host : Host) (fault : PlanFault) (told : Outcome) → outcome_of_fault fault ≡ Some told

@@ -2,6 +2,7 @@
 use Rattle.std.proofs.Common.{◌≡◌, ◌⊎◌, inl, inr, ℕ, zero, suc, Bool, List, [], ◌∷◌, ◌++◌, ap, subst, sym, ◌∙◌}
 use Rattle.tab_core.specs.declared.edit.Edit.{Edit}
 use Rattle.tab_core.specs.declared.host.Host.{Host}
+use Rattle.tab_core.proofs.Lists.{same}
 use Rattle.table_form.specs.Tables.Plans.{PlanView}
 use Rattle.plan_make.specs.Planned.{IsPlanned}
 use Rattle.plan_make.proofs.OnePlan.{planned_or_refused, planned_unique}
@@ -15,7 +16,6 @@ use Rattle.plan_book.specs.States.{BookState, IsKnownAtFirst}
 use Rattle.plan_book.specs.declared.outcome.Outcome.{Outcome}
 use Rattle.plan_book.specs.declared.outcome.Outcome.TheVariants.{Planned, NoPeriod, NoRoom}
 use Rattle.plan_book.proofs.EditedLemmas.{edited_unique}
-use Rattle.plan_book.proofs.ListsByIndex.{same}
 
 -- a state by its five parts
 abbrev known_with : Host → PlanView → ℕ → List Bool → List Outcome → BookState

@@ -1,11 +1,13 @@
 -- Each wait of a kept run is within the greater of two latencies.
 use Rattle.std.proofs.Common.{◌≡◌, ℕ, suc, ◌-◌, ◌/◌, ◌≤◌, List, Option, Some, None, length, slice_get, refl, ap, subst, ◌∙◌, arith}
 use Rattle.std.proofs.lemmas.List.{length-map}
+use Rattle.std.proofs.lemmas.Option.{slice_get_within}
 use Rattle.tab_core.specs.declared.TheConstants.{ROUND}
 use Rattle.tab_core.specs.declared.host.Host.{Host}
 use Rattle.tab_core.specs.declared.periodic.Periodic.{Periodic}
 use Rattle.tab_core.specs.declared.reservation.Reservation.{Reservation}
 use Rattle.tab_core.specs.declared.vcpu.Vcpu.{Vcpu}
+use Rattle.tab_core.proofs.Lists.{element_at}
 use Rattle.period_choice.specs.Choice.{IsChosen}
 use Rattle.period_choice.specs.Tasks.{AreTasksOf, IsTaskOf}
 use Rattle.period_choice.proofs.Waits.{within_latency}
@@ -19,7 +21,6 @@ use Rattle.script_doc.specs.declared.event.Event.{Event}
 use Rattle.plan_book.proofs.PlannedAfter.{known_planned}
 use Rattle.plan_book.proofs.SameShape.{one_tick}
 use Rattle.run_promises.proofs.GapLemmas.{some_task}
-use Rattle.run_promises.proofs.Lists.{element_at, within}
 use Rattle.run_promises.proofs.ServedLemmas.{task_found}
 use Rattle.plan_book.specs.Courses.{IsCourseOf}
 use Rattle.plan_book.specs.Waits.{IsReservedIn, WaitsWithinLatency}
@@ -42,7 +43,7 @@ chosen_of (Some r) tick task is = (r, refl, is)
 reserved_of : (host : Host) (tasks : List (Option Periodic)) (v : ℕ) (task : Periodic)
     → AreTasksOf host tasks → slice_get tasks v ≡ Some (Some task) → Reserved host v task
 reserved_of host tasks v task are at =
-    let few = within tasks v (Some task) at in
+    let few = slice_get_within tasks v (Some task) at in
     let same = are.as_many in
     let found = element_at host.vcpus v (omega arith) in
     let chosen = chosen_of found.0.reservation host.tick_ns task

@@ -7,6 +7,7 @@ use Rattle.std.proofs.lemmas.List.{append-nil, append_assoc, take_more}
 use Rattle.std.proofs.lemmas.List.Elements.{All-head, All-tail, filter-append}
 use Rattle.std.proofs.lemmas.List.Sums.{sum_by-cons}
 use Rattle.tab_core.specs.declared.piece.Piece.{Piece}
+use Rattle.tab_core.proofs.Lists.{get_front, get_right}
 use Rattle.table_form.specs.Planning.Drafts.{cost_on, pieces_at}
 use Rattle.table_form.proofs.Supplies.{cost_on-append, cost_on-nil}
 use Rattle.cd_split.specs.Cores.{pieces_on}
@@ -25,21 +26,6 @@ pub record IsStanding (cores : List (List Piece)) (i : ℕ) (p : Piece) : Type 0
   pub at : slice_get (pieces_on cores core) place ≡ Some p
   pub number : i ≡ before cores core + place
 
--- a place in the first list, when two are joined
-slice_get-append_left : {X : Type 0} (xs ys : List X) (i : ℕ) → i < length xs
-    → slice_get (xs ++ ys) i ≡ slice_get xs i
-slice_get-append_left [] ys i lt = absurd (omega arith)
-slice_get-append_left (x ∷ xs) ys zero lt = refl
-slice_get-append_left (x ∷ xs) ys (suc i) lt = slice_get-append_left xs ys i (omega arith)
-
--- and a place in the second
-slice_get-append_right : {X : Type 0} (xs ys : List X) (i : ℕ)
-    → slice_get (xs ++ ys) (length xs + i) ≡ slice_get ys i
-slice_get-append_right [] ys i = let e : 0 + i ≡ i = omega arith in ap (slice_get ys) e
-slice_get-append_right (x ∷ xs) ys i =
-    let e : suc (length xs) + i ≡ suc (length xs + i) = omega arith in
-    ap (slice_get (x ∷ xs ++ ys)) e ∙ slice_get-append_right xs ys i
-
 -- each place of the flat list is a place on a core: what is known by core carries over to the draft
 pub standing : (cores : List (List Piece)) (i : ℕ) (p : Piece) → slice_get (all_pieces cores) i ≡ Some p
     → IsStanding cores i p
@@ -49,13 +35,13 @@ standing (ps ∷ cores) i p at = elim (cases_lt i (length ps)) [
     core = 0;
     there = omega arith;
     place = i;
-    at = sym (slice_get-append_left ps (all_pieces cores) i lt) ∙ at;
+    at = sym (get_front ps (all_pieces cores) i lt) ∙ at;
     number = omega arith;
   }
   | inr le ↦
       let j = i - length ps in
       let e : length ps + (i - length ps) ≡ i = omega arith in
-      let later = standing cores j p (sym (slice_get-append_right ps (all_pieces cores) j)
+      let later = standing cores j p (sym (get_right ps (all_pieces cores) j)
       ∙ ap (slice_get (ps ++ all_pieces cores)) e ∙ at) in
       let number = later.number in
       let there = later.there in

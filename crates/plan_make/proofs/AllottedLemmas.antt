@@ -1,13 +1,14 @@
 -- The pieces of a split vCPU beside those that are there.
-use Rattle.std.proofs.Common.{◌≡◌, ℕ, ◌<◌, ◌⊎◌, ◌||◌, Bool, true, false, cond, eqb, List, [], ◌∷◌, ◌++◌, length, set, slice_get, sum_by, Option, Some, refl, ap, subst, sym, ◌∙◌, inl, inr, arith}
+use Rattle.std.proofs.Common.{◌≡◌, ℕ, ◌<◌, ◌⊎◌, true, cond, eqb, List, [], ◌∷◌, ◌++◌, length, set, slice_get, sum_by, Option, Some, refl, ap, subst, sym, ◌∙◌, inl, inr, arith}
 use Rattle.std.specs.List.{All}
-use Rattle.std.proofs.lemmas.Bool.{cases_eq, cases_lt, cases_order, eq-eqb, eqb-true}
+use Rattle.std.proofs.lemmas.Bool.{cases_eq, cases_lt, cases_order, eq-eqb, eqb-true, or_left, or_right}
 use Rattle.std.proofs.lemmas.List.{get_or_past}
 use Rattle.std.proofs.lemmas.List.Elements.{All-from_get_or, All-get_or, All-head, All-tail, All-weaker}
 use Rattle.std.proofs.lemmas.List.Folds.{list_any-append}
 use Rattle.std.proofs.lemmas.Option.{same_Some}
 use Rattle.tab_core.specs.declared.periodic.Periodic.{Periodic}
 use Rattle.tab_core.specs.declared.piece.Piece.{Piece}
+use Rattle.tab_core.proofs.Lists.{set_here}
 use Rattle.worst_fit.specs.Placement.{IsPlaced}
 use Rattle.cd_split.specs.Cores.{LackVcpu, pieces_on}
 use Rattle.table_form.specs.Planning.Drafts.{cost_on}
@@ -16,7 +17,7 @@ use Rattle.plan_make.specs.Inside.Splits.{AreShares}
 use Rattle.plan_make.specs.SplitInTurn.{home_of, with_pieces}
 use Rattle.table_form.proofs.Filters.{slice_get-filter}
 use Rattle.plan_make.proofs.WithPieces.{costs-with_pieces, of_core, of_core-cons, pieces_on-with_pieces}
-use Rattle.coalesce.proofs.Members.{slice_get-append_cases, slice_get-set_other, slice_get-set_same}
+use Rattle.coalesce.proofs.Members.{slice_get-append_cases, slice_get-set_other}
 use Rattle.plan_make.proofs.ListMembers.{all_at, all_from_places}
 use Rattle.plan_make.proofs.SharesLemmas.{below_from_fit, cost_on_all, cost_on_none, costs_none, ends_before, some_piece}
 
@@ -75,15 +76,6 @@ lack_on cores vcpu core i p lack at = elim (cases_lt core (length cores)) [
       (cc))
 ]
 
--- a piece in front makes the test for the vCPU pass
-or_first : (a b : Bool) → a ≡ true → (a || b) ≡ true
-or_first a b e = rw e refl
-
--- and so does one behind
-or_second : (a b : Bool) → b ≡ true → (a || b) ≡ true
-or_second true b e = refl
-or_second false b e = e
-
 -- the last of a vCPU's pieces is on their home
 last_is_home : (ps : List Piece) (vcpu : ℕ) → 0 < length ps → All (λ p. p.vcpu ≡ vcpu) ps
     → has_piece vcpu (of_core (home_of ps) ps) ≡ true
@@ -98,7 +90,7 @@ last_is_home (p ∷ q ∷ ps) vcpu some all =
     let first : List Piece = cond (eqb p.core core) (p ∷ []) [] in
     ap (has_piece vcpu) (of_core-cons core p (q ∷ ps))
     ∙ list_any-append (λ (r : Piece). eqb r.vcpu vcpu) first (of_core core (q ∷ ps))
-    ∙ or_second (has_piece vcpu first) (has_piece vcpu (of_core core (q ∷ ps))) rest
+    ∙ or_right (has_piece vcpu first) (has_piece vcpu (of_core core (q ∷ ps))) rest
 
 -- the new pieces make the vCPU one that has its pieces, with the last one's core as its home
 pub allotted_next : (tasks : List (Option Periodic)) (homes : List (Option ℕ)) (cores : List (List Piece))
@@ -163,7 +155,7 @@ allotted_next tasks homes cores vcpu home task pieces allotted shares has homele
         let ne : v ≡ vcpu → ⊥ = λ same. none (
           home,
           ap (slice_get (set homes vcpu (Some home))) same
-              ∙ slice_get-set_same homes vcpu (Some home) known,
+              ∙ set_here homes vcpu (Some home) known,
         ) in
         let before =
         allotted.lack v
@@ -191,7 +183,7 @@ allotted_next tasks homes cores vcpu home task pieces allotted shares has homele
         let either = ap (has_piece v) on ∙ list_any-append (λ (p : Piece). eqb p.vcpu v)
         (pieces_on cores h) (of_core h pieces) in
         elim (cases_eq v vcpu) [
-          | inl same ↦ (let here : home ≡ h = (let e = sym (slice_get-set_same homes vcpu (Some home) known)
+          | inl same ↦ (let here : home ≡ h = (let e = sym (set_here homes vcpu (Some home) known)
               ∙ ap (slice_get (set homes vcpu (Some home))) (sym same) ∙ at in cc) in
               let some = some_piece cores vcpu task pieces shares.splits in
               let last =
@@ -200,11 +192,11 @@ allotted_next tasks homes cores vcpu home task pieces allotted shares has homele
               let new : has_piece v (of_core h pieces) ≡ true =
               subst (λ c. has_piece v (of_core c pieces) ≡ true) (sym home_is ∙ here) last
               in
-              either ∙ or_second (has_piece v (pieces_on cores h)) (has_piece v (of_core h pieces)) new)
+              either ∙ or_right (has_piece v (pieces_on cores h)) (has_piece v (of_core h pieces)) new)
           | inr ne ↦
               (let before = allotted.at_home v h
               (sym (slice_get-set_other homes vcpu v (Some home) ne) ∙ at) in
-              either ∙ or_first (has_piece v (pieces_on cores h)) (has_piece v (of_core h pieces)) before)
+              either ∙ or_left (has_piece v (pieces_on cores h)) (has_piece v (of_core h pieces)) before)
         ])
 
     apart : (core other i j : ℕ) (p q : Piece)

@@ -12,8 +12,9 @@ use Rattle.tab_core.specs.declared.periodic.Periodic.{Periodic}
 use Rattle.tab_core.specs.declared.piece.Piece.{Piece}
 use Rattle.table_form.specs.Planning.Drafts.{AreOnPieces, HaveOwnCores, HaveOwnWindows, IsDraft, KeepInWindows, has_in_window, is_piece_on, period_in, pieces_at}
 use Rattle.table_form.specs.Tables.Rows.{Row}
-use Rattle.table_form.specs.Tables.Serves.{cell_of, flat}
+use Rattle.table_form.specs.Tables.Serves.{cell_of}
 use Rattle.table_form.specs.Planning.Windows.{IsInWindow, ServesWindows}
+use Rattle.table_form.proofs.SpotLemmas.{flat_some}
 use Rattle.cd_split.specs.Cores.{pieces_on}
 use Rattle.plan_make.proofs.AllPieces.{IsStanding, cost_of_all, pieces_at_core, same_number, standing}
 use Rattle.plan_make.proofs.ListMembers.{all_at}
@@ -81,11 +82,6 @@ window_found pieces vcpu tick a =
         (and_from (eqb p.vcpu vcpu) (leb p.from (tick % p.period)) (eq-eqb p.vcpu vcpu owner)
         (le-leb p.from (tick % p.period) begins))
         (lt-ltb (tick % p.period) p.to ends))
-
--- a place with an owner is there, as `cell_of` reads it
-flat_some : (cell : Option (Option ℕ)) (v : ℕ) → flat cell ≡ Some v → cell ≡ Some (Some v)
-flat_some None v e = absurd (none-some v e)
-flat_some (Some cell) v e = ap Some e
 
 -- a place with an owner is a cell of a row
 owned_cell : (row : Option Row) (place v : ℕ) → cell_of row place ≡ Some v

@@ -4,10 +4,11 @@ use Rattle.std.specs.List.{Contains}
 use Rattle.std.proofs.lemmas.Bool.{cases_eq, lt-ltb}
 use Rattle.std.proofs.lemmas.Option.{slice_get_within}
 use Rattle.tab_core.specs.declared.periodic.Periodic.{Periodic}
+use Rattle.tab_core.proofs.Lists.{set_here}
 use Rattle.table_form.specs.Tables.Homes.{are_housed, is_housed}
 use Rattle.table_form.proofs.TaskLemmas.{are_housed_at}
 use Rattle.worst_fit.specs.Placement.{IsAdmitted, IsPlaced, PlacesEach}
-use Rattle.coalesce.proofs.Members.{slice_get-set_other, slice_get-set_same}
+use Rattle.coalesce.proofs.Members.{slice_get-set_other}
 use Rattle.plan_make.proofs.ListMembers.{contains_cases, contains_first, contains_later, contains_none, slice_get_from_contains}
 
 -- where the homes are these and so many vCPUs are still left over
@@ -33,7 +34,7 @@ placed_next tasks count homes vcpu left core placed there known = record {
       | inl same ↦ inl (
         core,
         ap (slice_get (set homes vcpu (Some core))) same
-            ∙ slice_get-set_same homes vcpu (Some core) known,
+            ∙ set_here homes vcpu (Some core) known,
       )
       | inr ne ↦ elim (placed.each v admitted) [
         | inl old ↦ inl (old.0, slice_get-set_other homes vcpu v (Some core) ne ∙ old.1)
@@ -52,7 +53,7 @@ placed_next tasks count homes vcpu left core placed there known = record {
         → (c < count) × IsAdmitted tasks v × (Contains left v → ⊥)
     on_core v c at = elim (cases_eq v vcpu) [
       | inl same ↦
-          (let here = sym (slice_get-set_same homes vcpu (Some core) known)
+          (let here = sym (set_here homes vcpu (Some core) known)
           ∙ ap (slice_get (set homes vcpu (Some core))) (sym same) ∙ at in
           let c_is : core ≡ c = cc in (
             subst (λ n. n < count) c_is there,

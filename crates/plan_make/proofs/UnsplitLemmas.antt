@@ -13,6 +13,7 @@ use Rattle.table_form.specs.Planning.Jobs.{Subtask, jobs_of, subtask_of}
 use Rattle.edf_table.specs.Load.{AreUnsplit, load}
 use Rattle.edf_table.proofs.LoadLemmas.{unsplit_fits}
 use Rattle.worst_fit.specs.Load.{is_on, load_on, task_demand}
+use Rattle.worst_fit.proofs.LoadLemmas.{load_on-nil}
 use Rattle.plan_make.specs.Unsplit.{unsplit, unsplit_at, unsplit_from}
 
 -- one vCPU more
@@ -162,11 +163,6 @@ unfolding load_on
 load_on-cons core t tasks h homes =
     sum_by-cons (λ vcpu. cond (is_on core vcpu.1) (task_demand vcpu.0) 0) (t, h) (zip tasks homes)
 
--- no vCPU, no load
-load_on-none : (core : ℕ) (homes : List (Option ℕ)) → load_on core [] homes ≡ 0
-unfolding load_on
-load_on-none core homes = refl
-
 -- nor any load of vCPUs without a place
 load_on-unplaced : (core : ℕ) (tasks : List (Option Periodic)) → load_on core tasks [] ≡ 0
 unfolding load_on
@@ -177,7 +173,7 @@ load_on-unplaced core (t ∷ tasks) = refl
 load_of_all_unsplit : (core first : ℕ) (tasks : List (Option Periodic)) (homes : List (Option ℕ))
     → sum_by ticks_of (unsplit_from core first tasks homes) ≡ load_on core tasks homes
 unfolding unsplit_from
-load_of_all_unsplit core first [] homes = sym (load_on-none core homes)
+load_of_all_unsplit core first [] homes = sym (load_on-nil core homes)
 load_of_all_unsplit core first (t ∷ tasks) [] = sym (load_on-unplaced core (t ∷ tasks))
 load_of_all_unsplit core first (t ∷ tasks) (h ∷ homes) =
     let rest = load_of_all_unsplit core (first + 1) tasks homes in
@@ -190,8 +186,8 @@ load_of_all_unsplit core first (t ∷ tasks) (h ∷ homes) =
 -- the first vCPUs take no more than all
 load_on-take-le : (core n : ℕ) (tasks : List (Option Periodic)) (homes : List (Option ℕ))
     → load_on core (take n tasks) (take n homes) ≤ load_on core tasks homes
-load_on-take-le core zero tasks homes = omega (arith, load_on-none core [])
-load_on-take-le core (suc n) [] homes = omega (arith, load_on-none core (take (suc n) homes))
+load_on-take-le core zero tasks homes = omega (arith, load_on-nil core [])
+load_on-take-le core (suc n) [] homes = omega (arith, load_on-nil core (take (suc n) homes))
 load_on-take-le core (suc n) (t ∷ tasks) [] = omega (arith, load_on-unplaced core (take (suc n) (t ∷ tasks)))
 load_on-take-le core (suc n) (t ∷ tasks) (h ∷ homes) =
     let rest = load_on-take-le core n tasks homes in

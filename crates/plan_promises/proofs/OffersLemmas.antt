@@ -6,6 +6,7 @@ use Rattle.tab_core.specs.Budgets.{slack_of}
 use Rattle.tab_core.specs.declared.TheConstants.{ROUND}
 use Rattle.tab_core.specs.declared.periodic.Periodic.{Periodic}
 use Rattle.tab_core.proofs.Periods.{period_at_least, period_facts}
+use Rattle.tab_core.specs.Sums.{total}
 use Rattle.table_form.specs.Running.Courses.{CourseView}
 use Rattle.table_form.specs.Running.Offered.{is_offered, offers}
 use Rattle.table_form.specs.Tables.Plans.{PlanView}
@@ -13,7 +14,6 @@ use Rattle.table_form.specs.Tables.Serves.{Apart, Serves, supply}
 use Rattle.run_promises.proofs.Blocks.{Blocks, gap}
 use Rattle.run_promises.proofs.OfferedLemmas.{offers_supply, one}
 use Rattle.run_promises.proofs.ServedLemmas.{period_fits}
-use Rattle.run_promises.proofs.Totals.{total}
 use Rattle.plan_promises.specs.Reservations.{IsWait, is_offered_in, offers_in}
 
 -- a course of the plan alone, since the lemmas of offers speak of courses

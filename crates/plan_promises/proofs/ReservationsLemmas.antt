@@ -1,17 +1,18 @@
 -- A plan of the host's tasks keeps the host's reservations.
 use Rattle.std.proofs.Common.{◌≡◌, ℕ, suc, ◌+◌, ◌-◌, ◌*◌, ◌≤◌, List, Option, Some, None, refl, ap, subst, ◌∙◌, arith}
 use Rattle.std.specs.Prelude.{slice_get}
+use Rattle.std.proofs.lemmas.Option.{slice_get_within}
 use Rattle.tab_core.specs.Budgets.{slack_of}
 use Rattle.tab_core.specs.declared.TheConstants.{WHOLE_PPM}
 use Rattle.tab_core.specs.declared.host.Host.{Host}
 use Rattle.tab_core.specs.declared.periodic.Periodic.{Periodic}
 use Rattle.tab_core.specs.declared.reservation.Reservation.{Reservation}
+use Rattle.tab_core.proofs.Lists.{element_at}
 use Rattle.table_form.specs.Tables.Plans.{IsPlan, PlanView}
 use Rattle.table_form.specs.Tables.Serves.{Apart, Serves}
 use Rattle.period_choice.specs.Choice.{IsChosen}
 use Rattle.period_choice.specs.Tasks.{AreTasksOf, IsTaskOf}
 use Rattle.period_choice.proofs.Waits.{within_latency}
-use Rattle.run_promises.proofs.Lists.{element_at, within}
 use Rattle.plan_make.specs.Planned.{IsPlanned}
 use Rattle.plan_promises.specs.Reservations.{IsReserved, KeepsReservations}
 use Rattle.plan_promises.proofs.OffersLemmas.{period_offers, short_waits}
@@ -33,7 +34,7 @@ has_chosen : (host : Host) (tasks : List (Option Periodic)) (v : ℕ) (reservati
     → AreTasksOf host tasks → IsReserved host v reservation
     → HasChosen tasks host.tick_ns v reservation
 has_chosen host tasks v reservation are is =
-    let few = within host.vcpus v is.vcpu is.at in
+    let few = slice_get_within host.vcpus v is.vcpu is.at in
     let same = are.as_many in
     let found = element_at tasks v (omega arith) in
     let of = subst (λ (o : Option Reservation). IsTaskOf o host.tick_ns found.0) is.reserved

@@ -1,6 +1,5 @@
 -- A text stands for one pair of tables at most.
 use Rattle.std.proofs.Common.{◌≡◌, ℕ, ◌+◌, ◌<◌, ◌≤◌, nat_lt, true, List, [], ◌∷◌, ◌++◌, length, map, decimal, Option, Some, None, refl, sym, ap, ◌∙◌, subst, append_assoc, arith}
-use Rattle.std.proofs.Props.{props}
 use Rattle.std.proofs.lemmas.Bool.{and_parts}
 use Rattle.std.proofs.lemmas.Bool.Decides.{nat_tests}
 use Rattle.std.proofs.lemmas.Fmt.{decimal_injective}
@@ -10,6 +9,7 @@ use Rattle.std.specs.Option.{ForSome}
 use Rattle.tab_core.specs.Name.{IsName}
 use Rattle.tab_core.specs.declared.TheConstants.{MAX_CORES, MAX_VCPUS}
 use Rattle.tab_core.specs.declared.periodic.Periodic.{Periodic}
+use Rattle.tab_core.proofs.Alike.{one_owner_proof}
 use Rattle.table_form.specs.Tables.Homes.{are_housed}
 use Rattle.table_form.specs.Tables.Serves.{has_task}
 use Rattle.table_form.specs.declared.raw_tables.RawTables.{RawTables}
@@ -28,17 +28,13 @@ use Rattle.plan_text.proofs.ReadingSegmentLemmas.{dash_is_no_name}
 build : (owner : Option ℕ) (end : ℕ) → ForSome owner (λ v. v < MAX_VCPUS) → Segment
 build owner end small = record { owner = owner; end = end; owner_small = small }
 
--- the bound on an owner has one proof
-one_small : (owner : Option ℕ) (x y : ForSome owner (λ v. v < MAX_VCPUS)) → x ≡ y
-one_small owner x y = (let one : IsProp (ForSome owner (λ v. v < MAX_VCPUS)) = hlevel props in one x y)
-
 -- equal owners give equal segments
 build_same : (o p : Option ℕ) (end : ℕ) (x : ForSome o (λ v. v < MAX_VCPUS))
     (y : ForSome p (λ v. v < MAX_VCPUS))
     → o ≡ p → build o end x ≡ build p end y
 build_same o p end x y is =
     subst (λ (q : Option ℕ). (y : ForSome q (λ v. v < MAX_VCPUS)) → build o end x ≡ build q end y) is
-    (λ y. ap (λ (z : ForSome o (λ v. v < MAX_VCPUS)). build o end z) (one_small o x y)) y
+    (λ y. ap (λ (z : ForSome o (λ v. v < MAX_VCPUS)). build o end z) (one_owner_proof o x y)) y
 
 -- a segment is its owner and its end
 segment_same : (s t : Segment) → s.owner ≡ t.owner → s.end ≡ t.end → s ≡ t

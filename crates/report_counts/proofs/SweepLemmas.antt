@@ -9,7 +9,7 @@ use Rattle.table_form.specs.Running.Offered.{some_row_has}
 use Rattle.table_form.specs.Tables.Plans.{PlanView}
 use Rattle.table_form.specs.Tables.Rows.{Row}
 use Rattle.table_form.specs.Tables.Serves.{Apart, OwnersHaveTasks, flat, has_task, is_cell_of, owner_at}
-use Rattle.table_form.proofs.OfferedLemmas.{cell_is}
+use Rattle.table_form.proofs.OfferedLemmas.{cell_is, has_row}
 use Rattle.report_counts.specs.declared.stretch.Stretch.{Stretch}
 use Rattle.report_counts.specs.Inside.Sweeps.{IsToldTo, closed, swept}
 use Rattle.report_counts.specs.Inside.Tells.{IsToldRound, waits_in}
@@ -17,20 +17,6 @@ use Rattle.report_counts.specs.Stretches.{all_wait, no_ticks, offered_to, stretc
 use Rattle.report_counts.proofs.JoinLemmas.{tells_both}
 use Rattle.report_counts.proofs.ReportLemmas.{and_not}
 use Rattle.report_counts.proofs.StretchLemmas.{tells_neither, tells_offer, tells_wait}
-
--- where some row has the vCPU one does
-has_row : (rows : List Row) (v place : ℕ) → some_row_has rows v place ≡ true
-    → (c : ℕ) × (owner_at rows c place ≡ Some v)
-has_row [] v place h = absurd cc
-has_row (row ∷ rows) v place h =
-    by_test (is_cell_of v (flat (slice_get row place))) refl h (λ g. has_row rows v place g)
-  where
-    by_test : (b : Bool) → is_cell_of v (flat (slice_get row place)) ≡ b
-        → (is_cell_of v (flat (slice_get row place)) || some_row_has rows v place) ≡ true
-        → (some_row_has rows v place ≡ true → (c : ℕ) × (owner_at rows c place ≡ Some v))
-        → (c : ℕ) × (owner_at (row ∷ rows) c place ≡ Some v)
-    by_test true is g rest = (0, cell_is v (flat (slice_get row place)) is)
-    by_test false is g rest = (let found = rest (rw is at g) in (suc found.0, found.1))
 
 -- one row more
 row_step : (rows : List Row) (k v place : ℕ) → k < length rows

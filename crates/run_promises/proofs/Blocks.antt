@@ -1,7 +1,8 @@
 -- The greatest wait between offers, across blocks of different tasks.
 use Rattle.std.proofs.Common.{◌≡◌, ℕ, suc, ◌+◌, ◌-◌, ◌<◌, ◌≤◌, refl, arith, ⊎_elim}
 use Rattle.std.proofs.lemmas.Bool.{cases_lt}
-use Rattle.run_promises.proofs.Totals.{total, total-outside}
+use Rattle.tab_core.specs.Sums.{total}
+use Rattle.tab_core.proofs.Totals.{total-outside}
 
 -- tick x lies in the block of length (span x) that begins at (base x) and has at least (cost x)
 -- offers; the blocks tile the ticks from low to below top

@@ -9,6 +9,7 @@ use Rattle.tab_core.specs.declared.TheConstants.{ROUND}
 use Rattle.tab_core.specs.declared.stint.Stint.{Stint}
 use Rattle.tab_core.specs.VcpuSets.{has_vcpu}
 use Rattle.tab_core.proofs.Periods.{period_facts}
+use Rattle.tab_core.proofs.Lists.{same}
 use Rattle.table_form.specs.Running.Capped.{KeepsCaps, capped_by, runs_at, runs_in, ticks_run}
 use Rattle.table_form.specs.Running.Courses.{CourseView, IsCourse, plan_after}
 use Rattle.table_form.specs.Running.Invariant.{StateInvariant}
@@ -20,7 +21,6 @@ use Rattle.table_form.specs.Tables.Rows.{Row}
 use Rattle.table_form.specs.Tables.Serves.{is_cell_of, owner_at, supply}
 use Rattle.table_form.proofs.OfferedLemmas.{cell_is, row_has}
 use Rattle.run_promises.proofs.CourseLemmas.{exact_after}
-use Rattle.run_promises.proofs.Lists.{same}
 use Rattle.run_promises.proofs.OfferedLemmas.{one, one_at_least, supply_step}
 use Rattle.run_promises.proofs.ServedLemmas.{period_fits, task_found}
 use Rattle.run_promises.proofs.TogetherLemmas.{Stands, owns, fills, stint_stands}

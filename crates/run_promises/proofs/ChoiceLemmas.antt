@@ -1,12 +1,13 @@
 -- A stint as the rules choose it: its length, and the places that it covers, which are alike.
-use Rattle.std.proofs.Common.{◌≡◌, ℕ, ◌+◌, ◌-◌, ◌*◌, ◌/◌, ◌%◌, ◌<◌, ◌≤◌, inl, inr, min, cond, Bool, true, false, List, Option, Some, sym, ◌∙◌, arith}
+use Rattle.std.proofs.Common.{◌≡◌, ℕ, ◌+◌, ◌-◌, ◌*◌, ◌/◌, ◌%◌, ◌<◌, ◌≤◌, inl, inr, min, cond, Bool, true, false, List, [], ◌∷◌, ◌++◌, Option, Some, None, sym, arith}
+use Rattle.std.proofs.lemmas.List.Sums.{fold_push}
 use Rattle.tab_core.specs.declared.TheConstants.{ROUND}
 use Rattle.tab_core.specs.declared.stint.Stint.{Stint}
-use Rattle.table_form.specs.Running.Choice.{IsDispatch, IsEligible, IsPick, is_shared}
+use Rattle.table_form.specs.Running.Choice.{IsDispatch, IsEligible, IsPick, is_shared, last_after, last_shared}
 use Rattle.table_form.specs.Running.Courses.{CourseView, IsCourse, plan_after}
 use Rattle.table_form.specs.Tables.Plans.{PlanView}
-use Rattle.table_form.specs.Tables.Spans.{IsSharer}
 use Rattle.table_form.specs.Tables.Spots.{SameSpot}
+use Rattle.table_form.proofs.SpotLemmas.{sharer_moves}
 
 -- the arithmetic of `stint_bounds`, with and without the quantum
 end_bounds : (b : Bool) (f e span lag quantum : ℕ)
@@ -50,23 +51,11 @@ stint_within course c earlier s x f low lt =
     course.quantum x f.end low lt f.span.within in
     record { round = places.0; alike = f.span.alike (x % ROUND) places.1 places.2 }
 
--- whoever may share a place may share one that is alike
-pub sharer_alike : (plan : PlanView) (c x y v : ℕ) → SameSpot plan c x y → IsSharer plan c x v
-    → IsSharer plan c y v
-sharer_alike plan c x y v alike s = record {
-  home = s.home;
-  uncapped = s.uncapped;
-  no_owner = λ q. s.no_owner (alike.owner ∙ q);
-  here = λ d ne q.
-      let away = alike.back v (record { home = s.home; other = d; elsewhere = ne; stands = q }) in
-      s.here away.other away.elsewhere away.stands;
-}
-
 -- so whoever is eligible at the one is so at the other
 pub eligible_alike : (plan : PlanView) (c x y : ℕ) (runnable : List Bool) (v : ℕ)
     → SameSpot plan c x y → IsEligible plan c x runnable v → IsEligible plan c y runnable v
 eligible_alike plan c x y runnable v alike e =
-    record { number = e.number; ready = e.ready; sharer = sharer_alike plan c x y v alike e.sharer }
+    record { number = e.number; ready = e.ready; sharer = sharer_moves plan c x y v alike e.sharer }
 
 -- and the other way round
 pub eligible_back : (plan : PlanView) (c x y : ℕ) (runnable : List Bool) (v : ℕ)
@@ -74,3 +63,8 @@ pub eligible_back : (plan : PlanView) (c x y : ℕ) (runnable : List Bool) (v : 
 eligible_back plan c x y runnable v alike e =
     eligible_alike plan c y x runnable v
     (record { owner = sym alike.owner; away = alike.back; back = alike.away }) e
+
+-- who was picked last, behind one stint more
+pub last_more : (course : CourseView) (c : ℕ) (stints : List Stint) (s : Stint)
+    → last_shared course c (stints ++ s ∷ []) ≡ last_after course c (last_shared course c stints) s
+last_more course c stints s = fold_push (last_after course c) None stints s

@@ -6,6 +6,7 @@ use Rattle.std.specs.Option.{IsSome}
 use Rattle.tab_core.specs.declared.TheConstants.{ROUND}
 use Rattle.tab_core.specs.declared.periodic.Periodic.{Periodic}
 use Rattle.tab_core.proofs.Periods.{period_facts}
+use Rattle.tab_core.specs.Sums.{total}
 use Rattle.table_form.specs.Running.Courses.{CourseView, IsCourse}
 use Rattle.table_form.specs.Running.Offered.{is_offered}
 use Rattle.table_form.specs.Running.Gaps.{IsGap, HasShortGaps, task_at}
@@ -13,7 +14,6 @@ use Rattle.table_form.specs.Running.State.{State}
 use Rattle.run_promises.proofs.Blocks.{Blocks, gap}
 use Rattle.run_promises.proofs.ServedLemmas.{served, period_fits}
 use Rattle.run_promises.proofs.OfferedLemmas.{one, offers_total}
-use Rattle.run_promises.proofs.Totals.{total}
 
 -- where in its period a place lies
 remainder : (t p : ℕ) → 1 ≤ t → (p / t * t ≤ p) × (p < p / t * t + t)

@@ -10,5 +10,4 @@ pub mod OneTableLemmas
 pub mod PromiseLemmas
 pub mod ServedLemmas
 pub mod TogetherLemmas
-pub mod Totals
 pub mod WaitingLemmas

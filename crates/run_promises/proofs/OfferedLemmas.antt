@@ -5,12 +5,13 @@ use Rattle.std.specs.Prelude.{slice_get, count_by, ◌||◌}
 use Rattle.std.proofs.Math.Seq.{take-nil}
 use Rattle.std.proofs.lemmas.List.Sums.{sum_by-cons}
 use Rattle.tab_core.specs.declared.TheConstants.{ROUND}
+use Rattle.tab_core.proofs.Lists.{get-drop}
+use Rattle.tab_core.specs.Sums.{total}
 use Rattle.table_form.specs.Running.Courses.{CourseView, plan_after}
 use Rattle.table_form.specs.Running.Offered.{some_row_has, is_offered, offers}
 use Rattle.table_form.specs.Tables.Rows.{Row}
 use Rattle.table_form.specs.Tables.Serves.{Apart, cells_within, supply, owner_at, flat, is_cell_of}
 use Rattle.table_form.proofs.OfferedLemmas.{cell_is}
-use Rattle.run_promises.proofs.Totals.{total}
 
 -- 1 where the test passes
 abbrev pub one : Bool → ℕ
@@ -38,13 +39,6 @@ count_step v (x ∷ xs) (suc n) =
       sum_by-cons (λ cell. cond (is_cell_of v cell) 1 0) x (take n xs),
       count_step v xs n,
     )
-
--- a place behind those that are dropped
-get-drop : (xs : Row) (a n b : ℕ) → b ≡ a + n → slice_get (drop a xs) n ≡ slice_get xs b
-get-drop xs zero n b is = ap (slice_get xs) (omega arith)
-get-drop [] (suc a) n b is = refl
-get-drop (x ∷ xs) (suc a) n zero is = absurd (omega arith)
-get-drop (x ∷ xs) (suc a) n (suc b) is = get-drop xs a n b (omega arith)
 
 -- the cells within an interval grow by the one at its end
 cells_step : (v : ℕ) (row : Row) (from n : ℕ)

@@ -3,11 +3,12 @@
 use Rattle.std.proofs.Common.{◌≡◌, ℕ, ◌<◌, ◌≤◌, inl, inr, List, Some, length, arith}
 use Rattle.std.specs.Prelude.{slice_get}
 use Rattle.std.proofs.lemmas.Bool.{cases_lt}
+use Rattle.std.proofs.lemmas.Option.{slice_get_within}
+use Rattle.tab_core.proofs.Lists.{element_at}
 use Rattle.table_form.specs.Running.Courses.{CourseView, IsCourse}
 use Rattle.table_form.specs.Running.Invariant.{StateInvariant, IsComplete}
 use Rattle.table_form.specs.Running.OneTable.{UsesCounts}
 use Rattle.table_form.specs.Running.State.{State, CoreState}
-use Rattle.run_promises.proofs.Lists.{element_at, within}
 
 -- a core that uses the rounds' counts has entered only rounds that have one
 pub entered_counted : (decided : List ℕ) (core : CoreState) → UsesCounts decided core
@@ -15,7 +16,7 @@ pub entered_counted : (decided : List ℕ) (core : CoreState) → UsesCounts dec
 entered_counted decided core uses = elim (cases_lt (length decided) (length core.entries)) [
   | inl more ↦
       let found = element_at core.entries (length decided) more in
-      let lt = within decided (length decided) found.0.used (uses.entries (length decided) found.0 found.1) in
+      let lt = slice_get_within decided (length decided) found.0.used (uses.entries (length decided) found.0 found.1) in
       absurd (omega arith)
   | inr le ↦ le
 ]
@@ -27,7 +28,7 @@ few_counts course rounds s kept = elim (cases_lt rounds (length s.decided)) [
   | inl more ↦
       let found = element_at s.decided rounds more in
       let won = (kept.table.one_winner rounds found.0 found.1).won_by in
-      let lt = within won.core.entries rounds won.entry won.entered in
+      let lt = slice_get_within won.core.entries rounds won.entry won.entered in
       let few = (kept.cores _ won.core won.at).entries.few in
       absurd (omega arith)
   | inr le ↦ le

@@ -1,5 +1,5 @@
 -- Each vCPU is offered its cost in each of its periods.
-use Rattle.std.proofs.Common.{◌≡◌, ℕ, suc, ◌+◌, ◌*◌, ◌/◌, ◌<◌, ◌≤◌, Option, Some, None, refl, ap, arith}
+use Rattle.std.proofs.Common.{◌≡◌, ℕ, suc, ◌+◌, ◌*◌, ◌/◌, ◌<◌, ◌≤◌, Option, Some, None, refl, arith}
 use Rattle.std.specs.Prelude.{slice_get}
 use Rattle.std.proofs.Math.Nat.{mul-le-mul_right, suc-mul}
 use Rattle.tab_core.specs.declared.TheConstants.{ROUND}
@@ -8,14 +8,10 @@ use Rattle.tab_core.proofs.Periods.{period_facts}
 use Rattle.table_form.specs.Running.Courses.{CourseView, IsCourse, plan_after}
 use Rattle.table_form.specs.Running.Offered.{task_by, IsServed}
 use Rattle.table_form.specs.Running.State.{State}
-use Rattle.table_form.specs.Tables.Serves.{supply, flat}
+use Rattle.table_form.specs.Tables.Serves.{supply}
+use Rattle.table_form.proofs.SpotLemmas.{flat_some}
 use Rattle.run_promises.proofs.CourseLemmas.{apart_after, serves_after}
 use Rattle.run_promises.proofs.OfferedLemmas.{offers_supply}
-
--- the two options of a task that is there
-flat_some : {X : Type 0} (o : Option (Option X)) (x : X) → flat o ≡ Some x → o ≡ Some (Some x)
-flat_some None x h = absurd cc
-flat_some (Some o) x h = ap Some h
 
 -- the count of a round in which the vCPU has a task
 pub task_found : (course : CourseView) (o : Option ℕ) (v : ℕ) (task : Periodic)

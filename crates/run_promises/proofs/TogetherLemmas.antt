@@ -4,6 +4,7 @@ use Rattle.std.specs.Prelude.{slice_get}
 use Rattle.std.proofs.lemmas.Bool.{cases_eq}
 use Rattle.tab_core.specs.declared.TheConstants.{ROUND}
 use Rattle.tab_core.specs.declared.stint.Stint.{Stint}
+use Rattle.tab_core.proofs.Lists.{same}
 use Rattle.table_form.specs.Running.Choice.{IsDispatch, IsEligible, IsPick, owner_runs, last_shared}
 use Rattle.table_form.specs.Running.Courses.{CourseView, IsCourse, plan_after, runnable_after}
 use Rattle.table_form.specs.Running.Invariant.{StateInvariant}
@@ -12,9 +13,9 @@ use Rattle.table_form.specs.Running.Together.{RunsOnOneCore}
 use Rattle.table_form.specs.Tables.Plans.{PlanView}
 use Rattle.table_form.specs.Tables.Serves.{owner_at, Apart}
 use Rattle.table_form.specs.Tables.Spans.{IsSharer}
-use Rattle.run_promises.proofs.ChoiceLemmas.{Within, picked, sharer_alike, stint_within}
+use Rattle.table_form.proofs.SpotLemmas.{sharer_moves}
+use Rattle.run_promises.proofs.ChoiceLemmas.{Within, picked, stint_within}
 use Rattle.run_promises.proofs.CourseLemmas.{apart_after}
-use Rattle.run_promises.proofs.Lists.{same}
 
 -- how a vCPU comes to run on a core: it owns the place, or it may share it
 pub data Stands (plan : PlanView) (c place v : ℕ) : Type 0 where
@@ -62,7 +63,7 @@ stint_stands course c earlier s x v f low lt ran = (
         (IsEligible (plan_after course s.used) c (s.from % ROUND)
         (runnable_after course s.seen)) (last_shared course c earlier) o) ran
         (f.choice.shared is)) in
-        fills (sharer_alike (plan_after course s.used) c (s.from % ROUND) (x % ROUND) v at.alike e.sharer)
+        fills (sharer_moves (plan_after course s.used) c (s.from % ROUND) (x % ROUND) v at.alike e.sharer)
 
 -- the promise, since both stints use their round's one count
 pub one_core : (course : CourseView) (rounds : ℕ) (s : State) → IsCourse course

@@ -9,6 +9,7 @@ use Rattle.tab_core.specs.Vcpus.{HaveDistinctNames}
 use Rattle.tab_core.specs.declared.edit.Edit.{Edit}
 use Rattle.tab_core.specs.declared.edit.Edit.TheVariants.{Set, Leave}
 use Rattle.tab_core.specs.declared.vcpu.Vcpu.{Vcpu}
+use Rattle.tab_words.proofs.CommandLemmas.{other_word}
 use Rattle.vcpu_names.specs.Names.{IsUnknown, name_at, names_of}
 use Rattle.script_doc.specs.declared.event.TheConstants.{MAX_WORK}
 use Rattle.script_doc.specs.EventLines.{IsGoodAct, NamedAct, NamedEdit, act_words, blocks, bursts, changes, edit_words, leaves, sets, wakes}
@@ -16,7 +17,6 @@ use Rattle.script_doc.specs.Events.{HasUnknown, HasUnknownEdit, IsActWithin, IsE
 use Rattle.script_doc.specs.declared.event.Act.{Act}
 use Rattle.script_doc.specs.declared.event.Act.TheVariants.{Wake, Block, Change, Burst}
 use Rattle.script_doc.specs.declared.event.Event.{Event}
-use Rattle.script_doc.proofs.ReadingLemmas.{other_word}
 
 -- ---- names
 

@@ -6,12 +6,12 @@ use Rattle.std.proofs.lemmas.Fmt.{decimal_injective}
 use Rattle.std.proofs.lemmas.List.Elements.{All-head, All-tail}
 use Rattle.std.specs.List.{All}
 use Rattle.tab_core.specs.declared.TheConstants.{MAX_CORES}
+use Rattle.tab_words.proofs.CommandLemmas.{other_word}
 use Rattle.script_doc.specs.Statements.{Statement}
 use Rattle.script_doc.specs.Steps.{AreSteps, IsFirstBadLine, IsNoStep, IsStepWithin, step_words}
 use Rattle.script_doc.specs.declared.step.Step.{Step}
 use Rattle.script_doc.specs.declared.step.Step.TheVariants.{Post, See, Decide, Run}
 use Rattle.script_doc.specs.declared.step_list.StepList.{StepList}
-use Rattle.script_doc.proofs.ReadingLemmas.{other_word}
 use Rattle.script_doc.proofs.StatementLemmas.{splits}
 
 -- ---- one list

@@ -1,9 +1,8 @@
 -- The edits of a line, read one after the other, and what a line of an unknown name says.
-use Rattle.std.proofs.Common.{◌≡◌, ℕ, suc, ◌<◌, Bool, true, false, List, [], ◌∷◌, ◌++◌, length, map, flat_map, codes, decimal, ◌≤◌, Some, None, Result, Ok, Err, inl, inr, refl, sym, ap, ◌∙◌, append_assoc, bytes_eq, arith}
+use Rattle.std.proofs.Common.{◌≡◌, ℕ, suc, ◌<◌, Bool, true, false, List, [], ◌∷◌, ◌++◌, length, map, flat_map, codes, decimal, ◌≤◌, Some, None, Result, Ok, Err, inl, inr, refl, sym, ap, ◌∙◌, append_assoc, arith}
 use Rattle.std.proofs.lemmas.Grind.{flat_map-append}
 use Rattle.std.proofs.lemmas.List.{append-nil, length-map, map-append}
 use Rattle.std.proofs.lemmas.List.Elements.{All-append}
-use Rattle.std.proofs.lemmas.Slice.Eq.{bytes_eq-Decides}
 use Rattle.std.specs.List.{All}
 use Rattle.tab_core.specs.declared.edit.Edit.{Edit}
 use Rattle.std.specs.Result.{IsErrAnd, IsErrOf}
@@ -12,23 +11,12 @@ use Rattle.tab_core.specs.declared.TheConstants.{MAX_LATENCY_NS, WHOLE_PPM}
 use Rattle.script_doc.specs.declared.event.TheConstants.{MAX_WORK}
 use Rattle.script_doc.specs.declared.event_reader.LineFault.{LineFault}
 use Rattle.tab_core.specs.Edits.{AreEditsOf, vcpu_of}
+use Rattle.tab_core.proofs.Lists.{only_one}
+use Rattle.tab_words.proofs.CommandLemmas.{other_word}
 use Rattle.script_doc.specs.EventLines.{IsGoodEdit, NamedEdit, sets, leaves, wakes, blocks, changes, bursts, edit_words}
 use Rattle.script_doc.specs.Events.{HasUnknownEdit, edit_name, named_edit}
 use Rattle.vcpu_names.specs.Names.{IsUnknown}
 use Rattle.script_doc.specs.Inside.Reading.{AreEdits, AreNoEdits, AreUnknownEdits, IsEdit, IsNoEdit, IsUnknownAct, IsUnknownName}
-
--- what holds of one element holds of the list of it alone
-pub All-one : {X : Type 0} (P : X → Type 0) (x : X) → P x → All P (x ∷ [])
-All-one P x is = λ k d low.
-    let first : k ≡ 0 = omega arith in
-    rw first is
-
--- words that begin with different words differ
-pub other_word : {a b : List ℕ} (more others : List (List ℕ)) → bytes_eq a b ≡ false
-    → a ∷ more ≡ b ∷ others → ⊥
-other_word {a} {b} more others other same =
-    let word : a ≡ b = cc in
-    absurd (cc (other, (bytes_eq-Decides a b).1 word))
 
 -- the words are no list of edits
 abbrev NoEdits : List (List ℕ) → Type 0
@@ -103,10 +91,10 @@ pub edit_more : (names words rest after : List (List ℕ)) (edits : List Edit) (
 edit_more names words rest after edits edit all_known so_far is = record {
   named = so_far.named ++ is.named ∷ [];
   written = written_more words rest after so_far.named is.named so_far.written is.written;
-  good = All-append IsGoodEdit so_far.named (is.named ∷ []) so_far.good (All-one IsGoodEdit is.named is.good);
+  good = All-append IsGoodEdit so_far.named (is.named ∷ []) so_far.good (only_one IsGoodEdit is.named is.good);
   within =
       All-append (λ (edit : Edit). vcpu_of edit < length names) edits (edit ∷ []) so_far.within
-      (All-one (λ (edit : Edit). vcpu_of edit < length names) edit is.meaning.1);
+      (only_one (λ (edit : Edit). vcpu_of edit < length names) edit is.meaning.1);
   known = λ known.
       ap (λ ns. ns ++ is.named ∷ []) (so_far.known known)
       ∙ (ap (λ (n : NamedEdit). map (named_edit names) edits ++ n ∷ []) is.meaning.0
@@ -122,7 +110,7 @@ pub edit_unknown : (names words rest after : List (List ℕ)) (edits : List Edit
 edit_unknown names words rest after edits all_known so_far is = record {
   named = so_far.named ++ is.named ∷ [];
   written = written_more words rest after so_far.named is.named so_far.written is.written;
-  good = All-append IsGoodEdit so_far.named (is.named ∷ []) so_far.good (All-one IsGoodEdit is.named is.good);
+  good = All-append IsGoodEdit so_far.named (is.named ∷ []) so_far.good (only_one IsGoodEdit is.named is.good);
   within = so_far.within;
   known = λ known. absurd (cc);
   unknown = λ _. last_unknown names so_far.named is.named is.meaning;

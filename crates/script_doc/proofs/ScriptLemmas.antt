@@ -8,6 +8,7 @@ use Rattle.std.proofs.lemmas.List.Sums.{sum_by-append}
 use Rattle.std.specs.List.{All}
 use Rattle.tab_core.specs.declared.TheConstants.{MAX_CHANGES, MAX_EVENTS, ROUND}
 use Rattle.tab_core.specs.declared.vcpu.Vcpu.{Vcpu}
+use Rattle.tab_core.proofs.Lists.{only_one}
 use Rattle.tab_words.specs.Lines.{lines_of}
 use Rattle.tab_words.specs.Words.{words_of}
 use Rattle.vcpu_names.specs.Names.{names_of}
@@ -22,7 +23,6 @@ use Rattle.script_doc.specs.declared.event_reader.LineFault.{LineFault}
 use Rattle.script_doc.specs.declared.event_reader.LineFault.TheVariants.{BadLine as BadForm, UnknownName as NoSuchName, NoMemory as OutOfMemory}
 use Rattle.script_doc.specs.declared.script_fault.ScriptFault.{ScriptFault}
 use Rattle.script_doc.specs.declared.script_fault.ScriptFault.TheVariants.{BadLine, UnknownName, OutOfOrder, LateEvent, TooManyEvents, TooManyChanges, NoMemory}
-use Rattle.script_doc.proofs.ReadingLemmas.{All-one}
 use Rattle.script_doc.proofs.StatementLemmas.{statements_from-kept, statements_from-nil, statements_from-skipped}
 
 -- ---- the limits
@@ -185,7 +185,7 @@ script_more names rounds tick front statement events event script highest is lim
       (λ k d low. let high = highest k d low in let order = limits.order in omega arith);
   in_time =
       All-append (λ (event : Event). event.tick < rounds * ROUND) events (event ∷ []) script.in_time
-      (All-one (λ (event : Event). event.tick < rounds * ROUND) event limits.in_time);
+      (only_one (λ (event : Event). event.tick < rounds * ROUND) event limits.in_time);
   few = let size = length-append events (event ∷ []) in let few = limits.few in omega arith;
   few_changes =
       rw (changes_in-last events event)
@@ -220,7 +220,7 @@ event_read names rounds bytes number tick changes after events line lines event 
       highest =
           All-append (λ (e : Event). e.tick ≤ event.tick) events (event ∷ [])
           (λ k d low. let high = so_far.highest k d low in let order = limits.order in omega arith)
-          (All-one (λ (e : Event). e.tick ≤ event.tick) event (omega arith));
+          (only_one (λ (e : Event). e.tick ≤ event.tick) event (omega arith));
       changed = counted ∙ (ap (λ (n : ℕ). n + cond (is_change event.act) 1 0) so_far.changed
           ∙ sym (changes_in-last events event));
       count = omega (arith, so_far.count);

@@ -10,7 +10,7 @@ use Rattle.std.specs.List.{All, list_any}
 use Rattle.tab_core.specs.Name.{IsName}
 use Rattle.tab_core.specs.Vcpus.{HaveDistinctNames}
 use Rattle.tab_core.specs.declared.vcpu.Vcpu.{Vcpu}
-use Rattle.host_doc.proofs.VcpusLemmas.{distinct_with, names}
+use Rattle.host_doc.proofs.VcpusLemmas.{distinct_with, names, or-last}
 use Rattle.host_doc.specs.Inside.TextSets.{has_text}
 use Rattle.sizes_doc.specs.SizedHost.{HaveGoodNames, IsTwice}
 
@@ -31,13 +31,6 @@ none_new vcpus index texts first empty =
           (λ k d low. absurd (omega arith));
       distinct = subst HaveDistinctNames (sym none) (λ j k a b at_j at_k same. absurd cc);
     }
-
--- the order in which a set and a list test for a name makes no difference
-or-last : (a b : Bool) → (a || b) ≡ (b || (a || false))
-or-last true true = refl
-or-last true false = refl
-or-last false true = refl
-or-last false false = refl
 
 -- behind a vCPU of a new name
 pub more_new : (vcpus : List Vcpu) (index : ℕ) (texts more : BTreeSet (Bor (List ℕ))) (vcpu : Vcpu)

@@ -1,5 +1,5 @@
 -- The other rows that matter to a core, row by row.
-use Rattle.std.proofs.Common.{◌≡◌, ◌≢◌, ℕ, zero, suc, Option, None, get_or, ◌+◌, ◌<◌, List, [], ◌∷◌, ◌++◌, length, length-append, Some, inl, inr, ap, sym, ◌∙◌, arith}
+use Rattle.std.proofs.Common.{◌≡◌, ◌≢◌, ℕ, zero, suc, get_or, ◌+◌, ◌<◌, List, [], ◌∷◌, ◌++◌, length, length-append, Some, inl, inr, ap, sym, ◌∙◌, arith}
 use Rattle.std.specs.Prelude.{slice_get, slice_index}
 use Rattle.std.proofs.Math.Seq.{get_or-append_seam}
 use Rattle.std.proofs.lemmas.Bool.{cases_lt}
@@ -8,6 +8,7 @@ use Rattle.table_form.specs.Tables.Homes.{IsHome}
 use Rattle.table_form.specs.Tables.Plans.{PlanView}
 use Rattle.table_form.specs.Tables.Rows.{Row}
 use Rattle.table_form.specs.Tables.Serves.{flat, owner_at}
+use Rattle.table_form.proofs.SpotLemmas.{flat_some}
 use Rattle.slice_table.specs.Inside.Sweeps.{AreOthers}
 
 -- a row that doesn't matter is left out
@@ -59,8 +60,4 @@ pub cell_read : (rows : List Row) (d x v : ℕ) (row : Row) → d < length rows 
 cell_read [] d x v row lt is stands = absurd (omega arith)
 cell_read (r ∷ rows) zero x v row lt is stands =
     flat_some (slice_get row x) v (ap (λ (cells : Row). flat (slice_get cells x)) is ∙ stands)
-  where
-    flat_some : (o : Option (Option ℕ)) (v : ℕ) → flat o ≡ Some v → o ≡ Some (Some v)
-    flat_some None v e = absurd cc
-    flat_some (Some p) v e = ap Some e
 cell_read (r ∷ rows) (suc d) x v row lt is stands = cell_read rows d x v row (omega arith) is stands

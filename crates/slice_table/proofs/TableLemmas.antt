@@ -9,7 +9,7 @@ use Rattle.table_form.specs.declared.spot.Spot.{Spot}
 use Rattle.table_form.specs.Tables.Plans.{PlanView}
 use Rattle.table_form.specs.Tables.Spans.{IsSharer, IsSpan}
 use Rattle.table_form.specs.Tables.Spots.{AreSpans, HasSpans, IsAway, IsSpanEnd, IsSpot, SameSpot}
-use Rattle.table_form.proofs.SpotLemmas.{spot_through}
+use Rattle.table_form.proofs.SpotLemmas.{spot_through, sharer_moves}
 use Rattle.slice_table.specs.declared.full_span.FullSpan.{FullSpan}
 use Rattle.slice_table.specs.Inside.Spans.{AreEnds, HoldsTick, ends_of}
 use Rattle.slice_table.specs.Slices.{AreSpansOf, IsShown, IsTableOf}
@@ -17,22 +17,6 @@ use Rattle.slice_table.specs.Slices.{AreSpansOf, IsShown, IsTableOf}
 -- places that are alike are so both ways
 same_back : (plan : PlanView) (c x y : ℕ) → SameSpot plan c x y → SameSpot plan c y x
 same_back plan c x y same = record { owner = sym same.owner; away = same.back; back = same.away }
-
--- and the same vCPUs share there
-sharer_moves : (plan : PlanView) (c x y v : ℕ) → SameSpot plan c x y → IsSharer plan c x v
-    → IsSharer plan c y v
-sharer_moves plan c x y v same sharer = record {
-  home = sharer.home;
-  uncapped = sharer.uncapped;
-  no_owner = λ owns. sharer.no_owner (same.owner ∙ owns);
-  here = λ d other stands.
-      (let away = same.back v (record {
-        home = sharer.home;
-        other = d;
-        elsewhere = other;
-        stands = stands;
-      }) in sharer.here away.other away.elsewhere away.stands);
-}
 
 -- so a span shows there what it shows here
 shown_moves : (plan : PlanView) (c x y : ℕ) (span : FullSpan) → SameSpot plan c x y → IsShown plan c x span

@@ -2,6 +2,7 @@
 use Rattle.std.proofs.Common.{◌≡◌, ℕ, ◌<◌, inl, inr, List, Option, Some, refl, ap, sym, subst, ◌∙◌, arith}
 use Rattle.std.specs.Prelude.{slice_get}
 use Rattle.std.proofs.lemmas.Bool.{cases_lt}
+use Rattle.std.proofs.lemmas.Option.{slice_get_within}
 use Rattle.tab_core.specs.declared.stint.Stint.{Stint}
 use Rattle.table_form.specs.Running.Courses.{CourseView}
 use Rattle.script_doc.specs.declared.step.Step.{Step}
@@ -15,8 +16,8 @@ use Rattle.table_form.specs.Running.Entering.{Decides, EntersFirst, EntersAfter}
 use Rattle.table_form.specs.Running.Phases.{phase_of, round_of, to_decide}
 use Rattle.script_doc.specs.declared.step.Step.TheVariants as steps
 use Rattle.tab_core.specs.declared.actor.Actor.TheVariants.{Core, Controller}
+use Rattle.tab_core.proofs.Lists.{same}
 use Rattle.step_machine.specs.declared.answer.Answer.TheVariants.{Done, Behind, NotNow}
-use Rattle.run_promises.proofs.Lists.{same, within}
 use Rattle.step_machine.proofs.StintLemmas.{one_next}
 
 -- a clock is not both near enough and behind
@@ -122,7 +123,7 @@ first_or_after : (rounds c : ℕ) (s n m : State) → EntersFirst rounds c s n �
 first_or_after rounds c s n m p q =
     let is : p.round.core ≡ q.round.core = same (slice_get s.cores c) p.round.core q.round.core p.round.at q.round.at in
     let round = ap (λ (x : CoreState). round_of x) is in
-    let lt = within s.decided (round_of q.round.core) q.used q.count in
+    let lt = slice_get_within s.decided (round_of q.round.core) q.used q.count in
     let first = p.first in
     absurd (omega arith)
 

@@ -3,10 +3,10 @@ use Rattle.std.proofs.Common.{◌≡◌, ℕ, inl, inr, true, List, Some, sym, s
 use Rattle.std.specs.Prelude.{slice_get, slice_set}
 use Rattle.std.proofs.lemmas.Bool.{cases_eq}
 use Rattle.tab_core.specs.declared.entry.Entry.{Entry}
+use Rattle.tab_core.proofs.Lists.{set_other, same}
 use Rattle.table_form.specs.Running.State.{CoreState}
 use Rattle.table_form.specs.Running.OneTable.{HasOneWinner}
-use Rattle.run_promises.proofs.Lists.{same}
-use Rattle.step_machine.proofs.Lists.{set_split, set_here, set_other}
+use Rattle.step_machine.proofs.Lists.{set_split, set_here}
 
 -- what holds of each core after one of them has changed
 pub cores_after : (P : ℕ → CoreState → Type 0) (cores : List CoreState) (c : ℕ) (changed : CoreState) →

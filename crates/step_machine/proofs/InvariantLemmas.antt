@@ -2,11 +2,13 @@
 use Rattle.std.proofs.Common.{◌≡◌, ℕ, suc, ◌+◌, ◌*◌, ◌/◌, ◌<◌, ◌≤◌, ◌⊎◌, inl, inr, true, false, ◌≢◌, List, [], ◌∷◌, ◌++◌, length, take, Option, Some, refl, ap, sym, subst, ◌∙◌, arith, length-append, length-set}
 use Rattle.std.specs.Prelude.{slice_get, slice_set}
 use Rattle.std.proofs.lemmas.Bool.{cases_lt}
+use Rattle.std.proofs.lemmas.Option.{slice_get_within}
 use Rattle.tab_core.proofs.TimelineLemmas.{contiguous_push}
 use Rattle.tab_core.specs.Timelines.{HasTimeline}
 use Rattle.tab_core.specs.declared.TheConstants.{ROUND}
 use Rattle.tab_core.specs.declared.stint.Stint.{Stint}
 use Rattle.tab_core.specs.declared.entry.Entry.{Entry}
+use Rattle.tab_core.proofs.Lists.{take_push_old, take_push_new, push_old, push_new, push_split, same}
 use Rattle.table_form.specs.Running.Courses.{CourseView, IsCourse, tick_at}
 use Rattle.table_form.specs.Running.State.{State, CoreState, IsCore}
 use Rattle.script_doc.specs.declared.step.Step.{Step}
@@ -20,8 +22,7 @@ use Rattle.table_form.specs.Running.Invariant.{StintInvariant, SightInvariant, C
 use Rattle.table_form.specs.Running.OneTable.{HasOneTable, UsesCounts}
 use Rattle.script_doc.specs.declared.step.Step.TheVariants as steps
 use Rattle.table_form.specs.Running.Phases.{to_decide}
-use Rattle.run_promises.proofs.Lists.{within, same}
-use Rattle.step_machine.proofs.Lists.{set_split, set_here, push_split, push_old, push_new, take_push_old, take_push_new}
+use Rattle.step_machine.proofs.Lists.{set_split, set_here}
 use Rattle.step_machine.proofs.PhaseLemmas.{deciding, running, entered_below}
 use Rattle.run_promises.proofs.ChoiceLemmas.{stint_bounds}
 use Rattle.run_promises.proofs.OneTableLemmas.{entered_counted}
@@ -313,7 +314,7 @@ table_entered old c seen core e k at used saw won first counts clock =
             (λ x g w. elim (push_split core.entries r e x g) [
               | inl was ↦ was
               | inr is ↦
-                  let lt = within old.decided r d before in
+                  let lt = slice_get_within old.decided r d before in
                   let place = is.0 in
                   absurd (omega arith)
             ]) (k.one_winner r d before)
@@ -331,7 +332,7 @@ table_entered old c seen core e k at used saw won first counts clock =
             | inl is ↦ is.0
             | inr other ↦
                 let few = entered_counted old.decided x (k.cores i x other.1) in
-                let lt = within x.entries r f q in
+                let lt = slice_get_within x.entries r f q in
                 absurd (omega (arith, new.0))
           ];
         })
@@ -340,7 +341,7 @@ table_entered old c seen core e k at used saw won first counts clock =
         | inl g-old ↦ elim (push_split old.decided r seen a h) [
           | inl h-old ↦ k.rises r a b h-old g-old
           | inr h-new ↦
-              absurd (let lt = within old.decided (suc r) b g-old in let place = h-new.0 in omega arith)
+              absurd (let lt = slice_get_within old.decided (suc r) b g-old in let place = h-new.0 in omega arith)
         ]
         | inr g-new ↦ elim (push_split old.decided r seen a h) [
           | inl h-old ↦
@@ -403,7 +404,7 @@ timeline_ran : (course : CourseView) (rounds c : ℕ) (core : CoreState) (s : St
 timeline_ran course rounds c core s ok t next =
     let bounds = stint_bounds course c core.stints s ok next.follows in
     let from : s.from ≡ core.clock = next.from in
-    let entered = within core.entries (round_of core) next.entry next.entered in
+    let entered = slice_get_within core.entries (round_of core) next.entry next.entered in
     record {
       contiguous = contiguous_push 0 core.clock core.stints s t.contiguous next.from;
       numbered = t.numbered;
@@ -451,7 +452,7 @@ core_ran course rounds posted decided c core s ok k next =
         risen = λ i j t u le h g. elim (push_split core.stints j s u g) [
           | inl g-old ↦ elim (push_split core.stints i s t h) [
             | inl h-old ↦ k.stints.risen i j t u le h-old g-old
-            | inr h-new ↦ absurd (let lt = within core.stints j u g-old in let at = h-new.0 in omega arith)
+            | inr h-new ↦ absurd (let lt = slice_get_within core.stints j u g-old in let at = h-new.0 in omega arith)
           ]
           | inr g-new ↦
               (let is = ap (λ (y : Stint). y.seen) g-new.1 in elim (push_split core.stints i s t h) [

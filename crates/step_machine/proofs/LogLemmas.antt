@@ -3,10 +3,10 @@ use Rattle.std.proofs.Common.{◌≡◌, ℕ, zero, suc, ◌+◌, ◌<◌, inl, 
 use Rattle.std.specs.Prelude.{slice_get, slice_index_or, slice_set}
 use Rattle.std.proofs.lemmas.Option.{slice_get_read, slice_get_within}
 use Rattle.std.proofs.lemmas.List.{map-set}
+use Rattle.tab_core.proofs.Lists.{same}
 use Rattle.step_machine.specs.declared.core_log.CoreLog.{CoreLog}
 use Rattle.table_form.specs.Running.State.{CoreState}
 use Rattle.step_machine.specs.Inside.Logs.{core_of, cores_of, HasRoom, HaveRoom, Edits}
-use Rattle.run_promises.proofs.Lists.{same}
 use Rattle.step_machine.proofs.Lists.{set_split}
 
 -- what an index finds is the element

@@ -1,13 +1,14 @@
 -- What the code of a step knows of the state that is kept of a run, and of the log that it works on.
-use Rattle.std.proofs.Common.{◌≡◌, ℕ, ◌+◌, ◌*◌, ◌/◌, ◌^◌, ◌<◌, ◌≤◌, inl, inr, List, [], ◌∷◌, ◌++◌, length, Option, Some, None, refl, ap, sym, subst, ◌∙◌, arith}
+use Rattle.std.proofs.Common.{◌≡◌, ℕ, ◌+◌, ◌*◌, ◌/◌, ◌^◌, ◌<◌, ◌≤◌, inl, inr, List, length, Option, Some, refl, ap, sym, subst, ◌∙◌, arith}
 use Rattle.std.proofs.lemmas.List.{length-map}
-use Rattle.std.specs.Prelude.{slice_get, slice_index_or, fold, vec_capacity}
+use Rattle.std.specs.Prelude.{slice_get, slice_index_or, vec_capacity}
 use Rattle.std.proofs.lemmas.Option.{slice_get_read, slice_get_within}
 use Rattle.tab_core.specs.declared.TheConstants.{MAX_ROUNDS, ROUND}
 use Rattle.tab_core.specs.declared.stint.Stint.{Stint}
+use Rattle.tab_core.proofs.Lists.{element_at}
 use Rattle.table_form.specs.Running.Courses.{CourseView, IsCourse}
 use Rattle.table_form.specs.Running.State.{CoreState}
-use Rattle.table_form.specs.Running.Choice.{last_shared, last_after}
+use Rattle.table_form.specs.Running.Choice.{last_shared}
 use Rattle.table_form.specs.Running.Invariant.{StateInvariant, CoreInvariant}
 use Rattle.table_form.specs.Running.Next.{IsLeastClock}
 use Rattle.table_form.specs.Running.Phases.{phase_of, to_decide}
@@ -17,7 +18,6 @@ use Rattle.step_machine.specs.Inside.Logs.{core_of, KnowLast, Edits, IsLowestOf}
 use Rattle.step_machine.specs.Inside.MachineStates.{state_of, HasSpare}
 use Rattle.std.proofs.lemmas.Bool.{cases_lt}
 use Rattle.step_machine.proofs.PhaseLemmas.{deciding, entered_below}
-use Rattle.run_promises.proofs.Lists.{element_at}
 use Rattle.step_machine.proofs.Lists.{set_split}
 use Rattle.step_machine.proofs.LogLemmas.{log_at, core_at}
 
@@ -60,17 +60,6 @@ last_edited course old new c before changed last e is know =
           ∙ ap (λ (ss : List Stint). last_shared course k ss) (sym stints)))
       | inr other ↦ know k log other.1
     ]
-
--- a fold over a list and one more
-pub fold_push : {A B : Type 0} (f : B → A → B) (b : B) (xs : List A) (x : A)
-    → fold f b (xs ++ x ∷ []) ≡ f (fold f b xs) x
-fold_push f b [] x = refl
-fold_push f b (y ∷ ys) x = fold_push f (f b y) ys x
-
--- a stint more
-pub last_more : (course : CourseView) (c : ℕ) (stints : List Stint) (s : Stint)
-    → last_shared course c (stints ++ s ∷ []) ≡ last_after course c (last_shared course c stints) s
-last_more course c stints s = fold_push (last_after course c) None stints s
 
 -- the log of a core
 pub log_at_core : (course : CourseView) (rounds : ℕ) (p : MachineState) (c : ℕ)

@@ -6,9 +6,9 @@ use Rattle.std.proofs.lemmas.List.Elements.{All-append, All-head, All-tail}
 use Rattle.std.proofs.lemmas.Option.{get_or_from_slice_get, slice_get_read, slice_get_within}
 use Rattle.tab_core.specs.declared.entry.Entry.{Entry}
 use Rattle.tab_core.specs.declared.stint.Stint.{Stint}
+use Rattle.tab_core.proofs.Lists.{get_front, push_new, same, only_one}
 use Rattle.table_form.specs.Running.Courses.{CourseView}
 use Rattle.table_form.specs.Running.State.{State, CoreState, opening_core}
-use Rattle.run_promises.proofs.Lists.{same}
 use Rattle.script_doc.specs.declared.step.Step.{Step}
 use Rattle.script_doc.specs.declared.step.Step.TheVariants as steps
 use Rattle.step_machine.specs.Answers.{Answers, Moves}
@@ -21,8 +21,7 @@ use Rattle.step_machine.specs.declared.answer.Answer.TheVariants.{Done, Behind, 
 use Rattle.step_machine.specs.declared.mark.Mark.{Mark}
 use Rattle.step_machine.specs.declared.mark.Mark.TheVariants as marks
 use Rattle.step_machine.specs.declared.trace.Made.{Made}
-use Rattle.step_machine.proofs.Lists.{push_new}
-use Rattle.step_machine.proofs.TraceLemmas.{core_there, ends_some, only_one}
+use Rattle.step_machine.proofs.TraceLemmas.{core_there, ends_some}
 
 -- a core with the entries and stints that it had, and perhaps some behind them
 pub record Extends (core more : CoreState) : Type 0 where
@@ -119,23 +118,17 @@ stands_still old new (marks.Ran c place) grown is =
     let n = length-append (core_in old c).stints more.new_stints in
     (omega (arith, grown.size, is.0), omega (arith, ap length more.stints, n, is.1))
 
--- what stands in a list stands there with more behind
-get_more : {X : Type 0} (xs ys : List X) (k : ℕ) → k < length xs → slice_get (xs ++ ys) k ≡ slice_get xs k
-get_more [] ys k lt = absurd (omega arith)
-get_more (x ∷ xs) ys zero lt = refl
-get_more (x ∷ xs) ys (suc k) lt = get_more xs ys k (omega arith)
-
 -- and is what it was
 made_still : (old new : List CoreState) (m : Mark) → AreGrown old new → Stands old m
     → made_by new m ≡ made_by old m
 made_still old new (marks.Entered c place) grown is =
     let more = grown.each c in
     ap (λ (es : List Entry). entry_made c (slice_get es place)) more.entries
-    ∙ ap (entry_made c) (get_more (core_in old c).entries more.new_entries place is.1)
+    ∙ ap (entry_made c) (get_front (core_in old c).entries more.new_entries place is.1)
 made_still old new (marks.Ran c place) grown is =
     let more = grown.each c in
     ap (λ (ts : List Stint). stint_made c (slice_get ts place)) more.stints
-    ∙ ap (stint_made c) (get_more (core_in old c).stints more.new_stints place is.1)
+    ∙ ap (stint_made c) (get_front (core_in old c).stints more.new_stints place is.1)
 
 -- the same of all marks
 pub all_stand_still : (old new : List CoreState) (ms : List Mark) → AreGrown old new → AllStand old ms

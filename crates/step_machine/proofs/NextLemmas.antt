@@ -1,10 +1,11 @@
 -- A core of least clock can go on, or an event can be posted.
-use Rattle.std.proofs.Common.{◌≡◌, ◌≢◌, ℕ, zero, suc, ◌+◌, ◌*◌, ◌%◌, ◌<◌, ◌≤◌, inl, inr, Bool, true, false, List, [], ◌∷◌, ◌++◌, length, Option, Some, None, refl, ap, sym, ◌∙◌, subst, arith, length-append}
-use Rattle.std.specs.Prelude.{slice_get, slice_index_or, slice_set, if◌then◌else◌, ◌==◌}
+use Rattle.std.proofs.Common.{◌≡◌, ◌≢◌, ℕ, ◌+◌, ◌*◌, ◌%◌, ◌<◌, ◌≤◌, inl, inr, Bool, true, false, List, [], ◌∷◌, ◌++◌, length, Option, Some, None, refl, ap, sym, ◌∙◌, subst, arith, length-append}
+use Rattle.std.specs.Prelude.{slice_get, slice_set, if◌then◌else◌, ◌==◌}
 use Rattle.std.proofs.lemmas.Bool.{cases_lt, eqb-true}
 use Rattle.tab_core.specs.declared.TheConstants.{MAX_VCPUS, ROUND}
 use Rattle.tab_core.specs.declared.stint.Stint.{Stint}
 use Rattle.tab_core.specs.declared.entry.Entry.{Entry}
+use Rattle.tab_core.proofs.Lists.{element_at, same, there}
 use Rattle.table_form.specs.Running.Courses.{FitsRounds, CourseView, IsCourse, no_plan, plan_after, plan_number_after, tick_at}
 use Rattle.table_form.specs.Running.State.{State, CoreState, IsCore}
 use Rattle.table_form.specs.Running.Phases.{phase_of, phase_unfinished, has_entered, round_of}
@@ -19,7 +20,7 @@ use Rattle.table_form.specs.Running.Phases.{to_see, to_decide, to_run, at_end}
 use Rattle.table_form.specs.Tables.Serves.{owner_at}
 use Rattle.table_form.proofs.TaskLemmas.{task_within}
 use Rattle.second_level.proofs.NextStintLemmas.{some_stint}
-use Rattle.run_promises.proofs.Lists.{same, element_at, either}
+use Rattle.run_promises.proofs.Lists.{either}
 use Rattle.step_machine.proofs.Lists.{set_here}
 use Rattle.step_machine.proofs.PhaseLemmas.{deciding, entered_below, entered_to_run, has_seen}
 use Rattle.run_promises.proofs.ChoiceLemmas.{stint_bounds}
@@ -194,13 +195,6 @@ stints_differ core st q =
     let m = length-append core.stints (st ∷ []) in
     omega arith
 
--- for `owner_small`: what is read below the length stands there, whatever stands for the missing
-read_at : {X : Type 0} (xs : List X) (i : ℕ) (d : X) → i < length xs
-    → slice_get xs i ≡ Some (slice_index_or xs i d)
-read_at [] i d lt = absurd (omega arith)
-read_at (x ∷ xs) zero d lt = refl
-read_at (x ∷ xs) (suc i) d lt = read_at xs i d (omega arith)
-
 -- who owns a place of one of the course's plans has a small number, since those plans have few vCPUs
 owner_small : (course : CourseView) (n c place v : ℕ) → IsCourse course
     → length (plan_after course 0).tasks ≤ MAX_VCPUS
@@ -211,7 +205,7 @@ owner_small course n c place v ok few owns =
       | inl at ↦
           let kept = ok.plans_kept (plan_number_after course n) (plan_after course n) at in
           let below = task_within (plan_after course n).tasks v (kept.owned v place c owns) in
-          let there = read_at course.plans first no_plan (ok.form.planned 0 (omega arith)) in
+          let there = there course.plans first no_plan (ok.form.planned 0 (omega arith)) in
           let alike = ok.form.same_vcpus (plan_number_after course n) first (plan_after course n)
           (plan_after course 0) at there in
           omega arith

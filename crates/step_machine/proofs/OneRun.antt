@@ -2,6 +2,7 @@
 -- step of it is the first that isn't done, with one answer; never both.
 use Rattle.std.proofs.Common.{◌≡◌, ◌≢◌, ℕ, zero, suc, ◌++◌, List, [], ◌∷◌, length, length-append, take, Some, refl, ap, sym, subst, ◌∙◌, arith}
 use Rattle.std.specs.Prelude.{slice_get}
+use Rattle.tab_core.proofs.Lists.{push_new, same}
 use Rattle.script_doc.specs.declared.step.Step.{Step}
 use Rattle.script_doc.specs.declared.step.Step.TheVariants as steps
 use Rattle.table_form.specs.Running.Courses.{CourseView}
@@ -14,9 +15,7 @@ use Rattle.step_machine.specs.declared.answer.Answer.{Answer}
 use Rattle.step_machine.specs.declared.answer.Answer.TheVariants.{Done}
 use Rattle.step_machine.specs.declared.trace.Made.{Made}
 use Rattle.step_machine.specs.declared.trace.Made.TheVariants.{Entered, Ran}
-use Rattle.run_promises.proofs.Lists.{same}
 use Rattle.step_machine.proofs.AnswerLemmas.{one_answer}
-use Rattle.step_machine.proofs.Lists.{push_new}
 
 -- ---- one end and one trace
 

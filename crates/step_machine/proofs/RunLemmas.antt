@@ -2,6 +2,7 @@
 use Rattle.std.proofs.Common.{◌≡◌, ◌≢◌, ℕ, zero, suc, inl, inr, List, [], ◌∷◌, ◌++◌, length, replicate, Some, refl, ap, sym, subst, ◌∙◌, arith}
 use Rattle.std.specs.Prelude.{slice_get}
 use Rattle.tab_core.specs.declared.stint.Stint.{Stint}
+use Rattle.tab_core.proofs.Lists.{push_split}
 use Rattle.table_form.specs.Running.Courses.{CourseView, IsCourse}
 use Rattle.script_doc.specs.declared.step.Step.{Step}
 use Rattle.step_machine.specs.declared.answer.Answer.{Answer}
@@ -16,7 +17,6 @@ use Rattle.step_machine.specs.Inside.Logs.{cores_of, KnowLast, HaveRoom, IsNew, 
 use Rattle.step_machine.specs.Runs.{Leads}
 use Rattle.step_machine.specs.declared.machine_state.MachineState.{MachineState}
 use Rattle.step_machine.specs.Inside.MachineStates.{state_of}
-use Rattle.step_machine.proofs.Lists.{push_split}
 use Rattle.step_machine.proofs.InvariantLemmas.{moves_keep}
 
 -- each core of the opening is as new

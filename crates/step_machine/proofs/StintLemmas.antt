@@ -1,14 +1,14 @@
 -- A core's next stint is determined: the end of its span, its pick, and so all of it.
-use Rattle.std.proofs.Common.{◌≡◌, ℕ, ◌%◌, ◌<◌, inl, inr, Bool, true, false, List, Option, Some, None, refl, ap, subst, sym, ◌∙◌, arith}
+use Rattle.std.proofs.Common.{◌≡◌, ℕ, ◌%◌, inl, inr, Bool, true, false, List, Option, Some, None, refl, ap, sym, ◌∙◌, arith}
 use Rattle.std.specs.Prelude.{slice_get}
-use Rattle.std.specs.Option.{ForSome}
-use denote.Struct.Props.{props}
-use Rattle.tab_core.specs.declared.TheConstants.{MAX_VCPUS, ROUND}
+use Rattle.tab_core.specs.declared.TheConstants.{ROUND}
 use Rattle.table_form.proofs.SpotLemmas.{one_end}
 use Rattle.table_form.specs.Tables.Serves.{owner_at}
 use Rattle.tab_core.specs.declared.stint.Stint.{Stint}
 use Rattle.tab_core.specs.Least.{IsLeast}
 use Rattle.tab_core.specs.declared.entry.Entry.{Entry}
+use Rattle.tab_core.proofs.Lists.{same}
+use Rattle.tab_core.proofs.Alike.{same_stint}
 use Rattle.table_form.specs.Tables.Plans.{PlanView}
 use Rattle.table_form.specs.Tables.Spots.{IsSpanEnd}
 use Rattle.table_form.specs.Running.Courses.{CourseView, plan_after, runnable_after}
@@ -16,7 +16,6 @@ use Rattle.table_form.specs.Running.State.{CoreState}
 use Rattle.table_form.specs.Running.Choice.{IsDispatch, IsEligible, IsPick, IsChoice, owner_runs, last_shared, after_last}
 use Rattle.table_form.specs.Running.Stints.{IsNextStint}
 use Rattle.table_form.specs.Running.Phases.{round_of}
-use Rattle.run_promises.proofs.Lists.{same}
 
 -- the least number from one on that passes a test is one
 one_least : (P Q : ℕ → Type 0) (above v w : ℕ) → ((u : ℕ) → P u → Q u) → ((u : ℕ) → Q u → P u)
@@ -70,36 +69,6 @@ one_follows course c earlier s t from seen used f g =
     let span : IsSpanEnd plan c place f.span_end = rw (← used, ← from) f.span in
     let end : f.span_end ≡ g.span_end = one_end plan c place f.span_end g.span_end span g.span in
     (ran, f.end ∙ (rw (end, from, used, ran) refl ∙ sym g.end))
-
--- a stint of its parts; so that equal parts make equal stints
-build : ℕ → ℕ → ℕ → ℕ → (ran : Option ℕ) → ForSome ran (λ v. v < MAX_VCPUS) → Stint
-build from end seen used ran small =
-    record { from = from; end = end; seen = seen; used = used; ran = ran; ran_small = small }
-
--- that a vCPU is small has one proof
-one_small : (ran : Option ℕ) (x y : ForSome ran (λ v. v < MAX_VCPUS)) → x ≡ y
-one_small ran x y = (let one : IsProp (ForSome ran (λ v. v < MAX_VCPUS)) = hlevel props in one x y)
-
--- stints whose vCPUs are equal
-build_alike : (a b c d : ℕ) (e e' : Option ℕ) (x : ForSome e (λ v. v < MAX_VCPUS)) → e ≡ e'
-    → (y : ForSome e' (λ v. v < MAX_VCPUS)) → build a b c d e x ≡ build a b c d e' y
-build_alike a b c d e e' x is =
-    subst (λ (o : Option ℕ). (y : ForSome o (λ v. v < MAX_VCPUS))
-    → build a b c d e x ≡ build a b c d o y) is
-    (λ y. ap (λ (z : ForSome e (λ v. v < MAX_VCPUS)). build a b c d e z) (one_small e x y))
-
--- stints all of whose parts are equal
-build_same : (a a' b b' c c' d d' : ℕ) (e e' : Option ℕ) (x : ForSome e (λ v. v < MAX_VCPUS))
-    (y : ForSome e' (λ v. v < MAX_VCPUS)) → a ≡ a' → b ≡ b' → c ≡ c' → d ≡ d' → e ≡ e'
-    → build a b c d e x ≡ build a' b' c' d' e' y
-build_same a a' b b' c c' d d' e e' x y p q r s t = rw (p, q, r, s) (build_alike a' b' c' d' e e' x t y)
-
--- two stints of equal numbers are the same
-same_stint : (s t : Stint) → s.from ≡ t.from → s.end ≡ t.end → s.seen ≡ t.seen → s.used ≡ t.used
-    → s.ran ≡ t.ran → s ≡ t
-unfolding build
-same_stint s t a b c d e = build_same s.from t.from s.end t.end s.seen t.seen s.used t.used s.ran
-    t.ran s.ran_small t.ran_small a b c d e
 
 -- the law: a core has one next stint
 pub one_next : (course : CourseView) (rounds c : ℕ) (core : CoreState) (s t : Stint)

@@ -1,12 +1,12 @@
 -- What the steps of a run make: that each step of a core makes something, and that nothing is lost.
 use Rattle.std.proofs.Common.{◌≡◌, ◌≢◌, ℕ, zero, suc, ◌<◌, ◌/◌, inl, inr, List, [], ◌∷◌, ◌++◌, length, length-append, append_assoc, append-nil, Some, refl, ap, sym, subst, ◌∙◌, arith}
 use Rattle.std.specs.Prelude.{slice_get, slice_set, slice_index_or}
-use Rattle.std.specs.List.{All}
 use Rattle.std.proofs.lemmas.List.Elements.{All-append, All-nil}
 use Rattle.std.proofs.lemmas.Option.{get_or_from_slice_get}
 use Rattle.tab_core.specs.declared.TheConstants.{ROUND}
 use Rattle.tab_core.specs.declared.entry.Entry.{Entry}
 use Rattle.tab_core.specs.declared.stint.Stint.{Stint}
+use Rattle.tab_core.proofs.Lists.{push_new, only_one}
 use Rattle.table_form.specs.Running.Courses.{CourseView, IsCourse}
 use Rattle.table_form.specs.Running.Invariant.{StateInvariant}
 use Rattle.table_form.specs.Running.State.{State, CoreState, opening_core}
@@ -21,7 +21,7 @@ use Rattle.step_machine.specs.Cores.{core_at}
 use Rattle.step_machine.specs.Runs.{Leads}
 use Rattle.step_machine.specs.Traces.{AreMadeBy, AreOfCourse, EndsWith, IsOfCourse, IsTrace}
 use Rattle.step_machine.proofs.InvariantLemmas.{moves_keep}
-use Rattle.step_machine.proofs.Lists.{push_new, set_here}
+use Rattle.step_machine.proofs.Lists.{set_here}
 
 -- the core that a step wrote is the one that a reader of its number finds
 core_written : (old new : State) (c : ℕ) (core changed : CoreState) → slice_get old.cores c ≡ Some core
@@ -107,11 +107,6 @@ core_there [] c differs = absurd (differs refl)
 core_there (x ∷ xs) zero differs = (refl, omega arith)
 core_there (x ∷ xs) (suc c) differs =
     let rest = core_there xs c differs in (rest.0, omega (arith, rest.1))
-
--- what holds of the one thing that a step made holds of all that it made
-pub only_one : {X : Type 0} (P : X → Type 0) (x : X) → P x → All P (x ∷ [])
-only_one P x is zero d lt = is
-only_one P x is (suc k) d lt = absurd (omega arith)
 
 -- what a step made is of the course, for the writer of a trace
 made_of_course : (course : CourseView) (rounds : ℕ) (s : State) (step : Step) (made : List Made)

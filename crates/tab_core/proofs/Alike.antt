@@ -7,6 +7,7 @@ use Rattle.tab_core.specs.declared.TheConstants.{MAX_CORES, MAX_LATENCY_NS, MAX_
 use Rattle.tab_core.specs.declared.host.Host.{Host}
 use Rattle.tab_core.specs.declared.periodic.Periodic.{Periodic}
 use Rattle.tab_core.specs.declared.reservation.Reservation.{Reservation}
+use Rattle.tab_core.specs.declared.stint.Stint.{Stint}
 use Rattle.tab_core.specs.declared.vcpu.Vcpu.{Vcpu}
 
 -- ---- budgets
@@ -171,3 +172,27 @@ same_host a b tick cores lag sliver quantum vcpus =
 -- an owner that there may be is small in one way, so values with one are made of their numbers
 pub one_owner_proof : (owner : Option ℕ) (x y : ForSome owner (λ v. v < MAX_VCPUS)) → x ≡ y
 one_owner_proof owner x y = (let one : IsProp (ForSome owner (λ v. v < MAX_VCPUS)) = hlevel props in one x y)
+
+-- ---- stints
+
+-- a stint made of its parts, so that equal numbers can be put for them
+abbrev stint_with : ℕ → ℕ → ℕ → ℕ → (ran : Option ℕ) → ForSome ran (λ v. v < MAX_VCPUS) → Stint
+stint_with from end seen used ran small =
+    record { from = from; end = end; seen = seen; used = used; ran = ran; ran_small = small }
+
+-- stints whose vCPUs are equal
+stint_alike : (a b c d : ℕ) (e e' : Option ℕ) (x : ForSome e (λ v. v < MAX_VCPUS)) → e ≡ e'
+    → (y : ForSome e' (λ v. v < MAX_VCPUS)) → stint_with a b c d e x ≡ stint_with a b c d e' y
+stint_alike a b c d e e' x is =
+    subst (λ (o : Option ℕ). (y : ForSome o (λ v. v < MAX_VCPUS)) → stint_with a b c d e x ≡ stint_with a b c d o y)
+    is (λ y. ap (stint_with a b c d e) (one_owner_proof e x y))
+
+-- stints are compared by their numbers and their vCPU
+pub same_stint : (s t : Stint) → s.from ≡ t.from → s.end ≡ t.end → s.seen ≡ t.seen → s.used ≡ t.used
+    → s.ran ≡ t.ran → s ≡ t
+same_stint s t from end seen used ran =
+    ap (λ n. stint_with n s.end s.seen s.used s.ran s.ran_small) from
+    ∙ ap (λ n. stint_with t.from n s.seen s.used s.ran s.ran_small) end
+    ∙ ap (λ n. stint_with t.from t.end n s.used s.ran s.ran_small) seen
+    ∙ ap (λ n. stint_with t.from t.end t.seen n s.ran s.ran_small) used
+    ∙ stint_alike t.from t.end t.seen t.used s.ran t.ran s.ran_small ran t.ran_small

@@ -4,4 +4,5 @@ pub mod Edited
 pub mod Lists
 pub mod Periods
 pub mod TimelineLemmas
+pub mod Totals
 pub mod VcpusLemmas

@@ -1,9 +1,10 @@
--- Lists read by index: after a push, after a write, behind a drop; and lists of numbers in order.
-use Rattle.std.proofs.Common.{◌≡◌, ◌≢◌, ℕ, zero, suc, ◌+◌, ◌<◌, ◌⊎◌, inl, inr, List, [], ◌∷◌, ◌++◌, length, get_or, set, drop, replicate, Option, Some, None, refl, ap, sym, ◌∙◌, arith, add-one}
+-- Lists read by index: after a push, after a write, behind a drop, one behind the other; and lists of
+-- numbers in order.
+use Rattle.std.proofs.Common.{◌≡◌, ◌≢◌, ℕ, zero, suc, ◌+◌, ◌<◌, ◌⊎◌, inl, inr, List, [], ◌∷◌, ◌++◌, length, get_or, set, take, drop, replicate, Option, Some, None, refl, ap, sym, ◌∙◌, arith, add-one}
 use Rattle.std.proofs.Math.Seq.{drop-cons}
 use Rattle.std.specs.List.{All, AllZip, range_with_len}
 use Rattle.std.specs.Option.{option_flatten}
-use Rattle.std.specs.Prelude.{slice_get}
+use Rattle.std.specs.Prelude.{slice_get, slice_index_or}
 use Rattle.std.proofs.lemmas.List.FromFn.{get_or-range_with_len, length-range_with_len}
 
 -- a push leaves what stood there before
@@ -94,3 +95,69 @@ numbers_below n k d lt =
     let count = length-range_with_len 0 n in
     let is = get_or-range_with_len 0 n k d (omega arith) in
     omega arith
+
+-- what stands in a list stands there with more behind it
+pub get_left : {X : Type 0} (xs ys : List X) (k : ℕ) (x : X) → slice_get xs k ≡ Some x
+    → slice_get (xs ++ ys) k ≡ Some x
+get_left [] ys k x at = absurd cc
+get_left (z ∷ zs) ys zero x at = at
+get_left (z ∷ zs) ys (suc k) x at = get_left zs ys k x at
+
+-- so the two lists together have at a place of the first what that has there
+pub get_front : {X : Type 0} (xs ys : List X) (k : ℕ) → k < length xs
+    → slice_get (xs ++ ys) k ≡ slice_get xs k
+get_front [] ys k lt = absurd (omega arith)
+get_front (z ∷ zs) ys zero lt = refl
+get_front (z ∷ zs) ys (suc k) lt = get_front zs ys k (omega arith)
+
+-- and behind the first what the second has
+pub get_right : {X : Type 0} (xs ys : List X) (k : ℕ) → slice_get (xs ++ ys) (length xs + k) ≡ slice_get ys k
+get_right [] ys k = (let e : 0 + k ≡ k = omega arith in ap (slice_get ys) e)
+get_right (z ∷ zs) ys k =
+    (let e : suc (length zs) + k ≡ suc (length zs + k) = omega arith in rw e (get_right zs ys k))
+
+-- a push leaves what lies before a place
+pub take_push_old : {X : Type 0} (xs : List X) (k : ℕ) (x y : X) → slice_get xs k ≡ Some y
+    → take k (xs ++ x ∷ []) ≡ take k xs
+take_push_old [] k x y at = absurd cc
+take_push_old (z ∷ zs) zero x y at = refl
+take_push_old (z ∷ zs) (suc k) x y at = ap (λ t. z ∷ t) (take_push_old zs k x y at)
+
+-- and before what is pushed lies the whole list
+pub take_push_new : {X : Type 0} (xs : List X) (x : X) → take (length xs) (xs ++ x ∷ []) ≡ xs
+take_push_new [] x = refl
+take_push_new (z ∷ zs) x = ap (λ t. z ∷ t) (take_push_new zs x)
+
+-- below the length there is an element
+pub element_at : {X : Type 0} (xs : List X) (k : ℕ) → k < length xs → (x : X) × (slice_get xs k ≡ Some x)
+element_at [] k lt = absurd (omega arith)
+element_at (x ∷ xs) zero lt = (x, refl)
+element_at (x ∷ xs) (suc k) lt = element_at xs k (omega arith)
+
+-- which is the one that is read there, whatever stands for a missing one
+pub there : {X : Type 0} (xs : List X) (k : ℕ) (d : X) → k < length xs
+    → slice_get xs k ≡ Some (slice_index_or xs k d)
+there [] k d lt = absurd (omega arith)
+there (z ∷ zs) zero d lt = refl
+there (z ∷ zs) (suc k) d lt = there zs k d (omega arith)
+
+-- one place has one element
+pub same : {X : Type 0} (o : Option X) (x y : X) → o ≡ Some x → o ≡ Some y → x ≡ y
+same o x y at at' = cc
+
+-- what holds of one element holds of the list of it alone
+pub only_one : {X : Type 0} (P : X → Type 0) (x : X) → P x → All P (x ∷ [])
+only_one P x is zero d lt = is
+only_one P x is (suc k) d lt = absurd (omega arith)
+
+-- lists that are the same behind a place are so behind the next
+pub rest_later : {X : Type 0} (old now : List X) (at : ℕ) → drop at now ≡ drop at old
+    → drop (at + 1) now ≡ drop (at + 1) old
+rest_later {X} old now at rest =
+    ap (λ n. drop n now) (add-one at) ∙ one_less at now ∙ ap (λ xs. drop 1 xs) rest ∙ sym (one_less at old)
+    ∙ ap (λ n. drop n old) (sym (add-one at))
+  where
+    one_less : (n : ℕ) (xs : List X) → drop (suc n) xs ≡ drop 1 (drop n xs)
+    one_less zero xs = refl
+    one_less (suc n) [] = refl
+    one_less (suc n) (x ∷ xs) = one_less n xs

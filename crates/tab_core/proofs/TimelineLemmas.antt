@@ -16,8 +16,8 @@ covering from to (s ∷ ss) x chain low lt = elim (cases_lt x s.end) [
       (suc rest.0, rest.1, rest.2, rest.3, rest.4))
 ]
 
--- no stint begins before the first; for `one_stint`
-later_from : (from to : ℕ) (ss : List Stint) (k : ℕ) (s : Stint) → AreContiguous from ss to
+-- no stint of a chain begins before it
+pub later_from : (from to : ℕ) (ss : List Stint) (k : ℕ) (s : Stint) → AreContiguous from ss to
     → ((j : ℕ) (t : Stint) → slice_get ss j ≡ Some t → t.from < t.end) → slice_get ss k ≡ Some s
     → from ≤ s.from
 later_from from to [] k s chain ticks h = absurd cc

@@ -3,6 +3,7 @@ pub mod Edits
 pub mod Least
 pub mod Name
 pub mod Period
+pub mod Sums
 pub mod Timelines
 pub mod VcpuSets
 pub mod Vcpus

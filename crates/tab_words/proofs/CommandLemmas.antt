@@ -37,7 +37,7 @@ begun_by_command words command n is = record {
 }
 
 -- words are not both a command and at fault
-no_fault : (words : List (List ℕ)) (command : Command) (place : ℕ) → IsCommand words command
+pub no_fault : (words : List (List ℕ)) (command : Command) (place : ℕ) → IsCommand words command
     → IsFaultAt words place → ⊥
 no_fault words command place is fault =
     elim fault.fault [
@@ -67,7 +67,7 @@ not_before words place later fault other less =
     ]
 
 -- so words have one fault at most
-one_place : (words : List (List ℕ)) (a b : ℕ) → IsFaultAt words a → IsFaultAt words b → a ≡ b
+pub one_place : (words : List (List ℕ)) (a b : ℕ) → IsFaultAt words a → IsFaultAt words b → a ≡ b
 one_place words a b fault other =
     let no_less = not_before words a b fault other in
     let no_more = not_before words b a other fault in
@@ -207,8 +207,8 @@ named words Help is = is
 named words Version is = is
 
 -- words that begin with another name are another command
-other_name : {a b : List ℕ} (more others : List (List ℕ)) → bytes_eq a b ≡ false → a ∷ more ≡ b ∷ others → ⊥
-other_name {a} {b} more others other same =
+pub other_word : {a b : List ℕ} (more others : List (List ℕ)) → bytes_eq a b ≡ false → a ∷ more ≡ b ∷ others → ⊥
+other_word {a} {b} more others other same =
     let name : a ≡ b = cc in
     absurd (cc (other, (bytes_eq-Decides a b).1 name))
 
@@ -228,15 +228,15 @@ same_mode Report Burst same = absurd (omega (arith, ap length same))
 same_mode Burst Report same = absurd (omega (arith, ap length same))
 same_mode Report Live same = absurd (omega (arith, ap length same))
 same_mode Live Report same = absurd (omega (arith, ap length same))
-same_mode Trace Burst same = absurd (other_name [] [] refl same)
-same_mode Trace Live same = absurd (other_name [] [] refl same)
-same_mode Burst Trace same = absurd (other_name [] [] refl same)
-same_mode Burst Live same = absurd (other_name [] [] refl same)
-same_mode Live Trace same = absurd (other_name [] [] refl same)
-same_mode Live Burst same = absurd (other_name [] [] refl same)
+same_mode Trace Burst same = absurd (other_word [] [] refl same)
+same_mode Trace Live same = absurd (other_word [] [] refl same)
+same_mode Burst Trace same = absurd (other_word [] [] refl same)
+same_mode Burst Live same = absurd (other_word [] [] refl same)
+same_mode Live Trace same = absurd (other_word [] [] refl same)
+same_mode Live Burst same = absurd (other_word [] [] refl same)
 
 -- words are one command at most
-same_command : (words : List (List ℕ)) (a b : Command) → IsCommand words a → IsCommand words b → a ≡ b
+pub same_command : (words : List (List ℕ)) (a b : Command) → IsCommand words a → IsCommand words b → a ≡ b
 same_command words Plan Plan p q = refl
 same_command words Plan PlanWhole p q = absurd (omega (arith, ap length (sym p ∙ q)))
 same_command words PlanWhole Plan p q = absurd (omega (arith, ap length (sym p ∙ q)))
@@ -263,7 +263,7 @@ same_command words (Selftest s) (Selftest t) p q =
 same_command words Help Help p q = refl
 same_command words Version Version p q = refl
 same_command words a b p q =
-    absurd (other_name (arguments_of a) (arguments_of b) refl (sym (named words a p) ∙ named words b q))
+    absurd (other_word (arguments_of a) (arguments_of b) refl (sym (named words a p) ∙ named words b q))
 
 -- the answer is due where the words are a command, and where they have a fault
 pub command_due : (words : List (List ℕ)) (r : Result Command Usage) → IsReading words r
@@ -332,7 +332,7 @@ pub reading_check : (rest : List (String Global)) (r : Result Command Usage) →
 reading_check rest r reads = reading_end (codes "check" ∷ []) Check rest r refl after reads where
   after : (word : List ℕ) → GoesNotOn (codes "check" ∷ []) word
   after word Check more is = omega (arith, ap length is)
-  after word command more is = other_name (word ∷ more) (arguments_of command) refl (named _ command is)
+  after word command more is = other_word (word ∷ more) (arguments_of command) refl (named _ command is)
 
 -- so does that of `--help`
 pub reading_help : (rest : List (String Global)) (r : Result Command Usage) → ReadsEnd Help 1 rest r
@@ -340,7 +340,7 @@ pub reading_help : (rest : List (String Global)) (r : Result Command Usage) → 
 reading_help rest r reads = reading_end (codes "--help" ∷ []) Help rest r refl after reads where
   after : (word : List ℕ) → GoesNotOn (codes "--help" ∷ []) word
   after word Help more is = omega (arith, ap length is)
-  after word command more is = other_name (word ∷ more) (arguments_of command) refl (named _ command is)
+  after word command more is = other_word (word ∷ more) (arguments_of command) refl (named _ command is)
 
 -- so does that of `--version`
 pub reading_version : (rest : List (String Global)) (r : Result Command Usage) → ReadsEnd Version 1 rest r
@@ -348,7 +348,7 @@ pub reading_version : (rest : List (String Global)) (r : Result Command Usage) �
 reading_version rest r reads = reading_end (codes "--version" ∷ []) Version rest r refl after reads where
   after : (word : List ℕ) → GoesNotOn (codes "--version" ∷ []) word
   after word Version more is = omega (arith, ap length is)
-  after word command more is = other_name (word ∷ more) (arguments_of command) refl (named _ command is)
+  after word command more is = other_word (word ∷ more) (arguments_of command) refl (named _ command is)
 
 -- ---- `plan` and `plan whole`
 
@@ -357,7 +357,7 @@ only_plan : (rest : List (List ℕ)) (command : Command) → IsCommand (codes "p
     → (rest ≡ []) ⊎ (rest ≡ codes "whole" ∷ [])
 only_plan rest Plan is = inl cc
 only_plan rest PlanWhole is = inr cc
-only_plan rest command is = absurd (other_name rest (arguments_of command) refl (named _ command is))
+only_plan rest command is = absurd (other_word rest (arguments_of command) refl (named _ command is))
 
 -- another word behind `plan`
 pub fault_of_plan : (word : List ℕ) (rest : List (List ℕ)) → word ≢ codes "whole"
@@ -390,7 +390,7 @@ record IsReplay (rest : List (List ℕ)) : Type 0 where
 only_replay : (rest : List (List ℕ)) (command : Command) → IsCommand (codes "replay" ∷ rest) command
     → IsReplay rest
 only_replay rest (Replay rounds) is = record { rounds = rounds; words = cc is.0; count = is.1 }
-only_replay rest command is = absurd (other_name rest (arguments_of command) refl (named _ command is))
+only_replay rest command is = absurd (other_word rest (arguments_of command) refl (named _ command is))
 
 -- no such count
 pub fault_of_replay : (words : List (List ℕ)) → (BeginsWithNumber 1 MAX_ROUNDS words → ⊥)
@@ -431,7 +431,7 @@ record IsRun (rest : List (List ℕ)) : Type 0 where
 
 only_run : (rest : List (List ℕ)) (command : Command) → IsCommand (codes "run" ∷ rest) command → IsRun rest
 only_run rest (Run rounds mode) is = record { rounds = rounds; mode = mode; words = cc is.0; count = is.1 }
-only_run rest command is = absurd (other_name rest (arguments_of command) refl (named _ command is))
+only_run rest command is = absurd (other_word rest (arguments_of command) refl (named _ command is))
 
 -- no such count
 pub fault_of_run : (words : List (List ℕ)) → (BeginsWithNumber 1 MAX_ROUNDS words → ⊥)
@@ -498,7 +498,7 @@ record IsGen (rest : List (List ℕ)) : Type 0 where
 
 only_gen : (rest : List (List ℕ)) (command : Command) → IsCommand (codes "gen" ∷ rest) command → IsGen rest
 only_gen rest (Gen s c v) is = record { seed = s; cores = c; vcpus = v; words = cc is.0; fits = is.1 }
-only_gen rest command is = absurd (other_name rest (arguments_of command) refl (named _ command is))
+only_gen rest command is = absurd (other_word rest (arguments_of command) refl (named _ command is))
 
 -- a host of one core without vCPUs can be generated of any seed
 small : (seed : ℕ) → seed < 2 ^ 64 → IsGenerable seed 1 0
@@ -601,7 +601,7 @@ record IsSelftest (rest : List (List ℕ)) : Type 0 where
 only_selftest : (rest : List (List ℕ)) (command : Command) → IsCommand (codes "selftest" ∷ rest) command
     → IsSelftest rest
 only_selftest rest (Selftest seed) is = record { seed = seed; words = cc is.0; fits = is.1 }
-only_selftest rest command is = absurd (other_name rest (arguments_of command) refl (named _ command is))
+only_selftest rest command is = absurd (other_word rest (arguments_of command) refl (named _ command is))
 
 -- no seed
 pub fault_of_selftest : (words : List (List ℕ)) → (BeginsWithNumber 0 (2 ^ 64 - 1) words → ⊥)

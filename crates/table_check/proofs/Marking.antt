@@ -8,9 +8,9 @@ use Rattle.table_form.specs.declared.segment.Segment.{Segment}
 use Rattle.table_form.specs.Tables.Rows.{Row, RisesTo, cells_from}
 use Rattle.table_form.specs.Tables.Serves.{Apart, cell_of, owner_at}
 use Rattle.table_form.proofs.RowLemmas.{length-cells_from}
+use Rattle.table_form.proofs.SpotLemmas.{owner_within, flat_some}
 use Rattle.table_check.specs.Inside.Marks.{IsNewMark, KeepsMarks, MarksRow, is_marked}
 use Rattle.table_check.specs.Shapes.{rows_of}
-use Rattle.table_check.proofs.Pairs.{flat_some, owner_within}
 use Rattle.table_check.proofs.RawShapes.{length-rows_of}
 use Rattle.table_check.proofs.Sweep.{GoesOnFrom, owner_now}
 

@@ -9,8 +9,8 @@ use Rattle.table_form.specs.declared.segment.Segment.{Segment}
 use Rattle.table_form.specs.Tables.Rows.{Row, cells_from}
 use Rattle.table_form.specs.Tables.Serves.{OwnersHaveTasks, cell_of, has_task}
 use Rattle.table_form.proofs.RowLemmas.{cells-cons, cells-nil}
+use Rattle.table_form.proofs.SpotLemmas.{flat_some}
 use Rattle.table_check.specs.Shapes.{AreOfTasks, AreOwnedByTasks, rows_of}
-use Rattle.table_check.proofs.Pairs.{flat_some}
 use Rattle.table_check.proofs.Sweep.{get_front}
 
 -- a cell behind a run is one of the rest

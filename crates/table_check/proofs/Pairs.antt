@@ -1,25 +1,14 @@
 -- The first clash of the pairs of cores that were swept so far.
 use Rattle.std.proofs.Common.{◌≡◌, ◌⊎◌, ℕ, ◌+◌, ◌<◌, ◌≤◌, List, length, get_or, slice_get, Option, Some, None, IsSomeAnd, refl, ap, subst, sym, ◌∙◌, inl, inr, arith}
 use Rattle.std.proofs.lemmas.Bool.{cases_lt, cases_eq}
-use Rattle.std.proofs.lemmas.Option.{none-some, slice_get_past, slice_get_read}
+use Rattle.std.proofs.lemmas.Option.{slice_get_read}
 use Rattle.table_form.specs.Tables.Rows.{Row}
-use Rattle.table_form.specs.Tables.Serves.{Apart, cell_of, flat, owner_at}
+use Rattle.table_form.specs.Tables.Serves.{Apart, cell_of, flat}
+use Rattle.table_form.proofs.SpotLemmas.{owner_within, flat_some}
 use Rattle.table_check.specs.Clashes.{IsClash, IsFirstClash, IsLeastClash}
 use Rattle.table_check.specs.Inside.Meetings.{MeetsAt, MeetNoneBefore}
 use Rattle.table_check.specs.declared.clash.Clash.{Clash}
 use Rattle.table_check.specs.Inside.Pairs.{IsClashBefore, IsEarlierPair, IsFirstBefore}
-
--- a cell with an owner stands in the row
-pub flat_some : (cell : Option (Option ℕ)) (v : ℕ) → flat cell ≡ Some v → cell ≡ Some (Some v)
-flat_some None v e = absurd (none-some v e)
-flat_some (Some cell) v e = ap Some e
-
--- a core with an owner at a place is one of the rows
-pub owner_within : (rows : List Row) (c x v : ℕ) → owner_at rows c x ≡ Some v → c < length rows
-owner_within rows c x v owned = elim (cases_lt c (length rows)) [
-  | inl less ↦ less
-  | inr past ↦ absurd (none-some v (sym (ap (λ row. cell_of row x) (slice_get_past rows c past)) ∙ owned))
-]
 
 -- a clash of two cores is a meeting of their rows
 meets_from_clash : (rows : List Row) (core other v x : ℕ) (a b : Row) → slice_get rows core ≡ Some a

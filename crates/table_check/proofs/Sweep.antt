@@ -1,10 +1,10 @@
 -- A sweep over the segments of a row, from one end to the next.
-use Rattle.std.proofs.Common.{◌≡◌, ℕ, zero, suc, ◌+◌, ◌-◌, ◌<◌, ◌≤◌, ◌==◌, if◌then◌else◌, List, [], ◌∷◌, ◌++◌, length, get_or, drop, replicate, Option, Some, refl, ap, subst, sym, ◌∙◌, inl, inr, arith, add-one, drop-drop, length-drop}
+use Rattle.std.proofs.Common.{◌≡◌, ℕ, zero, suc, ◌+◌, ◌-◌, ◌<◌, ◌≤◌, ◌==◌, if◌then◌else◌, List, ◌++◌, length, get_or, drop, replicate, Option, Some, refl, ap, subst, sym, ◌∙◌, inl, inr, arith, drop-drop, length-drop}
 use Rattle.std.specs.Prelude.{slice_get}
-use Rattle.std.proofs.Math.Seq.{drop-cons}
 use Rattle.std.proofs.lemmas.Bool.{cases_lt, cases_eq, eq-eqb, ne_eqb}
 use Rattle.std.proofs.lemmas.List.{nil_from_length}
 use Rattle.tab_core.specs.declared.TheConstants.{ROUND}
+use Rattle.tab_core.proofs.Lists.{drop_next, get-drop}
 use Rattle.table_form.specs.declared.segment.Segment.{Segment}
 use Rattle.table_form.specs.Tables.Rows.{Row, cells_from, RisesTo}
 use Rattle.table_form.proofs.RowLemmas.{rises_parts, rises_from_parts, rises_none, cells-cons, length-cells_from}
@@ -13,13 +13,6 @@ use Rattle.table_form.proofs.RowLemmas.{rises_parts, rises_from_parts, rises_non
 pub record GoesOnFrom (ss : List Segment) (tick place : ℕ) : Type 0 where
   pub rises : RisesTo tick (drop place ss) ROUND
   pub cells : drop tick (cells_from 0 ss) ≡ cells_from tick (drop place ss)
-
--- the cell at a tick is one of those from an earlier tick on
-get-drop : (xs : Row) (a n b : ℕ) → b ≡ a + n → slice_get (drop a xs) n ≡ slice_get xs b
-get-drop xs zero n b is = ap (slice_get xs) (omega arith)
-get-drop [] (suc a) n b is = refl
-get-drop (x ∷ xs) (suc a) n zero is = absurd (omega arith)
-get-drop (x ∷ xs) (suc a) n (suc b) is = get-drop xs a n b (omega arith)
 
 -- dropping less than a run leaves the rest of it
 drop_front : (m n : ℕ) (o : Option ℕ) (cells : Row) → m ≤ n
@@ -34,12 +27,6 @@ pub get_front : (n t : ℕ) (o : Option ℕ) (cells : Row) → t < n → slice_g
 get_front zero t o cells lt = absurd (omega arith)
 get_front (suc n) zero o cells lt = refl
 get_front (suc n) (suc t) o cells lt = get_front n t o cells (omega arith)
-
--- the segments that are left begin with the one at the place
-left_at : (ss : List Segment) (place : ℕ) (s : Segment) → place < length ss → s ≡ get_or ss place s
-    → drop place ss ≡ s ∷ drop (place + 1) ss
-left_at ss place s lt at = rw (add-one place)
-    (drop-cons ss place s lt ∙ ap (λ (x : Segment). x ∷ drop (suc place) ss) (sym at))
 
 -- the sweep begins at the first segment
 pub goes_on-start : (ss : List Segment) → RisesTo 0 ss ROUND → GoesOnFrom ss 0 0
@@ -80,7 +67,7 @@ pub next_parts : (ss : List Segment) (tick place : ℕ) (s : Segment) → GoesOn
     → (tick < s.end) × RisesTo s.end (drop (place + 1) ss) ROUND
 next_parts ss tick place s on lt at =
     rises_parts tick s (drop (place + 1) ss) ROUND
-    (subst (λ xs. RisesTo tick xs ROUND) (left_at ss place s lt at) on.rises)
+    (subst (λ xs. RisesTo tick xs ROUND) (drop_next ss place s lt at) on.rises)
 
 -- the segment that holds the tick ends within the round, so the sweep goes on
 pub end_in_round : (ss : List Segment) (tick place : ℕ) (s : Segment) → GoesOnFrom ss tick place
@@ -97,7 +84,7 @@ pub cells_now : (ss : List Segment) (tick place : ℕ) (s : Segment) → GoesOnF
     → s ≡ get_or ss place s
     → drop tick (cells_from 0 ss) ≡ replicate (s.end - tick) s.owner ++ cells_from s.end (drop (place + 1) ss)
 cells_now ss tick place s on lt at =
-    on.cells ∙ ap (cells_from tick) (left_at ss place s lt at) ∙ cells-cons tick s (drop (place + 1) ss)
+    on.cells ∙ ap (cells_from tick) (drop_next ss place s lt at) ∙ cells-cons tick s (drop (place + 1) ss)
 
 -- up to its end each cell is the segment's owner's
 pub owner_now : (ss : List Segment) (tick place x : ℕ) (s : Segment) → GoesOnFrom ss tick place
@@ -117,7 +104,7 @@ pub goes_on : (ss : List Segment) (tick place y : ℕ) (s : Segment) → GoesOnF
 goes_on ss tick place y s on lt at low high =
     let parts = next_parts ss tick place s on lt at in
     let rest = drop (place + 1) ss in
-    let left = left_at ss place s lt at in
+    let left = drop_next ss place s lt at in
     let cells : drop y (cells_from 0 ss) ≡ replicate (s.end - y) s.owner ++ cells_from s.end rest =
     (let e : y ≡ tick + (y - tick) = omega arith in ap (λ k. drop k (cells_from 0 ss)) e)
     ∙ sym (drop-drop (y - tick) tick (cells_from 0 ss))

@@ -7,6 +7,7 @@ use Rattle.std.proofs.lemmas.Bool.{false≢true}
 use Rattle.std.proofs.lemmas.List.{append-nil, drop-set-lt, drop_all, map-append, take_more_set}
 use Rattle.std.proofs.lemmas.Option.{get_or_from_slice_get, slice_get_within}
 use Rattle.tab_core.specs.declared.TheConstants.{ROUND}
+use Rattle.tab_core.proofs.Lists.{rest_later}
 use Rattle.table_form.specs.Tables.Rows.{RisesTo, cells_from}
 use Rattle.table_form.specs.Tables.Segments.{BeginsOther, put_front, segment_view, segments_from}
 use Rattle.table_form.specs.declared.segment.Segment.{Segment}
@@ -107,18 +108,6 @@ none_joined old rises = record {
   rises = rises;
   leads = refl;
 }
-
--- the rest behind one more index stays as it was
-rest_later : (old now : List Segment) (at : ℕ) → drop at now ≡ drop at old
-    → drop (at + 1) now ≡ drop (at + 1) old
-rest_later old now at rest =
-    ap (λ n. drop n now) (add-one at) ∙ one_less at now ∙ ap (λ ss. drop 1 ss) rest ∙ sym (one_less at old)
-    ∙ ap (λ n. drop n old) (sym (add-one at))
-  where
-    one_less : (n : ℕ) (xs : List Segment) → drop (suc n) xs ≡ drop 1 (drop n xs)
-    one_less zero xs = refl
-    one_less (suc n) [] = refl
-    one_less (suc n) (x ∷ xs) = one_less n xs
 
 -- a segment before one of its owner isn't kept
 pub one_passed : (old now : List Segment) (kept at : ℕ) (s : Segment) → slice_get now at ≡ Some s

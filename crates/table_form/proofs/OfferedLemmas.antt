@@ -1,6 +1,6 @@
 -- Cells that have a vCPU, and places that some row has for it.
-use Rattle.std.proofs.Common.{◌≡◌, ℕ, zero, suc, Bool, true, List, [], ◌∷◌, Option, Some, None, refl, ap, sym}
-use Rattle.std.specs.Prelude.{slice_get}
+use Rattle.std.proofs.Common.{◌≡◌, ℕ, zero, suc, Bool, true, false, List, [], ◌∷◌, Option, Some, None, refl, ap, sym}
+use Rattle.std.specs.Prelude.{slice_get, ◌||◌}
 use Rattle.std.proofs.lemmas.Bool.{eq-eqb, eqb-true, or_left, or_right}
 use Rattle.table_form.specs.Running.Offered.{some_row_has}
 use Rattle.table_form.specs.Tables.Rows.{Row}
@@ -21,3 +21,17 @@ row_has (row ∷ rows) v place zero h =
 row_has (row ∷ rows) v place (suc c) h =
     or_right (is_cell_of v (flat (slice_get row place))) (some_row_has rows v place)
     (row_has rows v place c h)
+
+-- where some row has the vCPU at a place one does
+pub has_row : (rows : List Row) (v place : ℕ) → some_row_has rows v place ≡ true
+    → (c : ℕ) × (owner_at rows c place ≡ Some v)
+has_row [] v place h = absurd cc
+has_row (row ∷ rows) v place h =
+    by_test (is_cell_of v (flat (slice_get row place))) refl h (λ g. has_row rows v place g)
+  where
+    by_test : (b : Bool) → is_cell_of v (flat (slice_get row place)) ≡ b
+        → (is_cell_of v (flat (slice_get row place)) || some_row_has rows v place) ≡ true
+        → (some_row_has rows v place ≡ true → (c : ℕ) × (owner_at rows c place ≡ Some v))
+        → (c : ℕ) × (owner_at (row ∷ rows) c place ≡ Some v)
+    by_test true is g rest = (0, cell_is v (flat (slice_get row place)) is)
+    by_test false is g rest = (let found = rest (rw is at g) in (suc found.0, found.1))

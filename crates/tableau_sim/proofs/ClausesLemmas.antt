@@ -5,6 +5,7 @@ use Rattle.tab_io.specs.Views.{SourceView, SinkView}
 use Rattle.tab_io.specs.FaultCounts.{Rose}
 use Rattle.tab_words.specs.Commands.{IsCommand, IsFaultAt}
 use Rattle.tab_words.specs.declared.command.Command.{Command}
+use Rattle.tab_words.proofs.CommandLemmas.{no_fault, same_command, one_place}
 use Rattle.tableau_sim.specs.declared.input.TheConstants.{INPUT_LIMIT}
 use Rattle.tableau_sim.specs.declared.status.Status.{Status}
 use Rattle.tableau_sim.specs.declared.status.Status.TheVariants as status
@@ -16,7 +17,6 @@ use Rattle.tableau_sim.specs.Lines.{line_of}
 use Rattle.tableau_sim.specs.Outcomes.{IsOfInput, Outcome, status_of, text_of}
 use Rattle.tableau_sim.specs.Outcomes.Outcome.{Refuses, Writes}
 use Rattle.tableau_sim.proofs.ReadingLemmas.{read_given, read_within}
-use Rattle.tableau_sim.proofs.Words.{no_fault, same_command, same_place}
 
 -- what is shown of each R: its refusals are of the input
 abbrev pub RefusesInput : (Command → List ℕ → Outcome → Type 0) → Type 0
@@ -284,7 +284,7 @@ usage_only : (R : Command → List ℕ → Outcome → Type 0) (Leaves : Due →
     → IsFaultAt words place → IsDue R Leaves words source source' input due
     → status_of (outcome_of due) ≡ status.Usage place
 usage_only R Leaves words source source' input (NoCommand other) place fault h =
-    ap status.Usage (same_place words other place h.0 fault)
+    ap status.Usage (one_place words other place h.0 fault)
 usage_only R Leaves words source source' input (SourceFailed command) place fault h =
     absurd (no_fault words command place h.0 fault)
 usage_only R Leaves words source source' input (TooMuch command) place fault h =

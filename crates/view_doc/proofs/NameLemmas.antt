@@ -8,7 +8,7 @@ use Rattle.std.specs.Str.{bytes_eq}
 use Rattle.vcpu_names.specs.Names.{HasNumbers, IsUnknown, name_at, number_at}
 use Rattle.view_doc.specs.Grammar.{is_known}
 
--- the step of the lemma below
+-- a name that others have is known with one more
 known_if : (held name : List ℕ) (names : List (List ℕ)) (same : Bool) → bytes_eq held name ≡ same
     → (held ≡ name → ⊥) → is_known names name ≡ false → is_known (held ∷ names) name ≡ false
 known_if held name names true is differs rest = absurd (differs ((bytes_eq-Decides held name).0 is))
@@ -21,8 +21,8 @@ is_unknown (held ∷ names) name none =
     known_if held name names (bytes_eq held name) refl (none 0 (omega arith))
     (is_unknown names name (λ vcpu low. none (suc vcpu) (omega arith)))
 
--- the step of the lemma below
-known_behind : (held name : List ℕ) (names : List (List ℕ)) (same : Bool) → bytes_eq held name ≡ same
+-- a name that others have is known with one more
+pub known_behind : (held name : List ℕ) (names : List (List ℕ)) (same : Bool) → bytes_eq held name ≡ same
     → is_known names name ≡ true → is_known (held ∷ names) name ≡ true
 known_behind held name names true is rest = rw is refl
 known_behind held name names false is rest = rw is rest

@@ -35,6 +35,7 @@ use Rattle.view_doc.specs.Views.{IsViewOf, ShowsTold, cores_after, entries_in, s
 use Rattle.view_doc.specs.declared.place.Place.TheVariants.{Row as InRow, Tasks}
 use Rattle.view_doc.specs.declared.view.View.{View}
 use Rattle.view_doc.proofs.OneText.{no_bad_line, one_text}
+use Rattle.view_doc.proofs.NameLemmas.{known_behind}
 use Rattle.view_laws.specs.ShownPlans.{IsShownAs, ShowsPlan, admitted_names, admitted_tasks, cores_told, owner_holder, plan_front, plan_told, rows_of, segment_told, slots_of, tasks_told}
 use Rattle.view_laws.proofs.Leading.{Leads, front_at, goes, goes_on_by, none_mapped}
 use Rattle.view_laws.proofs.PlanLed.{HasKnownOwner, IsGoodRow, rows_led, tasks_led}
@@ -44,12 +45,6 @@ use Rattle.view_laws.proofs.SizeLemmas.{text_size}
 use Rattle.view_laws.proofs.PlanTold.{cores_plain, cores_fine, cores_past_rows, cores_past_tasks, cores_written, nothing_of_cores, nothing_of_tasks, tasks_are, tasks_fine, tasks_plain, tasks_written}
 
 -- ---- owners
-
--- a name that others have is known with one more
-known_behind : (one name : List ℕ) (names : List (List ℕ)) (same : Bool) → bytes_eq one name ≡ same
-    → is_known names name ≡ true → is_known (one ∷ names) name ≡ true
-known_behind one name names true is rest = rw is refl
-known_behind one name names false is rest = rw is rest
 
 -- the name of a vCPU that has a task is among those that are told
 admitted_known : (names : List (List ℕ)) (tasks : List (Option Periodic)) (v : ℕ)

@@ -7,6 +7,7 @@ use Rattle.std.specs.List.{All}
 use Rattle.tab_core.specs.declared.TheConstants.{MAX_CORES, MAX_ROUNDS}
 use Rattle.tab_core.specs.declared.entry.Entry.{Entry}
 use Rattle.tab_core.specs.declared.stint.Stint.{Stint}
+use Rattle.tab_core.proofs.Lists.{push_new}
 use Rattle.table_form.specs.Running.Courses.{CourseView, IsCourse, plan_after}
 use Rattle.table_form.specs.Running.Entering.{Decides}
 use Rattle.table_form.specs.Running.Invariant.{StateInvariant}
@@ -20,7 +21,7 @@ use Rattle.step_machine.specs.Traces.{EndsWith, IsTrace}
 use Rattle.step_machine.specs.declared.trace.Made.{Made}
 use Rattle.step_machine.specs.declared.trace.Made.TheVariants.{Entered, Ran}
 use Rattle.step_machine.proofs.InvariantLemmas.{moves_keep}
-use Rattle.step_machine.proofs.Lists.{push_new, set_split}
+use Rattle.step_machine.proofs.Lists.{set_split}
 use Rattle.view_doc.specs.Grammar.{Front}
 use Rattle.view_doc.specs.Lines.{IsGood, entry}
 use Rattle.view_doc.specs.declared.place.Place.{Place}

@@ -24,18 +24,13 @@ use Rattle.wrap_table.specs.declared.homing.Most.{Most}
 abbrev pub count_of : ℕ → Row → ℕ
 count_of v row = count_by (λ cell. is_cell_of v cell) row
 
--- the segment at a place, and those behind it
-left_at : (ss : List Segment) (place : ℕ) (s : Segment) → place < length ss → s ≡ get_or ss place s
-    → drop place ss ≡ s ∷ drop (place + 1) ss
-left_at ss place s lt at = drop_next ss place s lt at
-
 -- it ends later than it begins, and the others rise from its end
 pub next_segment : (ss : List Segment) (from place : ℕ) (s : Segment) → RisesTo from (drop place ss) ROUND
     → place < length ss → s ≡ get_or ss place s
     → (from < s.end) × RisesTo s.end (drop (place + 1) ss) ROUND
 next_segment ss from place s rises lt at =
     rises_parts from s (drop (place + 1) ss) ROUND
-    (subst (λ xs. RisesTo from xs ROUND) (left_at ss place s lt at) rises)
+    (subst (λ xs. RisesTo from xs ROUND) (drop_next ss place s lt at) rises)
 
 -- so it ends within the round
 pub segment_end : (ss : List Segment) (from place : ℕ) (s : Segment) → RisesTo from (drop place ss) ROUND
@@ -52,7 +47,7 @@ pub count_next : (ss : List Segment) (v from place : ℕ) (s : Segment) → plac
 count_next ss v from place s lt at =
     let rest = drop (place + 1) ss in
     let one : Option ℕ → ℕ = λ cell. cond (is_cell_of v cell) 1 0 in
-    ap (λ xs. count_of v (cells_from from xs)) (left_at ss place s lt at)
+    ap (λ xs. count_of v (cells_from from xs)) (drop_next ss place s lt at)
     ∙ ap (count_of v) (cells-cons from s rest)
     ∙ sum_by-append one (replicate (s.end - from) s.owner) (cells_from s.end rest)
     ∙ ap (λ n. n + count_of v (cells_from s.end rest)) (sum_by-replicate one (s.end - from) s.owner)

@@ -2,7 +2,7 @@
 use Rattle.std.proofs.Common.{◌≡◌, ℕ, zero, suc, ◌+◌, ◌-◌, ◌<◌, ◌≤◌, nat_lt, List, [], ◌∷◌, ◌++◌, Some, None, length, replicate, get_or, slice_get, ap, refl, sym, ◌∙◌, arith, zero-add, add-zero}
 use Rattle.std.proofs.lemmas.Bool.{cond-false, le-ltb}
 use Rattle.std.proofs.lemmas.List.{append_assoc, length-append}
-use Rattle.flow_net.proofs.Totals.{total-step}
+use Rattle.tab_core.proofs.Totals.{total-step}
 use Rattle.table_form.specs.Tables.Rows.{Row}
 use Rattle.wrap_table.specs.Inside.Laying.{IsLaidTo, offset, owners}
 use Rattle.wrap_table.specs.Wrapping.{owner_from}

@@ -2,17 +2,12 @@
 use Rattle.std.proofs.Common.{◌≡◌, ℕ, zero, suc, ◌+◌, ◌-◌, ◌*◌, ◌<◌, ◌≤◌, ◌==◌, nat_lt, nat_le, cond, List, [], ◌∷◌, Option, Some, None, length, get_or, ap, refl, sym, ◌∙◌, arith, inl, inr}
 use Rattle.std.proofs.lemmas.Bool.{cases_lt, cases_order, lt-ltb, le-ltb, le-leb, lt-leb, cond-true, cond-false, eq-eqb, ne_eqb}
 use Rattle.std.proofs.lemmas.Option.{same_Some}
-use Rattle.flow_net.specs.Sums.{total}
-use Rattle.flow_net.proofs.Totals.{total-ext}
+use Rattle.tab_core.specs.Sums.{total}
+use Rattle.tab_core.proofs.Totals.{total-ext, total-front}
 use Rattle.flow_net.proofs.Wrapped.{in_range, layout_serves, layout_apart}
 use Rattle.wrap_table.specs.Inside.Laying.{offset}
 use Rattle.wrap_table.specs.Wrapping.{owner_from}
 use Rattle.table_form.specs.Tables.Serves.{is_cell_of}
-
--- a sum begins with its first value
-pub total-front : (f : ℕ → ℕ) (n : ℕ) → total f (suc n) ≡ f 0 + total (λ k. f (suc k)) n
-total-front f zero = omega arith
-total-front f (suc n) = omega (arith, total-front f n)
 
 -- where a later vCPU's ticks begin, by those of the first
 pub offset-cons : (n : ℕ) (ns : List ℕ) (k : ℕ) → offset (n ∷ ns) (suc k) ≡ n + offset ns k

@@ -4,7 +4,7 @@ use Rattle.std.proofs.lemmas.Bool.{cases_lt, cases_eq}
 use Rattle.std.proofs.lemmas.List.{get_or-set_other, get_or-set_same, length-append}
 use Rattle.std.proofs.lemmas.Option.{slice_get-get_or}
 use Rattle.tab_core.specs.declared.TheConstants.{ROUND}
-use Rattle.tab_core.proofs.Lists.{push_split}
+use Rattle.tab_core.proofs.Lists.{push_split, get_left, get_right}
 use Rattle.table_form.specs.Tables.Rows.{Row}
 use Rattle.table_form.specs.Tables.Serves.{cell_of, flat}
 use Rattle.flow_net.specs.Allotments.{AllotmentView}
@@ -49,20 +49,6 @@ end_in_round a is i lt =
 -- it has a tick
 pub some_length : (a : AllotmentView) → HasIntervals a → (i : ℕ) → i < length a.ticks → 0 < length_at a i
 some_length a is i lt = omega (arith, is.rise i lt)
-
--- what stands in a list stands there with more behind it
-get_left : {X : Type 0} (xs ys : List X) (i : ℕ) (x : X) → slice_get xs i ≡ Some x
-    → slice_get (xs ++ ys) i ≡ Some x
-get_left [] ys i x at = absurd cc
-get_left (z ∷ xs) ys zero x at = at
-get_left (z ∷ xs) ys (suc i) x at = get_left xs ys i x at
-
--- and what is behind it stands behind it
-get_right : {X : Type 0} (xs ys : List X) (i : ℕ) → slice_get (xs ++ ys) (length xs + i) ≡ slice_get ys i
-get_right [] ys i = (let e : 0 + i ≡ i = omega arith in ap (slice_get ys) e)
-get_right (z ∷ xs) ys i =
-    (let e : suc (length xs) + i ≡ suc (length xs + i) = omega arith in ap (slice_get (z ∷ xs ++ ys)) e)
-    ∙ get_right xs ys i
 
 -- the row's cells of an interval
 abbrev pub cells_at : AllotmentView → ℕ → ℕ → Row

@@ -8,7 +8,7 @@ use Rattle.tab_core.specs.declared.TheConstants.{ROUND}
 use Rattle.tab_core.specs.declared.periodic.Periodic.{Periodic}
 use Rattle.table_form.specs.Tables.Rows.{Row}
 use Rattle.table_form.specs.Tables.Serves.{Serves, ServesExactly, owner_at, cell_of, flat, cells_within, supply, is_cell_of}
-use Rattle.flow_net.specs.Sums.{total}
+use Rattle.tab_core.specs.Sums.{total}
 use Rattle.flow_net.specs.Load.{Load, IsLoad, span, jobs, used}
 use Rattle.flow_net.specs.Rows.{row_at, ticks_at}
 use Rattle.flow_net.specs.Flows.{flow_of}
@@ -16,10 +16,10 @@ use Rattle.flow_net.specs.Allotments.{AllotmentView, IsAllotment, load_of_tasks,
 use Rattle.flow_net.proofs.Loads.{cost_at, period_at}
 use Rattle.flow_net.proofs.Searched.{total-part}
 use Rattle.flow_net.proofs.Spans.{window_of, over_window, marks_le}
-use Rattle.flow_net.proofs.Totals.{total-none, total-ext, total-split, total-swap, total-step}
+use Rattle.tab_core.proofs.Totals.{total-none, total-ext, total-split, total-swap, total-step, total-front}
 use Rattle.wrap_table.specs.Inside.Laying.{offset}
 use Rattle.wrap_table.specs.Wrapping.{AreWrapped, length_at}
-use Rattle.wrap_table.proofs.Positions.{laid_count, total-front}
+use Rattle.wrap_table.proofs.Positions.{laid_count}
 use Rattle.wrap_table.proofs.Wraps.{the_load, ticks_is}
 
 -- whether a cell is the vCPU's, as a number

@@ -13,7 +13,7 @@ use Rattle.flow_net.specs.Rows.{row_at, ticks_at}
 use Rattle.flow_net.specs.Allotments.{AllotmentView, IsAllotment, load_of_tasks, cost_of_task, period_of_task}
 use Rattle.flow_net.proofs.Loads.{load_ok, periods_of_tasks, cost_at}
 use Rattle.flow_net.proofs.Spans.{holds, job_in}
-use Rattle.flow_net.proofs.Totals.{total-point}
+use Rattle.tab_core.proofs.Totals.{total-point}
 use Rattle.wrap_table.specs.Wrapping.{AreWrapped, length_at, owner_from}
 use Rattle.wrap_table.proofs.Positions.{laid_apart, laid_some}
 

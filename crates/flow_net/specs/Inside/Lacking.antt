@@ -1,6 +1,6 @@
 -- What a vCPU's jobs lack, as far as the intervals were gone through.
 use Rattle.std.specs.Prelude.{◌≡◌, ℕ, ◌+◌, ◌*◌, ◌<◌, ◌≤◌, ◌==◌, cond, List, length, slice_index}
-use Rattle.flow_net.specs.Sums.{total}
+use Rattle.tab_core.specs.Sums.{total}
 use Rattle.flow_net.specs.Load.{Load, job}
 
 -- what a job is given in the first intervals

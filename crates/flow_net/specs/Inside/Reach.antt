@@ -3,7 +3,7 @@
 -- Canadian Journal of Mathematics 8, 1956.
 use Rattle.std.specs.Prelude.{◌≡◌, ℕ, ◌-◌, ◌<◌, ◌≤◌, Bool, true, false, cond}
 use Rattle.flow_net.specs.Counts.{is_due}
-use Rattle.flow_net.specs.Sums.{total}
+use Rattle.tab_core.specs.Sums.{total}
 use Rattle.flow_net.specs.Load.{Load, span, job, used}
 
 -- The intervals that were reached, in order: `at x`, by a tick of vCPU `by x` that may move there

@@ -4,7 +4,7 @@ use Rattle.tab_core.specs.declared.TheConstants.{MAX_VCPUS, ROUND}
 use Rattle.table_form.specs.Tables.Rows.{Row}
 use Rattle.flow_net.specs.Allotments.{AllotmentView}
 use Rattle.flow_net.specs.Rows.{row_at}
-use Rattle.flow_net.specs.Sums.{total}
+use Rattle.tab_core.specs.Sums.{total}
 use Rattle.wrap_table.specs.Wrapping.{length_at, owner_from}
 use Rattle.wrap_table.specs.declared.laying.Laid.{Laid}
 

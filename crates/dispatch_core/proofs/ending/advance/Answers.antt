@@ -1,13 +1,13 @@
 use Rattle.std.proofs.Common.{◌≡◌, sym, ap, ◌∙◌}
 use Rattle.tab_core.specs.declared.entry.Entry.{Entry}
 use Rattle.tab_core.specs.declared.stint.Stint.{Stint}
+use Rattle.tab_core.proofs.Alike.{same_stint}
 use Rattle.round_words.specs.declared.view.Part.{Part}
 use Rattle.round_words.specs.declared.view.View.{View}
 use Rattle.round_words.specs.Views.{part, runs}
 use Rattle.round_words.specs.Seats.{view_of}
 use Rattle.round_words.proofs.ListLemmas.{some_same}
 use Rattle.round_words.proofs.ChangesLemmas.{part_with}
-use Rattle.dispatch_core.proofs.StintLemmas.{same_stint}
 use Rattle.dispatch_core.proofs.ending.advance.Goals as goal
 
 pub returns-clause-becomes : goal.returns-clause-becomes

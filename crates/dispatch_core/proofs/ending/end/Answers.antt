@@ -1,8 +1,8 @@
 use Rattle.std.proofs.Common.{◌≡◌, ◌-◌, ◌*◌, ◌/◌, ◌%◌, ◌++◌, ◌∷◌, [], ℕ, Bool, false, cond, nat_lt, length, refl, sym, ap, ◌∙◌, subst, arith}
 use Rattle.std.proofs.lemmas.Bool.{le-ltb}
+use Rattle.std.proofs.lemmas.Option.{slice_get_within}
 use Rattle.tab_core.specs.declared.TheConstants.{ROUND}
 use Rattle.table_form.specs.Tables.Spans.{IsSpan}
-use Rattle.run_promises.proofs.Lists.{within}
 use Rattle.table_form.specs.Running.Courses.{CourseView, with_plans}
 use Rattle.table_form.specs.Running.Outlines.{OutlineView}
 use Rattle.round_words.specs.declared.view.Part.{Part}
@@ -48,7 +48,7 @@ pub returns-in-Some-hear_all-clause-told : goal.returns-in-Some-hear_all-clause-
 returns-in-Some-hear_all-clause-told c = λ plan of plans numbers is follows.
     let log : CoreLog = c.args.log.now in
     let s = c.requires.stands in
-    let few = within log.used.items (log.clock / ROUND) c.args.used c.requires.begun.entered in
+    let few = slice_get_within log.used.items (log.clock / ROUND) c.args.used c.requires.begun.entered in
     let long : length log.used.items ≡ length (part (view_of c.args.seat.now) log.core).entries = ap length s.used ∙ count_used (part (view_of c.args.seat.now) log.core).entries in
     let ahead = (c.shown.ensures.cores log.core s.core).timeline.ahead in
     let place : log.clock - (c.len.result - 1) * ROUND ≡ log.clock % ROUND = omega (arith, c.len.ensures, few, long, ahead, s.clock) in
@@ -85,7 +85,7 @@ pub returns-in-Some-hear_all-clause-plans : goal.returns-in-Some-hear_all-clause
 returns-in-Some-hear_all-clause-plans c = λ plan of plans numbers is follows.
     let log : CoreLog = c.args.log.now in
     let s = c.requires.stands in
-    let few = within log.used.items (log.clock / ROUND) c.args.used c.requires.begun.entered in
+    let few = slice_get_within log.used.items (log.clock / ROUND) c.args.used c.requires.begun.entered in
     let long : length log.used.items ≡ length (part (view_of c.args.seat.now) log.core).entries = ap length s.used ∙ count_used (part (view_of c.args.seat.now) log.core).entries in
     let ahead = (c.shown.ensures.cores log.core s.core).timeline.ahead in
     let place : log.clock - (c.len.result - 1) * ROUND ≡ log.clock % ROUND = omega (arith, c.len.ensures, few, long, ahead, s.clock) in
@@ -119,7 +119,7 @@ pub returns-in-None-clause-told : goal.returns-in-None-clause-told
 returns-in-None-clause-told c = λ plan of plans numbers is follows.
     let log : CoreLog = c.args.log.now in
     let s = c.requires.stands in
-    let few = within log.used.items (log.clock / ROUND) c.args.used c.requires.begun.entered in
+    let few = slice_get_within log.used.items (log.clock / ROUND) c.args.used c.requires.begun.entered in
     let long : length log.used.items ≡ length (part (view_of c.args.seat.now) log.core).entries = ap length s.used ∙ count_used (part (view_of c.args.seat.now) log.core).entries in
     let ahead = (c.shown.ensures.cores log.core s.core).timeline.ahead in
     let place : log.clock - (c.len.result - 1) * ROUND ≡ log.clock % ROUND = omega (arith, c.len.ensures, few, long, ahead, s.clock) in
@@ -144,7 +144,7 @@ pub returns-in-None-clause-plans : goal.returns-in-None-clause-plans
 returns-in-None-clause-plans c = λ plan of plans numbers is follows.
     let log : CoreLog = c.args.log.now in
     let s = c.requires.stands in
-    let few = within log.used.items (log.clock / ROUND) c.args.used c.requires.begun.entered in
+    let few = slice_get_within log.used.items (log.clock / ROUND) c.args.used c.requires.begun.entered in
     let long : length log.used.items ≡ length (part (view_of c.args.seat.now) log.core).entries = ap length s.used ∙ count_used (part (view_of c.args.seat.now) log.core).entries in
     let ahead = (c.shown.ensures.cores log.core s.core).timeline.ahead in
     let place : log.clock - (c.len.result - 1) * ROUND ≡ log.clock % ROUND = omega (arith, c.len.ensures, few, long, ahead, s.clock) in

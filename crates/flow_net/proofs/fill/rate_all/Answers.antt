@@ -5,7 +5,7 @@ use Rattle.flow_net.specs.Counts.{is_due}
 use Rattle.flow_net.specs.Inside.Demanded.{load}
 use Rattle.flow_net.specs.Inside.Filling.{AreVcpus}
 use Rattle.flow_net.specs.declared.fill.Wanting.{Wanting}
-use Rattle.flow_net.proofs.Totals.{total-step}
+use Rattle.tab_core.proofs.Totals.{total-step}
 use Rattle.flow_net.proofs.fill.rate_all.Goals as goal
 use mir.Val.{bool_byte}
 

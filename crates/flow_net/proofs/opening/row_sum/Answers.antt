@@ -1,6 +1,6 @@
 use Rattle.std.proofs.Common.{ℕ, ◌+◌, arith}
 use Rattle.flow_net.specs.Rows.{ticks_at}
-use Rattle.flow_net.proofs.Totals.{total-step}
+use Rattle.tab_core.proofs.Totals.{total-step}
 use Rattle.flow_net.proofs.Searched.{total-part}
 use Rattle.flow_net.proofs.opening.row_sum.Goals as goal
 

@@ -3,7 +3,7 @@ use Rattle.std.proofs.lemmas.Bool.{cases_eq}
 use Rattle.flow_net.specs.Inside.Demanded.{load}
 use Rattle.flow_net.specs.Counts.{admitted_below, is_due}
 use Rattle.flow_net.specs.Inside.Reaching.{reached_of, link_at}
-use Rattle.flow_net.proofs.Totals.{total-step}
+use Rattle.tab_core.proofs.Totals.{total-step}
 use Rattle.flow_net.proofs.Reading.{more_trans}
 use Rattle.flow_net.proofs.reach.read_back.Goals as goal
 

@@ -1,7 +1,7 @@
 use Rattle.std.proofs.Common.{◌+◌, ◌≤◌, arith}
 use Rattle.flow_net.specs.Inside.Demanded.{load}
 use Rattle.flow_net.specs.Counts.{jobs_due}
-use Rattle.flow_net.proofs.Totals.{total-step}
+use Rattle.tab_core.proofs.Totals.{total-step}
 use Rattle.flow_net.proofs.Searched.{total-part}
 use Rattle.flow_net.proofs.search.first_lacking.Goals as goal
 

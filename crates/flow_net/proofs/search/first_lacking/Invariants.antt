@@ -1,5 +1,5 @@
 use Rattle.std.proofs.Common.{◌≡◌, ℕ, ◌+◌, ◌<◌, ◌≤◌}
-use Rattle.flow_net.specs.Sums.{total}
+use Rattle.tab_core.specs.Sums.{total}
 use Rattle.flow_net.specs.Load.{jobs}
 use Rattle.flow_net.specs.Rows.{ticks_at}
 use Rattle.flow_net.specs.Inside.Demanded.{load}

@@ -1,12 +1,9 @@
-use Rattle.std.proofs.Common.{◌≡◌, ◌⊎◌, ℕ, zero, suc, List, [], ◌∷◌, ◌++◌, length, length-append, Option, Some, None, inl, inr, ap, subst, arith}
+use Rattle.std.proofs.Common.{◌≡◌, ◌⊎◌, ℕ, zero, suc, List, [], ◌∷◌, ◌++◌, length, length-append, Some, inl, inr, ap, subst, arith}
 use Rattle.std.specs.Prelude.{slice_get}
 use Rattle.table_form.specs.Tables.Rows.{Row}
-use Rattle.table_form.specs.Tables.Serves.{owner_at, flat}
+use Rattle.table_form.specs.Tables.Serves.{owner_at}
+use Rattle.table_form.proofs.SpotLemmas.{flat_some}
 use Rattle.running_tests.proofs.samples.idle_rows.Goals as goal
-
-flat_some : (o : Option (Option ℕ)) (v : ℕ) → flat o ≡ Some v → o ≡ Some (Some v)
-flat_some None v h = absurd cc
-flat_some (Some o) v h = ap Some h
 
 owner_push : (rows : List Row) (row : Row) (c x v : ℕ) → owner_at (rows ++ row ∷ []) c x ≡ Some v
     → (owner_at rows c x ≡ Some v) ⊎ (slice_get row x ≡ Some (Some v))

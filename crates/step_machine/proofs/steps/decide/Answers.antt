@@ -1,9 +1,9 @@
 use Rattle.std.proofs.Common.{refl, ap, sym, ◌∙◌}
 use Rattle.std.specs.Prelude.{slice_get}
+use Rattle.tab_core.proofs.Lists.{same}
 use Rattle.step_machine.specs.Answers.{shown}
 use Rattle.step_machine.proofs.ShownLemmas.{is_decide}
 use Rattle.step_machine.specs.Inside.Logs.{core_of, cores_of}
-use Rattle.run_promises.proofs.Lists.{same}
 use Rattle.step_machine.proofs.LogLemmas.{core_at}
 use Rattle.step_machine.proofs.MachineStateLemmas.{log_found, log_kept, spare_less}
 use Rattle.step_machine.proofs.steps.decide.Goals as goal

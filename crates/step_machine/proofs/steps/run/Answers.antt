@@ -1,11 +1,12 @@
 use Rattle.std.proofs.Common.{refl, ap, sym, ◌∙◌, arith}
 use Rattle.std.specs.Prelude.{slice_get}
+use Rattle.tab_core.proofs.Lists.{same}
+use Rattle.run_promises.proofs.ChoiceLemmas.{last_more}
 use Rattle.step_machine.specs.Answers.{shown}
 use Rattle.step_machine.proofs.ShownLemmas.{is_run}
 use Rattle.step_machine.specs.Inside.Logs.{core_of, cores_of}
-use Rattle.run_promises.proofs.Lists.{same}
 use Rattle.step_machine.proofs.LogLemmas.{core_at, cores_edited, rooms_edited}
-use Rattle.step_machine.proofs.MachineStateLemmas.{log_found, log_kept, spare_less, clock_small, last_edited, last_more}
+use Rattle.step_machine.proofs.MachineStateLemmas.{log_found, log_kept, spare_less, clock_small, last_edited}
 use Rattle.step_machine.proofs.steps.run.Goals as goal
 
 pub phase_at-phase-requires-clause-numbered : goal.phase_at-phase-requires-clause-numbered

@@ -2,6 +2,7 @@ use Rattle.std.proofs.Common.{◌≡◌, ◌/◌, inr, length, Some, refl, ap, s
 use Rattle.std.specs.Prelude.{◌<◌, slice_get}
 use Rattle.std.proofs.lemmas.Option.{slice_get-get_or}
 use Rattle.tab_core.specs.declared.TheConstants.{ROUND}
+use Rattle.tab_core.proofs.Lists.{element_at, same}
 use Rattle.table_form.specs.Tables.Plans.{PlanView}
 use Rattle.slice_table.specs.Slices.{IsTableOf}
 use Rattle.table_form.specs.Running.Choice.{IsDispatch, last_after, last_shared}
@@ -9,7 +10,6 @@ use Rattle.table_form.specs.Running.Courses.{CourseView, plan_after, plan_number
 use Rattle.table_form.specs.Running.Outlines.{OutlineView}
 use Rattle.table_form.proofs.CourseLemmas.{in_course}
 use Rattle.step_machine.specs.Inside.Logs.{core_of, cores_of}
-use Rattle.run_promises.proofs.Lists.{same, element_at}
 use Rattle.step_machine.proofs.LogLemmas.{core_at}
 use Rattle.step_machine.proofs.PhaseLemmas.{entered_to_run}
 use Rattle.step_machine.proofs.MachineStateLemmas.{log_found, log_kept}

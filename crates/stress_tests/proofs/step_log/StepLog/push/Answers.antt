@@ -1,8 +1,8 @@
 use Rattle.std.proofs.Common.{◌≡◌, List, Some, inl, inr, subst}
 use Rattle.std.specs.Prelude.{slice_get}
+use Rattle.tab_core.proofs.Lists.{push_split}
 use Rattle.script_doc.specs.declared.step.Step.{Step}
 use Rattle.step_machine.specs.Answers.{NamesCore}
-use Rattle.step_machine.proofs.Lists.{push_split}
 use Rattle.stress_tests.proofs.step_log.StepLog.push.Goals as goal
 
 pub invariant_of-self : goal.invariant_of-self

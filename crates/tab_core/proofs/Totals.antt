@@ -2,7 +2,7 @@
 use Rattle.std.proofs.Common.{◌≡◌, ℕ, zero, suc, ◌+◌, ◌*◌, ◌<◌, ◌≤◌, ap, refl, sym, arith, ⊎_elim, add-zero, add-suc}
 use Rattle.std.proofs.lemmas.Bool.{cases_lt, cases_eq}
 use Rattle.std.proofs.Math.Nat.{suc-mul, zero-mul}
-use Rattle.flow_net.specs.Sums.{total}
+use Rattle.tab_core.specs.Sums.{total}
 
 -- sums of functions that agree
 pub total-ext : (f g : ℕ → ℕ) (n : ℕ) → ((k : ℕ) → k < n → f k ≡ g k) → total f n ≡ total g n
@@ -104,3 +104,8 @@ total-outside f a m b one zero_here =
 -- a sum and the next value
 pub total-step : (f : ℕ → ℕ) (n : ℕ) → total f (n + 1) ≡ total f n + f n
 total-step f n = let e : n + 1 ≡ suc n = omega arith in rw e refl
+
+-- a sum begins with its first value
+pub total-front : (f : ℕ → ℕ) (n : ℕ) → total f (suc n) ≡ f 0 + total (λ k. f (suc k)) n
+total-front f zero = omega arith
+total-front f (suc n) = omega (arith, total-front f n)
