@@ -1,7 +1,7 @@
 -- The lines of a row's segments, one after the other.
-use Rattle.std.proofs.Common.{sym, ap, subst, ◌∙◌, ◌≡◌, ℕ, ◌+◌, ◌<◌, ◌≤◌, List, ◌∷◌, ◌++◌, append-nil, append_assoc, add-one, drop, flat_map, get_or, length, map, suc, refl, Ok, Err}
-use Rattle.std.proofs.Math.Seq.{drop-cons}
+use Rattle.std.proofs.Common.{sym, ap, subst, ◌∙◌, ◌≡◌, ℕ, ◌+◌, ◌<◌, ◌≤◌, List, ◌++◌, append-nil, append_assoc, drop, flat_map, get_or, length, map, refl, Ok, Err}
 use Rattle.std.proofs.lemmas.List.{drop_all}
+use Rattle.tab_core.proofs.Lists.{drop_next}
 use Rattle.tab_io.specs.Sinks.{IsLeft, Writes}
 use Rattle.tab_io.specs.Views.{SinkView}
 use Rattle.tab_io.specs.declared.sink.WriteFault.{WriteFault}
@@ -19,9 +19,7 @@ lines_of_row names ss = flat_map (segment_line names) (map segment_view ss)
 pub line_first : (names : List (List ℕ)) (ss : List Segment) (k : ℕ) (s : Segment) → k < length ss
     → s ≡ get_or ss k s
     → lines_of_row names (drop k ss) ≡ segment_line names (segment_view s) ++ lines_of_row names (drop (k + 1) ss)
-line_first names ss k s low is =
-    ap (lines_of_row names) (drop-cons ss k s low ∙ (ap (λ r. r ∷ drop (suc k) ss) (sym is)
-    ∙ ap (λ n. s ∷ drop n ss) (sym (add-one k))))
+line_first names ss k s low is = ap (lines_of_row names) (drop_next ss k s low is)
 
 -- behind the last there is none
 pub no_line_left : (names : List (List ℕ)) (ss : List Segment) (k : ℕ) (gathered : List ℕ) → length ss ≤ k

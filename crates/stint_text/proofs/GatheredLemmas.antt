@@ -1,7 +1,7 @@
 -- Lines that come one by one behind those that are gathered.
-use Rattle.std.proofs.Common.{◌≡◌, ℕ, suc, ◌+◌, ◌<◌, ◌≤◌, List, ◌∷◌, ◌++◌, append-nil, add-one, drop, flat_map, get_or, length, Result, Ok, Err, ap, subst, sym, ◌∙◌}
-use Rattle.std.proofs.Math.Seq.{drop-cons}
+use Rattle.std.proofs.Common.{◌≡◌, ℕ, ◌+◌, ◌<◌, ◌≤◌, List, ◌++◌, append-nil, drop, flat_map, get_or, length, Result, Ok, Err, ap, subst}
 use Rattle.std.proofs.lemmas.List.{drop_all}
+use Rattle.tab_core.proofs.Lists.{drop_next}
 use Rattle.tab_io.specs.Sinks.{IsLeft, Writes}
 use Rattle.tab_io.specs.Views.{SinkView}
 use Rattle.tab_io.specs.declared.sink.WriteFault.{WriteFault}
@@ -12,9 +12,7 @@ use Rattle.tab_words.proofs.BlockLemmas.{left_gathered, left_torn}
 -- of what is left the first has the first line
 line_first : {X : Type 0} (f : X → List ℕ) (xs : List X) (k : ℕ) (x : X) → k < length xs → x ≡ get_or xs k x
     → flat_map f (drop k xs) ≡ f x ++ flat_map f (drop (k + 1) xs)
-line_first f xs k x low is =
-    ap (flat_map f) (drop-cons xs k x low ∙ (ap (λ r. r ∷ drop (suc k) xs) (sym is)
-    ∙ ap (λ n. x ∷ drop n xs) (sym (add-one k))))
+line_first f xs k x low is = ap (flat_map f) (drop_next xs k x low is)
 
 -- the next line came behind the gathered ones
 pub next_gathered : {X : Type 0} (s t v : SinkView) (f : X → List ℕ) (xs : List X) (k : ℕ) (x : X)
