@@ -1,7 +1,6 @@
 -- Neighbours of one owner joined: where a maximal segment ends, and what the loop keeps.
-use Rattle.std.proofs.Common.{◌≡◌, ◌≢◌, ℕ, zero, suc, ◌+◌, ◌<◌, ◌≤◌, Bool, true, false, not, eqb, List, [], ◌∷◌, ◌++◌, length, map, take, drop, get_or, set, slice_get, Option, Some, refl, ap, subst, sym, ◌∙◌, inl, inr, arith, add-one, append_assoc, length-set}
+use Rattle.std.proofs.Common.{◌≡◌, ℕ, zero, suc, ◌+◌, ◌<◌, ◌≤◌, Bool, true, false, not, List, [], ◌∷◌, ◌++◌, length, map, take, drop, get_or, set, slice_get, Some, refl, ap, subst, sym, ◌∙◌, inl, inr, arith, add-one, append_assoc, length-set}
 use Rattle.std.proofs.Math.Seq.{drop-cons}
-use Rattle.std.specs.Option.{option_eq}
 use Rattle.std.specs.Prelude.{◌↔◌, IsTrue}
 use Rattle.std.proofs.lemmas.Bool.{false≢true}
 use Rattle.std.proofs.lemmas.List.{append-nil, drop-set-lt, drop_all, map-append, take_more_set}
@@ -11,8 +10,8 @@ use Rattle.tab_core.proofs.Lists.{rest_later}
 use Rattle.table_form.specs.Tables.Rows.{RisesTo, cells_from}
 use Rattle.table_form.specs.Tables.Segments.{BeginsOther, put_front, segment_view, segments_from}
 use Rattle.table_form.specs.declared.segment.Segment.{Segment}
-use Rattle.table_form.proofs.RowLemmas.{cells-nil, rises_parts, same_owner}
-use Rattle.table_form.proofs.SegmentLemmas.{front_begins, front_cases, front_joins, front_stays, same_as_itself, same_first, segments_from-nil, segments_from-segment}
+use Rattle.table_form.proofs.RowLemmas.{cells-nil, rises_parts}
+use Rattle.table_form.proofs.SegmentLemmas.{front_begins, front_cases, front_joins, front_stays, same_first, segments_from-nil, segments_from-segment}
 
 -- a segment ends a segment where the next one has another owner
 pub segment_ends : (start : ℕ) (s : Segment) (ss : List Segment) (end : ℕ) → RisesTo start (s ∷ ss) end

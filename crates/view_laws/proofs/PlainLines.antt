@@ -7,7 +7,6 @@ use Rattle.tab_words.specs.Texts.{line_of}
 use Rattle.tab_words.proofs.TextLemmas.{decimal_word, is_line, is_word}
 use Rattle.table_form.specs.Running.Choice.{is_shared}
 use Rattle.table_form.specs.Running.Courses.{CourseView}
-use Rattle.vcpu_names.specs.Names.{name_at}
 use Rattle.vcpu_names.specs.Names as names
 use Rattle.plan_text.proofs.MeaningLemmas.{name_word}
 use Rattle.stint_text.specs.StintLine.{owned_line, stint_line}

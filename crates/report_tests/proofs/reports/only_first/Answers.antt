@@ -1,4 +1,4 @@
-use Rattle.std.proofs.Common.{◌≡◌, ◌<◌, ◌≤◌, ◌*◌, ℕ, get_or, replicate, rules, sym, subst, arith}
+use Rattle.std.proofs.Common.{◌≤◌, ℕ, replicate, rules, sym, subst, arith}
 use Rattle.std.proofs.lemmas.List.{get_or-set_other}
 use Rattle.std.specs.Prelude.{slice_index, slice_set}
 use Rattle.tab_core.proofs.Lists.{get_or-replicate_same}

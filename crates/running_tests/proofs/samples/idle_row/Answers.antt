@@ -1,4 +1,4 @@
-use Rattle.std.proofs.Common.{◌≡◌, ℕ, zero, suc, List, [], ◌++◌, replicate, Option, Some, None, ap, ◌∙◌}
+use Rattle.std.proofs.Common.{◌≡◌, ℕ, zero, suc, List, [], ◌++◌, replicate, Option, Some, None}
 use Rattle.std.specs.Prelude.{slice_get}
 use Rattle.tab_core.specs.declared.TheConstants.{ROUND}
 use Rattle.running_tests.proofs.samples.idle_row.Goals as goal

@@ -1,4 +1,4 @@
-use Rattle.std.proofs.Common.{length, ap, subst, ◌≡◌, arith}
+use Rattle.std.proofs.Common.{length, subst, ◌≡◌, arith}
 use Rattle.tab_words.proofs.SectionSizeLemmas.{section_size}
 use Rattle.tab_words.specs.Sections.{sections_of}
 use Rattle.tableau_sim.specs.Inside.Running.{AnswersBy}
