@@ -3,12 +3,13 @@ ghost use Rattle.std.specs.Option.{ForSome};
 ghost use Rattle.tab_core.specs.declared.TheConstants.{MAX_VCPUS};
 ghost use Rattle.table_form.specs.Tables.Homes.{is_housed};
 ghost use Rattle.table_form.specs.Tables.Serves.{has_task};
+ghost use Rattle.table_check.specs.Faults.{AreGood};
 ghost use Rattle.table_check.specs.Shapes.{AreOfTasks, AreOwnedByTasks};
 
 use std::alloc::{AllocError, Global};
 use std::test::Fail;
-use tab_core::{CoreNo, Periodic, Tasks, VcpuNo};
-use table_check::check;
+use tab_core::{CoreNo, NoMemory, Periodic, Tasks, VcpuNo};
+use table_check::{RowChecks, check};
 use table_form::{Homes, Owner, RawRows, RawTables, Segment, Segments};
 
 // A segment: its end, and the number of its owner.
@@ -164,6 +165,80 @@ fn single_cells(rt: HostRuntime) -> Result<(), Fail> {
     for (ways, expected) in &WAYS {
         let said = answer_in_turn(rt.alloc(), ways)?;
         assert_eq!(rt; said.as_str(), *expected);
+    }
+    Ok(())
+}
+
+// Whether the rows are seen to be good as they come.
+fn are_seen_good(
+    alloc: Global,
+    tasks: &[Option<Periodic>],
+    raw: &[Segments],
+) -> Result<bool, NoMemory>
+    requires { length tasks.now ≤ MAX_VCPUS }
+    ensures { IfOk result (λ good. IsTrue good → AreGood tasks.now raw.now) }
+{
+    let mut checks = RowChecks::of(alloc, tasks)?;
+    for row in raw {
+        if !checks.take_row(row.items()) {
+            return Ok(false);
+        }
+    }
+    Ok(checks.are_good())
+}
+
+// Half of each round for a, the first half.
+const FIRST_HALF: &[Part] = &[(51_300, A), (102_600, IDLE)];
+
+// Rows, and whether they are seen to be good: what a and b need on one core and on two, a on both at the last tick of
+// its half, b a tick too late, an end that doesn't rise, one short of the round, and no row.
+const SEEN: [(&[&[Part]], bool); 7] = [
+    (
+        &[&[(40, B), (51_340, A), (51_380, B), (102_600, IDLE)]],
+        true,
+    ),
+    (
+        &[FIRST_HALF, &[(51_260, IDLE), (51_340, B), (102_600, IDLE)]],
+        true,
+    ),
+    (
+        &[
+            FIRST_HALF,
+            &[
+                (51_259, IDLE),
+                (51_299, B),
+                (51_300, A),
+                (51_340, B),
+                (102_600, IDLE),
+            ],
+        ],
+        false,
+    ),
+    (
+        &[FIRST_HALF, &[(51_261, IDLE), (51_341, B), (102_600, IDLE)]],
+        false,
+    ),
+    (
+        &[
+            FIRST_HALF,
+            &[(51_260, IDLE), (51_340, B), (51_340, IDLE), (102_600, IDLE)],
+        ],
+        false,
+    ),
+    (
+        &[FIRST_HALF, &[(51_260, IDLE), (51_340, B), (102_599, IDLE)]],
+        false,
+    ),
+    (&[], false),
+];
+
+#[test]
+fn rows_as_they_come(rt: HostRuntime) -> Result<(), Fail> {
+    let tasks = [half(), forty()];
+    for (rows, expected) in &SEEN {
+        let raw = rows_of(rt.alloc(), &tasks, rows)?;
+        let good = are_seen_good(rt.alloc(), &tasks, raw.items())?;
+        assert_eq!(rt; good, *expected);
     }
     Ok(())
 }

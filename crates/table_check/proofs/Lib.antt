@@ -7,6 +7,7 @@ pub mod Owned
 pub mod Pairs
 pub mod Periods
 pub mod RawShapes
+pub mod SeenRows
 pub mod SegmentsOfRows
 pub mod Supplied
 pub mod Supplying

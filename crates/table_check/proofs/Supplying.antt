@@ -172,7 +172,7 @@ counts_all tasks ss from old new whole past so_far =
     (take_all from (cells_from 0 ss) (omega arith)) so_far
 
 -- a row gives a vCPU at most the ticks of the interval
-within-le : (v : ℕ) (row : Row) (from to : ℕ) → cells_within v row from to ≤ to - from
+pub within-le : (v : ℕ) (row : Row) (from to : ℕ) → cells_within v row from to ≤ to - from
 unfolding cells_within
 within-le v row from to =
     let most = count_by-le-length (λ cell. is_cell_of v cell) (take (to - from) (drop from row)) in

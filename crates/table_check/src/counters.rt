@@ -61,7 +61,7 @@ fn add_segment(counters: &mut Vec<u32>, tasks: &[Option<Periodic>], segment: &Se
 }
 
 // Counts the ticks of a row.
-fn add_row(counters: &mut Vec<u32>, tasks: &[Option<Periodic>], segments: &[Segment])
+pub(crate) fn add_row(counters: &mut Vec<u32>, tasks: &[Option<Periodic>], segments: &[Segment])
     requires size { length counters.old.items ≡ length tasks.now * MAX_PERIODS }
     requires room { AreAtMost tasks.now (2 ^ 32 - 1 - 2 * ROUND) counters.old.items }
     requires rises { RisesTo 0 segments.now ROUND }

@@ -15,7 +15,7 @@ use table_form::{Segment, Segments};
 const MANY_SEGMENTS: usize = 40_000;
 
 // How many words of 64 bits have one for each tick of a round.
-const WORDS: usize = 1604;
+pub(crate) const WORDS: usize = 1604;
 
 // Whether the rows are seen to be apart, by marks of the ticks at which each vCPU stands in a row.
 // Where they have few segments, an owner isn't below the count of vCPUs or memory is wanting,
@@ -49,7 +49,7 @@ fn are_many(raw: &[Segments]) -> bool {
 }
 
 // Marks each cell's tick for its owner. False where one was marked already.
-fn mark_row(marks: &mut Vec<u64>, segments: &[Segment]) -> bool
+pub(crate) fn mark_row(marks: &mut Vec<u64>, segments: &[Segment]) -> bool
     requires { RisesTo 0 segments.now ROUND }
     ensures kept { KeepsMarks marks.old.items marks.new.items }
     ensures marked { result ≡ true

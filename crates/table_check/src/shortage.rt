@@ -48,7 +48,7 @@ fn first_low(counters: &[u32], vcpu: usize, task: &Periodic) -> Option<u32>
 }
 
 // The first shortage by the counters.
-fn first_shortage(counters: &[u32], tasks: &[Option<Periodic>]) -> Option<Shortage>
+pub(crate) fn first_shortage(counters: &[u32], tasks: &[Option<Periodic>]) -> Option<Shortage>
     requires size { length counters.now ≡ length tasks.now * MAX_PERIODS }
     requires few { length tasks.now ≤ MAX_VCPUS }
     ensures { (rows : List Row) → CountSupply tasks.now rows counters.now

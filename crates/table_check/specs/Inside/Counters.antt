@@ -1,7 +1,7 @@
 -- Counters of what each vCPU gets in each of its periods: for each vCPU as many as a round has
 -- periods at most.
-use Rattle.std.specs.Prelude.{◌≡◌, ℕ, ◌+◌, ◌-◌, ◌*◌, ◌/◌, ◌<◌, ◌≤◌, min, max, List, Option, Some, None, slice_get, slice_index, if◌then◌else◌}
-use Rattle.tab_core.specs.declared.TheConstants.{ROUND}
+use Rattle.std.specs.Prelude.{◌≡◌, ℕ, ◌+◌, ◌-◌, ◌*◌, ◌/◌, ◌<◌, ◌≤◌, min, max, List, Option, Some, None, length, slice_get, slice_index, if◌then◌else◌}
+use Rattle.tab_core.specs.declared.TheConstants.{MAX_VCPUS, ROUND}
 use Rattle.tab_core.specs.declared.periodic.Periodic.{Periodic}
 use Rattle.table_form.specs.Tables.Rows.{Row}
 use Rattle.table_form.specs.Tables.Serves.{is_cell_of, supply}
@@ -46,3 +46,9 @@ IsFirstLow counters v task None = (k : ℕ) → k < ROUND / task.period → task
 IsFirstLow counters v task (Some k) =
     (k < ROUND / task.period) × (count_at counters v k < task.cost) ×
     ((j : ℕ) → j < k → task.cost ≤ count_at counters v j)
+
+-- a counter for each period of each of few vCPUs, none above what so many rows can give
+pub record HaveRoom (tasks : List (Option Periodic)) (count : ℕ) (counters : List ℕ) : Type 0 where
+  pub few : length tasks ≤ MAX_VCPUS
+  pub size : length counters ≡ length tasks * MAX_PERIODS
+  pub most : AreAtMost tasks (count * ROUND) counters

@@ -3,6 +3,7 @@
 use Rattle.std.specs.Prelude.{◌≡◌, ◌==◌, ℕ, ◌+◌, ◌*◌, ◌/◌, ◌%◌, ◌<◌, Bool, false, true, List, Some, slice_get, slice_index}
 use Rattle.std.specs.Int.{bit_at}
 use Rattle.table_form.specs.Tables.Rows.{Row}
+use Rattle.table_form.specs.Tables.Serves.{owner_at}
 use Rattle.table_check.specs.declared.marks.TheConstants.{WORDS}
 
 -- whether the tick is marked for the vCPU
@@ -21,3 +22,7 @@ pub record IsNewMark (old new : List ℕ) (v x : ℕ) : Type 0 where
 -- each tick of the row below this one was marked for its owner
 abbrev pub MarksRow : Row → ℕ → List ℕ → List ℕ → Type 0
 MarksRow row end old new = (v x : ℕ) → x < end → slice_get row x ≡ Some (Some v) → IsNewMark old new v x
+
+-- each tick of each of the rows is marked for its owner
+abbrev pub AreMarked : List Row → List ℕ → Type 0
+AreMarked rows marks = (v x c : ℕ) → owner_at rows c x ≡ Some v → is_marked marks v x ≡ true
