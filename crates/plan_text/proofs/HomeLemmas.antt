@@ -6,7 +6,7 @@ use Rattle.table_form.specs.Tables.Rows.{Row}
 use Rattle.table_form.specs.Tables.Homes.{HaveHomes, are_housed, is_housed}
 
 -- a plan has as many homes as tasks
-same_count : (count : ℕ) (tasks : List (Option Periodic)) (homes : List (Option ℕ))
+pub same_count : (count : ℕ) (tasks : List (Option Periodic)) (homes : List (Option ℕ))
     → are_housed count tasks homes ≡ true → length homes ≡ length tasks
 same_count count [] [] h = refl
 same_count count [] (home ∷ homes) h = absurd (cc)

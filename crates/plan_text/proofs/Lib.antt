@@ -11,5 +11,6 @@ pub mod ReadingHeadLemmas
 pub mod ReadingLemmas
 pub mod ReadingSegmentLemmas
 pub mod ReadingVcpuLemmas
+pub mod RowReaderLemmas
 pub mod RowText
 pub mod TailLemmas

@@ -5,4 +5,5 @@ pub mod Names
 pub mod PlanLines
 pub mod PlanText
 pub mod Refusal
+pub mod RowReading
 pub mod Written

@@ -50,3 +50,10 @@ pub record IsSomePlan (names : List (List ℕ)) (cores : ℕ) (tasks : List (Opt
     (lines : List Line) : Type 0 where
   pub raw : RawTables
   pub text : AreLinesOf names cores tasks lines raw
+
+-- the bytes are a text of some tables with these rows
+pub record IsTextOfRows (names : List (List ℕ)) (cores : ℕ) (tasks : List (Option Periodic)) (bytes : List ℕ)
+    (rows : List (List Segment)) : Type 0 where
+  pub raw : RawTables
+  pub own : raw.rows ≡ rows
+  pub text : IsPlanText names cores tasks bytes raw

@@ -47,6 +47,15 @@ impl<'a> LinesLeft<'a> {
         self.bytes
     }
 
+    pub(crate) fn copied(&self) -> LinesLeft<'a>
+        ensures { result ≡ self.now }
+    {
+        LinesLeft {
+            bytes: self.bytes,
+            number: self.number,
+        }
+    }
+
     // The first line, and the bytes behind it.
     pub(crate) fn first(&self) -> Option<(&'a [u8], &'a [u8])>
         ensures { MatchOption result (self.now.lines ≡ [])

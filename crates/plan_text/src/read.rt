@@ -1,24 +1,18 @@
-ghost use Rattle.std.specs.Prelude.{◌≡◌, ◌↔◌, ◌⊎◌, ◌<◌, ◌≤◌, ◌^◌, IfOk, IsErrOf, IsTrue, Ok, Err, count_by, length, ℕ};
-ghost use Rattle.tab_core.specs.declared.TheConstants.{MAX_CORES, MAX_VCPUS};
+ghost use Rattle.std.specs.Prelude.{◌≡◌, ◌⊎◌, ◌<◌, ◌≤◌, ◌^◌, IfOk, IsErrOf, IsTrue, Ok, Err, length, ℕ};
+ghost use Rattle.tab_core.specs.declared.TheConstants.{MAX_CORES};
 ghost use Rattle.table_form.specs.Tables.Homes.{are_housed};
 ghost use Rattle.table_form.specs.declared.raw_tables.RawTables.{RawTables};
 ghost use Rattle.plan_text.specs.FirstBad.{IsFirstBadFor};
 ghost use Rattle.plan_text.specs.Names.{AreHostNames};
 ghost use Rattle.plan_text.specs.Meaning.{AreFineRows, IsPlanText, IsSomePlan, worded};
-ghost use Rattle.plan_text.specs.PlanLines.{head_words, is_admitted};
 ghost use Rattle.vcpu_names.specs.Names.{names_of};
 ghost use Rattle.plan_text.specs.declared.read_fault.ReadPlan.{ReadPlan};
-ghost use Rattle.tab_words.specs.Words.{words_of};
 
-use crate::line_words::has_words;
-use crate::lines_left::{LinesLeft, first_line};
 use crate::read_cores::read_cores;
 use crate::read_fault::ReadPlan;
-use crate::read_vcpus::read_vcpus;
-use crate::vcpus::count_admitted;
+use crate::read_front::read_front;
 use std::alloc::Global;
-use tab_core::{Host, Periodic, Tasks};
-use tab_words::TextPiece;
+use tab_core::{Host, Tasks};
 use table_form::{Homes, RawRows, RawTables};
 use vcpu_names::Names;
 
@@ -75,39 +69,10 @@ fn read_text(
     ensures bad_line { (bad : ℕ) → IsErrOf result (ReadPlan.BadLine bad)
         → IsFirstBadFor (IsSomePlan names.now host.now.cores tasks.now) 1 (worded bytes.now) bad }
 {
-    let Some((head, behind)) = first_line(bytes) else {
-        return Err(ReadPlan::BadLine { line: 1 });
-    };
-    if !is_head(head, host.cores, tasks.items()) {
-        return Err(ReadPlan::BadLine { line: 1 });
-    }
-    let mut left = LinesLeft::from(behind, 2);
-    let homes = read_vcpus(
-        alloc,
-        &mut left,
-        host.vcpus.items(),
-        tasks.items(),
-        host.cores,
-    )?;
-    let rows = read_cores(alloc, &mut left, names, tasks.items(), host.cores)?;
+    let mut front = read_front(alloc, bytes, host, tasks)?;
+    let rows = read_cores(alloc, &mut front.left, names, tasks.items(), host.cores)?;
     Ok(RawTables {
-        homes: Homes::of(homes),
+        homes: Homes::of(front.homes),
         rows: RawRows::of(rows),
     })
-}
-
-fn is_head(line: &[u8], cores: u32, tasks: &[Option<Periodic>]) -> bool
-    requires { length tasks.now ≤ MAX_VCPUS }
-    ensures { IsTrue result ↔ (words_of line.now ≡ head_words cores (count_by is_admitted tasks.now)) }
-{
-    has_words(
-        line,
-        &[
-            TextPiece::Text(b"plan"),
-            TextPiece::Text(b"cores"),
-            TextPiece::Number(cores),
-            TextPiece::Text(b"vcpus"),
-            TextPiece::Number(count_admitted(tasks)),
-        ],
-    )
 }

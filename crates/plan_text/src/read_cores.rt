@@ -1,13 +1,14 @@
-ghost use Rattle.std.specs.Prelude.{◌≡◌, ◌++◌, ◌+◌, ◌<◌, ◌≤◌, [], ◌∷◌, IfOk, IsErrOf, MatchOption, OnOk, ◌↔◌, ◌^◌, IfNone, IfSome, decimal, length, map, ℕ};
+ghost use Rattle.std.specs.Prelude.{◌≡◌, ◌++◌, ◌+◌, ◌-◌, ◌<◌, ◌≤◌, [], ◌∷◌, IfOk, IsErrOf, List, MatchOption, OnOk, Option, ◌↔◌, ◌^◌, IfNone, IfSome, decimal, length, map, ℕ};
 ghost use Rattle.std.specs.List.{All};
 ghost use Rattle.tab_core.specs.declared.TheConstants.{MAX_CORES, MAX_VCPUS};
+ghost use Rattle.tab_core.specs.declared.periodic.Periodic.{Periodic};
 ghost use Rattle.table_form.specs.Tables.Serves.{has_task};
 ghost use Rattle.table_form.specs.declared.segment.Segment.{Segment};
 ghost use Rattle.tab_words.specs.Words.{words_of};
 ghost use Rattle.plan_text.specs.FirstBad.{IsFirstBadFor};
 ghost use Rattle.plan_text.specs.Names.{AreHostNames};
 ghost use Rattle.plan_text.specs.Meaning.{AreFineRows, IsFineSegment, segment_words};
-ghost use Rattle.plan_text.specs.PlanLines.{core_lines, end_words};
+ghost use Rattle.plan_text.specs.PlanLines.{core_lines, core_words, end_words};
 ghost use Rattle.plan_text.specs.Inside.Reading.{AreFromCore, IsNoSegment, IsNoSegmentLine};
 ghost use Rattle.plan_text.specs.declared.read_fault.ReadPlan.{ReadPlan};
 
@@ -40,40 +41,81 @@ pub(crate) fn read_cores(
 {
     let mut rows = Vec::new(alloc);
     for core in 0..cores {
-        left.take(&[TextPiece::Text(b"core"), TextPiece::Number(core)])?;
-        let row = read_row(alloc, left, names, tasks)?;
+        let row = read_row(left, names, tasks, core, Vec::new(alloc))?;
         if rows.push(Segments::of(row)).is_err() {
             return Err(ReadPlan::NoMemory);
         }
     }
-    left.take(&[TextPiece::Text(b"end")])?;
-    match left.first() {
-        None => Ok(rows),
-        Some(_) => Err(left.bad_line()),
-    }
+    read_end(left)?;
+    Ok(rows)
 }
 
-// Reads the lines of segments, up to the first that is none.
-fn read_row(
-    alloc: Global,
+// Reads the line of the core with this number and those of its segments, which it puts into the row.
+// That is empty, and may come with memory.
+pub(crate) fn read_row(
     left: &mut LinesLeft<'_>,
     names: &Names<'_>,
     tasks: &[Option<Periodic>],
+    core: u32,
+    row: Vec<Segment>,
+) -> Result<Vec<Segment>, ReadPlan>
+    requires good { AreHostNames names.now }
+    requires named { length names.now ≡ length tasks.now }
+    requires empty { row.items ≡ [] }
+    ensures lines { IfOk result (λ row. left.old.lines
+        ≡ core_words core ∷ (map (segment_words names.now) row.items ++ left.new.lines)) }
+    ensures fine { IfOk result (λ row. All (IsFineSegment tasks.now) row.items) }
+    ensures behind { IfOk result (λ row. (cores bad : ℕ) → core < cores
+        → IsFirstBadFor (AreFromCore names.now tasks.now (core + 1) (cores - (core + 1)))
+        left.new.number left.new.lines bad
+        → IsFirstBadFor (AreFromCore names.now tasks.now core (cores - core))
+        left.old.number left.old.lines bad) }
+    ensures bad_line { (bad : ℕ) → IsErrOf result (ReadPlan.BadLine bad) → (cores : ℕ) → core < cores
+        → IsFirstBadFor (AreFromCore names.now tasks.now core (cores - core))
+        left.old.number left.old.lines bad }
+{
+    left.take(&[TextPiece::Text(b"core"), TextPiece::Number(core)])?;
+    Ok(read_segments(left, names, tasks, row)?)
+}
+
+// Reads the lines of segments, up to the first that is none, and puts them into the row, which is empty.
+// What is left is held in a copy, which needs no memory on the way from line to line.
+fn read_segments(
+    left: &mut LinesLeft<'_>,
+    names: &Names<'_>,
+    tasks: &[Option<Periodic>],
+    mut row: Vec<Segment>,
 ) -> Result<Vec<Segment>, AllocError>
     requires good { AreHostNames names.now }
     requires named { length names.now ≡ length tasks.now }
+    requires empty { row.items ≡ [] }
     ensures lines { IfOk result (λ row. left.old.lines ≡ map (segment_words names.now) row.items
         ++ left.new.lines) }
     ensures number { IfOk result (λ row. left.new.number ≡ left.old.number + length row.items) }
     ensures fine { IfOk result (λ row. All (IsFineSegment tasks.now) row.items) }
-    ensures behind { OnOk result (IsNoSegment names.now tasks.now left.new.lines) }
+    ensures behind { IfOk result (λ row. IsNoSegment names.now tasks.now left.new.lines) }
 {
-    let mut row = Vec::new(alloc);
-    while let Some(segment) = take_segment(left, names, tasks) {
+    let mut rest = left.copied();
+    while let Some(segment) = take_segment(&mut rest, names, tasks) {
         let Segment { owner, end, .. } = segment;
         row.push(Segment { owner, end })?;
     }
+    *left = rest;
     Ok(row)
+}
+
+// Reads the end, behind which there is no line.
+pub(crate) fn read_end(left: &mut LinesLeft<'_>) -> Result<(), ReadPlan>
+    ensures ok { OnOk result (left.old.lines ≡ end_words ∷ []) }
+    ensures bad_line { (bad : ℕ) → IsErrOf result (ReadPlan.BadLine bad)
+        → (names : List (List ℕ)) (tasks : List (Option Periodic)) (core cores : ℕ) → cores ≤ core
+        → IsFirstBadFor (AreFromCore names tasks core (cores - core)) left.old.number left.old.lines bad }
+{
+    left.take(&[TextPiece::Text(b"end")])?;
+    match left.first() {
+        None => Ok(()),
+        Some(_) => Err(left.bad_line()),
+    }
 }
 
 // Steps over the first line, if it is a segment's, and gives that. Most lines are plain and read in

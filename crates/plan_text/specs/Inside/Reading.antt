@@ -1,11 +1,12 @@
 -- What the parts of the reader find, and what may follow the lines that are read.
-use Rattle.std.specs.Prelude.{◌≡◌, ℕ, ◌<◌, IsTrue, List, [], ◌∷◌, ◌++◌, drop, length, map, Option, Some, None}
+use Rattle.std.specs.Prelude.{◌≡◌, ℕ, ◌-◌, ◌<◌, IsTrue, List, [], ◌∷◌, ◌++◌, count_by, drop, length, map, Option, Some, None}
 use Rattle.std.specs.List.{All}
 use Rattle.tab_core.specs.declared.periodic.Periodic.{Periodic}
 use Rattle.table_form.specs.declared.segment.Segment.{Segment}
 use Rattle.table_form.specs.Tables.Homes.{are_housed}
-use Rattle.plan_text.specs.Meaning.{AreFineRows, IsFineSegment, segment_words}
-use Rattle.plan_text.specs.PlanLines.{Line, core_lines, end_words, vcpu_lines, vcpu_words}
+use Rattle.plan_text.specs.FirstBad.{IsFirstBadFor}
+use Rattle.plan_text.specs.Meaning.{AreFineRows, IsFineSegment, IsSomePlan, segment_words, worded}
+use Rattle.plan_text.specs.PlanLines.{Line, core_lines, end_words, head_words, is_admitted, vcpu_lines, vcpu_words}
 
 -- the lines of a text that are left, and the number of the first of them
 pub record Left : Type 0 where
@@ -56,3 +57,16 @@ abbrev pub IsNoVcpu : List ℕ → Option Periodic → ℕ → List Line → Typ
 IsNoVcpu name None cores lines = ⊥
 IsNoVcpu name (Some task) cores lines = (home : ℕ) → home < cores
     → IsOtherLine (vcpu_words name task home) lines
+
+-- of the text the first line, those of the vCPUs with these homes and those of these rows are read, and
+-- these lines are left
+pub record IsReadTo (names : List (List ℕ)) (cores : ℕ) (tasks : List (Option Periodic)) (bytes : List ℕ)
+    (homes : List (Option ℕ)) (rows : List (List Segment)) (left : Left) : Type 0 where
+  pub housed : IsTrue (are_housed cores tasks homes)
+  pub fine : AreFineRows tasks rows
+  pub lines : worded bytes ≡ head_words cores (count_by is_admitted tasks)
+      ∷ (vcpu_lines names tasks homes ++ (core_lines (segment_words names) 0 rows ++ left.lines))
+  -- the first bad line of what is left is the text's
+  pub behind : (bad : ℕ)
+      → IsFirstBadFor (AreFromCore names tasks (length rows) (cores - length rows)) left.number left.lines bad
+      → IsFirstBadFor (IsSomePlan names cores tasks) 1 (worded bytes) bad
