@@ -1,6 +1,7 @@
-ghost use Rattle.std.specs.Prelude.{◌≡◌, ◌<◌, ◌≤◌, ◌^◌, ℕ, [], length, slice_index_or};
+ghost use Rattle.std.specs.Prelude.{◌≡◌, ◌<◌, ◌≤◌, ◌^◌, ℕ, [], length, slice_index_or, true};
 ghost use Rattle.tableau_sim.specs.declared.input.TheConstants.{INPUT_LIMIT};
 ghost use Rattle.tableau_sim.specs.Check.{Checks};
+ghost use Rattle.tableau_sim.specs.Inside.Passing.{IsGoodText};
 ghost use Rattle.tableau_sim.specs.Inside.Reply.{Makes};
 ghost use Rattle.tableau_sim.specs.Sections.{OfSections};
 
@@ -9,10 +10,11 @@ use crate::reply::{Reply, Stop, Text, stopped};
 use crate::status::Status;
 use crate::stops::{host_of, stop_of_check, stop_of_tasks};
 use period_choice::tasks_of;
-use plan_text::{ReadPlan, read_plan};
+use plan_text::{ReadPlan, RowReader, read_plan};
 use std::alloc::Global;
+use tab_core::{Host, Tasks};
 use tab_words::Sections;
-use table_check::first_fault;
+use table_check::{RowChecks, first_fault};
 
 // The reply of `check` to its input.
 pub(crate) fn check_reply(alloc: Global, input: &[u8]) -> Reply
@@ -24,6 +26,10 @@ pub(crate) fn check_reply(alloc: Global, input: &[u8]) -> Reply
         Err(stop) => Err(stop),
     }
 }
+
+// From how many bytes on the rows of a plan text are checked as they are read, and aren't kept. Only
+// memory and speed depend on this.
+const LONG_TEXT: usize = 400_000;
 
 fn check_of(alloc: Global, sections: &Sections) -> Reply
     requires two { length sections.now ≡ 2 }
@@ -38,7 +44,11 @@ fn check_of(alloc: Global, sections: &Sections) -> Reply
         Ok(tasks) => tasks,
         Err(fault) => return Err(stop_of_tasks(fault, host)),
     };
-    let raw = match read_plan(alloc, sections.part(1), &host, &tasks) {
+    let text = sections.part(1);
+    if text.len() >= LONG_TEXT && passes(alloc, text, &host, &tasks) {
+        return Ok(Text::Checked);
+    }
+    let raw = match read_plan(alloc, text, &host, &tasks) {
         Ok(raw) => raw,
         Err(ReadPlan::BadLine { line }) => return Err(stopped(Status::BadPlanLine { line })),
         Err(ReadPlan::NoMemory) => return Err(Stop::NoMemory),
@@ -50,4 +60,28 @@ fn check_of(alloc: Global, sections: &Sections) -> Reply
         None => Ok(Text::Checked),
         Some(fault) => Err(stop_of_check(fault, host)),
     }
+}
+
+// Whether the text is seen to be that of good tables, row by row. Where it isn't, nothing is known.
+fn passes(alloc: Global, text: &[u8], host: &Host, tasks: &Tasks) -> bool
+    requires named { length tasks.now ≡ length host.now.vcpus }
+    requires short { length text.now < 2 ^ 32 }
+    ensures { result ≡ true → IsGoodText host.now tasks.now text.now }
+{
+    let Ok(mut reader) = RowReader::of(alloc, text, host, tasks) else {
+        return false;
+    };
+    let Ok(mut checks) = RowChecks::of(alloc, tasks.items()) else {
+        return false;
+    };
+    let mut row = Vec::new(alloc);
+    for core in 0..host.cores {
+        if reader.read_row(core, &mut row).is_err() || !checks.take_row(&row) {
+            return false;
+        }
+    }
+    if reader.read_end().is_err() {
+        return false;
+    }
+    checks.are_good()
 }
