@@ -1,7 +1,7 @@
 ghost use Rattle.std.specs.Prelude.{◌≡◌, ◌≤◌, length, slice_get};
 ghost use Rattle.tab_core.specs.declared.TheConstants.{MAX_VCPUS};
 ghost use Rattle.tab_io.specs.Sinks.{Writes};
-ghost use Rattle.vcpu_names.specs.Names.{name_at, names_of};
+ghost use Rattle.vcpu_names.specs.Names.{names_of};
 ghost use Rattle.advice.specs.PlanLines.{admitted_from, behind_head, found_text, head_text, plan_line_text, shape_text, short_text, table_text, twice_text, vcpu_text, wanted_text};
 
 use crate::line::line_at;

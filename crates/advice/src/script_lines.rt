@@ -1,4 +1,3 @@
-ghost use Rattle.std.specs.Prelude.{◌≡◌};
 ghost use Rattle.tab_io.specs.Sinks.{Writes};
 ghost use Rattle.advice.specs.Scripts.{script_text, script_line_text};
 

@@ -1,4 +1,4 @@
-ghost use Rattle.std.specs.Prelude.{◌≡◌, ◌*◌, ◌-◌, ◌<◌, ◌≤◌, ◌^◌, ℕ};
+ghost use Rattle.std.specs.Prelude.{◌≡◌, ◌*◌, ◌-◌, ◌<◌, ◌≤◌, ◌^◌};
 ghost use Rattle.tab_core.specs.declared.TheConstants.{MAX_ROUNDS, ROUND};
 ghost use Rattle.table_form.specs.Running.Capped.{ticks_run};
 ghost use Rattle.table_form.specs.Running.State.{State as StateValue};

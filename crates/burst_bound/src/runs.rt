@@ -1,4 +1,4 @@
-ghost use Rattle.std.specs.Prelude.{◌≡◌, ◌+◌, ◌*◌, ◌<◌, ◌≤◌, ◌++◌, ℕ, IfOk, Some, length, slice_get, vec_capacity};
+ghost use Rattle.std.specs.Prelude.{◌≡◌, ◌+◌, ◌<◌, ◌≤◌, ◌++◌, ℕ, IfOk, Some, length, slice_get, vec_capacity};
 ghost use Rattle.stint_limit.specs.StintBounds.{stints_in};
 ghost use Rattle.table_form.specs.Running.State.{State as StateValue};
 ghost use Rattle.burst_bound.specs.Inside.Runs.{AreInPlace, AreRanBefore, AreRuns, TellRuns, pieces_of};

@@ -1,5 +1,4 @@
 //! Runs of a scene by threads, and what they show.
-ghost use Rattle.table_form.specs.Running.Courses.{FitsRounds};
 
 use crate::hosts::Scene;
 use burst_bound::{BurstAnswer, BurstReport};

@@ -1,6 +1,5 @@
 //! A course as plain numbers: sets of vCPUs as the bits of a word, since hosts here have at most 64 vCPUs. No search
 //! of the product is asked.
-ghost use Rattle.std.specs.Prelude.{◌≤◌, length};
 
 use script_doc::{Act, Event};
 use std::alloc::Global;

@@ -1,5 +1,4 @@
-ghost use Rattle.std.specs.Prelude.{◌≡◌, ◌+◌, ◌++◌, ◌≤◌, IfErr, IfOk, OnOk, length, replicate};
-ghost use Rattle.tab_core.specs.declared.TheConstants.{ROUND};
+ghost use Rattle.std.specs.Prelude.{◌≡◌, IfErr, IfOk};
 ghost use Rattle.table_form.specs.Planning.Demand.{Fits};
 ghost use Rattle.table_form.specs.Planning.EdfRow.{edf_row};
 ghost use Rattle.table_form.specs.Planning.Jobs.{jobs_of};

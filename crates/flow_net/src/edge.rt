@@ -1,4 +1,4 @@
-ghost use Rattle.std.specs.Prelude.{ℕ, ◌≡◌, ◌+◌, ◌*◌, ◌<◌};
+ghost use Rattle.std.specs.Prelude.{◌≡◌, ◌+◌, ◌*◌, ◌<◌};
 ghost use Rattle.flow_net.specs.Load.{jobs};
 ghost use Rattle.flow_net.specs.Inside.Demanded.{IsFlowOf, load, net_view};
 ghost use Rattle.flow_net.specs.Inside.Edges.{IsEdge, left_at};

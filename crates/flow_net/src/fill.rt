@@ -1,6 +1,5 @@
-ghost use Rattle.std.specs.Prelude.{ℕ, ◌≡◌, ◌+◌, ◌*◌, ◌<◌, ◌≤◌, IfOk, IsOk, length, slice_index};
-ghost use Rattle.flow_net.specs.Load.{job, span};
-ghost use Rattle.flow_net.specs.Rows.{ticks_at};
+ghost use Rattle.std.specs.Prelude.{◌≡◌, ◌+◌, ◌*◌, ◌<◌, ◌≤◌, length};
+ghost use Rattle.flow_net.specs.Load.{job};
 ghost use Rattle.flow_net.specs.Flows.{all_lacks};
 ghost use Rattle.flow_net.specs.Inside.Demanded.{IsFlowOf, load};
 ghost use Rattle.flow_net.specs.Inside.Filling.{AreVcpus, listed_at};

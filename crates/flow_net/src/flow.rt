@@ -1,4 +1,4 @@
-ghost use Rattle.std.specs.Prelude.{ℕ, ◌≡◌, ◌+◌, ◌-◌, ◌<◌, slice_index};
+ghost use Rattle.std.specs.Prelude.{ℕ, ◌≡◌, ◌-◌, ◌<◌, slice_index};
 ghost use Rattle.flow_net.specs.Load.{job, jobs, span};
 ghost use Rattle.flow_net.specs.Rows.{ticks_at, with_ticks};
 ghost use Rattle.flow_net.specs.Inside.Demanded.{IsFlowOf, load};

@@ -1,7 +1,6 @@
 ghost use Rattle.std.specs.Prelude.{ℕ, ◌≡◌, ◌+◌, ◌*◌, ◌<◌, ◌≤◌, IfOk, IsTrue, false, map};
 ghost use Rattle.tab_core.specs.declared.TheConstants.{MAX_CORES, ROUND};
 ghost use Rattle.flow_net.specs.Allotments.{AreMarks, demands, load_of_tasks, period_of_task};
-ghost use Rattle.flow_net.specs.Allotted.{allotment_view};
 ghost use Rattle.flow_net.specs.Flows.{fluid};
 ghost use Rattle.flow_net.specs.Networks.{IsNetwork, IsToInterval, IsToJob, IsToSink, flow_in, lacks_of, left_to_interval, left_to_job, left_to_sink, load};
 ghost use Rattle.flow_net.specs.Counts.{admitted, edges, job_count};

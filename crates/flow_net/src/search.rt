@@ -4,7 +4,7 @@ ghost use Rattle.flow_net.specs.Rows.{row_at, ticks_at, with_ticks};
 ghost use Rattle.flow_net.specs.Inside.Demanded.{IsFlowOf, load};
 ghost use Rattle.flow_net.specs.Flows.{all_lacks};
 ghost use Rattle.flow_net.specs.Counts.{admitted, edges, job_count, jobs_due};
-ghost use Rattle.flow_net.specs.Inside.Reach.{IsJobwise, ReadsMore, scanned};
+ghost use Rattle.flow_net.specs.Inside.Reach.{IsJobwise, scanned};
 ghost use Rattle.flow_net.specs.Inside.Reaching.{HasPlaces, IsRootedOf, IsSearchOf, link_at, reached_of};
 
 use crate::demands::Demands;

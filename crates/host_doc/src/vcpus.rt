@@ -2,7 +2,7 @@ ghost use Rattle.std.specs.Prelude.{◌≡◌, ◌≤◌, ◌⊎◌, not, ◌||�
 ghost use Rattle.std.specs.Result.{result_err};
 ghost use Rattle.tab_core.specs.declared.TheConstants.{MAX_LATENCY_NS, MAX_VCPUS};
 ghost use Rattle.toml.specs.Data.{as_table};
-ghost use Rattle.toml.specs.View.{items_view, table_view, view};
+ghost use Rattle.toml.specs.View.{items_view, table_view};
 ghost use Rattle.host_doc.specs.KeyTable.{admitted_of, capped_of, runnable_of};
 ghost use Rattle.host_doc.specs.Value.{integer_at};
 ghost use Rattle.host_doc.specs.VcpuFaults.{reservation_fault, settings_fault, vcpus_fault};

@@ -1,7 +1,7 @@
 ghost use Rattle.std.specs.Prelude.{◌≡◌, ◌<◌, ◌≤◌, ◌+◌, ◌*◌, IfOk};
 ghost use Rattle.tab_core.specs.declared.TheConstants.{MAX_CORES, MAX_VCPUS};
-ghost use Rattle.host_gen.specs.Generated.{IsGenerated, IsGeneratedVcpu, IsReservationOf, most_percent, name_of, percent_of, period_of};
-ghost use Rattle.host_gen.specs.GeneratorWords.{state_after, state_of_seed, word_of};
+ghost use Rattle.host_gen.specs.Generated.{IsGenerated, IsGeneratedVcpu, IsReservationOf, most_percent, name_of};
+ghost use Rattle.host_gen.specs.GeneratorWords.{state_after, word_of};
 ghost use Rattle.host_gen.specs.HostText.{AreAdmitted};
 
 use rand_core::SeedableRng;

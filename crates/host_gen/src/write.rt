@@ -1,4 +1,4 @@
-ghost use Rattle.std.specs.Prelude.{◌≡◌, ◌++◌, IsSome, flat_map};
+ghost use Rattle.std.specs.Prelude.{◌≡◌, flat_map};
 ghost use Rattle.tab_io.specs.Sinks.{Writes};
 ghost use Rattle.tab_words.specs.Texts.{text_of};
 ghost use Rattle.host_gen.specs.HostText.{AreAdmitted, capped_lines, head_lines, host_text, truth_word, vcpu_text, format_lines, named_tick, number_lines};

@@ -1,4 +1,4 @@
-ghost use Rattle.std.specs.Prelude.{◌≡◌, ◌<◌, ◌≤◌, ℕ, IfNone, IfSome, None, Some, false, length, true};
+ghost use Rattle.std.specs.Prelude.{◌≡◌, ◌<◌, ℕ, IfNone, IfSome, None, Some, false, length, true};
 ghost use Rattle.live_plan.specs.Books.{IsLive, IsMadeFor};
 ghost use Rattle.live_plan.specs.Inside.Cells.{IsCellShelfOf, IsNewSlot, IsSlotOf, LooksIn, MissedIn, cell_state, known_in};
 

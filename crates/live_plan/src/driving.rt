@@ -1,4 +1,3 @@
-ghost use Rattle.std.specs.Prelude.{◌≡◌};
 ghost use Rattle.round_words.specs.Seats.{view_of, IsSeatOf};
 ghost use Rattle.core_workers.specs.Crews.{SameActors};
 ghost use Rattle.live_plan.specs.Crews.{IsMakerOf};

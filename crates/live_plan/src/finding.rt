@@ -1,4 +1,4 @@
-ghost use Rattle.std.specs.Prelude.{◌≡◌, ◌-◌, ◌<◌, ◌≤◌, All, IfErr, IfOk, length};
+ghost use Rattle.std.specs.Prelude.{◌-◌, ◌<◌, ◌≤◌, All, IfErr, IfOk, length};
 ghost use Rattle.tab_core.specs.Edits.{AreEditsOf};
 ghost use Rattle.table_form.specs.Tables.Views.{plan_view};
 ghost use Rattle.live_plan.specs.Changes.{HostAfter};

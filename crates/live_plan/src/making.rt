@@ -1,5 +1,4 @@
 ghost use Rattle.std.specs.Prelude.{◌≡◌, ◌+◌, ◌≤◌, ◌++◌, ℕ, [], IfErr, IfOk, IsErr, IsErrOf, List, OnOk, Option, length, slice_index, slice_index_or, take};
-ghost use Rattle.tab_core.specs.Vcpus.{runnable_at_first};
 ghost use Rattle.tab_core.specs.declared.TheConstants.{MAX_CHANGES, MAX_EVENTS};
 ghost use Rattle.tab_core.specs.declared.over.Over.{Over};
 ghost use Rattle.tab_core.specs.declared.periodic.Periodic.{Periodic};

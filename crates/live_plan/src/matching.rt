@@ -1,4 +1,4 @@
-ghost use Rattle.std.specs.Prelude.{◌≡◌, ◌<◌, ◌≤◌, IsTrue, length, take};
+ghost use Rattle.std.specs.Prelude.{◌≡◌, ◌<◌, IsTrue, length, take};
 ghost use Rattle.live_plan.specs.Books.{IsMadeFor};
 
 use crate::book::LiveBook;

@@ -1,5 +1,5 @@
 //! Hosts and scripts from a seed, their live books, and what planning anew makes of them.
-ghost use Rattle.std.specs.Prelude.{◌≡◌, ◌≤◌, ◌+◌, ◌*◌, IfOk};
+ghost use Rattle.std.specs.Prelude.{◌≤◌, ◌+◌, ◌*◌};
 ghost use Rattle.tab_core.specs.declared.TheConstants.{MAX_CORES, MAX_ROUNDS, ROUND};
 ghost use Rattle.table_form.specs.Running.Courses.{FitsRounds};
 ghost use Rattle.live_plan.specs.Crews.{bare};

@@ -1,4 +1,4 @@
-ghost use Rattle.std.specs.Prelude.{◌≡◌, ℕ, ◌<◌, [], All, IfErr, IfOk, OnOk, Some, length, slice_get};
+ghost use Rattle.std.specs.Prelude.{◌≡◌, ◌<◌, [], All, IfErr, IfOk, OnOk, Some, length, slice_get};
 ghost use Rattle.cd_split.specs.Cores.{LackVcpu, pieces_on};
 ghost use Rattle.cd_split.specs.Faults.{IsSplitFault};
 ghost use Rattle.cd_split.specs.Shares.{FitTheirCores, StandApart};

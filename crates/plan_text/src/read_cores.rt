@@ -1,6 +1,6 @@
-ghost use Rattle.std.specs.Prelude.{◌≡◌, ◌++◌, ◌+◌, ◌-◌, ◌<◌, ◌≤◌, [], ◌∷◌, IfOk, IsErrOf, List, MatchOption, OnOk, Option, ◌↔◌, ◌^◌, IfNone, IfSome, decimal, length, map, ℕ};
+ghost use Rattle.std.specs.Prelude.{◌≡◌, ◌++◌, ◌+◌, ◌-◌, ◌<◌, ◌≤◌, [], ◌∷◌, IfOk, IsErrOf, List, MatchOption, OnOk, Option, ◌^◌, IfNone, IfSome, decimal, length, map, ℕ};
 ghost use Rattle.std.specs.List.{All};
-ghost use Rattle.tab_core.specs.declared.TheConstants.{MAX_CORES, MAX_VCPUS};
+ghost use Rattle.tab_core.specs.declared.TheConstants.{MAX_CORES};
 ghost use Rattle.tab_core.specs.declared.periodic.Periodic.{Periodic};
 ghost use Rattle.table_form.specs.Tables.Serves.{has_task};
 ghost use Rattle.table_form.specs.declared.segment.Segment.{Segment};

@@ -1,4 +1,4 @@
-ghost use Rattle.std.specs.Prelude.{◌≡◌, ◌<◌, ◌≤◌, ℕ, length};
+ghost use Rattle.std.specs.Prelude.{◌≡◌, ◌<◌, ℕ, length};
 ghost use Rattle.tab_core.specs.declared.TheConstants.{MAX_VCPUS, ROUND};
 ghost use Rattle.table_form.specs.Tables.Serves.{has_task};
 ghost use Rattle.table_form.specs.Tables.Views.{plan_view};

@@ -1,4 +1,4 @@
-ghost use Rattle.std.specs.Prelude.{◌≡◌, ◌<◌, ◌++◌, ◌^◌, codes, length};
+ghost use Rattle.std.specs.Prelude.{◌≡◌, ◌<◌, ◌^◌, codes, length};
 ghost use Rattle.tab_io.specs.Sinks.{Writes};
 ghost use Rattle.tab_words.specs.Lines.{lines_of};
 ghost use Rattle.section_join.specs.Mended.{ends_in_return, first_cut, is_cut, lacks_feed, mended, mended_line, returns_in, without_return};

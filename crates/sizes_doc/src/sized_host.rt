@@ -1,4 +1,4 @@
-ghost use Rattle.std.specs.Prelude.{◌≡◌, ◌<◌, ◌≤◌, ◌⊎◌, ◌++◌, ◌∷◌, [], ◌*◌, ◌+◌, All, IfErr, IfOk, IsSome, OnOk, IsErrOf, length, flat_map};
+ghost use Rattle.std.specs.Prelude.{◌≡◌, ◌<◌, ◌≤◌, ◌⊎◌, ◌++◌, ◌*◌, ◌+◌, All, IfErr, IfOk, IsSome, OnOk};
 ghost use Rattle.tab_core.specs.Name.{IsName};
 ghost use Rattle.tab_core.specs.declared.TheConstants.{MAX_CORES, MAX_VCPUS};
 ghost use Rattle.sizes_doc.specs.SizedHost.{HasBadName, HasFault, IsHostOf, machine_vcpus, size_vcpus, vcpu_name, vcpu_of};

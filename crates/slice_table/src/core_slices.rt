@@ -1,6 +1,6 @@
 ghost use Rattle.std.specs.Prelude.{◌≡◌, ◌^◌, ◌<◌, ◌≤◌, IfNone, IfOk, IfSome, ℕ, Some, length, slice_get};
 ghost use Rattle.tab_core.specs.declared.TheConstants.{ROUND};
-ghost use Rattle.table_form.specs.Running.Courses.{plan_after, plan_number_after};
+ghost use Rattle.table_form.specs.Running.Courses.{plan_number_after};
 ghost use Rattle.table_form.specs.Tables.Plans.{PlanView};
 ghost use Rattle.table_form.specs.Tables.Spans.{IsSpan};
 ghost use Rattle.slice_table.specs.CoreSlices.{AreSlicesOf};

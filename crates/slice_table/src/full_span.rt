@@ -1,6 +1,5 @@
 ghost use Rattle.std.specs.Prelude.{◌≡◌, ◌≢◌, ◌<◌, ◌↔◌, ℕ, IsTrue, Some};
 ghost use Rattle.tab_core.specs.VcpuSets.{has_vcpu};
-ghost use Rattle.tab_core.specs.declared.TheConstants.{MAX_VCPUS};
 
 use tab_core::{VcpuNo, VcpuSet};
 use table_form::Spot;

@@ -1,6 +1,6 @@
-ghost use Rattle.std.specs.Prelude.{◌≡◌, ◌<◌, ◌≤◌, ◌↔◌, ◌⊎◌, ◌≢◌, ℕ, IsTrue, Some, false, length, min, slice_index};
+ghost use Rattle.std.specs.Prelude.{◌≡◌, ◌<◌, ◌↔◌, ◌⊎◌, ℕ, IsTrue, Some, false, length, min, slice_index};
 ghost use Rattle.tab_core.specs.VcpuSets.{has_vcpu};
-ghost use Rattle.tab_core.specs.declared.TheConstants.{MAX_CORES, MAX_VCPUS, ROUND};
+ghost use Rattle.tab_core.specs.declared.TheConstants.{MAX_VCPUS, ROUND};
 ghost use Rattle.table_form.specs.Tables.Views.{plan_view};
 ghost use Rattle.table_form.specs.Inside.Looks.{IsPart};
 ghost use Rattle.slice_table.specs.Inside.Sweeps.{ArePast, IsScope};

@@ -1,4 +1,4 @@
-ghost use Rattle.std.specs.Prelude.{◌≡◌, ◌+◌, ◌<◌, ◌≤◌, ℕ, Some, length, slice_get, vec_capacity};
+ghost use Rattle.std.specs.Prelude.{◌≡◌, ◌<◌, Some, length, slice_get, vec_capacity};
 ghost use Rattle.table_form.specs.Running.Entering.{enters};
 ghost use Rattle.table_form.specs.Running.Stints.{runs};
 ghost use Rattle.step_machine.specs.declared.core_log.CoreLog.{CoreLog as LogValue};

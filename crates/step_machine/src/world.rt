@@ -1,4 +1,4 @@
-ghost use Rattle.std.specs.Prelude.{◌≡◌, ◌+◌, ◌<◌, ◌≤◌, ℕ, [], ◌++◌, List, min, Some, IfOk, IfSome, IfNone, length, slice_get, vec_capacity};
+ghost use Rattle.std.specs.Prelude.{◌≡◌, ◌+◌, ◌<◌, ◌≤◌, ℕ, [], List, min, Some, IfOk, IfSome, IfNone, length, slice_get, vec_capacity};
 ghost use Rattle.tab_core.specs.declared.TheConstants.{MAX_ROUNDS};
 ghost use Rattle.script_doc.specs.declared.step.Step.{Step};
 ghost use Rattle.table_form.specs.Running.Courses.{FitsRounds, IsCourse};

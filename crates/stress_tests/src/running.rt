@@ -1,5 +1,5 @@
 //! Runs of a course, and what they show.
-ghost use Rattle.std.specs.Prelude.{◌≡◌, ◌<◌};
+ghost use Rattle.std.specs.Prelude.{◌<◌};
 ghost use Rattle.table_form.specs.Running.Courses.{FitsRounds};
 
 use core_workers::{Crew, Gate, drive, run_all};

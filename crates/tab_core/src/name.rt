@@ -1,4 +1,4 @@
-ghost use Rattle.std.specs.Prelude.{◌≡◌, ◌↔◌, IfOk, IsErrOf, IsTrue};
+ghost use Rattle.std.specs.Prelude.{◌≡◌, IfOk, IsErrOf};
 ghost use Rattle.std.specs.List.{list_all};
 ghost use Rattle.tab_core.specs.Name.{IsName, is_name, is_lone_dash, is_byte_of_name};
 ghost use Rattle.tab_core.specs.declared.name.NameFault.TheVariants.{NoMemory};

@@ -1,4 +1,4 @@
-ghost use Rattle.std.specs.Prelude.{◌≡◌, ◌↔◌, ◌<◌, ◌≤◌, ◌+◌, ◌%◌, ◌&&◌, not, ℕ, IfNone, IfSome, IsTrue, length, replicate, slice_set, false, true};
+ghost use Rattle.std.specs.Prelude.{◌≡◌, ◌↔◌, ◌<◌, ◌≤◌, ◌+◌, ◌%◌, ◌&&◌, not, ℕ, IfNone, IfSome, IsTrue, replicate, slice_set, false, true};
 ghost use Rattle.std.specs.Int.{bit_at};
 ghost use Rattle.tab_core.specs.Least.{IsLeast};
 ghost use Rattle.tab_core.specs.VcpuSets.{IsInBoth, has_vcpu, has_bit, members_of};

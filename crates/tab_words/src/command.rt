@@ -1,4 +1,4 @@
-ghost use Rattle.std.specs.Prelude.{◌≡◌, ℕ, ◌<◌, ◌≤◌, [], ◌∷◌, ◌++◌, List, length, codes, decimal, Some, Ok, Err, IfNone, IfOk, IfSome, IsErrOf, MatchResult};
+ghost use Rattle.std.specs.Prelude.{◌≡◌, ℕ, ◌<◌, ◌≤◌, [], ◌∷◌, ◌++◌, length, codes, decimal, Some, Ok, Err, IfNone, IfOk, IfSome, IsErrOf, MatchResult};
 ghost use Rattle.tab_words.specs.Commands.{IsCommand, IsFaultAt, texts};
 ghost use Rattle.tab_words.specs.Inside.Readings.{BeginsWithNumber, IsModeOf, IsReading};
 

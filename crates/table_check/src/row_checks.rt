@@ -1,4 +1,4 @@
-ghost use Rattle.std.specs.Prelude.{ℕ, ◌↔◌, ◌≡◌, ◌≤◌, IfOk, IsTrue, List, [], ◌∷◌, ◌++◌, Option, false, length, true};
+ghost use Rattle.std.specs.Prelude.{◌↔◌, ◌≡◌, ◌≤◌, IfOk, IsTrue, List, [], ◌∷◌, ◌++◌, Option, false, length, true};
 ghost use Rattle.tab_core.specs.declared.TheConstants.{MAX_VCPUS};
 ghost use Rattle.tab_core.specs.declared.periodic.Periodic.{Periodic};
 ghost use Rattle.table_form.specs.declared.segment.Segment.{Segment};

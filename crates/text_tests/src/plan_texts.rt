@@ -1,6 +1,5 @@
 // Texts that are read and texts that are refused.
 ghost use Rattle.std.specs.Prelude.{◌≡◌, ◌<◌, ◌^◌, IfOk, length};
-ghost use Rattle.tab_core.specs.declared.TheConstants.{MAX_VCPUS};
 
 use crate::samples::{host_of, vcpu_of};
 use plan_text::{ReadPlan, RowReader, read_plan};

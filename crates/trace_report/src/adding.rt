@@ -1,7 +1,6 @@
 ghost use Rattle.std.specs.Prelude.{◌≡◌, ◌*◌, ◌<◌, ◌≤◌, ℕ, length, slice_index};
 ghost use Rattle.tab_core.specs.declared.TheConstants.{MAX_CORES, MAX_ROUNDS, MAX_VCPUS, ROUND};
 ghost use Rattle.dispatch_core.specs.Accounts.{IsWithin};
-ghost use Rattle.trace_report.specs.Inside.Sound.{AreWithinCores};
 ghost use Rattle.trace_report.specs.ReportViews.{vcpu_at};
 ghost use Rattle.trace_report.specs.RunReports.{core_ticks, sum_below, with_account};
 

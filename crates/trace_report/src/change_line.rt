@@ -1,4 +1,4 @@
-ghost use Rattle.std.specs.Prelude.{◌++◌, codes};
+ghost use Rattle.std.specs.Prelude.{◌++◌};
 ghost use Rattle.tab_io.specs.Sinks.{Writes};
 ghost use Rattle.vcpu_names.specs.Names.{names_of};
 ghost use Rattle.trace_report.specs.ReportText.{change_line, line_of_change};

@@ -1,7 +1,6 @@
-ghost use Rattle.std.specs.Prelude.{◌≡◌, ℕ, ◌<◌, ◌^◌, ◌⊎◌, IfOk, IsErrOf, Ok, Err, length};
+ghost use Rattle.std.specs.Prelude.{ℕ, ◌<◌, ◌^◌, IfOk, IsErrOf, Ok, Err, length};
 ghost use Rattle.view_doc.specs.Texts.{IsFirstBad};
 ghost use Rattle.view_doc.specs.Views.{IsViewOf};
-ghost use Rattle.view_doc.specs.declared.view.View.{View as ViewValue};
 
 use crate::read_fault::ReadView;
 use crate::reader::Reader;

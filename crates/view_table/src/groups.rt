@@ -1,10 +1,10 @@
-ghost use Rattle.std.specs.Prelude.{◌==◌, ◌&&◌, nat_lt, slice_index, ◌≡◌, ◌<◌, ◌≤◌, ◌^◌, None, Some, codes, length, option_copied, slice_get};
+ghost use Rattle.std.specs.Prelude.{◌==◌, ◌&&◌, nat_lt, slice_index, ◌≡◌, ◌<◌, ◌≤◌, ◌^◌, None, Some, length, option_copied, slice_get};
 ghost use Rattle.tab_core.specs.declared.TheConstants.{MAX_CORES, MAX_VCPUS};
 ghost use Rattle.tab_io.specs.Sinks.{Writes};
 ghost use Rattle.tab_words.specs.Texts.{texts_below};
 ghost use Rattle.vcpu_names.specs.Names.{name_at};
 ghost use Rattle.view_table.specs.Figures.{AreFigures};
-ghost use Rattle.view_table.specs.Groups.{any_below, asked_at, is_of, least_cell, least_in, lesser, most_in, ppm_of, share_in, sum_cell, sum_in, vm_core, vm_end, vm_figures, vm_head, vm_line, vm_of, vm_row, vm_stands, vm_table_of, vm_table_text};
+ghost use Rattle.view_table.specs.Groups.{any_below, asked_at, is_of, least_cell, least_in, lesser, most_in, ppm_of, share_in, sum_cell, sum_in, vm_core, vm_figures, vm_head, vm_line, vm_of, vm_row, vm_stands, vm_table_of, vm_table_text};
 ghost use Rattle.view_table.specs.Inside.CellTexts.{cell_text};
 ghost use Rattle.view_table.specs.Waits.{wait_of};
 

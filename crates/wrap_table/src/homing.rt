@@ -1,7 +1,7 @@
-ghost use Rattle.std.specs.Prelude.{ℕ, ◌≡◌, ◌+◌, ◌-◌, ◌*◌, ◌<◌, ◌≤◌, IfOk, Some, None, cond, length, slice_get, slice_index};
+ghost use Rattle.std.specs.Prelude.{ℕ, ◌≡◌, ◌+◌, ◌-◌, ◌*◌, ◌<◌, ◌≤◌, IfOk, Some, None, cond, length, slice_index};
 ghost use Rattle.std.specs.Option.{option_map};
 ghost use Rattle.tab_core.specs.declared.periodic.Periodic.{Periodic};
-ghost use Rattle.tab_core.specs.declared.TheConstants.{MAX_CORES, MAX_VCPUS, ROUND};
+ghost use Rattle.tab_core.specs.declared.TheConstants.{MAX_CORES, ROUND};
 ghost use Rattle.table_form.specs.Tables.Serves.{cells_within, is_cell_of};
 ghost use Rattle.wrap_table.specs.Inside.Homing.{AreHomesOf, IsMostOfFirst, most_at, with_core};
 

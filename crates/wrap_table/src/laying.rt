@@ -1,6 +1,5 @@
-ghost use Rattle.std.specs.Prelude.{ℕ, ◌≡◌, ◌+◌, ◌*◌, ◌-◌, ◌<◌, ◌≤◌, ◌++◌, IfOk, Some, length, replicate, slice_get, slice_index};
+ghost use Rattle.std.specs.Prelude.{◌≡◌, ◌+◌, ◌*◌, ◌-◌, ◌<◌, ◌≤◌, ◌++◌, IfOk, Some, length, replicate};
 ghost use Rattle.tab_core.specs.declared.TheConstants.{MAX_CORES, MAX_VCPUS, ROUND};
-ghost use Rattle.table_form.specs.Tables.Rows.{Row};
 ghost use Rattle.flow_net.specs.Allotted.{allotment_view};
 ghost use Rattle.flow_net.specs.Rows.{row_at};
 ghost use Rattle.wrap_table.specs.Inside.Laying.{AreLaidTo, HasIntervals, IsLaidTo, IsRowOfCore, laid_at, owners};
