@@ -28,8 +28,8 @@ fn push_first<const N: usize>(bytes: &mut ArrayVec<u8, N>, n: u32)
     }
 }
 
-// Appends a number of at most six digits, as ticks of a round have.
-pub(crate) fn push_number<const N: usize>(bytes: &mut ArrayVec<u8, N>, n: u32)
+/// Appends a number of at most six digits, as ticks of a round have, to bytes that have room for six more.
+pub fn push_number<const N: usize>(bytes: &mut ArrayVec<u8, N>, n: u32)
     requires short { n < 1000000 }
     requires room { length bytes.old.items + 6 ≤ N }
     ensures { bytes.new.items ≡ bytes.old.items ++ decimal n }

@@ -15,6 +15,7 @@ mod text;
 mod word;
 
 pub use command::{Command, RunMode, Usage, read_words};
+pub use digits::push_number;
 pub use line::Lines;
 pub use line_block::{LineBlock, put_line};
 pub use number::{read_core, read_number};
