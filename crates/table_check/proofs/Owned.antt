@@ -8,10 +8,9 @@ use Rattle.tab_core.specs.declared.periodic.Periodic.{Periodic}
 use Rattle.table_form.specs.declared.segment.Segment.{Segment}
 use Rattle.table_form.specs.Tables.Rows.{Row, cells_from}
 use Rattle.table_form.specs.Tables.Serves.{OwnersHaveTasks, cell_of, has_task}
-use Rattle.table_form.proofs.RowLemmas.{cells-cons, cells-nil}
+use Rattle.table_form.proofs.RowLemmas.{cells-cons, cells-nil, cell_here}
 use Rattle.table_form.proofs.SpotLemmas.{flat_some}
 use Rattle.table_check.specs.Shapes.{AreOfTasks, AreOwnedByTasks, rows_of}
-use Rattle.table_check.proofs.Sweep.{get_front}
 
 -- a cell behind a run is one of the rest
 get_back : (n t : ℕ) (o : Option ℕ) (cells : Row) → n ≤ t
@@ -36,7 +35,7 @@ cell_has_task tasks start x v (s ∷ ss) owned at =
     elim (cases_lt x (s.end - start)) [
       | inl here ↦ All-head (OwnedByTask tasks) s ss owned v
           (same_Some {A = Option ℕ} s.owner (Some v)
-          (sym (get_front (s.end - start) x s.owner (cells_from s.end ss) here) ∙ cell))
+          (sym (cell_here (s.end - start) x s.owner (cells_from s.end ss) here) ∙ cell))
       | inr later ↦ cell_has_task tasks s.end (x - (s.end - start)) v ss
           (All-tail (OwnedByTask tasks) s ss owned)
           (sym (get_back (s.end - start) x s.owner (cells_from s.end ss) later) ∙ cell)

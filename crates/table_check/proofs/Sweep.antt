@@ -7,7 +7,7 @@ use Rattle.tab_core.specs.declared.TheConstants.{ROUND}
 use Rattle.tab_core.proofs.Lists.{drop_next, get-drop}
 use Rattle.table_form.specs.declared.segment.Segment.{Segment}
 use Rattle.table_form.specs.Tables.Rows.{Row, cells_from, RisesTo}
-use Rattle.table_form.proofs.RowLemmas.{rises_parts, rises_from_parts, rises_none, cells-cons, length-cells_from}
+use Rattle.table_form.proofs.RowLemmas.{rises_parts, rises_from_parts, rises_none, cells-cons, length-cells_from, cell_here}
 
 -- from the tick on, the row's cells are those of the segments from the place on
 pub record GoesOnFrom (ss : List Segment) (tick place : ℕ) : Type 0 where
@@ -21,12 +21,6 @@ drop_front zero n o cells le = (let e : n ≡ n - 0 = omega arith in ap (λ k. r
 drop_front (suc m) zero o cells le = absurd (omega arith)
 drop_front (suc m) (suc n) o cells le =
     (let e : suc n - suc m ≡ n - m = omega arith in rw e (drop_front m n o cells (omega arith)))
-
--- a cell of a run has its owner
-pub get_front : (n t : ℕ) (o : Option ℕ) (cells : Row) → t < n → slice_get (replicate n o ++ cells) t ≡ Some o
-get_front zero t o cells lt = absurd (omega arith)
-get_front (suc n) zero o cells lt = refl
-get_front (suc n) (suc t) o cells lt = get_front n t o cells (omega arith)
 
 -- the sweep begins at the first segment
 pub goes_on-start : (ss : List Segment) → RisesTo 0 ss ROUND → GoesOnFrom ss 0 0
@@ -94,7 +88,7 @@ pub owner_now : (ss : List Segment) (tick place x : ℕ) (s : Segment) → GoesO
 owner_now ss tick place x s on lt at low high =
     sym (get-drop (cells_from 0 ss) tick (x - tick) x (omega arith))
     ∙ ap (λ cells. slice_get cells (x - tick)) (cells_now ss tick place s on lt at)
-    ∙ get_front (s.end - tick) (x - tick) s.owner (cells_from s.end (drop (place + 1) ss)) (omega arith)
+    ∙ cell_here (s.end - tick) (x - tick) s.owner (cells_from s.end (drop (place + 1) ss)) (omega arith)
 
 -- the row goes on from a later tick in the segment, or at its end with the next one
 pub goes_on : (ss : List Segment) (tick place y : ℕ) (s : Segment) → GoesOnFrom ss tick place

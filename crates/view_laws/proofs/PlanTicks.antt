@@ -9,18 +9,13 @@ use Rattle.table_form.specs.Tables.Rows.{Row}
 use Rattle.table_form.specs.Tables.Segments.{AreMaximal, SegmentView, segments_from}
 use Rattle.table_form.specs.Tables.Serves.{cell_of, flat, owner_at}
 use Rattle.table_form.proofs.SegmentLemmas.{cells_of, cells_of-cons, cells_of_segments, maximal_of_row}
+use Rattle.table_form.proofs.RowLemmas.{cell_here}
 use Rattle.view_doc.specs.Lines.{Told, stint}
 use Rattle.view_doc.specs.Views.{holder_named, stretch_told}
 use Rattle.view_doc.specs.declared.view.Stretch.{Stretch}
 use Rattle.view_laws.specs.ShownPlans.{HasTick, IsInSlot, core_slots, owner_holder, slots_of}
 
 -- ---- cells
-
--- the first cells of one owner, and those behind them
-cell_here : (n k : ℕ) (o : Option ℕ) (rest : Row) → k < n → slice_get (replicate n o ++ rest) k ≡ Some o
-cell_here zero k o rest low = absurd (omega arith)
-cell_here (suc n) zero o rest low = refl
-cell_here (suc n) (suc k) o rest low = cell_here n k o rest (omega arith)
 
 cell_behind : (n k : ℕ) (o : Option ℕ) (rest : Row) → slice_get (replicate n o ++ rest) (n + k) ≡ slice_get
     rest k
