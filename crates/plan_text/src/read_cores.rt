@@ -79,7 +79,7 @@ pub(crate) fn read_row(
 }
 
 // Reads the lines of segments, up to the first that is none, and puts them into the row, which is empty.
-// What is left is held in a copy, which needs no memory on the way from line to line.
+// What is left is held in a copy of its own, since a change behind the reference costs at each line.
 fn read_segments(
     left: &mut LinesLeft<'_>,
     names: &Names<'_>,

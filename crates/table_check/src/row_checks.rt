@@ -14,7 +14,7 @@ use tab_core::{MAX_CORES, NoMemory, Periodic};
 use table_form::{Segment, first_bad_place};
 
 /// What is seen of rows as they come, of which none is kept: the ticks at which each vCPU stands in one
-/// of them, and how many ticks each gets in each of its periods. That takes 17 kB for each vCPU, however
+/// of them, and how many ticks each gets in each of its periods. That takes 17 KB for each vCPU, however
 /// many segments the rows have.
 #[derive(Drop)]
 pub struct RowChecks<'a> {
