@@ -1,7 +1,8 @@
-# Builds by the launcher, checks by the gate, and copies. PREFIX and DESTDIR are as everywhere.
+# Builds by the launcher, checks, and copies. PREFIX and DESTDIR are as everywhere; BASE is what `touched` compares with.
 .POSIX:
 PREFIX = /usr/local
 DESTDIR =
+BASE = main
 VERSION = 0.1.0
 
 to = $(DESTDIR)$(PREFIX)
@@ -13,8 +14,17 @@ all:
 	./tableau --version
 	./tableau-tools --version
 
+# the whole gate: every proof, wrong body, test and program, and the quick checks
 check:
-	.ci/run
+	.ci/check
+
+# what needs no prover, on the built programs
+quick:
+	.ci/quick
+
+# the crates that differ from BASE, and those above them
+touched:
+	.ci/touched $(BASE)
 
 install: all
 	install -d "$(to)/bin" "$(to)/share/man/man1" "$(to)/share/man/man5" "$(to)/share/doc/tableau/examples"
