@@ -5,13 +5,15 @@ _tableau_tools() {
   if [ "$COMP_CWORD" -eq 1 ]; then
     words='table diff sections export host chart --help --version'
   else
-    case $before in
-      --tick | --cores | --vcpus | --from | --to | --width) return ;;
-      export) words='csv chrome json' ;;
-      --by) words='core vcpu' ;;
+    case ${COMP_WORDS[1]},$before in
+      *,--tick | *,--cores | *,--vcpus | *,--from | *,--to | *,--width) return ;;
+      export,export) words='csv chrome json' ;;
+      chart,--by) words='core vcpu' ;;
+      table,--by) words='vcpu vm' ;;
     esac
     case ${COMP_WORDS[1]},$word in
-      table,-* | diff,-* | export,-*) words='--tick --help' ;;
+      table,-*) words='--by --tick --help' ;;
+      diff,-* | export,-*) words='--tick --help' ;;
       host,-*) words='--cores --help' ;;
       chart,-*) words='--text --by --cores --vcpus --from --to --width --tick --help' ;;
       sections,-*) words='--help' ;;
