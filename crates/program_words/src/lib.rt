@@ -1,0 +1,36 @@
+//! The words that a program is called with: its own path, which stands before them, need not be text.
+#![tactic(auto)]
+
+use std::alloc::Global;
+use std::env::{self, Env, FillError};
+use std::io;
+
+// The environment of a program whose own name is empty.
+#[derive(Clone, Copy)]
+struct Nameless<'a, R> {
+    given: &'a R,
+}
+
+impl<R: Env> Env for Nameless<'_, R> {
+    fn arg(&self, i: usize, buf: &mut [u8]) -> Result<usize, FillError> {
+        if i == 0 {
+            return Ok(0);
+        }
+        self.given.arg(i, buf)
+    }
+
+    fn var(&self, name: &str, buf: &mut [u8]) -> Result<usize, FillError> {
+        self.given.var(name, buf)
+    }
+
+    fn var_at(&self, i: usize, buf: &mut [u8]) -> Result<usize, FillError> {
+        self.given.var_at(i, buf)
+    }
+}
+
+/// The words of the program, behind an empty one in the place of its name. The error's kind is `OutOfMemory` where
+/// memory is wanting, and otherwise a word isn't text.
+pub fn words<R: Env>(given: &R, alloc: Global) -> io::Result<Vec<String>> {
+    let all = env::args(&(Nameless { given }, alloc))?;
+    Ok(all.collect(alloc)?)
+}
