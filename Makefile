@@ -27,7 +27,7 @@ touched:
 	.ci/touched $(BASE)
 
 install: all
-	install -d "$(to)/bin" "$(to)/share/man/man1" "$(to)/share/man/man5" "$(to)/share/doc/tableau/examples"
+	install -d "$(to)/bin" "$(to)/share/man/man1" "$(to)/share/man/man5"
 	install -d "$(to)/share/bash-completion/completions" "$(to)/share/zsh/site-functions"
 	install -d "$(to)/share/fish/vendor_completions.d"
 	install -m 755 $(program) "$(to)/bin/tableau"
@@ -41,10 +41,9 @@ install: all
 	install -m 644 completions/_tableau-tools "$(to)/share/zsh/site-functions/_tableau-tools"
 	install -m 644 completions/tableau.fish "$(to)/share/fish/vendor_completions.d/tableau.fish"
 	install -m 644 completions/tableau-tools.fish "$(to)/share/fish/vendor_completions.d/tableau-tools.fish"
-	install -m 644 README.md LICENSE-MIT LICENSE-APACHE docs/MANUAL.md docs/FORMATS.md docs/RULES.md docs/GLOSSARY.md \
-	  docs/PROVED.md docs/TOOLS.md "$(to)/share/doc/tableau"
-	install -m 644 crates/tableau/data/hosts/*.toml "$(to)/share/doc/tableau/examples"
+	docs/copy "$(to)/share/doc/tableau"
 	.ci/record $(program) > "$(to)/share/doc/tableau/BUILD"
+	chmod 644 "$(to)/share/doc/tableau/BUILD"
 
 uninstall:
 	rm -f "$(to)/bin/tableau" "$(to)/bin/tableau-tools" "$(to)/share/man/man5/tableau-host.5"
