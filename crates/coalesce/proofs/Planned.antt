@@ -210,7 +210,7 @@ cell_at_place pieces capped core tick v new grown at = by_cell (grown.cells tick
         }
 
 -- the cell of a place of a core's row
-pub owner_in_row : (rows : List Row) (core tick v : ℕ) → owner_at rows core tick ≡ Some v → (row : Row) ×
+owner_in_row : (rows : List Row) (core tick v : ℕ) → owner_at rows core tick ≡ Some v → (row : Row) ×
     (slice_get rows core ≡ Some row) × (slice_get row tick ≡ Some (Some v))
 owner_in_row rows core tick v owned = in_row (slice_get rows core) refl owned
   where

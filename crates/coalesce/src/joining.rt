@@ -17,7 +17,7 @@ use tab_core::{CoreNo, NoMemory, Piece, Tasks, VcpuSet};
 use table_form::{CoreTable, Draft, Homes, Plan, Rows, Tables};
 
 // Joins the slivers of one core's row.
-pub(crate) fn join_row(
+fn join_row(
     alloc: Global,
     row: &CoreTable,
     table: &[Option<Piece>],

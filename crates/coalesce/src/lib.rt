@@ -9,11 +9,7 @@
 mod filling;
 mod joining;
 mod pass;
-#[cfg(test)]
-mod plain;
 mod swap;
 mod table;
-#[cfg(test)]
-mod tests;
 
 pub use joining::join_slivers;
