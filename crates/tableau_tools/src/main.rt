@@ -18,7 +18,7 @@ mod table;
 
 use clap::{ArgMatches, Error};
 use fault::Fault;
-use std::env;
+use std::io::ErrorKind;
 use std::process::ExitCode;
 
 // The status of a text that is refused, and of a fault.
@@ -43,13 +43,11 @@ fn refusal(rt: &HostRuntime, fault: Fault, status: u8) -> u8 {
 
 // Does what the words say. The status is 0 or the command's, or 2 where they are no command.
 fn run(rt: &HostRuntime) -> Result<u8, Fault> {
-    let Ok(all) = env::args(rt) else {
-        return Err(Fault::NoText);
+    let words = match program_words::words(rt, rt.alloc()) {
+        Ok(words) => words,
+        Err(fault) if fault.kind() == ErrorKind::OutOfMemory => return Err(Fault::NoMemory),
+        Err(_) => return Err(Fault::NoText),
     };
-    let Ok(words) = all.collect(rt.alloc()) else {
-        return Err(Fault::NoMemory);
-    };
-    let words: Vec<String> = words;
     let Ok(command) = command::command(rt.alloc()) else {
         return Err(Fault::NoMemory);
     };
