@@ -1,5 +1,5 @@
 -- The advice on a key of a host document: whose it is, which key is unknown, and what the key has to be.
-use Rattle.std.specs.Prelude.{ℕ, ℤ, pos, Bool, false, ◌==◌, if◌then◌else◌, List, ◌∷◌, ◌++◌, codes, decimal, Option, Some, None, option_and_then}
+use Rattle.std.specs.Prelude.{ℕ, ℤ, pos, Bool, false, ◌==◌, if◌then◌else◌, List, [], ◌∷◌, ◌++◌, codes, decimal, Option, Some, None, option_and_then}
 use Rattle.toml.specs.Data.{as_array, as_integer, as_str, as_table, get_item, get_member, Members, no_members, member}
 use Rattle.host_doc.specs.KeyTable.{first_keys, vcpu_keys}
 use Rattle.host_doc.specs.OtherKeys.{is_among}
@@ -22,7 +22,7 @@ host_rule key = codes " is no key of a host; those are format, tick_ns (in forma
 -- the same of a vCPU
 abbrev pub vcpu_rule : Key → List ℕ
 vcpu_rule Vcpu = codes "it has to be a table, as { name = \"web\", share_ppm = 250000, latency_ns = 20000000 }"
-vcpu_rule Name = codes "name is 1 to 32 of a-z A-Z 0-9 _ - . in quotes, and has to be there"
+vcpu_rule Name = codes "name is 1 to 32 characters of a-z A-Z 0-9 _ - . in quotes, and has to be there"
 vcpu_rule Admitted = codes "admitted is true or false, and true where it is left out"
 vcpu_rule Runnable = codes "runnable is true or false, and true where it is left out"
 vcpu_rule Capped = codes "capped is true or false, and false where it is left out"
@@ -73,9 +73,14 @@ abbrev pub host_key_text : Key → Members → List ℕ
 host_key_text key members = codes "tableau: "
     ++ (quote_of (other_in_host key members) ++ (host_rule key ++ codes "\n"))
 
+-- the space before a name, where there is one
+abbrev pub space_of : Option (List ℕ) → List ℕ
+space_of None = []
+space_of (Some name) = codes " "
+
 abbrev pub vcpu_key_text : ℕ → Key → Members → List ℕ
 vcpu_key_text number key members = codes "tableau: vcpu "
-    ++ (decimal number ++ (codes " " ++ (quote_of (name_at number members)
+    ++ (decimal number ++ (space_of (name_at number members) ++ (quote_of (name_at number members)
     ++ (codes ": " ++ (quote_of (other_in_vcpu key (member_at number members))
     ++ (vcpu_rule key ++ codes "\n"))))))
 

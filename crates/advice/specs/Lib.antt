@@ -10,6 +10,7 @@ pub mod Parts
 pub mod Periods
 pub mod Places
 pub mod PlanLines
+pub mod Prompt
 pub mod Room
 pub mod Scripts
 pub mod Sections

@@ -1,6 +1,6 @@
 -- The advice on vCPUs that find no room: what they are due together, what all cores have, and what to do.
 use Rattle.std.specs.Prelude.{ℕ, ◌+◌, ◌-◌, ◌/◌, nat_le, if◌then◌else◌, List, ◌++◌, codes, decimal, Option, Some, None, sum_by}
-use Rattle.tab_core.specs.declared.TheConstants.{ROUND}
+use Rattle.tab_core.specs.declared.TheConstants.{MAX_CORES, ROUND}
 use Rattle.tab_core.specs.declared.periodic.Periodic.{Periodic}
 use Rattle.reservation.specs.Cost.{demand}
 
@@ -20,9 +20,17 @@ abbrev pub ask_text : ℕ → ℕ → List ℕ
 ask_text due room = codes "tableau: the vCPUs ask "
     ++ (decimal due ++ (codes " ticks of a round, and all cores have " ++ (decimal room ++ codes "\n")))
 
+-- a host may have so many cores
+abbrev pub more_text : ℕ → List ℕ
+more_text cores = codes "tableau: take fewer or smaller shares, or " ++ (decimal cores ++ codes " cores\n")
+
+-- no host may
+abbrev pub beyond_text : ℕ → List ℕ
+beyond_text cores = codes "tableau: take fewer or smaller shares; these want "
+    ++ (decimal cores ++ codes " cores, and a host has at most 32\n")
+
 abbrev pub cores_text : ℕ → List ℕ
-cores_text cores = codes "tableau: take fewer or smaller shares, or "
-    ++ (decimal cores ++ codes " cores (32 are the most)\n")
+cores_text cores = if nat_le cores MAX_CORES then more_text cores else beyond_text cores
 
 -- where all fit together, a whole-host plan has room for them
 abbrev pub remedy_text : ℕ → ℕ → List ℕ

@@ -4,14 +4,21 @@ use Rattle.std.specs.List.{starts_with, ends_with}
 use Rattle.tab_words.specs.Lines.{lines_of}
 use Rattle.advice.specs.Parts.{quoted}
 
+-- which texts so many are
 abbrev pub wanted_texts : ℕ → List ℕ
-wanted_texts wanted = if wanted == 3 then codes "a host, a script and a list of steps"
-    else codes "a host and a plan text for check, a host and a script for run"
+wanted_texts wanted = if wanted == 1 then codes " text is wanted, a host, and no line %%"
+    else (if wanted == 3
+    then codes " texts are wanted, a line %% between each two: a host, a script and a list of steps"
+    else codes " texts are wanted, a line %% between them: a host and a plan text for check, a host and a script for run")
+
+-- what stands before the count of the texts that there are
+abbrev pub here_words : ℕ → List ℕ
+here_words found = if found == 1 then codes "; here is " else codes "; here are "
 
 abbrev pub count_text : ℕ → ℕ → List ℕ
 count_text found wanted = codes "tableau: "
-    ++ (decimal wanted ++ (codes " texts are wanted, a line %% between each two: "
-    ++ (wanted_texts wanted ++ (codes "; here are " ++ (decimal found ++ codes "\n")))))
+    ++ (decimal wanted ++ (wanted_texts wanted
+    ++ (here_words found ++ (decimal found ++ codes "\n"))))
 
 -- a line begins or ends like a separator and is none
 abbrev pub is_near : List ℕ → Bool

@@ -27,18 +27,26 @@ wanted_behind (word ∷ second ∷ []) = wanted_second word
 wanted_behind (word ∷ second ∷ third ∷ []) = wanted_third word
 wanted_behind (word ∷ second ∷ third ∷ fourth ∷ more) = Nothing
 
--- the same in words
+-- the name of what has to stand there; where nothing has to, these other words
+abbrev pub name_text : Wanted → List ℕ → List ℕ
+name_text Command other = codes "a command"
+name_text Rounds other = codes "a count of rounds"
+name_text Seed other = codes "a seed"
+name_text Cores other = codes "a count of cores"
+name_text Vcpus other = codes "a count of vCPUs"
+name_text wanted other = other
+
+-- what may stand there, in words
 abbrev pub wanted_text : Wanted → List ℕ
 wanted_text Command =
     codes "the commands are plan, check, run, replay, gen and selftest; for help type: tableau --help"
-wanted_text Nothing = codes "nothing stands there"
-wanted_text Whole = codes "nothing stands there, or whole"
-wanted_text Rounds = codes "a count of rounds stands there, from 1 to 10000"
-wanted_text Mode = codes "nothing stands there, or trace, burst or live"
-wanted_text Seed = codes "a seed stands there, from 0 to 18446744073709551615"
-wanted_text Cores = codes "a count of cores stands there, from 1 to 32"
-wanted_text Vcpus =
-    codes "a count of vCPUs stands there, at most 256, and at most 99 for each core and one more"
+wanted_text Nothing = codes "the command takes no more words"
+wanted_text Whole = codes "plan takes no word but whole"
+wanted_text Rounds = codes "type a number from 1 to 10000"
+wanted_text Mode = codes "run takes no more words but trace, burst or live"
+wanted_text Seed = codes "type a number from 0 to 18446744073709551615"
+wanted_text Cores = codes "type a number from 1 to 32"
+wanted_text Vcpus = codes "type a number, at most 256 and at most 99 for each core and one more"
 
 -- the word asks for help, or begins with a dash as nothing but `--help` and `--version` do
 abbrev pub asks_help : List ℕ → Bool
@@ -104,12 +112,14 @@ hint_text front word = if is_begun front
 abbrev pub found_text : List (List ℕ) → List ℕ → ℕ → List ℕ
 found_text front word place = codes "tableau: word "
     ++ (decimal place ++ (codes ", " ++ (quoted word
-    ++ (codes ": " ++ (wanted_text (wanted_behind front) ++ codes "\n")))))
+    ++ (codes ", isn't " ++ (name_text (wanted_behind front) (codes "expected")
+    ++ (codes ": " ++ (wanted_text (wanted_behind front) ++ codes "\n")))))))
 
 -- a word is missing behind those
 abbrev pub missing_text : List (List ℕ) → List ℕ
-missing_text front = codes "tableau: a word is missing: "
-    ++ (wanted_text (wanted_behind front) ++ codes "\n")
+missing_text front = codes "tableau: "
+    ++ (name_text (wanted_behind front) (codes "a word")
+    ++ (codes " is missing: " ++ (wanted_text (wanted_behind front) ++ codes "\n")))
 
 abbrev pub behind_text : List (List ℕ) → ℕ → Option (List ℕ) → List ℕ
 behind_text front place None = missing_text front

@@ -4,7 +4,7 @@ ghost use Rattle.toml.specs.Data.{get_item, get_member};
 ghost use Rattle.toml.specs.View.{items_view, table_view, view};
 ghost use Rattle.host_doc.specs.OtherKeys.{is_among};
 ghost use Rattle.advice.specs.Parts.{part_text, quote_of};
-ghost use Rattle.advice.specs.Keys.{first_other, host_key_text, host_rule, is_second, is_two, key_text, member_at, name_at, other_in_host, other_in_vcpu, same_text, vcpu_key_text, vcpu_rule};
+ghost use Rattle.advice.specs.Keys.{first_other, host_key_text, host_rule, is_second, is_two, key_text, member_at, name_at, other_in_host, other_in_vcpu, same_text, space_of, vcpu_key_text, vcpu_rule};
 
 use crate::part::{Part, put_parts};
 use host_doc::{Key, Path};
@@ -79,7 +79,7 @@ fn put_vcpu_key<K: Sink>(
         &[
             Part::Text(b"tableau: vcpu "),
             Part::Number(number),
-            Part::Text(b" "),
+            space_of(table, number),
             label_of(table, number),
             Part::Text(b": "),
             other_in_vcpu(table, number, key),
@@ -107,6 +107,16 @@ pub(crate) fn put_same_name<K: Sink>(
             Part::Text(b": an earlier one has this name; rename one of them\n"),
         ],
     )
+}
+
+// The space before the name of a vCPU, or nothing where it has none.
+fn space_of(table: &Table, number: u32) -> Part<'static>
+    ensures { part_text result ≡ space_of (name_at number (table_view table.now)) }
+{
+    match name_at(table, number) {
+        Some(_) => Part::Text(b" "),
+        None => Part::Text(b""),
+    }
 }
 
 // The name of a vCPU as the document has it, or nothing where it has none.
@@ -259,7 +269,8 @@ fn vcpu_rule(key: Key) -> &'static [u8]
     match key {
         Key::Vcpu =>
             b"it has to be a table, as { name = \"web\", share_ppm = 250000, latency_ns = 20000000 }",
-        Key::Name => b"name is 1 to 32 of a-z A-Z 0-9 _ - . in quotes, and has to be there",
+        Key::Name =>
+            b"name is 1 to 32 characters of a-z A-Z 0-9 _ - . in quotes, and has to be there",
         Key::Admitted => b"admitted is true or false, and true where it is left out",
         Key::Runnable => b"runnable is true or false, and true where it is left out",
         Key::Capped => b"capped is true or false, and false where it is left out",

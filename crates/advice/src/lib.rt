@@ -2,7 +2,8 @@
 //!
 //! `specs/Advice.antt` says what is told of each refusal, for the words and the input that were refused: the
 //! line that is quoted and the numbers, by the definitions of the crates that refuse. `write_advice` writes
-//! exactly that, or tells that it lacks memory to look the input up again.
+//! exactly that, or tells that it lacks memory to look the input up again. `write_prompt` writes what a command
+//! reads, before it reads a terminal.
 #![tactic(auto)]
 
 mod again;
@@ -15,6 +16,7 @@ mod least;
 mod line;
 mod part;
 mod plan_lines;
+mod prompt;
 mod refusal;
 mod room;
 mod script_lines;
@@ -26,5 +28,6 @@ mod write;
 pub use fault::AdviceFault;
 pub use kept::KeptSource;
 pub use least::{least_latency, least_share};
+pub use prompt::write_prompt;
 pub use refusal::{Due, Refusal};
 pub use write::write_advice;

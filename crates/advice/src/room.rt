@@ -1,11 +1,11 @@
 ghost use Rattle.std.specs.Prelude.{◌≡◌, ◌<◌, ◌≤◌};
 ghost use Rattle.tab_core.specs.declared.TheConstants.{ROUND};
 ghost use Rattle.tab_io.specs.Sinks.{Writes};
-ghost use Rattle.advice.specs.Room.{ask_text, cores_text, due_of, due_of_task, remedy_text, room_text};
+ghost use Rattle.advice.specs.Room.{ask_text, beyond_text, cores_text, due_of, due_of_task, more_text, remedy_text, room_text};
 
 use crate::part::{Part, put_parts};
 use reservation::demand_of;
-use tab_core::{Periodic, ROUND, Tasks};
+use tab_core::{MAX_CORES, Periodic, ROUND, Tasks};
 use tab_io::{Sink, WriteFault, write_all};
 
 // Writes the advice on vCPUs that are due so many ticks of a round, on cores that have so many.
@@ -48,12 +48,37 @@ fn put_remedy<K: Sink>(sink: &mut K, demand: u64, room: u64) -> Result<(), Write
 fn put_cores<K: Sink>(sink: &mut K, cores: u64) -> Result<(), WriteFault>
     ensures { Writes (K.state sink.old) (K.state sink.new) (cores_text cores) result }
 {
+    if cores <= u64::from(MAX_CORES) {
+        put_more(sink, cores)
+    } else {
+        put_beyond(sink, cores)
+    }
+}
+
+// Writes the advice to take so many cores.
+fn put_more<K: Sink>(sink: &mut K, cores: u64) -> Result<(), WriteFault>
+    ensures { Writes (K.state sink.old) (K.state sink.new) (more_text cores) result }
+{
     put_parts(
         sink,
         &[
             Part::Text(b"tableau: take fewer or smaller shares, or "),
             Part::Wide(cores),
-            Part::Text(b" cores (32 are the most)\n"),
+            Part::Text(b" cores\n"),
+        ],
+    )
+}
+
+// Writes that no host has so many cores, in place of that.
+fn put_beyond<K: Sink>(sink: &mut K, cores: u64) -> Result<(), WriteFault>
+    ensures { Writes (K.state sink.old) (K.state sink.new) (beyond_text cores) result }
+{
+    put_parts(
+        sink,
+        &[
+            Part::Text(b"tableau: take fewer or smaller shares; these want "),
+            Part::Wide(cores),
+            Part::Text(b" cores, and a host has at most 32\n"),
         ],
     )
 }

@@ -1,7 +1,7 @@
 ghost use Rattle.std.specs.Prelude.{◌≡◌, ◌<◌, ◌^◌, length, option_map};
 ghost use Rattle.tab_io.specs.Sinks.{Writes};
 ghost use Rattle.tab_words.specs.Lines.{lines_of};
-ghost use Rattle.advice.specs.Sections.{count_text, is_near, near_from, near_part, near_text, sections_text, wanted_texts};
+ghost use Rattle.advice.specs.Sections.{count_text, here_words, is_near, near_from, near_part, near_text, sections_text, wanted_texts};
 
 use crate::part::{Part, put_parts};
 use tab_io::{Sink, WriteFault};
@@ -43,9 +43,8 @@ fn put_counts<K: Sink>(sink: &mut K, found: u32, wanted: u32) -> Result<(), Writ
         &[
             Part::Text(b"tableau: "),
             Part::Number(wanted),
-            Part::Text(b" texts are wanted, a line %% between each two: "),
             Part::Text(wanted_texts(wanted)),
-            Part::Text(b"; here are "),
+            Part::Text(here_words(found)),
             Part::Number(found),
             Part::Text(b"\n"),
         ],
@@ -69,13 +68,27 @@ fn put_near<K: Sink>(sink: &mut K, number: u32, line: &[u8]) -> Result<(), Write
     )
 }
 
+// Which texts so many are.
 fn wanted_texts(wanted: u32) -> &'static [u8]
     ensures { result.now ≡ wanted_texts wanted }
 {
-    if wanted == 3 {
-        b"a host, a script and a list of steps"
+    if wanted == 1 {
+        b" text is wanted, a host, and no line %%"
+    } else if wanted == 3 {
+        b" texts are wanted, a line %% between each two: a host, a script and a list of steps"
     } else {
-        b"a host and a plan text for check, a host and a script for run"
+        b" texts are wanted, a line %% between them: a host and a plan text for check, a host and a script for run"
+    }
+}
+
+// What stands before the count of the texts that there are.
+fn here_words(found: u32) -> &'static [u8]
+    ensures { result.now ≡ here_words found }
+{
+    if found == 1 {
+        b"; here is "
+    } else {
+        b"; here are "
     }
 }
 

@@ -1,7 +1,7 @@
 ghost use Rattle.std.specs.Prelude.{◌≡◌, ◌≤◌, ◌++◌, flat_map, length, option_map, slice_get, string_bytes, take};
 ghost use Rattle.tab_io.specs.Sinks.{Writes};
 ghost use Rattle.tab_words.specs.Commands.{texts};
-ghost use Rattle.advice.specs.Usage.{are_plain, asks_help, behind_text, file_text, file_word, found_text, has_dot, hint_text, is_begun, is_file_word, is_plain_byte, missing_text, read_behind, reads, rounds_text, shell_text, spaced, usage_text, wanted_behind, wanted_first, wanted_second, wanted_text, wanted_third};
+ghost use Rattle.advice.specs.Usage.{are_plain, asks_help, behind_text, file_text, file_word, found_text, has_dot, hint_text, is_begun, is_file_word, is_plain_byte, missing_text, name_text, read_behind, reads, rounds_text, shell_text, spaced, usage_text, wanted_behind, wanted_first, wanted_second, wanted_text, wanted_third};
 
 use crate::part::{Part, put_parts};
 use tab_io::{Sink, WriteFault, write_all};
@@ -87,7 +87,9 @@ fn put_missing<K: Sink>(sink: &mut K, front: &[String]) -> Result<(), WriteFault
     put_parts(
         sink,
         &[
-            Part::Text(b"tableau: a word is missing: "),
+            Part::Text(b"tableau: "),
+            Part::Text(name_words(front, b"a word")),
+            Part::Text(b" is missing: "),
             Part::Text(wanted_words(front)),
             Part::Text(b"\n"),
         ],
@@ -125,6 +127,8 @@ fn put_word<K: Sink>(
             Part::Number(place),
             Part::Text(b", "),
             Part::Quoted(word),
+            Part::Text(b", isn't "),
+            Part::Text(name_words(front, b"expected")),
             Part::Text(b": "),
             Part::Text(wanted_words(front)),
             Part::Text(b"\n"),
@@ -183,7 +187,7 @@ fn put_file<K: Sink>(sink: &mut K, front: &[String], word: &[u8]) -> Result<(), 
 }
 
 // Writes the words, each behind a space.
-fn put_spaced<K: Sink>(sink: &mut K, words: &[String]) -> Result<(), WriteFault>
+pub(crate) fn put_spaced<K: Sink>(sink: &mut K, words: &[String]) -> Result<(), WriteFault>
     ensures { Writes (K.state sink.old) (K.state sink.new) (flat_map spaced (texts words.now)) result }
 {
     for word in words {
@@ -196,6 +200,13 @@ fn put_spaced_word<K: Sink>(sink: &mut K, word: &String) -> Result<(), WriteFaul
     ensures { Writes (K.state sink.old) (K.state sink.new) (spaced (string_bytes word.now)) result }
 {
     put_parts(sink, &[Part::Text(b" "), Part::Text(word.as_bytes())])
+}
+
+// The name of what has to stand behind these words; where nothing has to, these other words.
+fn name_words<'a>(front: &[String], other: &'a [u8]) -> &'a [u8]
+    ensures { result.now ≡ name_text (wanted_behind (texts front.now)) other.now }
+{
+    name_text(wanted_behind(front), other)
 }
 
 // What may stand behind these words, in words.
@@ -260,6 +271,19 @@ fn wanted_third(word: &[u8]) -> Wanted
     }
 }
 
+fn name_text(wanted: Wanted, other: &[u8]) -> &[u8]
+    ensures { result.now ≡ name_text wanted other.now }
+{
+    match wanted {
+        Wanted::Command => b"a command",
+        Wanted::Rounds => b"a count of rounds",
+        Wanted::Seed => b"a seed",
+        Wanted::Cores => b"a count of cores",
+        Wanted::Vcpus => b"a count of vCPUs",
+        _ => other,
+    }
+}
+
 fn wanted_text(wanted: Wanted) -> &'static [u8]
     ensures { result.now ≡ wanted_text wanted }
 {
@@ -267,15 +291,13 @@ fn wanted_text(wanted: Wanted) -> &'static [u8]
         Wanted::Command => {
             b"the commands are plan, check, run, replay, gen and selftest; for help type: tableau --help"
         }
-        Wanted::Nothing => b"nothing stands there",
-        Wanted::Whole => b"nothing stands there, or whole",
-        Wanted::Rounds => b"a count of rounds stands there, from 1 to 10000",
-        Wanted::Mode => b"nothing stands there, or trace, burst or live",
-        Wanted::Seed => b"a seed stands there, from 0 to 18446744073709551615",
-        Wanted::Cores => b"a count of cores stands there, from 1 to 32",
-        Wanted::Vcpus => {
-            b"a count of vCPUs stands there, at most 256, and at most 99 for each core and one more"
-        }
+        Wanted::Nothing => b"the command takes no more words",
+        Wanted::Whole => b"plan takes no word but whole",
+        Wanted::Rounds => b"type a number from 1 to 10000",
+        Wanted::Mode => b"run takes no more words but trace, burst or live",
+        Wanted::Seed => b"type a number from 0 to 18446744073709551615",
+        Wanted::Cores => b"type a number from 1 to 32",
+        Wanted::Vcpus => b"type a number, at most 256 and at most 99 for each core and one more",
     }
 }
 

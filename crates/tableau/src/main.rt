@@ -1,5 +1,5 @@
 //! The program `tableau`: it answers its words by one call, over standard input and output, and
-//! tells on standard error what to do about a refusal.
+//! tells on standard error what it reads from a terminal, and what to do about a refusal.
 #![tactic(auto)]
 
 mod progress;
@@ -8,19 +8,15 @@ mod told;
 use advice::KeptSource;
 use progress::ProgressGate;
 use round_words::RoundBoard;
-use std::io::{BufWriter, ErrorKind, IsTerminal};
+use std::io::{self, BufWriter, ErrorKind, IsTerminal};
 use std::process::ExitCode;
-use std::{env, io};
 use tab_io::{StdSink, StdSource};
 use tableau_sim::{Status, tableau};
-use told::tell;
+use told::{prompt, tell};
 
 fn main(rt: HostRuntime) -> ExitCode {
-    let all: Vec<String> = match env::args(&rt) {
-        Ok(words) => match words.collect(rt.alloc()) {
-            Ok(words) => words,
-            Err(_) => return ExitCode::from(Status::NoMemory.exit()),
-        },
+    let all = match program_words::words(&rt, rt.alloc()) {
+        Ok(words) => words,
         Err(fault) if fault.kind() == ErrorKind::OutOfMemory => {
             return ExitCode::from(Status::NoMemory.exit());
         }
@@ -40,6 +36,9 @@ fn main(rt: HostRuntime) -> ExitCode {
     let mut input = KeptSource::of(rt.alloc(), StdSource::of(rt.reader()));
     let mut output = StdSink::of(writer);
     let gate = ProgressGate::new(rt, rt.stderr(), rt.stderr().is_terminal());
+    if rt.stdin().is_terminal() {
+        prompt(&rt.stderr(), rt.alloc(), words);
+    }
     let done = tableau(
         &rt,
         rt.alloc(),

@@ -1,7 +1,7 @@
-//! What is told on standard error after a refusal.
+//! What is told on standard error: what a command reads from a terminal, and after a refusal what to do.
 ghost use Rattle.std.specs.Prelude.{◌<◌, ◌^◌, length};
 
-use advice::{Due, Refusal, write_advice};
+use advice::{Due, Refusal, write_advice, write_prompt};
 use std::alloc::Global;
 use step_machine::{Answer, Phase};
 use tab_io::MemSink;
@@ -10,6 +10,16 @@ use tableau_sim::Status;
 
 // Room for the longest advice.
 const ROOM: usize = 4096;
+
+/// Writes what the command of these words reads, before it reads that from a terminal. Where memory is
+/// wanting, or the output fails, nothing more is written.
+pub(crate) fn prompt<P: Print>(output: &P, alloc: Global, words: &[String]) {
+    let Ok(mut sink) = MemSink::with_room(alloc, ROOM) else {
+        return;
+    };
+    let _ = write_prompt(words, &mut sink);
+    let _ = output.write_all(sink.bytes());
+}
 
 /// Writes the advice on this status of a call with these words, which read this input. Where memory is
 /// wanting, or the output fails, nothing more is written.

@@ -1,4 +1,4 @@
 use Rattle.advice.proofs.usage.put_missing.Goals as goal
 
 pub returns : goal.returns
-returns g c = rw (← c.wanted_words.ensures) c.put_parts.ensures
+returns g c = rw (← c.name_words.ensures, ← c.wanted_words.ensures) c.put_parts.ensures
