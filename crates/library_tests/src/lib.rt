@@ -1,0 +1,17 @@
+//! The tests of single calls of the libraries that no case can show: ends that fail, words of faults, and
+//! calls that the program doesn't make. They stand apart since a crate with tests is proved twice, with them
+//! and without.
+#![tactic(auto)]
+
+#[cfg(test)]
+mod checks;
+#[cfg(test)]
+mod edf_rows;
+#[cfg(test)]
+mod ends;
+#[cfg(test)]
+mod networks;
+#[cfg(test)]
+mod shared_types;
+#[cfg(test)]
+mod wordings;

@@ -1,4 +1,0 @@
-use Rattle.planning_tests.proofs.look_ups.a_slice_meets_two_spans.Given as goal
-
-abbrev pub ghosts-all_show : goal.ghosts-all_show
-ghosts-all_show g a = record { name = a.blank.name; parts = a.blank.parts }
