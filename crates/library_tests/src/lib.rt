@@ -10,6 +10,8 @@ mod edf_rows;
 #[cfg(test)]
 mod ends;
 #[cfg(test)]
+mod look_ups;
+#[cfg(test)]
 mod networks;
 #[cfg(test)]
 mod shared_types;
