@@ -1,4 +1,4 @@
-# Builds by the launcher, checks, and copies. PREFIX and DESTDIR are as everywhere; BASE is what `touched` compares with.
+# Builds by the launcher, checks, and copies. PREFIX and DESTDIR work as usual; BASE is what `touched` compares with.
 .POSIX:
 PREFIX = /usr/local
 DESTDIR =
@@ -11,6 +11,7 @@ tools = crates/tableau_tools/out/tableau_tools
 package = tableau-$(VERSION)-x86_64-linux
 
 all:
+	@test "$$TABLEAU_BUILD" != try || { echo "TABLEAU_BUILD=try builds nothing to install" >&2; exit 1; }
 	./tableau --version
 	./tableau-tools --version
 
