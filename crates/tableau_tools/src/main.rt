@@ -16,9 +16,10 @@ mod plan;
 mod sections;
 mod table;
 
+use clap::error::ErrorKind;
 use clap::{ArgMatches, Error};
 use fault::Fault;
-use std::io::ErrorKind;
+use std::io;
 use std::process::ExitCode;
 
 // The status of a text that is refused, and of a fault.
@@ -28,9 +29,24 @@ const REFUSED: u8 = 1;
 const DIFF_REFUSED: u8 = 3;
 
 fn main(rt: HostRuntime) -> ExitCode {
-    match run(&rt) {
+    let words = match program_words::words(&rt, rt.alloc()) {
+        Ok(words) => words,
+        Err(fault) if fault.kind() == io::ErrorKind::OutOfMemory => {
+            return ExitCode::from(refusal(&rt, Fault::NoMemory, REFUSED));
+        }
+        Err(_) => return ExitCode::from(refusal(&rt, Fault::NoText, REFUSED)),
+    };
+    match run(&rt, words.as_slice()) {
         Ok(status) => ExitCode::from(status),
-        Err(fault) => ExitCode::from(refusal(&rt, fault, REFUSED)),
+        Err(fault) => ExitCode::from(refusal(&rt, fault, refused(words.as_slice()))),
+    }
+}
+
+// The status of a fault of the command that these words name.
+fn refused(words: &[String]) -> u8 {
+    match words.get(1) {
+        Some(word) if word.as_str() == "diff" => DIFF_REFUSED,
+        _ => REFUSED,
     }
 }
 
@@ -42,25 +58,29 @@ fn refusal(rt: &HostRuntime, fault: Fault, status: u8) -> u8 {
 }
 
 // Does what the words say. The status is 0 or the command's, or 2 where they are no command.
-fn run(rt: &HostRuntime) -> Result<u8, Fault> {
-    let words = match program_words::words(rt, rt.alloc()) {
-        Ok(words) => words,
-        Err(fault) if fault.kind() == ErrorKind::OutOfMemory => return Err(Fault::NoMemory),
-        Err(_) => return Err(Fault::NoText),
-    };
+fn run(rt: &HostRuntime, words: &[String]) -> Result<u8, Fault> {
     let Ok(command) = command::command(rt.alloc()) else {
         return Err(Fault::NoMemory);
     };
-    match command.try_get_matches_from(words.as_slice()) {
+    match command.try_get_matches_from(words) {
         Ok(matches) => dispatch(rt, &matches),
-        Err(error) => Ok(told(rt, &error)),
+        Err(error) => told(rt, &error),
     }
 }
 
 // Prints what clap answers, which is help or a version or a usage, and gives its status.
-fn told(rt: &HostRuntime, error: &Error) -> u8 {
-    let _ = error.print(rt);
-    if error.exit_code() == 0 { 0 } else { 2 }
+fn told(rt: &HostRuntime, error: &Error) -> Result<u8, Fault> {
+    if error.kind() == ErrorKind::OutOfMemory {
+        return Err(Fault::NoMemory);
+    }
+    let printed = error.print(rt);
+    if error.exit_code() != 0 {
+        return Ok(2);
+    }
+    match printed {
+        Ok(()) => Ok(0),
+        Err(_) => Err(Fault::WriteFault),
+    }
 }
 
 // Does the command that was met, and gives its status.
@@ -71,10 +91,7 @@ fn dispatch(rt: &HostRuntime, matches: &ArgMatches<'_>) -> Result<u8, Fault> {
         Some(("table", matches)) => table::table(rt, matches)?,
         Some(("sections", matches)) => sections::sections(rt, matches)?,
         Some(("host", matches)) => host::host(rt, matches)?,
-        Some(("diff", matches)) => match diff::diff(rt, matches) {
-            Ok(differ) => return Ok(u8::from(differ)),
-            Err(fault) => return Ok(refusal(rt, fault, DIFF_REFUSED)),
-        },
+        Some(("diff", matches)) => return Ok(u8::from(diff::diff(rt, matches)?)),
         _ => {}
     }
     Ok(0)
