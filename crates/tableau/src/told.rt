@@ -8,7 +8,7 @@ use tab_io::MemSink;
 use table_check::CheckFault;
 use tableau_sim::Status;
 
-// Room for the longest advice.
+// Room for the longest of these texts.
 const ROOM: usize = 4096;
 
 /// Writes what the command of these words reads, before it reads that from a terminal. Where memory is
