@@ -11,9 +11,8 @@ ghost use Rattle.core_workers.specs.Waiting.{AreAtRest};
 ghost use Rattle.core_workers.specs.Inside.Making.{AreGroups, AreMembers};
 
 use crate::driving::drive_team;
-use crate::extent::Extent;
 use crate::gate::Gate;
-use crate::patience::spins_of;
+use crate::patience::Patience;
 use crate::team::{Deal, Group, Lead, Member, Team};
 use dispatch_core::CoreState;
 use plan_switch::ControlState;
@@ -24,9 +23,6 @@ use std::marker::Model;
 use std::thread::Threads;
 use tab_core::{CoreNo, NoMemory};
 use table_form::Course;
-
-/// The most threads that carry cores: more of them wait for each other longer than they work.
-pub const MOST_THREADS: u32 = 2;
 
 /// All actors of a run: one for each core, and the controller.
 #[derive(Drop)]
@@ -64,9 +60,9 @@ impl<'a> Crew<'a> {
         ensures keeps { IfOk result (λ c. (core : ℕ) (a : StateView) → actor_of c core ≡ Some a
             → a.keep ≡ slice_index keep.now core) }
     {
-        let per = course.cores().div_ceil(MOST_THREADS);
+        let per = 1;
         let groups = make_groups(alloc, course, per, rounds, keep)?;
-        let spins = spins_of(rt, groups.len());
+        let patience = Patience::of_workers(rt, course.cores());
         let lead = Lead {
             control: ControlState::new(),
             rounds,
@@ -77,7 +73,7 @@ impl<'a> Crew<'a> {
             team: Team {
                 groups,
                 per,
-                spins,
+                patience,
                 lead,
             },
         })
@@ -165,6 +161,7 @@ fn make_group(
             slices,
             state,
             steps: 0,
+            awaits: 0,
         })?;
     }
     Ok(Group { members })
@@ -198,6 +195,6 @@ pub fn drive<G: Gate>(board: &RoundBoard, seat: &mut RoundSeat, crew: &mut Crew<
         crew.course,
         &mut crew.team,
         gate,
-        Extent::Whole,
+        Patience::long(),
     );
 }

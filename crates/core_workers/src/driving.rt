@@ -1,16 +1,14 @@
-ghost use Rattle.std.specs.Prelude.{◌≡◌, false};
+ghost use Rattle.std.specs.Prelude.{◌≡◌};
 ghost use Rattle.round_words.specs.Seats.{view_of, IsSeatOf};
 ghost use Rattle.core_workers.specs.Crews.{AllAgree};
 ghost use Rattle.core_workers.specs.Groups.{crew_view, team_view};
 ghost use Rattle.core_workers.specs.Inside.Teams.{GoesOn, IsManned, IsSameShape, IsTeam, IsTeamKept};
 ghost use Rattle.core_workers.specs.Waiting.{AreAtRest};
-ghost use Rattle.core_workers.specs.declared.extent.Extent.TheVariants.{Whole};
 
 use crate::clocks::read_clocks;
-use crate::extent::Extent;
 use crate::gate::Gate;
 use crate::guess::Guess;
-use crate::patience::{PATIENCE, give_way};
+use crate::patience::Patience;
 use crate::places::Places;
 use crate::site::Site;
 use crate::team::{Deal, Group, Lead, Team};
@@ -18,16 +16,15 @@ use crate::turns::{Progress, Roster, turn};
 use round_words::{RoundBoard, RoundSeat};
 use table_form::Course;
 
-// Turns of those actors whose parts the seat holds, until all of them have finished or are as far as wanted, or none
-// got on for long.
+// Turns of those actors whose parts the seat holds, until all of them have finished, or none got on for as long as the
+// patience lasts.
 pub(crate) fn drive_groups<G: Gate>(
     site: &Site<'_, G>,
     seat: &mut RoundSeat,
     lead: &mut Lead,
     deal: Deal,
     groups: &mut [Group],
-    spins: u32,
-    extent: Extent,
+    mut patience: Patience,
 )
     requires board { IsSeatOf site.now.board.now seat.old }
     requires rounds { lead.old.rounds ≡ site.now.rounds }
@@ -39,8 +36,8 @@ pub(crate) fn drive_groups<G: Gate>(
     ensures team { IsTeam site.now.course.now site.now.rounds deal groups.new }
     ensures goes { GoesOn (crew_view site.now.course.now lead.old deal groups.old) (view_of seat.old)
         (crew_view site.now.course.now lead.new deal groups.new) (view_of seat.new) }
-    ensures rests { extent ≡ Whole → AreAtRest (crew_view site.now.course.now lead.new deal groups.new)
-        (view_of seat.old) (view_of seat.new) }
+    ensures rests { AreAtRest (crew_view site.now.course.now lead.new deal groups.new) (view_of seat.old)
+        (view_of seat.new) }
 {
     let places = Places::of(deal, site.course.cores());
     let clocks = read_clocks(site, seat, &places, groups);
@@ -49,41 +46,28 @@ pub(crate) fn drive_groups<G: Gate>(
         places,
         clocks,
         guess,
+        awaits: 0,
     };
-    let mut left = PATIENCE;
+    let mut left = patience.turns();
+    let mut sights = patience.sights();
+    let mut awaits = 0;
     'driving: while left > 0 {
-        if is_far(extent, site.course, lead, &roster) {
-            return;
-        }
         match turn(site, seat, lead, groups, &mut roster) {
-            Progress::Moved => left = PATIENCE,
+            Progress::Moved => left = patience.turns(),
             Progress::Waits => {
+                if roster.awaits != awaits && sights > 0 {
+                    sights -= 1;
+                    awaits = roster.awaits;
+                    left = patience.turns();
+                    patience.wait(left);
+                    continue 'driving;
+                }
                 left -= 1;
-                give_way(PATIENCE - left, spins);
+                patience.wait(left);
             }
             Progress::Done => return,
         }
     }
-}
-
-// Whether the actors have gone as far as wanted, where that isn't the whole way.
-#[inline(always)]
-fn is_far(extent: Extent, course: &Course, lead: &Lead, roster: &Roster) -> bool
-    ensures { extent ≡ Whole → result ≡ false }
-{
-    match extent {
-        Extent::Whole => false,
-        Extent::Until(tick) => {
-            roster.guess.is_from(tick)
-                && (!roster.clocks.posting || is_later(course, lead.control.posted(), tick))
-        }
-    }
-}
-
-// Whether there is an event behind these first ones, and it is at the tick or later. Where there is none, the controller
-// makes one more step, which finds that.
-fn is_later(course: &Course, posted: u32, tick: u32) -> bool {
-    posted < course.count() && course.tick_of(posted) >= tick
 }
 
 // The same, of a team.
@@ -93,7 +77,7 @@ pub(crate) fn drive_team<G: Gate>(
     course: &Course,
     team: &mut Team,
     gate: &G,
-    extent: Extent,
+    patience: Patience,
 )
     requires board { IsSeatOf board.now seat.old }
     requires kept { IsTeamKept course.now team.old }
@@ -103,7 +87,7 @@ pub(crate) fn drive_team<G: Gate>(
     ensures kept { IsTeamKept course.now team.new }
     ensures goes { GoesOn (team_view course.now team.old) (view_of seat.old) (team_view course.now team.new)
         (view_of seat.new) }
-    ensures rests { extent ≡ Whole → AreAtRest (team_view course.now team.new) (view_of seat.old) (view_of seat.new) }
+    ensures rests { AreAtRest (team_view course.now team.new) (view_of seat.old) (view_of seat.new) }
     ensures shape { IsSameShape team.old team.new }
 {
     let site = Site {
@@ -122,7 +106,6 @@ pub(crate) fn drive_team<G: Gate>(
         &mut team.lead,
         deal,
         &mut team.groups,
-        team.spins,
-        extent,
+        patience,
     );
 }

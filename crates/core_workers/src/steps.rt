@@ -48,7 +48,10 @@ pub(crate) fn run_member<G: Gate>(
     'running: while clock <= limit {
         match step_member(site, seat, member, core) {
             CoreAnswer::Ran(stint) => clock = stint.end,
-            CoreAnswer::Behind { who: _, tick: _ } => return clock,
+            CoreAnswer::Behind { who: _, tick } => {
+                member.awaits = tick;
+                return clock;
+            }
             CoreAnswer::Finished => return OUT,
         }
     }

@@ -29,12 +29,14 @@ pub(crate) enum Progress {
     Done,
 }
 
-/// What turns go by: where the cores' members stand, the clocks, and a guess which core is the one of least clock.
+/// What turns go by: where the cores' members stand, the clocks, a guess which core is the one of least clock, and the
+/// tick of the actor for which one waited last.
 #[derive(Drop)]
 pub(crate) struct Roster {
     pub(crate) places: Places,
     pub(crate) clocks: Clocks,
     pub(crate) guess: Guess,
+    pub(crate) awaits: u32,
 }
 
 // A core runs on: the one that is guessed to be least, or else one of least clock. Then the controller makes a step.
@@ -75,7 +77,10 @@ pub(crate) fn turn<G: Gate>(
     }
     match step_lead(site, seat, lead) {
         ControlAnswer::Posted { count: _ } => Progress::Moved,
-        ControlAnswer::Behind { core: _, tick: _ } => or_waits(cores),
+        ControlAnswer::Behind { core: _, tick } => {
+            roster.awaits = tick;
+            or_waits(cores)
+        }
         ControlAnswer::Finished => {
             roster.clocks.posting = false;
             Progress::Moved
@@ -203,6 +208,7 @@ fn run_core<G: Gate>(
     let member = &mut groups[place.group as usize].members[place.at as usize];
     let reached = run_member(site, seat, member, core, limit);
     if reached == roster.clocks.ticks[core as usize] {
+        roster.awaits = member.awaits;
         return false;
     }
     roster.clocks.ticks[core as usize] = reached;

@@ -12,12 +12,15 @@ use crate::book::LiveBook;
 use crate::cell_shelf::CellShelf;
 use crate::planner::LivePlanner;
 use crate::team::{Lead, Maker, Member};
-use core_workers::{MOST_THREADS, spins_of};
+use core_workers::Patience;
 use slice_table::RowOwners;
 use std::alloc::Global;
 use std::marker::Model;
 use std::thread::Threads;
 use tab_core::{CoreNo, NoMemory};
+
+// two threads carry the cores
+const WORKERS: u32 = 2;
 
 /// All actors of a live run: one for each core, the controller and the planner, each with a shelf of its own.
 ///
@@ -29,7 +32,7 @@ pub struct LiveCrew {
     pub(crate) lead: Lead,
     pub(crate) maker: Maker,
     pub(crate) rounds: u32,
-    pub(crate) spins: u32,
+    pub(crate) patience: Patience,
 }
 
 impl Model for LiveCrew {
@@ -62,7 +65,7 @@ impl LiveCrew {
     {
         let owners = RowOwners::of(alloc, book.plan())?;
         let cores = book.outline().cores();
-        let per = cores.div_ceil(MOST_THREADS);
+        let per = cores.div_ceil(WORKERS);
         let lower = make_members(alloc, book, &owners, rounds, 0, per, cores)?;
         let upper = make_members(alloc, book, &owners, rounds, per, cores, cores)?;
         let maker = Maker::make(alloc, book)?;
@@ -73,7 +76,7 @@ impl LiveCrew {
             lead,
             maker,
             rounds,
-            spins: spins_of(rt, MOST_THREADS as usize),
+            patience: Patience::of_workers(rt, WORKERS),
         })
     }
 

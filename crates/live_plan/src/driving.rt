@@ -8,7 +8,7 @@ use crate::planner::{PlannerAnswer, planner_step};
 use crate::site::Site;
 use crate::team::{Lead, Maker, Member};
 use crate::turning::{Progress, Roster, turn};
-use core_workers::{Gate, PATIENCE, give_way};
+use core_workers::{Gate, Patience};
 use round_words::RoundSeat;
 use std::alloc::Global;
 use std::sync::Wait;
@@ -18,14 +18,14 @@ use std::thread::Threads;
 const PLANNER: u32 = 33;
 
 // Turns of a thread's members, and of the controller where the seat holds it, until all of them have finished, or none
-// got on for long, or none can get on since memory ran out.
+// got on for as long as the patience lasts, or none can get on since memory ran out.
 pub(crate) fn drive<G: Gate>(
     site: &Site<'_, G>,
     seat: &mut RoundSeat,
     lead: &mut Lead,
     first: u32,
     members: &mut [Member],
-    spins: u32,
+    mut patience: Patience,
 )
     requires board { IsSeatOf site.now.board.now seat.old }
     requires crew { IsWorking site.now.book.now site.now.rounds first members.old lead.old (view_of seat.old) }
@@ -34,17 +34,17 @@ pub(crate) fn drive<G: Gate>(
     ensures actors { SameActors (view_of seat.old) (view_of seat.new) }
 {
     let mut roster = Roster::of(site.book, seat, first, members);
-    let mut idle = 0;
+    let mut left = patience.turns();
     // more turns than a run has steps
     for _ in 0..u64::MAX {
         match turn(site, seat, lead, members, &mut roster) {
-            Progress::Moved => idle = 0,
+            Progress::Moved => left = patience.turns(),
             Progress::Waits => {
-                if idle >= PATIENCE {
+                left = left.saturating_sub(1);
+                if left == 0 {
                     return;
                 }
-                idle += 1;
-                give_way(idle, spins);
+                patience.wait(left);
             }
             Progress::Stopped | Progress::Done => return,
         }
@@ -58,7 +58,6 @@ pub(crate) fn drive_on<R: Wait, G: Gate>(
     seat: &mut RoundSeat,
     lead: &mut Lead,
     members: &mut [Member],
-    spins: u32,
 )
     requires board { IsSeatOf site.now.board.now seat.old }
     requires crew { IsWorking site.now.book.now site.now.rounds 0 members.old lead.old (view_of seat.old) }
@@ -68,13 +67,14 @@ pub(crate) fn drive_on<R: Wait, G: Gate>(
     ensures ended { HaveEnded site.now.book.now members.new lead.new (view_of seat.new) }
 {
     let mut roster = Roster::of(site.book, seat, 0, members);
-    let mut idle: u32 = 0;
+    let mut patience = Patience::long();
+    let mut left = patience.turns();
     for _ in rt.forever() {
         match turn(site, seat, lead, members, &mut roster) {
-            Progress::Moved => idle = 0,
+            Progress::Moved => left = patience.turns(),
             Progress::Waits | Progress::Stopped => {
-                idle = idle.saturating_add(1);
-                give_way(idle, spins);
+                left = left.saturating_sub(1);
+                patience.wait(left);
             }
             Progress::Done => return,
         }

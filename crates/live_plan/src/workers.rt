@@ -17,7 +17,7 @@ use crate::crew::LiveCrew;
 use crate::driving::{drive, drive_on, plan_all};
 use crate::site::Site;
 use crate::team::{Lead, Maker, Member};
-use core_workers::{Gate, mask_from};
+use core_workers::{Gate, Patience, mask_from};
 use round_words::{RoundBoard, RoundSeat};
 use std::alloc::Global;
 use std::sync::Wait;
@@ -29,7 +29,7 @@ fn work_upper<G: Gate>(
     mut seat: RoundSeat,
     first: u32,
     mut members: Vec<Member>,
-    spins: u32,
+    patience: Patience,
 ) -> (RoundSeat, Vec<Member>)
     requires board { IsSeatOf site.now.board.now seat }
     requires worker { IsWorker site.now.book.now site.now.rounds first members.items (view_of seat) }
@@ -40,7 +40,7 @@ fn work_upper<G: Gate>(
 {
     // it makes no step, since the seat doesn't hold the controller
     let mut lead = Lead::make(site.book);
-    drive(site, &mut seat, &mut lead, first, &mut members, spins);
+    drive(site, &mut seat, &mut lead, first, &mut members, patience);
     (seat, members)
 }
 
@@ -50,7 +50,7 @@ fn work_lower<G: Gate>(
     mut seat: RoundSeat,
     mut members: Vec<Member>,
     mut lead: Lead,
-    spins: u32,
+    patience: Patience,
 ) -> (RoundSeat, Vec<Member>, Lead)
     requires board { IsSeatOf site.now.board.now seat }
     requires crew { IsHeld site.now.book.now site.now.rounds members.items lead (view_of seat) }
@@ -60,7 +60,7 @@ fn work_lower<G: Gate>(
     ensures count { length result.1.items ≡ length members.items }
     ensures room { vec_capacity result.1 ≡ vec_capacity members }
 {
-    drive(site, &mut seat, &mut lead, 0, &mut members, spins);
+    drive(site, &mut seat, &mut lead, 0, &mut members, patience);
     (seat, members, lead)
 }
 
@@ -82,7 +82,7 @@ fn work<R: Threads, G: Gate>(
     rounds: u32,
     gate: &G,
     cores: Cores,
-    spins: u32,
+    patience: Patience,
 ) -> Cores
     requires board { IsSeatOf board.now cores.seat }
     requires room { HasRoom (length cores.lower.items) (length cores.upper.items) (vec_capacity cores.lower) }
@@ -122,7 +122,7 @@ fn work<R: Threads, G: Gate>(
                 own,
                 first,
                 upper,
-                spins,
+                patience,
             )
         },
         move || -> (RoundSeat, Vec<Member>, Lead)
@@ -144,7 +144,7 @@ fn work<R: Threads, G: Gate>(
                 seat,
                 lower,
                 lead,
-                spins,
+                patience,
             )
         },
     );
@@ -164,7 +164,6 @@ fn finish<R: Wait, G: Gate>(
     site: &Site<'_, G>,
     mut cores: Cores,
     stopped: Option<u32>,
-    spins: u32,
 ) -> Cores
     requires board { IsSeatOf site.now.board.now cores.seat }
     requires crew { IsHeld site.now.book.now site.now.rounds cores.lower.items cores.lead (view_of cores.seat) }
@@ -179,14 +178,7 @@ fn finish<R: Wait, G: Gate>(
     match stopped {
         Some(_) => cores,
         None => {
-            drive_on(
-                rt,
-                site,
-                &mut cores.seat,
-                &mut cores.lead,
-                &mut cores.lower,
-                spins,
-            );
+            drive_on(rt, site, &mut cores.seat, &mut cores.lead, &mut cores.lower);
             cores
         }
     }
@@ -240,7 +232,7 @@ pub fn run_live<R: Threads + Wait + Sync, G: Gate>(
         lead,
         maker,
         rounds,
-        spins,
+        patience,
     } = crew;
     let cores = Cores {
         seat,
@@ -263,7 +255,7 @@ pub fn run_live<R: Threads + Wait + Sync, G: Gate>(
                 × SameActors (view_of cores.seat) (view_of result.seat)
                 × (length result.lower.items ≡ length cores.lower.items + length cores.upper.items)
                 × (result.upper.items ≡ []) × (vec_capacity cores.lower ≤ vec_capacity result.lower) }
-        { work(rt, board, book, rounds, gate, cores, spins) },
+        { work(rt, board, book, rounds, gate, cores, patience) },
     );
     let stopped = maker.stopped_at(book);
     let site = Site {
@@ -277,7 +269,7 @@ pub fn run_live<R: Threads + Wait + Sync, G: Gate>(
         lower,
         upper,
         lead,
-    } = finish(rt, &site, cores, stopped, spins);
+    } = finish(rt, &site, cores, stopped);
     seat.shown();
     let crew = LiveCrew {
         lower,
@@ -285,7 +277,7 @@ pub fn run_live<R: Threads + Wait + Sync, G: Gate>(
         lead,
         maker,
         rounds,
-        spins,
+        patience,
     };
     (seat, crew, stopped)
 }

@@ -8,8 +8,6 @@ use plan_book::{PlanBook, make_book};
 use round_words::RoundBoard;
 use script_doc::read_script;
 use std::alloc::Global;
-use std::sync::atomic::AtomicU64;
-use std::sync::atomic::Ordering::SeqCst;
 use std::test::Fail;
 use std::thread::{Threads, yield_now};
 use tab_core::{CoreNo, Host, Name, ROUND, Reservation, TICK_NS, Vcpu, Vcpus};
@@ -95,49 +93,5 @@ fn runs_end_with_any_count_of_cores(rt: HostRuntime) -> Result<(), Fail> {
             assert!(rt; free && slow, "{cores} cores");
         }
     }
-    Ok(())
-}
-
-// Holds each of the cores 0 and 1 at its first step until the other has come to its own, for a million looks at
-// most.
-#[derive(Drop)]
-struct Meeting {
-    came: [AtomicU64; 2],
-    late: AtomicU64,
-}
-
-impl Gate for Meeting {
-    fn pass(&self, actor: u32, step: u64) {
-        if step > 0 || actor > 1 {
-            return;
-        }
-        let (mine, other) = if actor == 0 {
-            (&self.came[0], &self.came[1])
-        } else {
-            (&self.came[1], &self.came[0])
-        };
-        mine.store(1, SeqCst);
-        for _ in 0..1_000_000u32 {
-            if other.load(SeqCst) == 1 {
-                return;
-            }
-            yield_now();
-        }
-        self.late.store(1, SeqCst);
-    }
-}
-
-#[test]
-fn two_cores_step_beside_each_other(rt: HostRuntime) -> Result<(), Fail> {
-    let book = book_of(&rt, rt.alloc(), 2)?;
-    let meeting = Meeting {
-        came: [AtomicU64::new(0), AtomicU64::new(0)],
-        late: AtomicU64::new(0),
-    };
-    assert!(rt; gets_to_the_end(&rt, rt.alloc(), book.course(), true, &meeting)?);
-    for came in &meeting.came {
-        assert_eq!(rt; came.load(SeqCst), 1);
-    }
-    assert_eq!(rt; meeting.late.load(SeqCst), 0);
     Ok(())
 }

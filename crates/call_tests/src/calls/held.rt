@@ -1,5 +1,5 @@
 // Runs in which a gate holds an actor until another has come to a step.
-use super::call;
+use super::{SPLIT, call};
 use core_workers::Gate;
 use std::sync::atomic::AtomicU64;
 use std::sync::atomic::Ordering::SeqCst;
@@ -181,6 +181,137 @@ done
         assert_eq!(rt; called.sink.bytes(), text.as_bytes(), "of {words}");
         assert_eq!(rt; called.exit, 0);
         assert_eq!(rt; gate.late.load(SeqCst), 0);
+    }
+    Ok(())
+}
+
+// Holds each of the first cores at each of its first steps until all of them have come to that step, for a million
+// turns at most.
+#[derive(Drop)]
+struct Together {
+    cores: u32,
+    steps: u64,
+    // how many steps each core has come to
+    came: [AtomicU64; 8],
+    late: AtomicU64,
+}
+
+impl Together {
+    fn of(cores: u32, steps: u64) -> Together {
+        Together {
+            cores,
+            steps,
+            came: [
+                AtomicU64::new(0),
+                AtomicU64::new(0),
+                AtomicU64::new(0),
+                AtomicU64::new(0),
+                AtomicU64::new(0),
+                AtomicU64::new(0),
+                AtomicU64::new(0),
+                AtomicU64::new(0),
+            ],
+            late: AtomicU64::new(0),
+        }
+    }
+
+    // Whether each core has come to this step.
+    fn have_come(&self, step: u64) -> bool {
+        for core in 0..8u32 {
+            if core < self.cores && self.came[core as usize].load(SeqCst) <= step {
+                return false;
+            }
+        }
+        true
+    }
+}
+
+impl Gate for Together {
+    fn pass(&self, actor: u32, step: u64) {
+        if actor >= self.cores || actor >= 8 || step >= self.steps {
+            return;
+        }
+        self.came[actor as usize].store(step.saturating_add(1), SeqCst);
+        for _ in 0..1_000_000u32 {
+            if self.have_come(step) {
+                return;
+            }
+            yield_now();
+        }
+        self.late.store(1, SeqCst);
+    }
+}
+
+// No order of steps in one thread passes these gates: each core has a worker of its own, and no worker has given up
+// before the last of these steps. Where there are 60, all cores are beyond the first round at the last of them, since
+// of three cores one runs a tenth of a round at least while each makes a step.
+#[test]
+fn workers_step_beside_each_other(rt: HostRuntime) -> Result<(), Fail> {
+    let split = format!(in rt.alloc(); "{SPLIT}%%\n")?;
+    // words, input, the cores that are held and at how many steps, and the last lines
+    let cases = [
+        (
+            "run 3",
+            split.as_str(),
+            (2, 1),
+            "run 3 rounds 2 cores 0 events
+round 0 plan 0
+vcpu a offered 184680 slots 184680 shared 0 gap 41040
+vcpu b offered 184680 slots 184680 shared 31040 gap 41040
+vcpu c offered 184680 slots 184680 shared 30520 gap 20520
+core 0 slots 307800 shared 0 idle 0
+core 1 slots 246240 shared 61560 idle 0
+done
+",
+        ),
+        (
+            "run 1",
+            "cores = 3\n%%\n",
+            (3, 1),
+            "run 1 rounds 3 cores 0 events
+round 0 plan 0
+core 0 slots 0 shared 0 idle 102600
+core 1 slots 0 shared 0 idle 102600
+core 2 slots 0 shared 0 idle 102600
+done
+",
+        ),
+        (
+            "run 1",
+            "cores = 8\n%%\n",
+            (8, 1),
+            "run 1 rounds 8 cores 0 events
+round 0 plan 0
+core 0 slots 0 shared 0 idle 102600
+core 1 slots 0 shared 0 idle 102600
+core 2 slots 0 shared 0 idle 102600
+core 3 slots 0 shared 0 idle 102600
+core 4 slots 0 shared 0 idle 102600
+core 5 slots 0 shared 0 idle 102600
+core 6 slots 0 shared 0 idle 102600
+core 7 slots 0 shared 0 idle 102600
+done
+",
+        ),
+        (
+            "run 6",
+            "cores = 3\nlag = 10260\nquantum = 10260\n%%\n",
+            (3, 60),
+            "run 6 rounds 3 cores 0 events
+round 0 plan 0
+core 0 slots 0 shared 0 idle 615600
+core 1 slots 0 shared 0 idle 615600
+core 2 slots 0 shared 0 idle 615600
+done
+",
+        ),
+    ];
+    for (words, input, (cores, steps), text) in cases {
+        let gate = Together::of(cores, steps);
+        let called = call(&rt, rt.alloc(), words, input, &gate)?;
+        assert_eq!(rt; called.sink.bytes(), text.as_bytes(), "of {input}");
+        assert_eq!(rt; called.exit, 0);
+        assert_eq!(rt; gate.late.load(SeqCst), 0, "of {input}");
     }
     Ok(())
 }

@@ -1,4 +1,4 @@
-use Rattle.std.proofs.Common.{refl, sym, subst}
+use Rattle.std.proofs.Common.{sym, subst}
 use Rattle.round_words.specs.Seats.{view_of}
 use Rattle.core_workers.specs.Crews.{HoldsAll}
 use Rattle.core_workers.specs.Groups.{CrewView, deal_of, team_view}
@@ -23,4 +23,4 @@ returns-clause-finished g c all =
     (whole_on (team_view course c.crew.inside.team) (team_view course team) on.same c.crew.invariant.whole)
     on.agree (all_held (team_view course c.crew.inside.team) (team_view course team) (view_of c.args.seat.now) (view_of c.drive_team.new.seat) on
     (subst (λ (x : CrewView). HoldsAll x (view_of c.args.seat.now)) (sym c.crew.view_is) all))
-    (c.drive_team.ensures.rests refl)
+    c.drive_team.ensures.rests

@@ -13,7 +13,7 @@ pub loop-core-preserved : goal.loop-core-preserved
 loop-core-preserved c =
     let inv = c.loop-core.invariant in
     let course = c.args.course.now in
-    let m : Member = record { slices = c.in_ok-slices.slices; state = c.in_ok-state.state; steps = 0 } in
+    let m : Member = record { slices = c.in_ok-slices.slices; state = c.in_ok-state.state; steps = 0; awaits = 0 } in
     let ms : List Member = c.loop-core.members.items in
     let made = c.in_ok-state.ensures in
     let new : IsNewMember course c.args.rounds c.args.keep.now c.loop-core.core m = record {

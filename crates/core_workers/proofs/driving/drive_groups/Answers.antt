@@ -1,4 +1,4 @@
-use Rattle.std.proofs.Common.{inl, inr, refl, sym, ap, ◌∙◌, subst, arith}
+use Rattle.std.proofs.Common.{inl, inr, sym, ap, ◌∙◌, subst, arith}
 use Rattle.round_words.specs.declared.view.View.{View}
 use Rattle.round_words.specs.Seats.{view_of}
 use Rattle.core_workers.specs.declared.places.Places.{Places}
@@ -37,8 +37,32 @@ driving-preserved-in-Moved g c =
           (crew_view course new.lead c.driving.roster.places.deal new.groups) v u w i.goes e.goes);
       clocks = subst (λ (p : Places). AreClocks (crew_view course new.lead p.deal new.groups) w new.roster.clocks) (sym e.places) e.clocks;
       parts = parts_more v u w i.parts e.parts;
-      few = omega arith;
-      rests = inl refl;
+      few = c.turns-left-in-Moved.ensures.few;
+      rests = inl c.turns-left-in-Moved.ensures.some;
+    }
+
+pub driving-preserved-then-sights-gt0 : goal.driving-preserved-then-sights-gt0
+driving-preserved-then-sights-gt0 g c =
+    let course = c.args.site.now.course.now in
+    let i = c.driving.invariant in
+    let e = c.turn.ensures in
+    let new = c.turn.new in
+    let v : View = view_of c.args.seat.now in
+    let u : View = view_of c.driving.seat in
+    let w : View = view_of new.seat in
+    record {
+      board = e.board;
+      rounds = e.rounds;
+      places = subst (ArePlaces course.cores) (sym e.places) i.places;
+      deal = ap (λ (p : Places). p.deal) e.places ∙ i.deal;
+      team = subst (λ (p : Places). IsTeam course c.args.site.now.rounds p.deal new.groups) (sym e.places) e.team;
+      goes = subst (λ (p : Places). GoesOn (crew_view course c.args.lead.now c.args.deal c.args.groups.now) v (crew_view course new.lead p.deal new.groups) w) (sym e.places)
+          (on_twice (crew_view course c.args.lead.now c.args.deal c.args.groups.now) (crew_view course c.driving.lead c.driving.roster.places.deal c.driving.groups)
+          (crew_view course new.lead c.driving.roster.places.deal new.groups) v u w i.goes e.goes);
+      clocks = subst (λ (p : Places). AreClocks (crew_view course new.lead p.deal new.groups) w new.roster.clocks) (sym e.places) e.clocks;
+      parts = parts_more v u w i.parts e.parts;
+      few = c.turns-left-then-sights-gt0.ensures.few;
+      rests = inl c.turns-left-then-sights-gt0.ensures.some;
     }
 
 pub driving-preserved : goal.driving-preserved
@@ -67,7 +91,7 @@ driving-preserved g c =
     }
 
 pub returns-in-Done-clause-rests : goal.returns-in-Done-clause-rests
-returns-in-Done-clause-rests g c whole =
+returns-in-Done-clause-rests g c =
     let course = c.args.site.now.course.now in
     let i = c.driving.invariant in
     let e = c.turn.ensures in

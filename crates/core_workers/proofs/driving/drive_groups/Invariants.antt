@@ -1,4 +1,4 @@
-use Rattle.std.proofs.Common.{◌≡◌, ◌≤◌, ◌+◌, ◌*◌, ◌⊎◌}
+use Rattle.std.proofs.Common.{◌≡◌, ◌<◌, ◌≤◌, ◌+◌, ◌*◌, ◌⊎◌}
 use Rattle.round_words.specs.Seats.{view_of, IsSeatOf}
 use Rattle.core_workers.specs.Groups.{crew_view}
 use Rattle.core_workers.specs.Inside.Clocks.{AreClocks, left_of}
@@ -18,8 +18,8 @@ invariant-driving g l = record {
   clocks : AreClocks (crew_view l.fn.site.course.now l.lead l.roster.places.deal l.groups) (view_of l.seat) l.roster.clocks;
   parts : PartsGoOn (view_of l.fn.seat) (view_of l.seat);
   few : l.left ≤ 10000000;
-  rests : (l.left ≡ 10000000) ⊎ AreAtRest (crew_view l.fn.site.course.now l.lead l.roster.places.deal l.groups) (view_of l.fn.seat) (view_of l.seat);
+  rests : (0 < l.left) ⊎ AreAtRest (crew_view l.fn.site.course.now l.lead l.roster.places.deal l.groups) (view_of l.fn.seat) (view_of l.seat);
 }
 
 abbrev pub decreases-driving : goal.decreases-driving
-decreases-driving g l = left_of (crew_view l.fn.site.course.now l.lead l.roster.places.deal l.groups) l.roster.clocks * 10000001 + l.left
+decreases-driving g l = (left_of (crew_view l.fn.site.course.now l.lead l.roster.places.deal l.groups) l.roster.clocks + l.sights) * 10000001 + l.left

@@ -66,7 +66,7 @@ join-own-requires-after_bounds g t c κs within =
     let named : Names (last_of team.per gs group) group c.mask_of.result = names_all (last_of team.per gs group) group c.mask_of.result first
     (subst (λ (n : ℕ). NamesFirst (record { per = team.per; first = n }) (length group.members.items) c.mask_of.result) len c.mask_of.ensures) in
     let held : IsHeld (crew_view course lead (first_of team.per gs group) (gs ++ group ∷ [])) v = subst (λ (xs : List Group). IsHeld (crew_view course lead (first_of team.per gs group) xs) v) c.in-Some.ensures.items c.requires.team.held in
-    let rest : Team = record { groups = c.pop.new.self; per = team.per; spins = team.spins; lead = lead } in
+    let rest : Team = record { groups = c.pop.new.self; per = team.per; patience = team.patience; lead = lead } in
     let left = held_rest course lead.rounds team.per lead.control gs group c.mask_of.result v named kept held (view_of c.part-own.new.seat) c.part-own.ensures.kept in
     let working : IsWorking course rest (view_of c.part-own.new.seat) = record { kept = record { groups = team_rest course lead.rounds team.per lead.control gs group kept }; held = left } in
     let worker : IsWorker course lead.rounds (record { per = team.per; first = c.len.result }) group (view_of c.part-own.result) =
