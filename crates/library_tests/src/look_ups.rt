@@ -60,6 +60,31 @@ fn all_show<L: Ledger>(
     Ok(true)
 }
 
+// A core, and of its table how many spans there are, the ticks of a slice, how many slices there are, and of some slices
+// the number and that of the span that is kept for it.
+type Cut<'a> = (usize, u32, u32, usize, &'a [(usize, u32)]);
+
+// Whether the tables of the plan's cores are cut so.
+fn all_are_cut(alloc: Global, plan: &Plan, expected: &[Cut]) -> Result<bool, Fail> {
+    let cores = plan.tables.rows.items().len();
+    for (core, spans, length, count, kept) in expected {
+        if *core >= cores {
+            return Ok(false);
+        }
+        let table = SliceTable::build(alloc, plan, CoreNo(*core as u32))?;
+        let slices = table.slices();
+        if (table.spans(), table.slice_length(), slices.len()) != (*spans, *length, *count) {
+            return Ok(false);
+        }
+        for (slice, number) in *kept {
+            if slices.get(*slice) != Some(number) {
+                return Ok(false);
+            }
+        }
+    }
+    Ok(true)
+}
+
 // Two cores, and three vCPUs of 60 percent, of which the third is split.
 const SPLIT_HOST: &[u8] = b"cores = 2
 vcpu = [
@@ -69,7 +94,12 @@ vcpu = [
 ]
 ";
 
-// Core 1 has five slices of 20,520 ticks.
+// Core 1 has five slices of 20,520 ticks. Core 0 has three of 41,040, of which the last ends beyond the round.
+const SPLIT_CUTS: [Cut<'static>; 2] = [
+    (1, 4, 20_520, 5, &[(0, 0), (1, 0), (2, 1), (3, 2), (4, 3)]),
+    (0, 2, 41_040, 3, &[(0, 0), (1, 1), (2, 1)]),
+];
+
 const SPLIT: [Shown<'static>; 9] = [
     (1, 0, Some(1), &[2], &[], 41_040),
     (1, 41_039, Some(1), &[2], &[], 41_040),
@@ -90,7 +120,10 @@ vcpu = [
 ]
 ";
 
-// The eleventh slice of 2,850 ticks, from 28,500 to 31,350, meets two spans.
+// There are 36 slices of 2,850 ticks. Slice 10, from 28,500 to 31,350, meets two spans, and the one from 25,650 to 30,780 is
+// kept for it.
+const USUAL_CUTS: [Cut<'static>; 1] = [(0, 20, 2850, 36, &[(8, 4), (9, 5), (10, 5), (11, 6)])];
+
 const MEETING: [Shown<'static>; 6] = [
     (0, 25_649, Some(0), &[], &[1, 2], 25_650),
     (0, 28_500, Some(2), &[], &[0, 1], 30_780),
@@ -100,11 +133,21 @@ const MEETING: [Shown<'static>; 6] = [
     (0, 102_599, None, &[], &[0, 1, 2], 102_600),
 ];
 
+// A core without slots has one slice.
+const IDLE_CUTS: [Cut<'static>; 1] = [(0, 1, 102_600, 1, &[(0, 0)])];
+
+const IDLE: [Shown<'static>; 1] = [(0, 102_599, None, &[], &[], 102_600)];
+
 #[test]
 fn look_ups(rt: HostRuntime) -> Result<(), Fail> {
-    for (text, expected) in [(SPLIT_HOST, &SPLIT[..]), (USUAL_HOST, &MEETING[..])] {
+    for (text, cuts, expected) in [
+        (SPLIT_HOST, &SPLIT_CUTS[..], &SPLIT[..]),
+        (USUAL_HOST, &USUAL_CUTS[..], &MEETING[..]),
+        (b"cores = 1", &IDLE_CUTS[..], &IDLE[..]),
+    ] {
         let host = read_host(rt.alloc(), text)?;
         let made = plan(&rt, rt.alloc(), &host)?;
+        assert!(rt; all_are_cut(rt.alloc(), &made, cuts)?);
         assert!(rt; all_show::<Brand>(rt.alloc(), &made, expected, Blank::new(1))?);
     }
     Ok(())

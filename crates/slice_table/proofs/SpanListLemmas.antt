@@ -6,7 +6,7 @@ use Rattle.slice_table.specs.declared.full_span.FullSpan.{FullSpan}
 use Rattle.slice_table.specs.declared.span_list.SetPair.{SetPair}
 use Rattle.slice_table.specs.declared.span_list.SpanEntry.{SpanEntry}
 use Rattle.slice_table.specs.Inside.SpanLists.{pair_at, span_of, span_with}
-use Rattle.slice_table.specs.Inside.Spans.{ends_of}
+use Rattle.slice_table.specs.Slices.{ends_of}
 
 -- the end of an entry is that of its span
 entry_end : (pairs : List SetPair) (entries : List SpanEntry) (k : ℕ) (e : SpanEntry)

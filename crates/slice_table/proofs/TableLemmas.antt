@@ -11,8 +11,8 @@ use Rattle.table_form.specs.Tables.Spans.{IsSharer, IsSpan}
 use Rattle.table_form.specs.Tables.Spots.{AreSpans, HasSpans, IsAway, IsSpanEnd, IsSpot, SameSpot}
 use Rattle.table_form.proofs.SpotLemmas.{spot_through, sharer_moves}
 use Rattle.slice_table.specs.declared.full_span.FullSpan.{FullSpan}
-use Rattle.slice_table.specs.Inside.Spans.{AreEnds, HoldsTick, ends_of}
-use Rattle.slice_table.specs.Slices.{AreSpansOf, IsShown, IsTableOf}
+use Rattle.slice_table.specs.Inside.Spans.{AreEnds}
+use Rattle.slice_table.specs.Slices.{AreSpansOf, HoldsTick, IsShown, IsTableOf, ends_of}
 
 -- places that are alike are so both ways
 same_back : (plan : PlanView) (c x y : ℕ) → SameSpot plan c x y → SameSpot plan c y x
@@ -91,12 +91,12 @@ spans_few plan c from to (s ∷ ss) are =
     (let rest = spans_few plan c s.end to ss are.2 in let after = are.1.after in omega arith)
 
 -- each ends behind its begin
-spans_long : (plan : PlanView) (c from to : ℕ) (spans : List FullSpan) → AreSpansOf plan c from spans to
+spans_rise : (plan : PlanView) (c from to : ℕ) (spans : List FullSpan) → AreSpansOf plan c from spans to
     → (k : ℕ) → k < length (ends_of spans)
-    → slice_index (from ∷ ends_of spans) k + 1 ≤ slice_index (ends_of spans) k
-spans_long plan c from to [] are k lt = absurd (omega arith)
-spans_long plan c from to (s ∷ ss) are zero lt = (let after = are.1.after in omega arith)
-spans_long plan c from to (s ∷ ss) are (suc k) lt = spans_long plan c s.end to ss are.2 k (omega arith)
+    → slice_index (from ∷ ends_of spans) k < slice_index (ends_of spans) k
+spans_rise plan c from to [] are k lt = absurd (omega arith)
+spans_rise plan c from to (s ∷ ss) are zero lt = are.1.after
+spans_rise plan c from to (s ∷ ss) are (suc k) lt = spans_rise plan c s.end to ss are.2 k (omega arith)
 
 -- the last one ends where they all do
 spans_last : (plan : PlanView) (c from to : ℕ) (spans : List FullSpan) → AreSpansOf plan c from spans to
@@ -121,12 +121,12 @@ spans_some plan c (s ∷ ss) are = omega arith
 
 -- the ends of the spans of a whole round
 pub ends_of_spans : (plan : PlanView) (c : ℕ) (spans : List FullSpan) → AreSpansOf plan c 0 spans ROUND
-    → AreEnds 1 (ends_of spans)
+    → AreEnds (ends_of spans)
 ends_of_spans plan c spans are = record {
   some = spans_some plan c spans are;
   few = (let few = spans_few plan c 0 ROUND spans are in
       let count = length-map spans (λ (span : FullSpan). span.end) in omega arith);
-  long = spans_long plan c 0 ROUND spans are;
+  rise = spans_rise plan c 0 ROUND spans are;
   last = spans_last plan c 0 ROUND spans are;
   within = spans_within plan c 0 ROUND spans are;
 }

@@ -4,9 +4,8 @@ ghost use Rattle.table_form.specs.Running.Courses.{plan_number_after};
 ghost use Rattle.table_form.specs.Tables.Plans.{PlanView};
 ghost use Rattle.table_form.specs.Tables.Spans.{IsSpan};
 ghost use Rattle.slice_table.specs.CoreSlices.{AreSlicesOf};
-ghost use Rattle.slice_table.specs.Inside.Spans.{HoldsTick, ends_of};
 ghost use Rattle.slice_table.specs.Owners.{AreCourseOwners};
-ghost use Rattle.slice_table.specs.Slices.{IsTableOf};
+ghost use Rattle.slice_table.specs.Slices.{HoldsTick, IsTableOf, ends_of};
 
 use crate::owners::{RowOwners, course_owners};
 use crate::slice_table::SliceTable;

@@ -4,9 +4,8 @@ ghost use Rattle.table_form.specs.Tables.Plans.{PlanView};
 ghost use Rattle.table_form.specs.Tables.Spans.{IsSpan};
 ghost use Rattle.table_form.specs.Tables.Spots.{HasSpans, IsSpot};
 ghost use Rattle.table_form.specs.Tables.Views.{plan_view};
-ghost use Rattle.slice_table.specs.Inside.Spans.{HoldsTick, ends_of};
 ghost use Rattle.slice_table.specs.Owners.{AreRowOwners};
-ghost use Rattle.slice_table.specs.Slices.{IsTableOf};
+ghost use Rattle.slice_table.specs.Slices.{AreSlices, HoldsTick, IsShortest, IsTableOf, MeetsTwo, ends_of};
 
 use crate::owners::RowOwners;
 use crate::slices::{shortest, slices_of};
@@ -32,7 +31,8 @@ pub struct SliceTable {
 impl Model for SliceTable {
     ghost use Rattle.std.specs.Prelude.{List};
     ghost use Rattle.slice_table.specs.declared.full_span.FullSpan.{FullSpan};
-    ghost use Rattle.slice_table.specs.Inside.Spans.{IsSliced, ends_of};
+    ghost use Rattle.slice_table.specs.Inside.Spans.{IsSliced};
+    ghost use Rattle.slice_table.specs.Slices.{ends_of};
 
     ghost Value = { List FullSpan };
 
@@ -116,6 +116,24 @@ impl SliceTable {
         number < self.spans.len()
             && tick < self.spans.end(number)
             && (number == 0 || self.spans.end(number - 1) <= tick)
+    }
+
+    /// How many ticks each slice has: as many as the shortest span.
+    pub fn slice_length(&self) -> u32
+        ensures { IsShortest result (ends_of self.now) }
+    {
+        self.size
+    }
+
+    /// For each slice the number of the first span that it meets; it meets that one and the next at most. The last slice
+    /// may end beyond the round.
+    pub fn slices(&self) -> &[u32]
+        ensures slices { (ticks : ℕ) → IsShortest ticks (ends_of self.now)
+            → AreSlices ticks result.now (ends_of self.now) }
+        ensures two { (ticks tick : ℕ) → IsShortest ticks (ends_of self.now) → tick < ROUND
+            → MeetsTwo ticks result.now (ends_of self.now) tick }
+    {
+        &self.slices
     }
 
     /// How many spans there are.

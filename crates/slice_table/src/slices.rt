@@ -1,6 +1,7 @@
 ghost use Rattle.std.specs.Prelude.{◌≡◌, ◌<◌, ◌≤◌, ◌+◌, ◌-◌, IfOk, length, min, slice_index};
 ghost use Rattle.tab_core.specs.declared.TheConstants.{ROUND};
-ghost use Rattle.slice_table.specs.Inside.Spans.{AreEnds, HoldsTick, IsShortest, IsSliced, begin_at, ends_of};
+ghost use Rattle.slice_table.specs.Inside.Spans.{AreEnds};
+ghost use Rattle.slice_table.specs.Slices.{AreSlices, HoldsTick, IsShortest, begin_at, ends_of};
 
 use crate::span_list::SpanList;
 use std::alloc::{AllocError, Global};
@@ -9,7 +10,7 @@ use tab_core::ROUND;
 
 /// The ticks of the shortest of the spans.
 pub(crate) fn shortest(spans: &SpanList) -> u32
-    requires { AreEnds 1 (ends_of spans.now) }
+    requires { AreEnds (ends_of spans.now) }
     ensures { IsShortest result (ends_of spans.now) }
 {
     let mut begin = spans.end(0);
@@ -30,11 +31,11 @@ fn shorter(least: u32, begin: u32, end: u32) -> u32
     min(least, end - begin)
 }
 
-/// For each slice of `size` ticks the number of the span that holds its first tick.
+/// For each slice of `size` ticks, as many as the shortest span has, the number of the span that holds its first tick.
 pub(crate) fn slices_of(alloc: Global, spans: &SpanList, size: u32) -> Result<Vec<u32>, AllocError>
-    requires some { 0 < size }
-    requires ends { AreEnds size (ends_of spans.now) }
-    ensures { IfOk result (λ slices. IsSliced size slices.items (ends_of spans.now)) }
+    requires ends { AreEnds (ends_of spans.now) }
+    requires shortest { IsShortest size (ends_of spans.now) }
+    ensures { IfOk result (λ slices. AreSlices size slices.items (ends_of spans.now)) }
 {
     let count = (ROUND - 1) / size + 1;
     let mut slices = Vec::with_capacity(alloc, count as usize)?;
@@ -48,7 +49,7 @@ pub(crate) fn slices_of(alloc: Global, spans: &SpanList, size: u32) -> Result<Ve
 
 // The number of the span that holds the tick: the given one or the next.
 fn holder_from(spans: &SpanList, number: u32, tick: u32) -> u32
-    requires ends { AreEnds 1 (ends_of spans.now) }
+    requires ends { AreEnds (ends_of spans.now) }
     requires there { number < length spans.now }
     requires begun { begin_at (ends_of spans.now) number ≤ tick }
     requires in_round { tick < ROUND }

@@ -2,7 +2,7 @@ ghost use Rattle.std.specs.Prelude.{◌≡◌, ◌<◌, ◌≤◌, ◌+◌, ◌+
 ghost use Rattle.tab_core.specs.declared.TheConstants.{ROUND};
 ghost use Rattle.slice_table.specs.declared.full_span.FullSpan.{FullSpan};
 ghost use Rattle.slice_table.specs.Inside.SpanLists.{pair_at};
-ghost use Rattle.slice_table.specs.Inside.Spans.{ends_of};
+ghost use Rattle.slice_table.specs.Slices.{ends_of};
 
 use crate::full_span::FullSpan;
 use std::alloc::{AllocError, Global};

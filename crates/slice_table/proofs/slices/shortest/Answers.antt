@@ -3,7 +3,7 @@ use Rattle.std.specs.Prelude.{min, slice_index}
 use Rattle.std.proofs.lemmas.Bool.{cases_lt}
 use Rattle.std.proofs.lemmas.List.{length-map}
 use Rattle.slice_table.specs.declared.full_span.FullSpan.{FullSpan}
-use Rattle.slice_table.specs.Inside.Spans.{begin_at, ends_of}
+use Rattle.slice_table.specs.Slices.{begin_at, ends_of}
 use Rattle.slice_table.proofs.EndsLemmas.{next_begin}
 use Rattle.slice_table.proofs.slices.shortest.Goals as goal
 
@@ -14,7 +14,7 @@ loop-number-preserved c =
     let number = c.loop-number.number in
     let size = length-map c.args.spans.now (λ (span : FullSpan). span.end) in
     let there : number < length ends = omega (arith, c.loop-number-test.true, c.len-number-end.ensures) in
-    let rises : begin_at ends number + 1 ≤ slice_index ends number = c.requires.long number there in
+    let rises : begin_at ends number < slice_index ends number = c.requires.rise number there in
     let ticks : c.shorter-least.result ≡ min c.loop-number.least
     (slice_index ends number - begin_at ends number) =
     c.shorter-least.ensures ∙ ap (λ (end : ℕ). min c.loop-number.least (end - c.loop-number.begin))

@@ -1,6 +1,6 @@
 use Rattle.std.proofs.Common.{◌≡◌, ℕ, ◌+◌, ◌<◌, ◌≤◌}
 use Rattle.std.specs.Prelude.{slice_index}
-use Rattle.slice_table.specs.Inside.Spans.{begin_at, ends_of}
+use Rattle.slice_table.specs.Slices.{begin_at, ends_of}
 use Rattle.slice_table.proofs.slices.shortest.Given as goal
 
 -- the shortest of the spans so far

@@ -3,7 +3,7 @@ use Rattle.std.specs.Prelude.{slice_index}
 use Rattle.std.proofs.Math.Seq.{get_or-append_seam}
 use Rattle.std.proofs.lemmas.Bool.{cases_lt}
 use Rattle.std.proofs.lemmas.List.{get_or_append_left}
-use Rattle.slice_table.specs.Inside.Spans.{HoldsTick, ends_of}
+use Rattle.slice_table.specs.Slices.{HoldsTick, ends_of}
 use Rattle.slice_table.proofs.slices.slices_of.Goals as goal
 
 pub loop-slice-preserved : goal.loop-slice-preserved

@@ -1,6 +1,6 @@
 use Rattle.std.proofs.Common.{◌≡◌, ℕ, ◌+◌, ◌*◌, ◌<◌, ◌≤◌, length}
 use Rattle.std.specs.Prelude.{slice_index}
-use Rattle.slice_table.specs.Inside.Spans.{HoldsTick, begin_at, ends_of}
+use Rattle.slice_table.specs.Slices.{HoldsTick, begin_at, ends_of}
 use Rattle.slice_table.proofs.slices.slices_of.Given as goal
 
 abbrev pub invariant-loop-slice : goal.invariant-loop-slice

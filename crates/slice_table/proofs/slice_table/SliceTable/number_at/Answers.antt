@@ -2,7 +2,7 @@ use Rattle.std.proofs.Common.{◌≡◌, ◌/◌, ◌+◌, List, subst, ◌∙�
 use Rattle.std.specs.Prelude.{slice_index}
 use Rattle.std.proofs.lemmas.Grind.{get_or_default_zero}
 use Rattle.slice_table.specs.declared.full_span.FullSpan.{FullSpan}
-use Rattle.slice_table.specs.Inside.Spans.{HoldsTick, ends_of}
+use Rattle.slice_table.specs.Slices.{HoldsTick, ends_of}
 use Rattle.slice_table.proofs.EndsLemmas.{held_first, held_next, slice_there}
 use Rattle.slice_table.proofs.slice_table.SliceTable.number_at.Goals as goal
 

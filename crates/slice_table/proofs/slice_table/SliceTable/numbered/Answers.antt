@@ -1,7 +1,7 @@
 use Rattle.std.proofs.Common.{List, ap, subst, sym, ◌∙◌, arith}
 use Rattle.std.specs.Prelude.{slice_get}
 use Rattle.slice_table.specs.declared.full_span.FullSpan.{FullSpan}
-use Rattle.slice_table.specs.Inside.Spans.{HoldsTick, ends_of}
+use Rattle.slice_table.specs.Slices.{HoldsTick, ends_of}
 use Rattle.slice_table.proofs.TableLemmas.{held_of, span_of_table}
 use Rattle.slice_table.proofs.slice_table.SliceTable.numbered.Goals as goal
 

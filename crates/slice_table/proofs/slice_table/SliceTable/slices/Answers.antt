@@ -1,0 +1,16 @@
+use Rattle.std.proofs.Common.{ℕ, List, subst, sym}
+use Rattle.slice_table.specs.declared.full_span.FullSpan.{FullSpan}
+use Rattle.slice_table.specs.Inside.Spans.{IsSliced}
+use Rattle.slice_table.specs.Slices.{MeetsTwo, ends_of}
+use Rattle.slice_table.proofs.EndsLemmas.{meets_two, sliced_by}
+use Rattle.slice_table.proofs.slice_table.SliceTable.slices.Goals as goal
+
+pub returns-clause-two : goal.returns-clause-two
+returns-clause-two c = λ ticks tick shortest in_round.
+    let table = c.self.inside in
+    let ends = ends_of c.args.self.now in
+    let kept : IsSliced table.size table.slices.items ends =
+    subst (λ (spans : List FullSpan). IsSliced table.size table.slices.items (ends_of spans)) c.self.view_is c.self.invariant in
+    subst (λ (slices : List ℕ). MeetsTwo ticks slices ends tick) (sym c.deref.ensures.value)
+    (meets_two ticks table.slices.items ends tick
+    (sliced_by table.size ticks table.slices.items ends kept shortest) in_round)
