@@ -1,4 +1,4 @@
-ghost use Rattle.std.specs.Prelude.{◌≡◌, ◌<◌, ◌≤◌, ℕ, None, Some, length};
+ghost use Rattle.std.specs.Prelude.{◌<◌, ◌≤◌, ℕ, length};
 ghost use Rattle.tab_core.specs.declared.TheConstants.{MAX_ROUNDS};
 ghost use Rattle.table_form.specs.Running.State.{State as StateValue};
 ghost use Rattle.burst_bound.specs.Answers.{IsBurstAnswer};
@@ -34,10 +34,8 @@ pub fn bound_of(
     requires event { event < length course.now.ticks }
     requires work { 1 ≤ work }
     requires kept { (s : StateValue) × IsKeptRun course.now rounds crew.now s }
-    ensures answer { (s : StateValue) → IsKeptRun course.now rounds crew.now s
+    ensures { (s : StateValue) → IsKeptRun course.now rounds crew.now s
         → IsBurstAnswer course.now rounds s event vcpu work result }
-    ensures in_time { (bound : ℕ) → result.bound ≡ Some bound
-        → (done : ℕ) × (result.done ≡ Some done) × (done ≤ bound) }
 {
     let Some(seen) = seen_at(course, rounds, event, crew) else {
         return BurstAnswer {

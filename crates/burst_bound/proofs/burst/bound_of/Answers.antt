@@ -18,22 +18,18 @@ bound_since-requires-clause-each_round c =
     ap length (c.used-used.ensures ∙ kept.used 0 c.actor.result.now c.actor.ensures)
     ∙ complete_counts c.args.course.now c.args.rounds s c.count.ensures.kept kept.invariant kept.complete
 
-pub returns-clause-answer : goal.returns-clause-answer
-returns-clause-answer c = λ s kept.
+pub returns : goal.returns
+returns c = λ s kept.
     let used = c.used-used.ensures ∙ kept.used 0 c.actor.result.now c.actor.ensures in
+    let seen = c.in-Some.ensures s kept in
+    let done = c.done_at.ensures s kept in
+    let bound = subst (λ (decided : List ℕ). IsOneIfAny
+    (IsBurstBound c.args.course.now c.args.rounds decided c.args.event c.args.vcpu c.args.work c.in-Some.seen)
+    c.bound_since.result) used c.bound_since.ensures in
     record {
-      seen = c.in-Some.ensures s kept;
-      done = c.done_at.ensures s kept;
-      bound = subst (λ (decided : List ℕ). IsOneIfAny
-          (IsBurstBound c.args.course.now c.args.rounds decided c.args.event c.args.vcpu c.args.work c.in-Some.seen)
-          c.bound_since.result) used c.bound_since.ensures;
+      seen = seen;
+      done = done;
+      bound = bound;
+      in_time = in_time c.args.course.now c.args.rounds s c.args.event c.args.vcpu c.args.work (Some c.in-Some.seen)
+          c.bound_since.result c.done_at.result c.count.ensures.kept kept.invariant kept.complete seen done bound;
     }
-
-pub returns-clause-in_time : goal.returns-clause-in_time
-returns-clause-in_time c = λ bound is.
-    let s = c.requires.kept.0 in
-    let kept = c.requires.kept.1 in
-    let used = c.used-used.ensures ∙ kept.used 0 c.actor.result.now c.actor.ensures in
-    in_time c.args.course.now c.args.rounds s c.args.event c.args.vcpu c.args.work
-    (record { seen = Some c.in-Some.seen; bound = c.bound_since.result; done = c.done_at.result })
-    bound c.count.ensures.kept kept.invariant kept.complete (returns-clause-answer c s kept) is

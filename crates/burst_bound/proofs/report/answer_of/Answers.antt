@@ -1,9 +1,10 @@
-use Rattle.std.proofs.Common.{refl, ℕ, List, length, ap, sym, ◌∙◌, subst, arith}
+use Rattle.std.proofs.Common.{refl, ℕ, List, length, Some, ap, sym, ◌∙◌, subst, arith}
 use Rattle.run_promises.proofs.OneTableLemmas.{complete_counts}
 use Rattle.burst_bound.specs.Answers.{IsOneIfAny}
 use Rattle.burst_bound.specs.Bursts.{IsBurstBound, IsDoneAt}
 use Rattle.burst_bound.specs.Inside.Runs.{AreRuns}
 use Rattle.burst_bound.specs.declared.ran.RanPiece.{RanPiece}
+use Rattle.burst_bound.proofs.AnswerLemmas.{in_time}
 use Rattle.burst_bound.proofs.SeenLemmas.{not_seen_in_run, seen_in_run}
 use Rattle.burst_bound.proofs.report.answer_of.Goals as goal
 
@@ -13,6 +14,7 @@ returns-then-from c = λ s kept runs. record {
       (c.requires.latest s kept) (rw (c.from.ensures, c.from-2.ensures, c.from-3.ensures) at c.if-from.true) at;
   done = refl;
   bound = refl;
+  in_time = λ latest is. absurd (cc is);
 }
 
 pub bound_ahead-bound-requires-clause-each_round : goal.bound_ahead-bound-requires-clause-each_round
@@ -30,12 +32,16 @@ returns c = λ s kept runs.
     (rw (c.from.ensures, c.from-2.ensures, c.from-3.ensures) at c.if-from.false) in
     let moved = subst (λ (ps : List RanPiece). AreRuns c.args.rounds s ps c.deref-4.result.now) (sym c.deref-3.ensures.value)
     (subst (λ (ns : List ℕ). AreRuns c.args.rounds s c.args.runs.now.pieces.items ns) (sym c.deref-4.ensures.value) runs) in
+    let done = subst (λ (v : ℕ). IsOneIfAny (IsDoneAt c.args.rounds s v c.args.work c.args.latest) c.done_in-done.result)
+    c.index.ensures.value
+    (c.done_in-done.ensures c.args.rounds s c.requires.few (let in_run = seen.in_run in omega arith) moved) in
+    let bound = subst (λ (decided : List ℕ). IsOneIfAny
+    (IsBurstBound c.args.course.now c.args.rounds decided c.args.event c.args.vcpu c.args.work c.args.latest)
+    c.bound_ahead-bound.result) used c.bound_ahead-bound.ensures in
     record {
       seen = seen;
-      done = subst (λ (v : ℕ). IsOneIfAny (IsDoneAt c.args.rounds s v c.args.work c.args.latest) c.done_in-done.result)
-          c.index.ensures.value
-          (c.done_in-done.ensures c.args.rounds s c.requires.few (let in_run = seen.in_run in omega arith) moved);
-      bound = subst (λ (decided : List ℕ). IsOneIfAny
-          (IsBurstBound c.args.course.now c.args.rounds decided c.args.event c.args.vcpu c.args.work c.args.latest)
-          c.bound_ahead-bound.result) used c.bound_ahead-bound.ensures;
+      done = done;
+      bound = bound;
+      in_time = in_time c.args.course.now c.args.rounds s c.args.event c.args.vcpu c.args.work (Some c.args.latest)
+          c.bound_ahead-bound.result c.done_in-done.result c.count.ensures.kept kept.invariant kept.complete seen done bound;
     }
