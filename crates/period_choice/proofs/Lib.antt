@@ -1,4 +1,5 @@
 pub mod ChoiceLemmas
+pub mod DivisorLemmas
 pub mod TasksLemmas
 pub mod Unique
 pub mod Waits

@@ -1,2 +1,3 @@
 pub mod Choice
+pub mod Periods
 pub mod Tasks

@@ -12,5 +12,5 @@ mod tasks;
 
 pub use choice::choose;
 pub use fault::TaskFault;
-pub use laws::a_gap_is_within_the_latency;
+pub use laws::{a_gap_is_within_the_latency, the_periods_are_the_long_divisors};
 pub use tasks::tasks_of;
