@@ -12,7 +12,6 @@ use Rattle.edf_table.specs.Beside.{FitsBeside, remainder, tight}
 use Rattle.edf_table.specs.Overloads.{IsReported}
 use Rattle.edf_table.specs.Load.{load}
 use Rattle.cd_split.specs.Cores.{pieces_on}
-use Rattle.cd_split.specs.declared.cut.TheConstants.{LEAST_CUT}
 
 -- the subtask fits beside these pieces of a core
 abbrev pub FitsWith : List Piece → Subtask → Type 0
@@ -75,7 +74,7 @@ pub record IsGreatestCut (cores : List (List Piece)) (left : Left) (core cost : 
 
 -- the core takes a cut: its greatest is large enough
 abbrev pub TakesCut : List (List Piece) → Left → ℕ → Type 0
-TakesCut cores left core = (cost : ℕ) × (LEAST_CUT ≤ cost) × IsGreatestCut cores left core cost
+TakesCut cores left core = (cost : ℕ) × (10 ≤ cost) × IsGreatestCut cores left core cost
 
 -- rule 2: no core takes the rest, two or more are unused, and this is the first that takes a cut,
 -- its greatest

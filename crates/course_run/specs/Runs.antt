@@ -20,7 +20,6 @@ use Rattle.board_state.specs.RunViews.{HoldsAllParts}
 use Rattle.core_workers.specs.Groups.{CrewView, actor_of}
 use Rattle.trace_report.specs.ReportViews.{ReportView}
 use Rattle.trace_report.specs.RunReports.{IsReportOf}
-use Rattle.course_run.specs.declared.keeping.TheConstants.{TRACE_LIMIT}
 
 -- ---- a state's stints and report
 
@@ -57,7 +56,7 @@ keeps_stints Live = false
 pub record IsTooLong (rounds : ℕ) (mode : RunMode) (course : CourseView) (bound : ℕ) : Type 0 where
   pub asked : keeps_stints mode ≡ true
   pub is : IsStintBound course rounds bound
-  pub beyond : TRACE_LIMIT < bound
+  pub beyond : 1048576 < bound
 
 -- ---- what comes back
 

@@ -1,6 +1,5 @@
 -- An array at a key of a table.
 use Rattle.std.specs.Prelude.{ℕ, zero, suc, nat_le, if◌then◌else◌, Option, Some, None, Result, Ok, Err}
-use Rattle.tab_core.specs.declared.TheConstants.{MAX_VCPUS}
 use Rattle.toml.specs.Data.{Data, as_array, Items, no_items, item, Members}
 use Rattle.host_doc.specs.Value.{found_at}
 use Rattle.host_doc.specs.declared.fault.Path.{Path}
@@ -15,7 +14,7 @@ count_of (item found items) = suc (count_of items)
 -- an array of at most as many values as a host may have vCPUs
 abbrev pub limited : Path → Option Items → Result Items HostFault
 limited path None = Err (BadKey path)
-limited path (Some items) = if nat_le (count_of items) MAX_VCPUS then Ok items
+limited path (Some items) = if nat_le (count_of items) 256 then Ok items
     else Err (TooMany (count_of items))
 
 -- such an array, or its default

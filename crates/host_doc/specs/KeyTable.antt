@@ -1,7 +1,6 @@
 -- The table of keys of a host document: for each key its value or its fault. A whole number has its
 -- least and its greatest value and its default; a key without a default is required.
 use Rattle.std.specs.Prelude.{ℕ, Bool, false, true, List, [], ◌∷◌, Some, None, Result, ◌==◌, if◌then◌else◌, Ok, Err}
-use Rattle.tab_core.specs.declared.TheConstants.{MAX_CORES, MAX_LATENCY_NS, MAX_SLIVER, ROUND, WHOLE_PPM, MAX_TICK_NS, MIN_TICK_NS, TICK_NS}
 use Rattle.toml.specs.Data.{Items, no_items, Members}
 use Rattle.host_doc.specs.Path.{of_document, of_vcpu}
 use Rattle.host_doc.specs.Array.{items_at}
@@ -23,24 +22,24 @@ is_second (Err fault) = false
 -- the length of a tick, in nanoseconds, which format 1 doesn't name
 abbrev pub tick_of : Members → Result ℕ HostFault
 tick_of members = if is_second (format_of members)
-    then integer_at (of_document TickNs) MIN_TICK_NS MAX_TICK_NS (Some TICK_NS) members
-    else Ok TICK_NS
+    then integer_at (of_document TickNs) 500 2002 (Some 1001) members
+    else Ok 1001
 
 -- the number of cores
 abbrev pub cores_of : Members → Result ℕ HostFault
-cores_of = integer_at (of_document Cores) 1 MAX_CORES None
+cores_of = integer_at (of_document Cores) 1 32 None
 
 -- the lag, in ticks
 abbrev pub lag_of : Members → Result ℕ HostFault
-lag_of = integer_at (of_document Lag) 1 ROUND (Some 1000)
+lag_of = integer_at (of_document Lag) 1 102600 (Some 1000)
 
 -- the sliver, in ticks
 abbrev pub sliver_of : Members → Result ℕ HostFault
-sliver_of = integer_at (of_document Sliver) 0 MAX_SLIVER (Some 30)
+sliver_of = integer_at (of_document Sliver) 0 1000 (Some 30)
 
 -- the quantum, in ticks
 abbrev pub quantum_of : Members → Result ℕ HostFault
-quantum_of = integer_at (of_document Quantum) 1 ROUND (Some 1000)
+quantum_of = integer_at (of_document Quantum) 1 102600 (Some 1000)
 
 -- the array of vCPUs, each a table
 abbrev pub vcpus_of : Members → Result Items HostFault
@@ -68,11 +67,11 @@ runnable_of number = truth_at (of_vcpu number Runnable) true
 
 -- its share, in parts per million
 abbrev pub share_of : ℕ → Members → Result ℕ HostFault
-share_of number = integer_at (of_vcpu number Share) 1 WHOLE_PPM None
+share_of number = integer_at (of_vcpu number Share) 1 1000000 None
 
 -- its latency, in nanoseconds
 abbrev pub latency_of : ℕ → Members → Result ℕ HostFault
-latency_of number = integer_at (of_vcpu number Latency) 0 MAX_LATENCY_NS None
+latency_of number = integer_at (of_vcpu number Latency) 0 1000000000000 None
 
 -- whether it runs in its slots alone
 abbrev pub capped_of : ℕ → Members → Result Bool HostFault

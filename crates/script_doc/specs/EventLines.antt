@@ -2,8 +2,6 @@
 use Rattle.std.specs.Prelude.{◌≡◌, ℕ, ◌<◌, ◌≤◌, ◌^◌, List, [], ◌∷◌, codes, decimal, length, flat_map}
 use Rattle.std.specs.List.{All}
 use Rattle.tab_core.specs.Name.{IsName}
-use Rattle.tab_core.specs.declared.TheConstants.{MAX_LATENCY_NS, WHOLE_PPM}
-use Rattle.script_doc.specs.declared.event.TheConstants.{MAX_WORK}
 
 -- an edit as a line has it: `set NAME SHARE LATENCY` or `leave NAME`
 pub data NamedEdit : Type 0 where
@@ -31,8 +29,8 @@ act_words (bursts name work) = codes "burst" ∷ name ∷ decimal work ∷ []
 
 -- the name and the numbers of an edit are in their ranges
 abbrev pub IsGoodEdit : NamedEdit → Type 0
-IsGoodEdit (sets name share latency) = IsName name × (1 ≤ share) × (share ≤ WHOLE_PPM)
-    × (latency ≤ MAX_LATENCY_NS)
+IsGoodEdit (sets name share latency) = IsName name × (1 ≤ share) × (share ≤ 1000000)
+    × (latency ≤ 1000000000000)
 IsGoodEdit (leaves name) = IsName name
 
 -- the same of what happens; a change has one edit at least, and a burst no more work than the longest run
@@ -41,7 +39,7 @@ abbrev pub IsGoodAct : NamedAct → Type 0
 IsGoodAct (wakes name) = IsName name
 IsGoodAct (blocks name) = IsName name
 IsGoodAct (changes edits) = (0 < length edits) × All IsGoodEdit edits
-IsGoodAct (bursts name work) = IsName name × (1 ≤ work) × (work ≤ MAX_WORK)
+IsGoodAct (bursts name work) = IsName name × (1 ≤ work) × (work ≤ 1026000000)
 
 -- the words are those of an event
 pub record IsLine (words : List (List ℕ)) (tick : ℕ) (act : NamedAct) : Type 0 where

@@ -1,7 +1,7 @@
 -- Scripts: the events that the statements of a text are.
 use Rattle.std.specs.Prelude.{ℕ, ◌*◌, ◌<◌, ◌≤◌, List, [], ◌∷◌, length, count_by}
 use Rattle.std.specs.List.{All, AllPairs}
-use Rattle.tab_core.specs.declared.TheConstants.{MAX_CHANGES, MAX_EVENTS, ROUND}
+use Rattle.tab_core.specs.declared.TheConstants.{ROUND}
 use Rattle.script_doc.specs.Events.{IsActWithin, IsEvent, is_change}
 use Rattle.script_doc.specs.Statements.{Statement}
 use Rattle.script_doc.specs.declared.event.Event.{Event}
@@ -36,5 +36,5 @@ pub record IsScript (names : List (List ℕ)) (rounds : ℕ) (statements : List 
   pub each : AreEvents names statements events
   pub order : NeverFall events
   pub in_time : AreInRun rounds events
-  pub few : length events ≤ MAX_EVENTS
-  pub few_changes : changes_in events ≤ MAX_CHANGES
+  pub few : length events ≤ 65535
+  pub few_changes : changes_in events ≤ 15

@@ -1,7 +1,7 @@
 -- The first fault of a text that is no script: that of the first statement with one, and of its faults
 -- the first in their order.
 use Rattle.std.specs.Prelude.{◌≡◌, ℕ, ◌*◌, ◌&&◌, nat_lt, nat_le, if◌then◌else◌, List, [], ◌∷◌, ◌++◌, length, Option, Some, None}
-use Rattle.tab_core.specs.declared.TheConstants.{MAX_CHANGES, MAX_EVENTS, ROUND}
+use Rattle.tab_core.specs.declared.TheConstants.{ROUND}
 use Rattle.script_doc.specs.EventLines.{IsNoLine}
 use Rattle.script_doc.specs.Events.{IsEvent, IsUnknownLine, is_change}
 use Rattle.script_doc.specs.Script.{IsScript, changes_in}
@@ -31,8 +31,8 @@ abbrev pub broken_limit : ℕ → Before → ℕ → Event → Option ScriptFaul
 broken_limit rounds before line event =
     if nat_lt event.tick before.tick then Some (OutOfOrder line)
     else (if nat_le (rounds * ROUND) event.tick then Some (LateEvent line)
-    else (if nat_le MAX_EVENTS before.count then Some (TooManyEvents line)
-    else (if is_change event.act && nat_le MAX_CHANGES before.changes then Some (TooManyChanges line)
+    else (if nat_le 65535 before.count then Some (TooManyEvents line)
+    else (if is_change event.act && nat_le 15 before.changes then Some (TooManyChanges line)
     else None)))
 
 -- the first fault of a statement behind these events: it is no event, a name of it is no vCPU's, or it is an
