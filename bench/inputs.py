@@ -146,7 +146,12 @@ def runs():
     changes = "".join(f"{n * 600_000} change set v{n} 90000 20000000\n" for n in range(15))
     for words in ("run_100", "run_100_live"):
         write(f"changes32.{words}", usual + "%%\n" + changes)
-    write("generated32.run_1000", generated(1, 32, 256) + "%%\n")
+    for words in ("run_1", "run_1_trace", "run_1000"):
+        write(f"generated32.{words}", generated(1, 32, 256) + "%%\n")
+    # many segments in each of 16 plans; the last of these has too many stints and is refused
+    short = "".join(f"{n * 100} change set v{n} {40_000 + n * 700} {300_000 + n * 7_007}\n" for n in range(15))
+    for words in ("run_1", "run_1_trace", "run_1_burst", "run_10000_trace"):
+        write(f"drawn-long32.{words}", drawn("long32") + "%%\n" + short)
     script = drawn("usual32", "script")
     write("drawn-usual32.run_100", drawn("usual32") + "%%\n")
     for words in ("run_100", "run_100_live"):

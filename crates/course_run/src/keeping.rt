@@ -3,7 +3,7 @@ ghost use Rattle.tab_core.specs.declared.TheConstants.{MAX_ROUNDS};
 ghost use Rattle.course_run.specs.Inside.Keeping.{IsShort, StopsRun, KeepAll};
 ghost use Rattle.course_run.specs.Runs.{keeps_stints};
 
-use stint_limit::{round_stints, stint_bound};
+use stint_limit::MostSpans;
 use tab_core::CoreNo;
 use tab_words::RunMode;
 use table_form::Course;
@@ -30,12 +30,13 @@ pub(crate) fn keep_of(course: &Course, rounds: u32, mode: RunMode) -> Result<[u3
     if !keeps_stints(mode) {
         return Ok(keep);
     }
-    let bound = stint_bound(course, rounds);
+    let spans = MostSpans::of(course);
+    let bound = spans.bound(course, rounds);
     if bound > TRACE_LIMIT {
         return Err(RunFault::TraceTooLong { bound });
     }
     for core in 0..course.cores() {
-        keep[core as usize] = (u64::from(rounds) * round_stints(course, CoreNo(core))) as u32;
+        keep[core as usize] = (u64::from(rounds) * spans.round_stints(course, CoreNo(core))) as u32;
     }
     Ok(keep)
 }

@@ -1,6 +1,6 @@
 -- A bound on the number of stints of a run: a stint ends with its span, after the lag, or after the quantum.
 -- Source: this project's own.
-use Rattle.std.specs.Prelude.{◌≡◌, ℕ, ◌+◌, ◌*◌, ◌/◌, ◌≤◌, List, Some, length, slice_get}
+use Rattle.std.specs.Prelude.{◌≡◌, ℕ, ◌+◌, ◌*◌, ◌/◌, ◌<◌, ◌≤◌, List, Some, length, slice_get, slice_index}
 use Rattle.std.specs.List.{sum_by}
 use Rattle.tab_core.specs.declared.TheConstants.{ROUND}
 use Rattle.table_form.specs.Running.Courses.{CourseView}
@@ -16,6 +16,10 @@ pub record IsLargestSpans (course : CourseView) (c most : ℕ) : Type 0 where
   pub plan : PlanView
   pub listed : slice_get course.plans number ≡ Some plan
   pub reached : HasSpans plan c ROUND most
+
+-- these are the largest numbers of spans of the cores' rows, by core number
+abbrev pub AreLargestSpans : CourseView → List ℕ → Type 0
+AreLargestSpans course spans = (c : ℕ) → c < course.cores → IsLargestSpans course c (slice_index spans c)
 
 -- the most stints of a core in one round, where its rows have at most so many spans
 abbrev pub stints_of_round : CourseView → ℕ → ℕ

@@ -1,6 +1,6 @@
 use Rattle.std.proofs.Common.{◌*◌, ◌≤◌}
 use Rattle.stint_limit.proofs.LargestLemmas.{IsSumOf}
-use Rattle.stint_limit.proofs.bound.stint_bound.Given as goal
+use Rattle.stint_limit.proofs.bound.MostSpans.bound.Given as goal
 
 abbrev pub invariant-loop-core : goal.invariant-loop-core
 invariant-loop-core l = record {
