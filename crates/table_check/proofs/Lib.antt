@@ -4,6 +4,7 @@ pub mod Marking
 pub mod Meets
 pub mod OneFault
 pub mod Owned
+pub mod OwnersLemmas
 pub mod Pairs
 pub mod Periods
 pub mod RawShapes

@@ -1,4 +1,4 @@
--- The owners of the cells are owners of segments, so that each has a task.
+-- The owners of the cells are owners of segments: what is known of these, as that each has a task, is known of them.
 use Rattle.std.proofs.Common.{◌≡◌, ℕ, zero, suc, ◌-◌, ◌≤◌, true, List, [], ◌∷◌, ◌++◌, replicate, slice_get, Option, Some, None, All, refl, ap, subst, sym, ◌∙◌, inl, inr, arith}
 use Rattle.std.specs.Option.{ForSome, option_map}
 use Rattle.std.proofs.lemmas.Bool.{cases_lt}
@@ -19,43 +19,43 @@ get_back zero t o cells le = ap (slice_get cells) (omega arith)
 get_back (suc n) zero o cells le = absurd (omega arith)
 get_back (suc n) (suc t) o cells le = get_back n t o cells (omega arith) ∙ ap (slice_get cells) (omega arith)
 
+-- what is known of the owner of each segment is known of the owner of each cell that segments stand for
+pub cell_owner : (P : ℕ → Type 0) (start x v : ℕ) (ss : List Segment)
+    → ((k w : ℕ) (s : Segment) → slice_get ss k ≡ Some s → s.owner ≡ Some w → P w)
+    → slice_get (cells_from start ss) x ≡ Some (Some v) → P v
+cell_owner P start x v [] known at =
+    absurd (none-some (Some v) (sym (ap (λ (cells : Row). slice_get cells x) (cells-nil start)) ∙ at))
+cell_owner P start x v (s ∷ ss) known at =
+    let cell = sym (ap (λ (cells : Row). slice_get cells x) (cells-cons start s ss)) ∙ at in
+    elim (cases_lt x (s.end - start)) [
+      | inl here ↦ known 0 v s refl
+          (same_Some {A = Option ℕ} s.owner (Some v)
+          (sym (cell_here (s.end - start) x s.owner (cells_from s.end ss) here) ∙ cell))
+      | inr later ↦ cell_owner P s.end (x - (s.end - start)) v ss
+          (λ k w t here is. known (suc k) w t here is)
+          (sym (get_back (s.end - start) x s.owner (cells_from s.end ss) later) ∙ cell)
+    ]
+
+-- what holds of each element of a list holds of this one
+all_at : {X : Type 0} (P : X → Type 0) (xs : List X) (c : ℕ) (x : X) → All P xs → slice_get xs c ≡ Some x
+    → P x
+all_at P [] c x all at = absurd (none-some x at)
+all_at {X} P (y ∷ ys) zero x all at = subst P (same_Some {A = X} y x at) (All-head P y ys all)
+all_at P (y ∷ ys) (suc c) x all at = all_at P ys c x (All-tail P y ys all) at
+
 -- what `AreOfTasks` asks of each segment
 OwnedByTask : List (Option Periodic) → Segment → Type 0
 OwnedByTask tasks s = ForSome s.owner (λ v. has_task tasks v ≡ true)
 
--- an owner of a cell that segments stand for owns one of them
-cell_has_task : (tasks : List (Option Periodic)) (start x v : ℕ) (ss : List Segment)
-    → All (OwnedByTask tasks) ss
-    → slice_get (cells_from start ss) x ≡ Some (Some v) → has_task tasks v ≡ true
-unfolding OwnedByTask
-cell_has_task tasks start x v [] owned at =
-    absurd (none-some (Some v) (sym (ap (λ (cells : Row). slice_get cells x) (cells-nil start)) ∙ at))
-cell_has_task tasks start x v (s ∷ ss) owned at =
-    let cell = sym (ap (λ (cells : Row). slice_get cells x) (cells-cons start s ss)) ∙ at in
-    elim (cases_lt x (s.end - start)) [
-      | inl here ↦ All-head (OwnedByTask tasks) s ss owned v
-          (same_Some {A = Option ℕ} s.owner (Some v)
-          (sym (cell_here (s.end - start) x s.owner (cells_from s.end ss) here) ∙ cell))
-      | inr later ↦ cell_has_task tasks s.end (x - (s.end - start)) v ss
-          (All-tail (OwnedByTask tasks) s ss owned)
-          (sym (get_back (s.end - start) x s.owner (cells_from s.end ss) later) ∙ cell)
-    ]
-
--- so an owner in a core's row, if the core has one
+-- so an owner in a core's row has a task, if the core has one
 row_has_tasks : (tasks : List (Option Periodic)) (place v : ℕ) (row : Option (List Segment))
     → ((ss : List Segment) → row ≡ Some ss → AreOfTasks tasks ss)
     → cell_of (option_map (cells_from 0) row) place ≡ Some v → has_task tasks v ≡ true
 unfolding OwnedByTask
 row_has_tasks tasks place v None owned at = absurd (none-some v at)
-row_has_tasks tasks place v (Some ss) owned at = cell_has_task tasks 0 place v ss (owned ss refl)
+row_has_tasks tasks place v (Some ss) owned at = cell_owner (λ w. has_task tasks w ≡ true) 0 place v ss
+    (λ k w s here is. all_at (OwnedByTask tasks) ss k s (owned ss refl) here w is)
     (flat_some (slice_get (cells_from 0 ss) place) v at)
-
--- what holds of each core's segments holds of this core's
-all_at : (P : List Segment → Type 0) (raw : List (List Segment)) (c : ℕ) (ss : List Segment) → All P raw
-    → slice_get raw c ≡ Some ss → P ss
-all_at P [] c ss all at = absurd (none-some ss at)
-all_at P (x ∷ xs) zero ss all at = subst P (same_Some {A = List Segment} x ss at) (All-head P x xs all)
-all_at P (x ∷ xs) (suc c) ss all at = all_at P xs c ss (All-tail P x xs all) at
 
 -- so the rows are of tasks, as a plan's type asks
 pub owners_have_tasks : (tasks : List (Option Periodic)) (raw : List (List Segment))

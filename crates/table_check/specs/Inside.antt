@@ -2,5 +2,6 @@
 pub mod Counters
 pub mod Marks
 pub mod Meetings
+pub mod Owners
 pub mod Pairs
 pub mod Parts

@@ -4,13 +4,15 @@ ghost use Rattle.table_form.specs.Tables.Serves.{Apart};
 ghost use Rattle.table_check.specs.Clashes.{IsFirstClash};
 ghost use Rattle.table_check.specs.Shapes.{HaveGoodShapes, rows_of};
 ghost use Rattle.table_check.specs.declared.clash.Clash.{Clash};
+ghost use Rattle.table_check.specs.Inside.Owners.{HaveOwners};
 ghost use Rattle.table_check.specs.Inside.Pairs.{IsFirstBefore};
 
 use crate::fault::CheckFault;
 use crate::marks::seem_apart;
 use crate::meeting::find_meeting;
+use crate::owners::{may_meet, owners_of};
 use std::alloc::Global;
-use tab_core::{CoreNo, VcpuNo};
+use tab_core::{CoreNo, VcpuNo, VcpuSet};
 use table_form::Segments;
 
 // A vCPU that stands in the rows of two cores at one tick, of which `core` is the lower one.
@@ -46,15 +48,26 @@ fn is_sooner(tick: u32, best: &Option<Clash>) -> bool
     }
 }
 
-// The first clash of the pairs of cores up to this one, of which `best` is that of the earlier ones.
-fn take_pair(raw: &[Segments], core: usize, other: usize, best: Option<Clash>) -> Option<Clash>
+// The first clash of the pairs of cores up to this one, of which `best` is that of the earlier ones. Rows
+// with no owner in common aren't swept.
+fn take_pair(
+    raw: &[Segments],
+    owners: &[VcpuSet],
+    core: usize,
+    other: usize,
+    best: Option<Clash>,
+) -> Option<Clash>
     requires good { HaveGoodShapes raw.now }
     requires lower { core < other }
     requires there { other < length raw.now }
     requires few { length raw.now ≤ MAX_CORES }
+    requires owners { HaveOwners (rows_of raw.now) owners.now }
     requires before { IsFirstBefore (rows_of raw.now) core other best }
     ensures { IsFirstBefore (rows_of raw.now) core (other + 1) result }
 {
+    if !may_meet(raw, owners, core, other) {
+        return best;
+    }
     let Some(meeting) = find_meeting(raw[core].items(), raw[other].items()) else {
         return best;
     };
@@ -71,22 +84,29 @@ fn take_pair(raw: &[Segments], core: usize, other: usize, best: Option<Clash>) -
 }
 
 // The first clash of the pairs whose first core is at most this one.
-fn take_core(raw: &[Segments], core: usize, best: Option<Clash>) -> Option<Clash>
+fn take_core(
+    raw: &[Segments],
+    owners: &[VcpuSet],
+    core: usize,
+    best: Option<Clash>,
+) -> Option<Clash>
     requires good { HaveGoodShapes raw.now }
     requires there { core < length raw.now }
     requires few { length raw.now ≤ MAX_CORES }
+    requires owners { HaveOwners (rows_of raw.now) owners.now }
     requires before { IsFirstBefore (rows_of raw.now) core 0 best }
     ensures { IsFirstBefore (rows_of raw.now) (core + 1) 0 result }
 {
     let mut best = best;
     for other in core + 1..raw.len() {
-        best = take_pair(raw, core, other, best);
+        best = take_pair(raw, owners, core, other, best);
     }
     best
 }
 
-// The first clash of the rows. Where marks don't tell that there is none, each pair of rows is swept
-// from end to end of a segment. Only speed depends on the count of vCPUs.
+// The first clash of the rows. Where marks don't tell that there is none, the pairs of rows that have an
+// owner in common are swept from end to end of a segment. Only speed depends on the count of vCPUs, and on
+// memory for the owners.
 pub(crate) fn find_clash(alloc: Global, vcpus: usize, raw: &[Segments]) -> Option<Clash>
     requires few { vcpus ≤ MAX_VCPUS }
     requires good { HaveGoodShapes raw.now }
@@ -98,9 +118,10 @@ pub(crate) fn find_clash(alloc: Global, vcpus: usize, raw: &[Segments]) -> Optio
     if seem_apart(alloc, vcpus, raw) {
         return None;
     }
+    let owners = owners_of(alloc, raw);
     let mut best = None;
     for core in 0..raw.len() {
-        best = take_core(raw, core, best);
+        best = take_core(raw, &owners, core, best);
     }
     best
 }

@@ -12,6 +12,7 @@ mod counters;
 mod fault;
 mod marks;
 mod meeting;
+mod owners;
 mod refusal;
 mod row_checks;
 mod shape;

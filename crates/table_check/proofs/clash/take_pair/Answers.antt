@@ -18,6 +18,10 @@ find_meeting-requires-clause-other_rises c =
     (rises_at c.args.raw.now c.args.other c.index-raw-other.result c.requires.good c.requires.there
     c.index-raw-other.is)
 
+pub returns-then-not-may_meet : goal.returns-then-not-may_meet
+returns-then-not-may_meet c = none_here (rows_of c.args.raw.now) c.args.core c.args.other c.args.best
+    c.requires.before (c.may_meet.ensures c.if-not-may_meet.true)
+
 pub returns-in_default : goal.returns-in_default
 returns-in_default c =
     let raw = c.args.raw.now in
