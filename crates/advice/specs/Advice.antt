@@ -1,7 +1,7 @@
 -- What is told after a refusal, of the words and the input that were refused. A text in `IsAdvice` is the
 -- whole advice: which line it quotes and which numbers it names is said by the definitions of the crates
 -- that refuse.
-use Rattle.std.specs.Prelude.{◌≡◌, ◌⊎◌, ℕ, ◌*◌, ◌≤◌, List, [], codes, length, slice_get, Option, Some, Result, Ok, Err}
+use Rattle.std.specs.Prelude.{◌≡◌, ◌⊎◌, ℕ, ◌*◌, ◌≤◌, List, [], codes, length, slice_get, Option, None, Some, Result, Ok, Err}
 use Rattle.tab_core.specs.declared.TheConstants.{ROUND}
 use Rattle.tab_core.specs.declared.host.Host.{Host}
 use Rattle.tab_core.specs.declared.periodic.Periodic.{Periodic}
@@ -13,13 +13,15 @@ use Rattle.tab_io.specs.declared.sink.WriteFault.{WriteFault}
 use Rattle.host_doc.specs.Document.{IsDocument, IsHostText}
 use Rattle.host_doc.specs.declared.fault.HostFault.{HostFault}
 use Rattle.host_doc.specs.declared.fault.HostFault.TheVariants as host
+use Rattle.host_doc.specs.declared.fault.Key.{Key}
+use Rattle.host_doc.specs.declared.fault.Key.TheVariants.{Unknown}
 use Rattle.host_doc.specs.declared.fault.Path.{Path}
 use Rattle.period_choice.specs.Choice.{HasPeriod}
 use Rattle.period_choice.specs.Tasks.{AreTasksOf}
 use Rattle.toml.specs.Data.{Members}
 use Rattle.vcpu_names.specs.Names.{names_of}
 use Rattle.advice.specs.Hosts.{many_text, toml_text}
-use Rattle.advice.specs.Keys.{key_text, same_text}
+use Rattle.advice.specs.Keys.{other_text, rule_text, same_text, vcpu_key_text}
 use Rattle.advice.specs.Least.{IsLeastLatency, IsLeastShare}
 use Rattle.advice.specs.Lines.{section_at}
 use Rattle.advice.specs.Periods.{period_text}
@@ -76,9 +78,13 @@ pub record TellsOfTasks (section : List ℕ) (told : Host → List (Option Perio
   pub are_tasks : AreTasksOf host tasks
   pub is : text ≡ told host tasks
 
--- the text tells of the key of this path
-abbrev pub IsKeyText : List ℕ → Path → List ℕ → Type 0
-IsKeyText section path text = TellsOfDocument section (λ members. key_text members path) text
+-- the text tells of the host's first unknown key
+abbrev pub IsOtherText : List ℕ → List ℕ → Type 0
+IsOtherText section text = TellsOfDocument section (λ members. other_text members) text
+
+-- the text tells of this vCPU and its key
+abbrev pub IsVcpuKeyText : List ℕ → ℕ → Key → List ℕ → Type 0
+IsVcpuKeyText section vcpu key text = TellsOfDocument section (λ members. vcpu_key_text vcpu key members) text
 
 -- the text tells of this vCPU's name
 abbrev pub IsSameText : List ℕ → ℕ → List ℕ → Type 0
@@ -98,11 +104,25 @@ IsPlanText section plan line text = TellsOfTasks section
 abbrev pub WhereThereIs : (List ℕ → Type 0) → List ℕ → Type 0
 WhereThereIs IsText text = IsText text ⊎ (((other : List ℕ) → ¬ (IsText other)) × (text ≡ []))
 
+-- the advice on a key of the host: of a known one what it has to be, whatever the document has
+abbrev pub IsHostKeyAdvice : List ℕ → Key → List ℕ → Type 0
+IsHostKeyAdvice section Unknown text = WhereThereIs (IsOtherText section) text
+IsHostKeyAdvice section key text = text ≡ rule_text key
+
+-- the advice on a key of the host, or of the vCPU of a number
+abbrev pub IsKeyAdvice : List ℕ → Option ℕ → Key → List ℕ → Type 0
+IsKeyAdvice section None key text = IsHostKeyAdvice section key text
+IsKeyAdvice section (Some vcpu) key text = WhereThereIs (IsVcpuKeyText section vcpu key) text
+
+-- the advice on the key of this path
+abbrev pub IsPathAdvice : List ℕ → Path → List ℕ → Type 0
+IsPathAdvice section path text = IsKeyAdvice section path.vcpu path.key text
+
 -- the advice on a section that is no host
 abbrev pub IsHostAdvice : List ℕ → HostFault → List ℕ → Type 0
 IsHostAdvice section host.NotToml text = WhereThereIs (IsTomlText section) text
-IsHostAdvice section (host.BadKey path) text = WhereThereIs (IsKeyText section path) text
-IsHostAdvice section (host.OutOfRange path) text = WhereThereIs (IsKeyText section path) text
+IsHostAdvice section (host.BadKey path) text = IsPathAdvice section path text
+IsHostAdvice section (host.OutOfRange path) text = IsPathAdvice section path text
 IsHostAdvice section (host.SameName vcpu) text = WhereThereIs (IsSameText section vcpu) text
 IsHostAdvice section (host.TooMany count) text = text ≡ many_text count
 IsHostAdvice section host.NoMemory text = text ≡ []

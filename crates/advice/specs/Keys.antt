@@ -5,7 +5,6 @@ use Rattle.host_doc.specs.KeyTable.{first_keys, vcpu_keys}
 use Rattle.host_doc.specs.OtherKeys.{is_among}
 use Rattle.host_doc.specs.declared.fault.Key.{Key}
 use Rattle.host_doc.specs.declared.fault.Key.TheVariants.{Format, TickNs, Cores, Lag, Sliver, Quantum, Vcpu, Name, Admitted, Runnable, Share, Latency, Capped, Unknown}
-use Rattle.host_doc.specs.declared.fault.Path.{Path}
 use Rattle.advice.specs.Parts.{quote_of}
 
 -- what a key of a host has to be; any other is none
@@ -59,38 +58,31 @@ is_second members = is_two (option_and_then as_integer (get_member (codes "forma
 abbrev pub host_keys : Members → List Key
 host_keys members = if is_second members then TickNs ∷ first_keys else first_keys
 
--- the host's first unknown key, where the fault is one
-abbrev pub other_in_host : Key → Members → Option (List ℕ)
-other_in_host Unknown members = first_other (host_keys members) members
-other_in_host key _ = None
+-- the advice on a known key of a host
+abbrev pub rule_text : Key → List ℕ
+rule_text key = codes "tableau: " ++ (host_rule key ++ codes "\n")
+
+-- the advice on a host with an unknown key: the first of them, and which keys there are
+abbrev pub other_text : Members → List ℕ
+other_text members = codes "tableau: "
+    ++ (quote_of (first_other (host_keys members) members) ++ (host_rule Unknown ++ codes "\n"))
 
 -- the vCPU's first unknown key, where the fault is one
 abbrev pub other_in_vcpu : Key → Option Members → Option (List ℕ)
 other_in_vcpu Unknown (Some members) = first_other vcpu_keys members
 other_in_vcpu key _ = None
 
-abbrev pub host_key_text : Key → Members → List ℕ
-host_key_text key members = codes "tableau: "
-    ++ (quote_of (other_in_host key members) ++ (host_rule key ++ codes "\n"))
-
 -- the space before a name, where there is one
 abbrev pub space_of : Option (List ℕ) → List ℕ
 space_of None = []
 space_of (Some name) = codes " "
 
+-- the advice on a key of the vCPU of a number
 abbrev pub vcpu_key_text : ℕ → Key → Members → List ℕ
 vcpu_key_text number key members = codes "tableau: vcpu "
     ++ (decimal number ++ (space_of (name_at number members) ++ (quote_of (name_at number members)
     ++ (codes ": " ++ (quote_of (other_in_vcpu key (member_at number members))
     ++ (vcpu_rule key ++ codes "\n"))))))
-
-abbrev pub key_in : Option ℕ → Key → Members → List ℕ
-key_in None key members = host_key_text key members
-key_in (Some number) key members = vcpu_key_text number key members
-
--- the advice on the key of this path, in a document of these members
-abbrev pub key_text : Members → Path → List ℕ
-key_text members path = key_in path.vcpu path.key members
 
 -- the advice on a vCPU that has the name of an earlier one
 abbrev pub same_text : Members → ℕ → List ℕ

@@ -4,10 +4,10 @@ ghost use Rattle.toml.specs.Data.{get_item, get_member};
 ghost use Rattle.toml.specs.View.{items_view, table_view, view};
 ghost use Rattle.host_doc.specs.OtherKeys.{is_among};
 ghost use Rattle.advice.specs.Parts.{part_text, quote_of};
-ghost use Rattle.advice.specs.Keys.{first_other, host_key_text, host_rule, is_second, is_two, key_text, member_at, name_at, other_in_host, other_in_vcpu, same_text, space_of, vcpu_key_text, vcpu_rule};
+ghost use Rattle.advice.specs.Keys.{first_other, host_keys, host_rule, is_second, is_two, member_at, name_at, other_in_vcpu, other_text, rule_text, same_text, space_of, vcpu_key_text, vcpu_rule};
 
 use crate::part::{Part, put_parts};
-use host_doc::{Key, Path};
+use host_doc::Key;
 use tab_io::{Sink, WriteFault};
 use toml::{Table, Value};
 
@@ -41,31 +41,37 @@ const VCPU_KEYS: [Key; 6] = [
     Key::Capped,
 ];
 
-// Writes the advice on the key of this path in a document of this table.
-pub(crate) fn put_key<K: Sink>(sink: &mut K, table: &Table, path: &Path) -> Result<(), WriteFault>
-    ensures { Writes (K.state sink.old) (K.state sink.new) (key_text (table_view table.now) path.now) result }
-{
-    match path.vcpu {
-        None => put_host_key(sink, table, path.key),
-        Some(number) => put_vcpu_key(sink, table, number, path.key),
-    }
-}
-
-fn put_host_key<K: Sink>(sink: &mut K, table: &Table, key: Key) -> Result<(), WriteFault>
-    ensures { Writes (K.state sink.old) (K.state sink.new) (host_key_text key (table_view table.now)) result }
+// Writes the advice on a known key of a host.
+pub(crate) fn put_rule<K: Sink>(sink: &mut K, key: Key) -> Result<(), WriteFault>
+    ensures { Writes (K.state sink.old) (K.state sink.new) (rule_text key) result }
 {
     put_parts(
         sink,
         &[
             Part::Text(b"tableau: "),
-            other_in_host(table, key),
             Part::Text(host_rule(key)),
             Part::Text(b"\n"),
         ],
     )
 }
 
-fn put_vcpu_key<K: Sink>(
+// Writes the advice on a document of this table, which has an unknown key of a host.
+pub(crate) fn put_other_key<K: Sink>(sink: &mut K, table: &Table) -> Result<(), WriteFault>
+    ensures { Writes (K.state sink.old) (K.state sink.new) (other_text (table_view table.now)) result }
+{
+    put_parts(
+        sink,
+        &[
+            Part::Text(b"tableau: "),
+            other_in_host(table),
+            Part::Text(host_rule(Key::Unknown)),
+            Part::Text(b"\n"),
+        ],
+    )
+}
+
+// Writes the advice on a key of the vCPU of this number in a document of this table.
+pub(crate) fn put_vcpu_key<K: Sink>(
     sink: &mut K,
     table: &Table,
     number: u32,
@@ -168,13 +174,11 @@ fn item_at(values: &[Value], number: u32) -> Option<&Value>
     values.get(number as usize)
 }
 
-// The first key of a host that is none of the keys, where the fault is one.
-fn other_in_host(table: &Table, key: Key) -> Part<'_>
-    ensures { part_text result ≡ quote_of (other_in_host key (table_view table.now)) }
+// The first key of a host that is none of the keys of its format.
+fn other_in_host(table: &Table) -> Part<'_>
+    ensures { part_text result
+        ≡ quote_of (first_other (host_keys (table_view table.now)) (table_view table.now)) }
 {
-    if key != Key::Unknown {
-        return Part::Text(b"");
-    }
     if is_second(table) {
         part_of(first_other(table, &SECOND_KEYS))
     } else {
@@ -201,7 +205,7 @@ fn is_two(number: Option<i64>) -> bool
     }
 }
 
-// The same of a vCPU.
+// The first key of a vCPU that is none of its keys, where the fault is one.
 fn other_in_vcpu(table: &Table, number: u32, key: Key) -> Part<'_>
     ensures { part_text result ≡ quote_of (other_in_vcpu key (member_at number (table_view table.now))) }
 {

@@ -1,19 +1,19 @@
 ghost use Rattle.std.specs.Prelude.{◌*◌, ◌≤◌};
 ghost use Rattle.tab_core.specs.declared.TheConstants.{MAX_TICK_NS, MIN_TICK_NS, ROUND};
 ghost use Rattle.tab_io.specs.Sinks.{Writes};
-ghost use Rattle.advice.specs.Advice.{IsHostAdvice, IsKeyText, IsPeriodText, IsPlanText, IsRoomText, IsSameText, IsTomlText, IsVcpuText, WhereThereIs, WritesSome};
+ghost use Rattle.advice.specs.Advice.{IsHostAdvice, IsHostKeyAdvice, IsOtherText, IsPathAdvice, IsPeriodText, IsPlanText, IsRoomText, IsSameText, IsTomlText, IsVcpuKeyText, IsVcpuText, WhereThereIs, WritesSome};
 ghost use Rattle.advice.specs.Periods.{period_text};
 ghost use Rattle.advice.specs.Room.{due_of, room_text};
 
 use crate::again::{host_again, table_again, tasks_again};
 use crate::fault::{AdviceFault, of_sink};
-use crate::host_keys::{put_key, put_same_name};
+use crate::host_keys::{put_other_key, put_rule, put_same_name, put_vcpu_key};
 use crate::host_text::{put_toml_fault, put_too_many};
 use crate::least::{least_latency, least_share};
 use crate::part::{Part, put_parts};
 use crate::plan_lines::put_plan_line;
 use crate::room::{due_of, put_room};
-use host_doc::{HostFault, Path};
+use host_doc::{HostFault, Key, Path};
 use std::alloc::Global;
 use tab_core::{Host, ROUND, Reservation, Tasks, Vcpu, VcpuNo};
 use tab_io::{Sink, WriteFault};
@@ -40,17 +40,59 @@ pub(crate) fn put_host<K: Sink>(
     }
 }
 
-// Writes the advice on the key of this path of a document.
+// Writes the advice on the key of this path. The document is read again only where its words are quoted.
 fn put_bad_key<K: Sink>(
     alloc: Global,
     sink: &mut K,
     section: &[u8],
     path: &Path,
 ) -> Result<(), AdviceFault>
-    ensures { WritesSome (WhereThereIs (IsKeyText section.now path.now)) (K.state sink.old) (K.state sink.new) result }
+    ensures { WritesSome (IsPathAdvice section.now path.now) (K.state sink.old) (K.state sink.new) result }
+{
+    match path.vcpu {
+        None => put_host_key(alloc, sink, section, path.key),
+        Some(number) => put_key_of_vcpu(alloc, sink, section, number, path.key),
+    }
+}
+
+// The same of a key of the host.
+fn put_host_key<K: Sink>(
+    alloc: Global,
+    sink: &mut K,
+    section: &[u8],
+    key: Key,
+) -> Result<(), AdviceFault>
+    ensures { WritesSome (IsHostKeyAdvice section.now key) (K.state sink.old) (K.state sink.new) result }
+{
+    if key == Key::Unknown {
+        put_other(alloc, sink, section)
+    } else {
+        of_sink(put_rule(sink, key))
+    }
+}
+
+// Writes the advice on a document that has an unknown key of a host.
+fn put_other<K: Sink>(alloc: Global, sink: &mut K, section: &[u8]) -> Result<(), AdviceFault>
+    ensures { WritesSome (WhereThereIs (IsOtherText section.now)) (K.state sink.old) (K.state sink.new) result }
 {
     match table_again(alloc, section)? {
-        Some(table) => of_sink(put_key(sink, &table, path)),
+        Some(table) => of_sink(put_other_key(sink, &table)),
+        None => Ok(()),
+    }
+}
+
+// Writes the advice on a key of the vCPU of this number of a document.
+fn put_key_of_vcpu<K: Sink>(
+    alloc: Global,
+    sink: &mut K,
+    section: &[u8],
+    vcpu: u32,
+    key: Key,
+) -> Result<(), AdviceFault>
+    ensures { WritesSome (WhereThereIs (IsVcpuKeyText section.now vcpu key)) (K.state sink.old) (K.state sink.new) result }
+{
+    match table_again(alloc, section)? {
+        Some(table) => of_sink(put_vcpu_key(sink, &table, vcpu, key)),
         None => Ok(()),
     }
 }

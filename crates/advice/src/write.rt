@@ -19,9 +19,10 @@ use tab_io::{Sink, WriteFault, write_all};
 /// Writes the advice on a refusal of these words with this input, of less than 2^32 bytes: where the fault
 /// is and what to do, in up to four lines that begin with `tableau: `.
 ///
-/// For a fault of the host, and where the host has no plan or isn't that of a plan text, the host is read
-/// again. Where it isn't refused so, there is no advice, and nothing is written. Nor is anything where memory
-/// runs out (`NoMemory`). A fault of the sink leaves a front of the advice in it. Nothing is settled.
+/// The host is read again where its text is no TOML, has an unknown key or a fault of a vCPU, where it has no
+/// plan, and where it isn't that of a plan text. Where it isn't refused so, there is then no advice, and nothing
+/// is written. Nor is anything where memory runs out (`NoMemory`). A fault of the sink leaves a front of the
+/// advice in it. Nothing is settled.
 pub fn write_advice<K: Sink>(
     alloc: Global,
     words: &[String],
