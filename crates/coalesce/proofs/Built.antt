@@ -7,7 +7,7 @@ use Rattle.std.proofs.lemmas.Bool.{cases_eq, eq-eqb, eqb-true, lt-ltb, ltb-false
 use Rattle.std.proofs.lemmas.List.{append-nil, get_or-set_other, length-replicate, take_all}
 use Rattle.std.proofs.lemmas.List.Elements.{filter-append}
 use Rattle.std.proofs.lemmas.List.Sums.{sum_by_push}
-use Rattle.std.proofs.lemmas.Option.{same_Some, slice_get-get_or}
+use Rattle.std.proofs.lemmas.Option.{same_Some, slice_get-get_or, slice_get_within}
 use Rattle.tab_core.specs.VcpuSets.{has_vcpu}
 use Rattle.tab_core.specs.declared.TheConstants.{MAX_VCPUS}
 use Rattle.tab_core.specs.declared.piece.Piece.{Piece}
@@ -270,3 +270,71 @@ pub all_seen : (pieces : List Piece) (i : ℕ) (seen single : List Bool) → len
 unfolding count_of
 all_seen pieces i seen single past have v = have.single_is v
     ∙ ap (λ ps. eqb (count_of v ps) 1) (take_all i pieces past)
+
+-- the piece at this place or a later one is the vCPU's
+pub record IsLater (pieces : List Piece) (n v : ℕ) : Type 0 where
+  pub at : ℕ
+  pub late : n ≤ at
+  pub piece : Piece
+  pub is : slice_get pieces at ≡ Some piece
+  pub own : piece.vcpu ≡ v
+
+-- what is left in a table is of the vCPUs of the pieces from this place on
+pub record IsLeftOf (pieces : List Piece) (n : ℕ) (table : List (Option Piece)) : Type 0 where
+  pub size : length table ≡ MAX_VCPUS
+  pub later : (v : ℕ) (p : Piece) → slice_get table v ≡ Some (Some p) → IsLater pieces n v
+
+-- at first those of a core's pieces
+pub left_first : (pieces : List Piece) (core : ℕ) (table : List (Option Piece))
+    → IsTableOf (pieces_at pieces core) table → IsLeftOf pieces 0 table
+left_first pieces core table is = record {
+  size = is.size;
+  later = λ v p at.
+      let listed = is.listed v p at in
+      let kept = slice_get-filter (λ (q : Piece). eqb q.core core) pieces listed.1 p listed.2 in
+      record { at = kept.place; late = omega arith; piece = p; is = kept.at; own = listed.0 };
+}
+
+-- one piece's vCPU less
+pub left_less : (pieces : List Piece) (n : ℕ) (p : Piece) (table : List (Option Piece)) → n < length pieces
+    → p ≡ get_or pieces n p → IsLeftOf pieces n table
+    → IsLeftOf pieces (n + 1) (set table p.vcpu None)
+left_less pieces n p table lt is left = record {
+  size = omega (arith, left.size, length-set table p.vcpu None);
+  later = λ v q at. elim (cases_eq v p.vcpu) [
+    | inl same ↦
+        let here : slice_get (set table p.vcpu None) p.vcpu ≡ Some None = set_here table p.vcpu None
+        (let size = left.size in let small = p.vcpu_small in omega arith) in
+        absurd (clash q (sym here ∙ subst (λ w. slice_get (set table p.vcpu None) w ≡ Some (Some q)) same at))
+    | inr other ↦
+        let before = left.later v q (sym (slice_get-set_other table p.vcpu v None other) ∙ at) in
+        elim (cases_eq before.at n) [
+          | inl here ↦
+              let read : slice_get pieces n ≡ Some p = slice_get-get_or pieces n p lt ∙ ap Some (sym is) in
+              let found : slice_get pieces n ≡ Some before.piece =
+              subst (λ k. slice_get pieces k ≡ Some before.piece) here before.is in
+              let alike : p ≡ before.piece = same_Some p before.piece (sym read ∙ found) in
+              absurd (other (sym before.own ∙ ap (λ (r : Piece). r.vcpu) (sym alike)))
+          | inr past ↦ record {
+            at = before.at;
+            late = omega (arith, before.late, past);
+            piece = before.piece;
+            is = before.is;
+            own = before.own;
+          }
+        ]
+  ];
+}
+  where
+    clash : (q : Piece) → ◌≡◌ {A = Option (Option Piece)} (Some None) (Some (Some q)) → ⊥
+    clash q e = cc
+
+-- behind the last piece nothing is left
+pub left_none : (pieces : List Piece) (n : ℕ) (table : List (Option Piece)) → length pieces ≤ n
+    → IsLeftOf pieces n table → IsTableOf [] table
+left_none pieces n table all left = record {
+  size = left.size;
+  listed = λ v p at. absurd (let later = left.later v p at in
+      let within = slice_get_within pieces later.at later.piece later.is in omega (arith, within, later.late));
+  complete = λ at p listed. absurd cc;
+}

@@ -11,7 +11,7 @@ ghost use Rattle.coalesce.specs.Inside.Passing.{IsTableOf};
 
 use crate::filling::fill_all;
 use crate::pass::swap_all;
-use crate::table::{single_vcpus, table_of};
+use crate::table::{empty_table, put_pieces, single_vcpus, take_pieces};
 use std::alloc::Global;
 use tab_core::{CoreNo, NoMemory, Piece, Tasks, VcpuSet};
 use table_form::{CoreTable, Draft, Homes, Plan, Rows, Tables};
@@ -45,10 +45,12 @@ fn join_rows(
     ensures { IfOk result (λ joined. AreJoined pieces.now capped.now sliver rows.now joined.items) }
 {
     let may_grow = single_vcpus(pieces).without(capped);
+    let mut table = empty_table(alloc)?;
     let mut joined = Vec::with_capacity(alloc, rows.len())?;
     for core in 0..rows.len() {
-        let table = table_of(alloc, pieces, CoreNo(core as u32))?;
+        put_pieces(&mut table, pieces, CoreNo(core as u32));
         joined.push(join_row(alloc, &rows[core], &table, &may_grow, sliver)?)?;
+        take_pieces(&mut table, pieces);
     }
     Ok(joined)
 }

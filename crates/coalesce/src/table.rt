@@ -1,5 +1,6 @@
-ghost use Rattle.std.specs.Prelude.{◌≡◌, ℕ, IfOk};
+ghost use Rattle.std.specs.Prelude.{◌≡◌, ℕ, [], IfOk, length};
 ghost use Rattle.tab_core.specs.VcpuSets.{has_vcpu};
+ghost use Rattle.tab_core.specs.declared.TheConstants.{MAX_VCPUS};
 ghost use Rattle.table_form.specs.Planning.Drafts.{HaveOwnCores, pieces_at};
 ghost use Rattle.coalesce.specs.Joining.{has_single_piece};
 ghost use Rattle.coalesce.specs.Inside.Passing.{IsTableOf};
@@ -7,22 +8,35 @@ ghost use Rattle.coalesce.specs.Inside.Passing.{IsTableOf};
 use std::alloc::Global;
 use tab_core::{CoreNo, MAX_VCPUS, NoMemory, Piece, VcpuSet};
 
-// The pieces on a core, by vCPU number.
-pub(crate) fn table_of(
-    alloc: Global,
-    pieces: &[Piece],
-    core: CoreNo,
-) -> Result<Vec<Option<Piece>>, NoMemory>
-    requires { HaveOwnCores pieces.now }
-    ensures { IfOk result (λ table. IsTableOf (pieces_at pieces.now core) table.items) }
+// A table of no piece.
+pub(crate) fn empty_table(alloc: Global) -> Result<Vec<Option<Piece>>, NoMemory>
+    ensures { IfOk result (λ table. IsTableOf [] table.items) }
 {
-    let mut table = vec![in alloc; None; MAX_VCPUS as usize]?;
+    Ok(vec![in alloc; None; MAX_VCPUS as usize]?)
+}
+
+// Puts the pieces on a core into a table of none, by vCPU number.
+pub(crate) fn put_pieces(table: &mut Vec<Option<Piece>>, pieces: &[Piece], core: CoreNo)
+    requires own { HaveOwnCores pieces.now }
+    requires none { IsTableOf [] table.old.items }
+    ensures { IsTableOf (pieces_at pieces.now core) table.new.items }
+{
     for piece in pieces {
         if piece.core == core {
             table[piece.vcpu.index()] = Some(*piece);
         }
     }
-    Ok(table)
+}
+
+// Takes those of any core out again.
+pub(crate) fn take_pieces(table: &mut Vec<Option<Piece>>, pieces: &[Piece])
+    requires size { length table.old.items ≡ MAX_VCPUS }
+    ensures { (core : ℕ) → IsTableOf (pieces_at pieces.now core) table.old.items
+        → IsTableOf [] table.new.items }
+{
+    for piece in pieces {
+        table[piece.vcpu.index()] = None;
+    }
 }
 
 // The vCPUs with one piece over all cores, and no more.

@@ -3,8 +3,8 @@ use Rattle.std.proofs.lemmas.Bool.{eq-eqb, eqb-true, false≢true}
 use Rattle.coalesce.specs.Inside.Passing.{IsTableOf}
 use Rattle.table_form.specs.Planning.Drafts.{pieces_at}
 use Rattle.coalesce.proofs.Built.{next_elsewhere, next_here}
-use Rattle.coalesce.proofs.table.table_of.Goals.{then-eq, else-eq}
-use Rattle.coalesce.proofs.table.table_of.Goals as goal
+use Rattle.coalesce.proofs.table.put_pieces.Goals.{then-eq, else-eq}
+use Rattle.coalesce.proofs.table.put_pieces.Goals as goal
 
 pub loop-piece-preserved : goal.loop-piece-preserved
 loop-piece-preserved c = elim c.if-eq.branch [
@@ -12,7 +12,7 @@ loop-piece-preserved c = elim c.if-eq.branch [
       (subst (λ n. IsTableOf (pieces_at (take (c.loop-piece.piece-index + 1) c.args.pieces.now) c.args.core)
       (set c.loop-piece.table.items n (Some c.piece-item.result))) (sym w.index.ensures.value)
       (next_here c.args.pieces.now c.args.core c.loop-piece.piece-index c.piece-item.result
-      c.loop-piece.table.items c.requires c.loop-piece-test.true c.piece-item.is
+      c.loop-piece.table.items c.requires.own c.loop-piece-test.true c.piece-item.is
       (eqb-true c.piece-item.result.core c.args.core (sym w.if-eq.ensures)) c.loop-piece.invariant))
   | else-eq w ↦ rw w.table-is
       (next_elsewhere c.args.pieces.now c.args.core c.loop-piece.piece-index c.piece-item.result

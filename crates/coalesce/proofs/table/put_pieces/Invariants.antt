@@ -1,7 +1,7 @@
 use Rattle.std.proofs.Common.{take}
 use Rattle.table_form.specs.Planning.Drafts.{pieces_at}
 use Rattle.coalesce.specs.Inside.Passing.{IsTableOf}
-use Rattle.coalesce.proofs.table.table_of.Given as goal
+use Rattle.coalesce.proofs.table.put_pieces.Given as goal
 
 -- the table is that of the pieces so far
 abbrev pub invariant-loop-piece : goal.invariant-loop-piece
