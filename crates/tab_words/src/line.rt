@@ -2,6 +2,7 @@ ghost use Rattle.std.specs.Prelude.{◌≡◌, ◌<◌, ◌≤◌, ◌∷◌, �
 ghost use Rattle.std.specs.Iterator.{YieldsFirstRef, item_count};
 ghost use Rattle.tab_words.specs.Lines.{lines_of, raw_lines_of, without_feed};
 
+use memchr::memchr;
 use std::marker::Model;
 
 /// The lines of a text, one after the other. Contracts see the list of the lines that are left.
@@ -11,7 +12,12 @@ use std::marker::Model;
 #[derive(Drop)]
 pub struct Lines<'a> {
     rest: &'a [u8],
+    // whether the last line was a long one
+    long: bool,
 }
+
+// Lines of more bytes are long.
+const LONG: usize = 32;
 
 impl<'a> Model for Lines<'a> {
     ghost use Rattle.std.specs.Prelude.{ℕ, List};
@@ -28,7 +34,10 @@ impl<'a> Lines<'a> {
         ensures lines { result ≡ lines_of bytes.now }
         ensures few { length result ≤ length bytes.now }
     {
-        Lines { rest: bytes }
+        Lines {
+            rest: bytes,
+            long: false,
+        }
     }
 }
 
@@ -44,7 +53,8 @@ impl<'a> Iterator for Lines<'a> {
         if self.rest.is_empty() {
             return None;
         }
-        let (line, rest) = first_line(self.rest);
+        let (line, rest) = line_by(self.rest, self.long);
+        self.long = line.len() > LONG;
         self.rest = rest;
         Some(without_feed(line))
     }
@@ -60,6 +70,33 @@ pub(crate) fn first_line(bytes: &[u8]) -> (&[u8], &[u8])
     match bytes.iter().position(|byte| *byte == b'\n') {
         Some(end) => bytes.split_at(end + 1),
         None => (bytes, &[]),
+    }
+}
+
+// The same, where the line is likely to be long: the line feed is sought in many bytes at a time.
+fn long_line(bytes: &[u8]) -> (&[u8], &[u8])
+    requires { 0 < length bytes.now }
+    ensures lines { raw_lines_of bytes.now ≡ result.0.now ∷ raw_lines_of result.1.now }
+    ensures some { 0 < length result.0.now }
+    ensures parts { bytes.now ≡ result.0.now ++ result.1.now }
+{
+    match memchr(b'\n', bytes) {
+        Some(end) => bytes.split_at(end + 1),
+        None => (bytes, &[]),
+    }
+}
+
+// The first line by one of the two. Only speed depends on which.
+fn line_by(bytes: &[u8], long: bool) -> (&[u8], &[u8])
+    requires { 0 < length bytes.now }
+    ensures lines { raw_lines_of bytes.now ≡ result.0.now ∷ raw_lines_of result.1.now }
+    ensures some { 0 < length result.0.now }
+    ensures parts { bytes.now ≡ result.0.now ++ result.1.now }
+{
+    if long {
+        long_line(bytes)
+    } else {
+        first_line(bytes)
     }
 }
 
