@@ -8,13 +8,8 @@ use Rattle.tab_core.specs.declared.reservation.Reservation.{Reservation}
 use Rattle.tab_core.specs.declared.vcpu.Vcpu.{Vcpu}
 use Rattle.tab_core.proofs.Lists.{push_split}
 use Rattle.period_choice.specs.Choice.{HasPeriod}
+use Rattle.period_choice.specs.Inside.SoFar.{AreTasksSoFar}
 use Rattle.period_choice.specs.Tasks.{AreTasksOf, IsFirstWithoutPeriod, IsTaskOf, LacksPeriod}
-
--- each vCPU that has an entry has its task there
-abbrev pub AreTasksSoFar : List Vcpu → ℕ → List (Option Periodic) → Type 0
-AreTasksSoFar vcpus tick tasks = (number : ℕ) (vcpu : Vcpu) (task : Option Periodic)
-    → slice_get vcpus number ≡ Some vcpu → slice_get tasks number ≡ Some task
-    → IsTaskOf vcpu.reservation tick task
 
 -- where the loop over the vCPUs begins
 pub no_tasks : (vcpus : List Vcpu) (tick : ℕ) → AreTasksSoFar vcpus tick []

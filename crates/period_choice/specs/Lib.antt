@@ -1,3 +1,4 @@
 pub mod Choice
+pub mod Inside
 pub mod Periods
 pub mod Tasks

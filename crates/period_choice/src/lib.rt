@@ -13,4 +13,4 @@ mod tasks;
 pub use choice::choose;
 pub use fault::TaskFault;
 pub use laws::{a_gap_is_within_the_latency, the_periods_are_the_long_divisors};
-pub use tasks::tasks_of;
+pub use tasks::{tasks_after, tasks_of};

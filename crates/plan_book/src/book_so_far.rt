@@ -1,20 +1,20 @@
-ghost use Rattle.std.specs.Prelude.{◌≡◌, ◌⊎◌, ◌<◌, ◌^◌, [], ◌∷◌, ◌++◌, IfErr, IfOk, IfSome, Ok, OnOk, Some, length, slice_get};
+ghost use Rattle.std.specs.Prelude.{◌≡◌, ◌⊎◌, ◌<◌, ◌^◌, [], ◌∷◌, ◌++◌, IfOk, IfSome, Ok, OnOk, Some, length, slice_get};
 ghost use Rattle.tab_core.specs.Edits.{AreEditsOf, IsEdited};
 ghost use Rattle.tab_core.specs.declared.host.Host.{Host as HostValue};
 ghost use Rattle.table_form.specs.Tables.Plans.{IsPlanFor};
 ghost use Rattle.table_form.specs.Tables.Views.{plan_view};
-ghost use Rattle.plan_make.specs.Planned.{IsPlanned};
+ghost use Rattle.period_choice.specs.Tasks.{AreTasksOf};
 ghost use Rattle.script_doc.specs.Events.{IsActWithin};
 ghost use Rattle.plan_book.specs.After.{Applies};
-ghost use Rattle.plan_book.specs.Changes.{IsChangeRefused, IsChangeTaken, IsUnplanned};
-ghost use Rattle.plan_book.specs.Inside.Making.{AreLeft, IsNextMade, KeepsPlans, known_of, outcome_of_fault};
+ghost use Rattle.plan_book.specs.Changes.{IsChangeRefused, IsChangeTaken};
+ghost use Rattle.plan_book.specs.Inside.Making.{AreLeft, IsNextMade, KeepsPlans, known_of};
 ghost use Rattle.plan_book.specs.Mades.{IsMadeOf};
 ghost use Rattle.plan_book.specs.States.{IsKnownAtFirst};
 
 use crate::outcome::Outcome;
-use plan_make::{PlanFault, plan};
+use crate::planning::planned_after;
 use script_doc::Act;
-use std::alloc::{AllocError, Global};
+use std::alloc::Global;
 use std::thread::Threads;
 use tab_core::{Edit, Host, NoMemory, VcpuSet};
 use table_form::Plan;
@@ -54,6 +54,7 @@ impl BookSoFar {
         made: &mut [Option<Result<Plan, Outcome>>],
     ) -> Result<(), NoMemory>
         requires some { 0 < length self.old.plans.items }
+        requires tasks { AreTasksOf self.old.host (known_of self.old).plan.tasks }
         requires within { IsActWithin (length self.old.host.vcpus) act.now }
         requires made { IsNextMade (known_of self.old) act.now made.old }
         ensures left { AreLeft made.old made.new }
@@ -83,6 +84,7 @@ impl BookSoFar {
         before: Option<Result<Plan, Outcome>>,
     ) -> Result<(), NoMemory>
         requires some { 0 < length self.old.plans.items }
+        requires tasks { AreTasksOf self.old.host (known_of self.old).plan.tasks }
         requires within { AreEditsOf (length self.old.host.vcpus) edits.now }
         requires before { IfSome before (λ made. (host : HostValue) → IsEdited self.old.host edits.now host
             → IsMadeOf host made) }
@@ -93,7 +95,7 @@ impl BookSoFar {
             → OnOk result (IsPlanFor self.new.host (known_of self.new).plan) }
     {
         let host = self.host.edited(alloc, edits)?;
-        match made_of(rt, alloc, &host, before)? {
+        match self.made_of(rt, alloc, &host, before)? {
             Ok(plan) => {
                 self.take(host, plan)?;
                 Ok(())
@@ -103,6 +105,34 @@ impl BookSoFar {
                 Ok(())
             }
         }
+    }
+
+    // What was made before of the host that a change makes, or else is made of it now.
+    fn made_of<R: Threads + Sync>(
+        &self,
+        rt: &R,
+        alloc: Global,
+        host: &Host,
+        before: Option<Result<Plan, Outcome>>,
+    ) -> Result<Result<Plan, Outcome>, NoMemory>
+        requires some { 0 < length self.now.plans.items }
+        requires tasks { AreTasksOf self.now.host (known_of self.now).plan.tasks }
+        requires tick { self.now.host.tick_ns ≡ host.now.tick_ns }
+        requires before { IfSome before (IsMadeOf host.now) }
+        ensures { IfOk result (IsMadeOf host.now) }
+    {
+        match before {
+            Some(made) => Ok(made),
+            None => planned_after(rt, alloc, host, &self.host, &self.plan().tasks),
+        }
+    }
+
+    // The host's plan.
+    fn plan(&self) -> &Plan
+        requires { 0 < length self.now.plans.items }
+        ensures { plan_view result.now ≡ (known_of self.now).plan }
+    {
+        &self.plans[self.plans.len() - 1]
     }
 
     // The host and its plan become these.
@@ -141,58 +171,10 @@ fn taken(made: &mut [Option<Result<Plan, Outcome>>], place: usize) -> Option<Res
     }
 }
 
-// What was made of the host before, or else is made of it now.
-fn made_of<R: Threads + Sync>(
-    rt: &R,
-    alloc: Global,
-    host: &Host,
-    before: Option<Result<Plan, Outcome>>,
-) -> Result<Result<Plan, Outcome>, NoMemory>
-    requires { IfSome before (IsMadeOf host.now) }
-    ensures { IfOk result (IsMadeOf host.now) }
-{
-    match before {
-        Some(made) => Ok(made),
-        None => planned(rt, alloc, host),
-    }
-}
-
 fn only(alloc: Global, plan: Plan) -> Result<Vec<Plan>, NoMemory>
     ensures { IfOk result (λ plans. plans.items ≡ plan ∷ []) }
 {
     let mut plans = Vec::new(alloc);
     plans.push(plan)?;
     Ok(plans)
-}
-
-/// The plan of a host, or why it has none, as the outcome of a change that makes this host.
-///
-/// Fails only for want of memory.
-pub fn planned<R: Threads + Sync>(
-    rt: &R,
-    alloc: Global,
-    host: &Host,
-) -> Result<Result<Plan, Outcome>, NoMemory>
-    ensures planned { IfOk result (λ made. IfOk made (λ plan. IsPlanned host.now (plan_view plan))) }
-    ensures fits { IfOk result (λ made. IfOk made (λ plan. IsPlanFor host.now (plan_view plan))) }
-    ensures unplanned { IfOk result (λ made. IfErr made (IsUnplanned host.now)) }
-{
-    match plan(rt, alloc, host) {
-        Ok(plan) => Ok(Ok(plan)),
-        Err(fault) => match outcome_of(&fault) {
-            Some(outcome) => Ok(Err(outcome)),
-            None => Err(AllocError),
-        },
-    }
-}
-
-// The outcome that a refusal of the host's plan is, but for want of memory.
-fn outcome_of(fault: &PlanFault) -> Option<Outcome>
-    ensures { result ≡ outcome_of_fault fault.now }
-{
-    match fault {
-        PlanFault::NoPeriod { vcpu } => Some(Outcome::NoPeriod { vcpu: *vcpu }),
-        PlanFault::NoRoom { vcpu, .. } => Some(Outcome::NoRoom { vcpu: *vcpu }),
-        PlanFault::NoMemory => None,
-    }
 }

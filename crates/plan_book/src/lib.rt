@@ -15,9 +15,9 @@ mod fault;
 mod laws;
 mod make;
 mod outcome;
+mod planning;
 
 pub use book::PlanBook;
-pub use book_so_far::planned;
 pub use fault::BookFault;
 pub use laws::{
     a_run_has_one_tick, a_script_makes_one_course, every_wait_is_within_latency,
@@ -25,3 +25,4 @@ pub use laws::{
 };
 pub use make::{make_book, make_book_with, ticks_in};
 pub use outcome::Outcome;
+pub use planning::planned;

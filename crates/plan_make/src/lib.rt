@@ -18,5 +18,5 @@ mod unsplit;
 
 pub use fault::PlanFault;
 pub use laws::{a_host_has_one_plan, a_host_has_one_refusal};
-pub use planner::plan;
+pub use planner::{plan, plan_with};
 pub use refusal::{put_no_period, put_no_room};

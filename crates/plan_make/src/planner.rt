@@ -14,7 +14,7 @@ use coalesce::join_slivers;
 use period_choice::tasks_of;
 use std::alloc::Global;
 use std::thread::Threads;
-use tab_core::Host;
+use tab_core::{Host, Tasks};
 use table_form::Plan;
 
 /// The plan of a host: its vCPUs are placed unsplit by worst fit, the left-over ones are split, each
@@ -29,7 +29,7 @@ use table_form::Plan;
 /// All is made in the calling thread.
 ///
 /// Source: the planner of M. Vanga, A. Gujarati and B. B. Brandenburg, EuroSys 2018.
-pub fn plan<R: Threads + Sync>(_rt: &R, alloc: Global, host: &Host) -> Result<Plan, PlanFault>
+pub fn plan<R: Threads + Sync>(rt: &R, alloc: Global, host: &Host) -> Result<Plan, PlanFault>
     ensures ok { IfOk result (λ plan. IsPlanned host.now (plan_view plan)) }
     ensures only { IfOk result (λ plan. (other : PlanView) → IsPlanned host.now other
         → other ≡ plan_view plan) }
@@ -49,6 +49,33 @@ pub fn plan<R: Threads + Sync>(_rt: &R, alloc: Global, host: &Host) -> Result<Pl
         → IfErr result (λ fault. fault ≡ PlanFault.NoMemory) }
 {
     let tasks = tasks_of(alloc, host)?;
+    plan_with(rt, alloc, host, tasks)
+}
+
+/// The same plan, where the budgets of the host's vCPUs are known. So `NoPeriod` never comes.
+pub fn plan_with<R: Threads + Sync>(
+    _rt: &R,
+    alloc: Global,
+    host: &Host,
+    tasks: Tasks,
+) -> Result<Plan, PlanFault>
+    requires { AreTasksOf host.now tasks }
+    ensures ok { IfOk result (λ plan. IsPlanned host.now (plan_view plan)) }
+    ensures only { IfOk result (λ plan. (other : PlanView) → IsPlanned host.now other
+        → other ≡ plan_view plan) }
+    ensures fits_host { IfOk result (λ plan. IsPlanFor host.now (plan_view plan)) }
+    ensures chosen { IfOk result (λ plan. AreTasksOf host.now plan.tasks) }
+    ensures no_period { (vcpu : ℕ) → IsErrOf result (PlanFault.NoPeriod vcpu) → ⊥ }
+    ensures no_room { (vcpu rest : ℕ) (over : List Over) → IsErrOf result (PlanFault.NoRoom vcpu rest over)
+        → IsFirstWithoutRoom host.now vcpu rest over }
+    ensures without_room { (vcpu rest : ℕ) (over : List Over)
+        → IsFirstWithoutRoom host.now vcpu rest over → IsErr result }
+    ensures bound { (tasks : List (Option Periodic)) → AreTasksOf host.now tasks
+        → IsWithinBound tasks host.now.cores
+        → IfErr result (λ fault. fault ≡ PlanFault.NoMemory) }
+    ensures planned { (plan : PlanView) → IsPlanned host.now plan
+        → IfErr result (λ fault. fault ≡ PlanFault.NoMemory) }
+{
     let layout = lay_out(alloc, host, &tasks)?;
     let draft = draft_of(alloc, tasks, layout, host.vcpus.capped())?;
     Ok(join_slivers(alloc, &draft, host.sliver)?)

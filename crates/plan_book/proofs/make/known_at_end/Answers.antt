@@ -2,6 +2,8 @@ use Rattle.std.proofs.Common.{◌≡◌, ◌+◌, ◌<◌, List, length, get_or,
 use Rattle.script_doc.specs.declared.event.Event.{Event}
 use Rattle.plan_book.proofs.CourseOfBook.{invariant_at_end}
 use Rattle.plan_book.proofs.MadesLemmas.{made_left, next_made}
+use Rattle.plan_book.specs.Inside.Making.{known_of}
+use Rattle.plan_book.proofs.PlannedAfter.{known_planned}
 use Rattle.plan_book.proofs.MakingLemmas.{few_plans, known_next, invariant_next, next_within}
 use Rattle.plan_book.proofs.make.known_at_end.Goals as goal
 
@@ -16,6 +18,11 @@ apply-requires-clause-within g c _ _ =
     (subst (λ (es : List Event). c.loop-event.event-index < length es) same c.loop-event-test.true)
     (subst (λ (es : List Event). c.event-item.result
     ≡ get_or es c.loop-event.event-index c.event-item.result) same c.event-item.is)
+
+pub apply-requires-clause-tasks : goal.apply-requires-clause-tasks
+apply-requires-clause-tasks g c _ _ =
+    (known_planned c.args.host.now c.args.script.now c.loop-event.event-index (known_of c.loop-event.so_far)
+    c.loop-event.invariant.book.known).layout.is_start.tasks_are
 
 pub add-requires-clause-few : goal.add-requires-clause-few
 add-requires-clause-few g c =

@@ -1,6 +1,6 @@
 use Rattle.std.proofs.Common.{Err, ap, sym, ◌∙◌}
 use Rattle.plan_book.proofs.NextState.{told_unplanned}
-use Rattle.plan_book.proofs.book_so_far.planned.Goals as goal
+use Rattle.plan_book.proofs.planning.planned_after.Goals as goal
 
 pub returns-in-Some-clause-unplanned : goal.returns-in-Some-clause-unplanned
 returns-in-Some-clause-unplanned g c =

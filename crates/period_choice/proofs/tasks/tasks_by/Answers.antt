@@ -4,9 +4,10 @@ use Rattle.std.specs.Prelude.{slice_get}
 use Rattle.tab_core.specs.declared.vcpu.Vcpu.{Vcpu}
 use Rattle.period_choice.specs.Tasks.{IsFirstWithoutPeriod}
 use Rattle.std.proofs.lemmas.List.{length_push}
-use Rattle.period_choice.proofs.TasksLemmas.{AreTasksSoFar, no_tasks, task_more, first_without}
+use Rattle.period_choice.specs.Inside.SoFar.{AreTasksSoFar}
+use Rattle.period_choice.proofs.TasksLemmas.{no_tasks, task_more, first_without}
 use Rattle.period_choice.proofs.Unique.{tasks_unique}
-use Rattle.period_choice.proofs.tasks.tasks_of.Goals as goal
+use Rattle.period_choice.proofs.tasks.tasks_by.Goals as goal
 
 pub loop-number-init : goal.loop-number-init
 loop-number-init c = record {
@@ -20,8 +21,8 @@ at_length : (vcpus : List Vcpu) (n number : ℕ) (vcpu : Vcpu) → n ≡ number
     → slice_get vcpus number ≡ Some vcpu → slice_get vcpus n ≡ Some vcpu
 at_length vcpus n number vcpu same at = ap (slice_get vcpus) same ∙ at
 
-pub returns-in_err-task_of-clause-no_period : goal.returns-in_err-task_of-clause-no_period
-returns-in_err-task_of-clause-no_period c = λ vcpu is.
+pub returns-in_err-task_by-clause-no_period : goal.returns-in_err-task_by-clause-no_period
+returns-in_err-task_by-clause-no_period c = λ vcpu is.
     let before = c.loop-number.invariant in
     let host = c.args.host.now in
     let vcpus = c.items-vcpus.result.now in
@@ -29,8 +30,8 @@ returns-in_err-task_of-clause-no_period c = λ vcpu is.
     let same = c.items-vcpus.ensures.same in
     let at = at_length vcpus (length tasks) c.loop-number.number c.index-vcpus-number.result before.as_many
     (slice_get_read vcpus _ c.loop-number.number _ refl c.loop-number-test.true c.index-vcpus-number.is) in
-    let lacks = c.in_err-task_of.ensures.no_period in
-    let told = rw is at c.from_residual-in_err-task_of.ensures in
+    let lacks = c.in_err-task_by.ensures.no_period in
+    let told = rw is at c.from_residual-in_err-task_by.ensures in
     let named : c.loop-number.number ≡ vcpu = cc (lacks.0, told.1) in
     let first = first_without host tasks c.index-vcpus-number.result
     (subst (λ (vs : List Vcpu). AreTasksSoFar vs host.tick_ns tasks) same before.each)
@@ -46,12 +47,12 @@ loop-number-preserved c =
     let at = slice_get_read vcpus _ c.loop-number.number _ refl c.loop-number-test.true
     c.index-vcpus-number.is in
     let pushed = c.in_ok-push.ensures.items in
-    let longer = length_push tasks c.in_ok-task_of.field-0 in
+    let longer = length_push tasks c.in_ok-task_by.field-0 in
     record {
       as_many = ap length pushed ∙ longer ∙ ap (λ n. n + 1) before.as_many;
       each = rw pushed
-          (task_more vcpus c.args.host.now.tick_ns tasks c.index-vcpus-number.result c.in_ok-task_of.field-0 before.each
-          (at_length vcpus _ _ _ before.as_many at) c.in_ok-task_of.ensures.ok);
+          (task_more vcpus c.args.host.now.tick_ns tasks c.index-vcpus-number.result c.in_ok-task_by.field-0 before.each
+          (at_length vcpus _ _ _ before.as_many at) c.in_ok-task_by.ensures.ok);
     }
 
 pub of-requires : goal.of-requires

@@ -1,6 +1,6 @@
 use Rattle.std.proofs.Common.{◌≡◌, length}
-use Rattle.period_choice.proofs.TasksLemmas.{AreTasksSoFar}
-use Rattle.period_choice.proofs.tasks.tasks_of.Given as goal
+use Rattle.period_choice.specs.Inside.SoFar.{AreTasksSoFar}
+use Rattle.period_choice.proofs.tasks.tasks_by.Given as goal
 
 abbrev pub invariant-loop-number : goal.invariant-loop-number
 invariant-loop-number l = record {
