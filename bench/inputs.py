@@ -133,6 +133,12 @@ def replays():
     vcpus = [(f"v{n}", 100_000, 20_000_000) for n in range(256)]
     changes = "".join(f"{n} change set v{n} 90000 20000000\n" for n in range(15))
     write("changes.replay_64", host(32, vcpus) + "%%\n" + changes + "%%\nsee 0\n")
+    write("drawn-long-changes32.replay_64", drawn("long32") + "%%\n" + moved() + "%%\nsee 0\n")
+
+
+def moved():
+    """15 changes of bench/hosts/long32.toml, of one vCPU each: nearly every row of every plan is another."""
+    return "".join(f"{n * 60_000} change set v{n * 16 + 3} {60_000 + n * 1_000} 250000\n" for n in range(15))
 
 
 def generated(seed, cores, vcpus):
@@ -156,6 +162,8 @@ def runs():
     write("drawn-usual32.run_100", drawn("usual32") + "%%\n")
     for words in ("run_100", "run_100_live"):
         write(f"drawn-changes32.{words}", drawn("usual32") + "%%\n" + script)
+    for words in ("run_10", "run_10_live"):
+        write(f"drawn-long-changes32.{words}", drawn("long32") + "%%\n" + moved())
     write("cores4.run_10000", host(4, [(f"v{n}", 100_000, 20_000_000) for n in range(32)]) + "%%\n")
     write("core1.run_10000", "cores = 1\n%%\n")
     few = [(f"v{n}", 400_000, 102_702_600) for n in range(64)]

@@ -77,7 +77,7 @@ fn all_are_cut(alloc: Global, plan: &Plan, expected: &[Cut]) -> Result<bool, Fai
             return Ok(false);
         }
         for (slice, number) in *kept {
-            if slices.get(*slice) != Some(number) {
+            if *slice >= slices.len() || slices.number(*slice) != *number {
                 return Ok(false);
             }
         }

@@ -4,6 +4,7 @@ pub mod EndsLemmas
 pub mod OwnersLemmas
 pub mod ScopeLemmas
 pub mod SightLemmas
+pub mod SliceListLemmas
 pub mod SpanListLemmas
 pub mod SweepLemmas
 pub mod TableLemmas

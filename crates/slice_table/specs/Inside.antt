@@ -1,5 +1,6 @@
 -- What the code keeps on its way. A clause of `span_guessed` cites it, and no clause of the top call rests on it.
 pub mod Owners
+pub mod SliceLists
 pub mod SpanLists
 pub mod Spans
 pub mod Sweeps

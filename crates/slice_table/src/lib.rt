@@ -7,10 +7,12 @@
 
 mod core_slices;
 mod cursor;
+mod entry_list;
 mod full_span;
 mod owners;
 mod scope;
 mod sight;
+mod slice_list;
 mod slice_table;
 mod slices;
 mod span_list;
@@ -19,4 +21,5 @@ mod sweep;
 pub use core_slices::CoreSlices;
 pub use full_span::FullSpan;
 pub use owners::{RowOwners, course_owners};
+pub use slice_list::SliceList;
 pub use slice_table::SliceTable;

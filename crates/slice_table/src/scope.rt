@@ -1,4 +1,4 @@
-ghost use Rattle.std.specs.Prelude.{◌≡◌, ◌≢◌, ◌<◌, ℕ, IfOk, IsTrue, false, true, length};
+ghost use Rattle.std.specs.Prelude.{◌≡◌, ◌≢◌, ◌↔◌, ◌<◌, ℕ, IfOk, IsTrue, false, true, length};
 ghost use Rattle.tab_core.specs.VcpuSets.{has_vcpu};
 ghost use Rattle.table_form.specs.Tables.Views.{plan_view};
 ghost use Rattle.slice_table.specs.Inside.Sweeps.{IsScope};
@@ -41,13 +41,21 @@ pub(crate) fn scope_of(
             others.push(number)?;
         }
     }
-    let sharers = plan.sharers_of(core);
+    let sharers = uncapped(&home, &plan.capped);
     Ok(Scope {
         core,
         home,
         sharers,
         others,
     })
+}
+
+// Those of the set that may run beyond their slots.
+fn uncapped(set: &VcpuSet, capped: &VcpuSet) -> VcpuSet
+    ensures { (v : ℕ) → (IsTrue (has_vcpu result v)
+        ↔ (IsTrue (has_vcpu set.now v) × (has_vcpu capped.now v ≡ false))) }
+{
+    set.without(capped)
 }
 
 // Whether the row of the number is another one than the core's, and has one of the vCPUs.

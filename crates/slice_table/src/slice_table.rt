@@ -8,6 +8,7 @@ ghost use Rattle.slice_table.specs.Owners.{AreRowOwners};
 ghost use Rattle.slice_table.specs.Slices.{AreSlices, HoldsTick, IsShortest, IsTableOf, MeetsTwo, ends_of};
 
 use crate::owners::RowOwners;
+use crate::slice_list::SliceList;
 use crate::slices::{shortest, slices_of};
 use crate::span_list::SpanList;
 use crate::sweep::spans_of;
@@ -24,7 +25,7 @@ use table_form::{Plan, Span, Spot};
 #[derive(Drop)]
 pub struct SliceTable {
     spans: SpanList,
-    slices: Vec<u32>,
+    slices: SliceList,
     size: u32,
 }
 
@@ -38,7 +39,7 @@ impl Model for SliceTable {
 
     ghost view = { λ table. table.spans };
 
-    ghost invariant = { λ table. IsSliced table.size table.slices.items (ends_of table.spans) };
+    ghost invariant = { λ table. IsSliced table.size table.slices (ends_of table.spans) };
 }
 
 impl SliceTable {
@@ -127,7 +128,7 @@ impl SliceTable {
 
     /// For each slice the number of the first span that it meets; it meets that one and the next at most. The last slice
     /// may end beyond the round.
-    pub fn slices(&self) -> &[u32]
+    pub fn slices(&self) -> &SliceList
         ensures slices { (ticks : ℕ) → IsShortest ticks (ends_of self.now)
             → AreSlices ticks result.now (ends_of self.now) }
         ensures two { (ticks tick : ℕ) → IsShortest ticks (ends_of self.now) → tick < ROUND
@@ -153,7 +154,7 @@ impl SliceTable {
         steps.tell();
         let slice = (tick / self.size) as usize;
         steps.tell();
-        let first = self.slices[slice] as usize;
+        let first = self.slices.number(slice) as usize;
         steps.tell();
         if tick < self.spans.end(first) {
             first

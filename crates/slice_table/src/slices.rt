@@ -1,8 +1,10 @@
-ghost use Rattle.std.specs.Prelude.{◌≡◌, ◌<◌, ◌≤◌, ◌+◌, ◌-◌, IfOk, length, min, slice_index};
+ghost use Rattle.std.specs.Prelude.{◌≡◌, ℕ, ◌<◌, ◌≤◌, ◌+◌, ◌-◌, ◌*◌, IfOk, min};
 ghost use Rattle.tab_core.specs.declared.TheConstants.{ROUND};
-ghost use Rattle.slice_table.specs.Inside.Spans.{AreEnds};
-ghost use Rattle.slice_table.specs.Slices.{AreSlices, HoldsTick, IsShortest, begin_at, ends_of};
+ghost use Rattle.slice_table.specs.Inside.SliceLists.{number_in};
+ghost use Rattle.slice_table.specs.Inside.Spans.{AreEnds, IsNear};
+ghost use Rattle.slice_table.specs.Slices.{AreSlices, HoldsTick, IsShortest, ends_of};
 
+use crate::slice_list::{Block, PLACES, SliceList, with_rise};
 use crate::span_list::SpanList;
 use std::alloc::{AllocError, Global};
 use std::cmp::min;
@@ -32,30 +34,62 @@ fn shorter(least: u32, begin: u32, end: u32) -> u32
 }
 
 /// For each slice of `size` ticks, as many as the shortest span has, the number of the span that holds its first tick.
-pub(crate) fn slices_of(alloc: Global, spans: &SpanList, size: u32) -> Result<Vec<u32>, AllocError>
+pub(crate) fn slices_of(alloc: Global, spans: &SpanList, size: u32) -> Result<SliceList, AllocError>
     requires ends { AreEnds (ends_of spans.now) }
     requires shortest { IsShortest size (ends_of spans.now) }
-    ensures { IfOk result (λ slices. AreSlices size slices.items (ends_of spans.now)) }
+    ensures { IfOk result (λ slices. AreSlices size slices (ends_of spans.now)) }
 {
     let count = (ROUND - 1) / size + 1;
-    let mut slices = Vec::with_capacity(alloc, count as usize)?;
+    let whole = (count - 1) / PLACES;
+    let mut blocks = Vec::with_capacity(alloc, whole as usize + 1)?;
     let mut number: u32 = 0;
-    for slice in 0..count {
-        number = holder_from(spans, number, slice * size);
-        slices.push(number)?;
+    for block in 0..whole {
+        let (next, last) = block_from(spans, number, block * PLACES, size, PLACES);
+        blocks.push(next)?;
+        number = last;
     }
-    Ok(slices)
+    let begin = whole * PLACES;
+    let (last, _) = block_from(spans, number, begin, size, count - begin);
+    blocks.push(last)?;
+    Ok(SliceList::of(blocks, count))
 }
 
-// The number of the span that holds the tick: the given one or the next.
-fn holder_from(spans: &SpanList, number: u32, tick: u32) -> u32
+// The block of so many slices from one on, and the number of the last of them. The first slice's is the
+// given number or the next.
+fn block_from(spans: &SpanList, number: u32, slice: u32, size: u32, places: u32) -> (Block, u32)
     requires ends { AreEnds (ends_of spans.now) }
-    requires there { number < length spans.now }
-    requires begun { begin_at (ends_of spans.now) number ≤ tick }
-    requires in_round { tick < ROUND }
-    requires next { number + 1 < length spans.now → tick < slice_index (ends_of spans.now) (number + 1) }
-    ensures { HoldsTick (ends_of spans.now) result tick }
+    requires shortest { IsShortest size (ends_of spans.now) }
+    requires some { 1 ≤ places }
+    requires few { places ≤ 32 }
+    requires in_round { (slice + places) * size < ROUND + size }
+    requires near { IsNear (ends_of spans.now) size number (slice * size) }
+    ensures small { result.0.first ≤ ROUND }
+    ensures holds { (place : ℕ) → place < places
+        → HoldsTick (ends_of spans.now) (number_in result.0 place) ((slice + place) * size) }
+    ensures near { IsNear (ends_of spans.now) size result.1 ((slice + places) * size) }
 {
+    let first = holder_from(spans, number, size, slice * size);
+    let mut last = first;
+    let mut rises = 0;
+    for place in 0..places - 1 {
+        let next = holder_from(spans, last, size, (slice + place + 1) * size);
+        rises = with_rise(rises, place, next - last);
+        last = next;
+    }
+    (Block { first, rises }, last)
+}
+
+// The number of the span that holds the tick: the given one or the next. `size` is for the proof alone.
+fn holder_from(spans: &SpanList, number: u32, size: u32, tick: u32) -> u32
+    requires ends { AreEnds (ends_of spans.now) }
+    requires shortest { IsShortest size (ends_of spans.now) }
+    requires near { IsNear (ends_of spans.now) size number tick }
+    requires in_round { tick < ROUND }
+    ensures holds { HoldsTick (ends_of spans.now) result tick }
+    ensures from { number ≤ result }
+    ensures next { result ≤ number + 1 }
+{
+    let _ = size;
     if tick < spans.end(number as usize) {
         number
     } else {

@@ -1,65 +1,59 @@
-ghost use Rattle.std.specs.Prelude.{◌≡◌, ◌<◌, ◌≤◌, ◌+◌, ◌++◌, ℕ, IsTrue, [], ◌∷◌, IfOk, OnErr, OnOk, Some, length, slice_get, slice_index};
+ghost use Rattle.std.specs.Prelude.{◌≡◌, ◌<◌, ◌++◌, IsTrue, [], ◌∷◌, IfOk, OnOk, Some, length, slice_get, slice_index};
 ghost use Rattle.tab_core.specs.declared.TheConstants.{ROUND};
 ghost use Rattle.slice_table.specs.declared.full_span.FullSpan.{FullSpan};
-ghost use Rattle.slice_table.specs.Inside.SpanLists.{pair_at};
+ghost use Rattle.slice_table.specs.Inside.SpanLists.{shown_at};
 ghost use Rattle.slice_table.specs.Slices.{ends_of};
 
+use crate::entry_list::{EntryList, SpanEntry};
 use crate::full_span::FullSpan;
 use std::alloc::{AllocError, Global};
 use std::marker::Model;
 use tab_core::{VcpuNo, VcpuSet};
 use table_form::{Span, Spot};
 
-/// A span with the number of its pair of sets.
-#[derive(Clone, Copy, Drop)]
-pub(crate) struct SpanEntry {
-    pub owner: Option<VcpuNo>,
-    pub end: u32,
-    pub pair: u32,
-}
-
-/// The vCPUs away and the sharers of some spans.
+/// What some spans show: the owner, the vCPUs away and the sharers.
 #[derive(Drop)]
-pub(crate) struct SetPair {
+pub(crate) struct Shown {
+    pub owner: Option<VcpuNo>,
     pub away: VcpuSet,
     pub sharers: VcpuSet,
 }
 
-/// Spans in order, which share pairs of sets. Contracts see each with its sets.
+/// Spans in order, of which those that show the same may share it. Contracts see each with what it shows.
 #[derive(Drop)]
 pub(crate) struct SpanList {
-    entries: Vec<SpanEntry>,
-    pairs: Vec<SetPair>,
+    entries: EntryList,
+    shown: Vec<Shown>,
 }
 
 impl Model for SpanList {
     ghost use Rattle.std.specs.Prelude.{◌<◌, ◌≤◌, List, All, length, map};
     ghost use Rattle.slice_table.specs.declared.full_span.FullSpan.{FullSpan};
-    ghost use Rattle.slice_table.specs.declared.span_list.SpanEntry.{SpanEntry};
+    ghost use Rattle.slice_table.specs.declared.entry_list.SpanEntry.{SpanEntry};
     ghost use Rattle.slice_table.specs.Inside.SpanLists.{span_of};
 
     ghost Value = { List FullSpan };
 
-    ghost view = { λ list. map (span_of list.pairs.items) list.entries.items };
+    ghost view = { λ list. map (span_of list.shown.items) list.entries };
 
-    ghost invariant = { λ list. (length list.pairs.items ≤ length list.entries.items)
-        × All (λ (entry : SpanEntry). entry.pair < length list.pairs.items) list.entries.items };
+    ghost invariant = { λ list. (length list.shown.items ≤ length list.entries)
+        × All (λ (entry : SpanEntry). entry.shown < length list.shown.items) list.entries };
 }
 
 impl SpanList {
-    /// No spans.
-    pub fn new(alloc: Global) -> SpanList
-        ensures { result ≡ [] }
+    /// No spans, with room for so many.
+    pub fn with_room(alloc: Global, spans: usize) -> Result<SpanList, AllocError>
+        ensures { IfOk result (λ list. list ≡ []) }
     {
-        SpanList {
-            entries: Vec::new(alloc),
-            pairs: Vec::new(alloc),
-        }
+        Ok(SpanList {
+            entries: EntryList::with_room(alloc, spans)?,
+            shown: Vec::new(alloc),
+        })
     }
 
-    /// Appends a span, which shares the pair of the number where that has its sets. The result is the
-    /// number of its pair.
-    pub fn push(&mut self, span: FullSpan, pair: u32) -> Result<u32, AllocError>
+    /// Appends a span, which shares what the number has, where that is what it shows. The result is the
+    /// number of what it shows.
+    pub fn push(&mut self, span: FullSpan, number: u32) -> Result<u32, AllocError>
         requires { length self.old < ROUND }
         ensures { OnOk result (self.new ≡ self.old ++ span ∷ []) }
     {
@@ -69,10 +63,28 @@ impl SpanList {
             sharers,
             end,
         } = span;
-        self.entries.reserve(1)?;
-        let pair = put_pair(&mut self.pairs, away, sharers, pair)?;
-        self.entries.push_reserved(SpanEntry { owner, end, pair });
-        Ok(pair)
+        let show = Shown {
+            owner,
+            away,
+            sharers,
+        };
+        if shows(&self.shown, number, &show) {
+            self.entries.push(SpanEntry { end, shown: number })?;
+            return Ok(number);
+        }
+        let shown = self.shown.len() as u32;
+        self.shown.reserve(1)?;
+        self.entries.push(SpanEntry { end, shown })?;
+        self.shown.push_reserved(show);
+        Ok(shown)
+    }
+
+    /// Gives back the room that no span takes.
+    pub fn shrink(&mut self)
+        ensures { self.new ≡ self.old }
+    {
+        self.entries.shrink();
+        self.shown.shrink_to_fit();
     }
 
     /// How many spans there are.
@@ -87,7 +99,7 @@ impl SpanList {
         requires { number < length self.now }
         ensures { result ≡ slice_index (ends_of self.now) number }
     {
-        self.entries[number].end
+        self.entries.at(number).end
     }
 
     /// The span of the number, without its sharers.
@@ -96,11 +108,11 @@ impl SpanList {
         ensures { (span : FullSpan) → slice_get self.now number ≡ Some span
             → (result.owner ≡ span.owner) × (result.away ≡ span.away) × (result.end ≡ span.end) }
     {
-        let entry = &self.entries[number];
-        let pair = &self.pairs[entry.pair as usize];
+        let entry = self.entries.at(number);
+        let shown = &self.shown[entry.shown as usize];
         Spot {
-            owner: entry.owner,
-            away: pair.away.copy(),
+            owner: shown.owner,
+            away: shown.away.copy(),
             end: entry.end,
         }
     }
@@ -111,45 +123,26 @@ impl SpanList {
         ensures { (span : FullSpan) → slice_get self.now number ≡ Some span
             → (result.owner ≡ span.owner) × (result.sharers.now ≡ span.sharers) × (result.end ≡ span.end) }
     {
-        let entry = &self.entries[number];
-        let pair = &self.pairs[entry.pair as usize];
+        let entry = self.entries.at(number);
+        let shown = &self.shown[entry.shown as usize];
         Span {
-            owner: entry.owner,
-            sharers: &pair.sharers,
+            owner: shown.owner,
+            sharers: &shown.sharers,
             end: entry.end,
         }
     }
 }
 
-// The number of a pair of these sets: the given one where that has them, else a new one.
-fn put_pair(
-    pairs: &mut Vec<SetPair>,
-    away: VcpuSet,
-    sharers: VcpuSet,
-    number: u32,
-) -> Result<u32, AllocError>
-    requires { length pairs.old.items < ROUND }
-    ensures there { IfOk result (λ at. (at < length pairs.new.items)
-        × (pair_at pairs.new.items at ≡ record { away = away; sharers = sharers })) }
-    ensures kept { (k : ℕ) → k < length pairs.old.items
-        → pair_at pairs.new.items k ≡ pair_at pairs.old.items k }
-    ensures grown { length pairs.old.items ≤ length pairs.new.items }
-    ensures one { length pairs.new.items ≤ length pairs.old.items + 1 }
-    ensures err { OnErr result (pairs.new.items ≡ pairs.old.items) }
-{
-    if has_pair(pairs, number, &away, &sharers) {
-        return Ok(number);
-    }
-    let at = pairs.len() as u32;
-    pairs.push(SetPair { away, sharers })?;
-    Ok(at)
-}
-
-// Whether the pair of the number is there and has these sets.
-fn has_pair(pairs: &[SetPair], number: u32, away: &VcpuSet, sharers: &VcpuSet) -> bool
-    ensures { IsTrue result → (number < length pairs.now)
-        × (pair_at pairs.now number ≡ record { away = away.now; sharers = sharers.now }) }
+// Whether this is shown at the number.
+fn shows(shown: &[Shown], number: u32, show: &Shown) -> bool
+    ensures { IsTrue result → (number < length shown.now) × (shown_at shown.now number ≡ show.now) }
 {
     let at = number as usize;
-    at < pairs.len() && pairs[at].away.same(away) && pairs[at].sharers.same(sharers)
+    at < shown.len() && is_same(&shown[at], show)
+}
+
+fn is_same(a: &Shown, b: &Shown) -> bool
+    ensures { IsTrue result → a.now ≡ b.now }
+{
+    a.owner == b.owner && a.away.same(&b.away) && a.sharers.same(&b.sharers)
 }

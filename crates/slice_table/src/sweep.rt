@@ -34,44 +34,49 @@ fn sweep(alloc: Global, plan: &Plan, scope: &Scope) -> Result<SpanList, AllocErr
     ensures { IfOk result (λ spans. AreSpansOf (plan_view plan.now) scope.now.core 0 spans ROUND) }
 {
     let mut numbers = first_numbers();
-    let mut pairs = [0; PAIR_PLACES];
-    let mut spans = SpanList::new(alloc);
+    let mut last = [0; PLACES];
+    let mut spans = SpanList::with_room(alloc, own_segments(plan, scope))?;
     let mut spot = look(plan, scope, &mut numbers, 0);
     'growing: while spot.end < ROUND {
         let next = look(plan, scope, &mut numbers, spot.end);
         if is_alike(&spot, &next) {
             spot.end = next.end;
         } else {
-            add(&mut spans, &mut pairs, FullSpan::of(spot, &scope.sharers))?;
+            add(&mut spans, &mut last, FullSpan::of(spot, &scope.sharers))?;
             spot = next;
         }
     }
-    add(&mut spans, &mut pairs, FullSpan::of(spot, &scope.sharers))?;
+    add(&mut spans, &mut last, FullSpan::of(spot, &scope.sharers))?;
+    spans.shrink();
     Ok(spans)
 }
 
-// Places for numbers of pairs: two for each owner and for idle time.
-const PAIR_PLACES: usize = 514;
+// How many segments the core's own row has: as many spans as there are where nobody is ever away.
+fn own_segments(plan: &Plan, scope: &Scope) -> usize
+    requires { scope.now.core < length plan.now.tables.rows }
+{
+    plan.tables.rows.items()[scope.core.index()]
+        .segments()
+        .len()
+}
 
-// Appends the span. Its pair is first sought where the last like it was.
-fn add(
-    spans: &mut SpanList,
-    pairs: &mut [u32; PAIR_PLACES],
-    span: FullSpan,
-) -> Result<(), AllocError>
+// Places for numbers of what spans show: two for each owner and for idle time.
+const PLACES: usize = 514;
+
+// Appends the span. What it shows is sought where the last one like it has it.
+fn add(spans: &mut SpanList, last: &mut [u32; PLACES], span: FullSpan) -> Result<(), AllocError>
     requires { length spans.old < ROUND }
     ensures { OnOk result (spans.new ≡ spans.old ++ span ∷ []) }
 {
-    let place = pair_place(&span);
-    let pair = spans.push(span, pairs[place])?;
-    pairs[place] = pair;
+    let place = place_of(&span);
+    last[place] = spans.push(span, last[place])?;
     Ok(())
 }
 
-// Where the number of the last pair of a span with this owner stands, apart for spans with and
+// Where the number of what the last span with this owner shows stands, apart for spans with and
 // without vCPUs away.
-fn pair_place(span: &FullSpan) -> usize
-    ensures { result < PAIR_PLACES }
+fn place_of(span: &FullSpan) -> usize
+    ensures { result < PLACES }
 {
     let owner = match span.owner {
         None => MAX_VCPUS as usize,

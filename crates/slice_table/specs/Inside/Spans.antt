@@ -16,3 +16,9 @@ pub record IsSliced (ticks : ℕ) (slices ends : List ℕ) : Type 0 where
   pub are_ends : AreEnds ends
   pub shortest : IsShortest ticks ends
   pub are_slices : AreSlices ticks slices ends
+
+-- the tick is held by the span of the number, or has come past its end by less than so many ticks
+pub record IsNear (ends : List ℕ) (ticks number tick : ℕ) : Type 0 where
+  pub there : number < length ends
+  pub begun : begin_at ends number ≤ tick
+  pub soon : tick < slice_index ends number + ticks

@@ -40,7 +40,10 @@ pub returns-clause-scope : goal.returns-clause-scope
 returns-clause-scope c = record {
   core = c.requires.core;
   home = c.homes_of-home.ensures;
-  sharers = c.sharers_of-sharers.ensures;
+  sharers = λ v small. (
+    λ has. (let both = (c.uncapped-sharers.ensures v).0 has in ((c.homes_of-home.ensures v small).0 both.0, both.1)),
+    λ shares. (c.uncapped-sharers.ensures v).1 ((c.homes_of-home.ensures v small).1 shares.0, shares.1),
+  );
   few = c.items.ensures.few;
   others = subst (λ (n : ℕ). AreOthers (plan_view c.args.plan.now) c.args.core n c.loop-number.others.items)
       (omega (arith, c.requires.owners.count, c.rows-number-end.ensures, c.loop-number-test.false, c.loop-number.auto.number-end))

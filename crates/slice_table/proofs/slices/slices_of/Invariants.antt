@@ -1,13 +1,13 @@
-use Rattle.std.proofs.Common.{◌≡◌, ℕ, ◌+◌, ◌*◌, ◌<◌, ◌≤◌, length}
-use Rattle.std.specs.Prelude.{slice_index}
-use Rattle.slice_table.specs.Slices.{HoldsTick, begin_at, ends_of}
+use Rattle.std.proofs.Common.{◌≡◌, ◌*◌, length}
+use Rattle.slice_table.specs.Inside.Spans.{IsNear}
+use Rattle.slice_table.specs.Slices.{ends_of}
+use Rattle.slice_table.proofs.SliceListLemmas.{AreSlicedTo}
 use Rattle.slice_table.proofs.slices.slices_of.Given as goal
 
-abbrev pub invariant-loop-slice : goal.invariant-loop-slice
-invariant-loop-slice l = record {
-  there : l.number < length (ends_of l.spans);
-  begun : begin_at (ends_of l.spans) l.number ≤ l.slice * l.size;
-  soon : l.slice * l.size < slice_index (ends_of l.spans) l.number + l.size;
-  count : length l.slices.items ≡ l.slice;
-  first : (k : ℕ) → k < l.slice → HoldsTick (ends_of l.spans) (slice_index l.slices.items k) (k * l.size);
+-- the blocks of the slices so far
+abbrev pub invariant-loop-block : goal.invariant-loop-block
+invariant-loop-block l = record {
+  count : length l.blocks.items ≡ l.block;
+  near : IsNear (ends_of l.spans) l.size l.number (l.block * 32 * l.size);
+  sliced : AreSlicedTo (ends_of l.spans) l.size l.blocks.items (l.block * 32);
 }

@@ -1,4 +1,4 @@
-use Rattle.std.proofs.Common.{◌≡◌, ℕ, List, refl, sym, subst, arith}
+use Rattle.std.proofs.Common.{◌≡◌, ℕ, List, refl, sym, subst, ◌∙◌, arith}
 use Rattle.tab_core.specs.declared.TheConstants.{ROUND}
 use Rattle.table_form.specs.Tables.Views.{plan_view}
 use Rattle.slice_table.specs.declared.full_span.FullSpan.{FullSpan}
@@ -19,7 +19,7 @@ growing-init c = record {
   from = 0;
   done = subst (λ (spans : List FullSpan). AreSpansOf (plan_view c.args.plan.now) c.args.scope.now.core 0
       spans 0)
-      (sym c.new-spans.ensures) refl;
+      (sym c.in_ok-spans.ensures) refl;
   part = c.look-spot.ensures.part;
   past = all_later c.args.plan.now.tables.rows 0 c.look-spot.result.end c.look-spot.new.numbers (omega arith)
       c.look-spot.ensures.past;
@@ -82,9 +82,9 @@ returns c =
     let last : c.growing.spot.end ≡ ROUND =
     (let within = was.part.within in omega (arith, c.growing-test.false)) in
     let end = part_last plan core was.from c.growing.spot was.part last in
-    subst (λ (to : ℕ). AreSpansOf plan core 0 c.add-2.new.spans to) last
+    subst (λ (to : ℕ). AreSpansOf plan core 0 c.shrink.new.self to) last
     (subst (λ (spans : List FullSpan). AreSpansOf plan core 0 spans c.growing.spot.end)
-    (sym c.in_ok-add-2.ensures)
+    (sym (c.shrink.ensures ∙ c.in_ok-add-2.ensures))
     (span_added plan c.args.scope.now was.from c.growing.spans c.growing.spot c.of-2.result c.requires
     was.done was.part
     end c.of-2.ensures.owner c.of-2.ensures.away c.of-2.ensures.end c.of-2.ensures.sharers))

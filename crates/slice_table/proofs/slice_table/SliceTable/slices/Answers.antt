@@ -9,8 +9,6 @@ pub returns-clause-two : goal.returns-clause-two
 returns-clause-two c = λ ticks tick shortest in_round.
     let table = c.self.inside in
     let ends = ends_of c.args.self.now in
-    let kept : IsSliced table.size table.slices.items ends =
-    subst (λ (spans : List FullSpan). IsSliced table.size table.slices.items (ends_of spans)) c.self.view_is c.self.invariant in
-    subst (λ (slices : List ℕ). MeetsTwo ticks slices ends tick) (sym c.deref.ensures.value)
-    (meets_two ticks table.slices.items ends tick
-    (sliced_by table.size ticks table.slices.items ends kept shortest) in_round)
+    let kept : IsSliced table.size table.slices ends =
+    subst (λ (spans : List FullSpan). IsSliced table.size table.slices (ends_of spans)) c.self.view_is c.self.invariant in
+    meets_two ticks table.slices ends tick (sliced_by table.size ticks table.slices ends kept shortest) in_round
