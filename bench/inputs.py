@@ -77,6 +77,9 @@ def checks():
             out += [f"{min(at, end)} {owner}" for at in range(begin + ticks, end + ticks, ticks)]
             begin = end
     write("pieces.check", text + "%%\n" + "\n".join(out + ["end"]) + "\n")
+    # a plan as it is written, whose rows have no vCPU in common
+    usual = host(24, [(f"v{n}", 100_000, 20_000_000) for n in range(192)])
+    write("check24.check", usual + "%%\n" + "\n".join(plan_of(usual)[0]) + "\n")
     # one vCPU to a core, in every other cell of its row, and vCPUs on all of 32 cores in turn
     write("cells4.check", rows_of(4, 500_000, 102_600, [[str(core), "-"] for core in range(4)], 1))
     turns = [[str((first + core) % 32) for first in range(32)] for core in range(32)]
