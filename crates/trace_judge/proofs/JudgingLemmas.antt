@@ -1,0 +1,172 @@
+-- The bytes of a trace that have come from its source.
+use Rattle.std.proofs.Common.{arith, ◌≡◌, ℕ, ◌≤◌, List, [], ◌++◌, map, take, Result, Ok, Err, IfErr, IfOk, MatchResult, inl, refl, sym, subst, ◌∙◌}
+use Rattle.std.proofs.KnownBytes.{Consumes-kept, Consumes-nil, Consumes-trans}
+use Rattle.std.proofs.lemmas.Option.{get_or_from_slice_get, slice_get_within}
+use Rattle.std.specs.Io.KnownBytes.{Consumes}
+use Rattle.std.specs.List.{All}
+use Rattle.tab_core.specs.declared.vcpu.Vcpu.{Vcpu}
+use Rattle.tab_io.specs.Sources.{Gave}
+use Rattle.tab_io.specs.Views.{SourceView}
+use Rattle.tab_io.specs.declared.source.Got.TheVariants as got
+use Rattle.tab_words.specs.Lines.{lines_of}
+use Rattle.tab_words.proofs.LineLemmas.{lines_of-nil}
+use Rattle.vcpu_names.specs.Names.{names_of}
+use Rattle.trace_doc.proofs.RowLemmas.{rows_from-nil}
+use Rattle.trace_judge.specs.Clashes.{IsCountOf}
+use Rattle.trace_judge.specs.Faults.{IsFaultIn}
+use Rattle.trace_judge.specs.Inside.Begun.{HasBegun}
+use Rattle.trace_judge.specs.Inside.Judged.{latency_of}
+use Rattle.trace_judge.specs.Inside.Readings.{HasReadBytes}
+use Rattle.trace_judge.specs.Inside.Reported.{sold_latency}
+use Rattle.trace_judge.specs.Inside.Settled.{IsTracked}
+use Rattle.trace_judge.specs.Judgements.{HasFault, JudgesTrace}
+use Rattle.trace_judge.specs.Reports.{IsReportOf}
+use Rattle.trace_judge.specs.declared.fault.JudgeFault.{JudgeFault}
+use Rattle.trace_judge.specs.declared.fault.JudgeFault.TheVariants.{BadLine, NoMemory, ReadFault, TooLong}
+use Rattle.trace_judge.specs.declared.reading.Reading.{Reading}
+use Rattle.trace_judge.specs.declared.report.Report.{Report}
+
+-- before the first line
+pub has_begun : (vcpus : List Vcpu) (reading : Reading) → reading.names ≡ names_of vcpus
+    → map latency_of reading.judge.trackers.items ≡ map sold_latency vcpus → reading.lines ≡ 0
+    → reading.judge.end_ns ≡ 0 → IsCountOf [] reading.judge.falls → IsCountOf [] reading.judge.unknown
+    → All (λ tracker. IsTracked [] tracker) reading.judge.trackers.items → HasBegun vcpus reading
+has_begun vcpus reading names latencies lines ends falls unknown tracked = record {
+  names = names;
+  latencies = latencies;
+  read = record {
+    marks = [];
+    said = rw (rows_from-nil 1) tt;
+    judged = record {
+      end_ns = ends;
+      falls = falls;
+      unknown = unknown;
+      each = λ v tracker at.
+          subst (IsTracked []) (get_or_from_slice_get reading.judge.trackers.items v tracker tracker at)
+          (tracked v tracker (slice_get_within reading.judge.trackers.items v tracker at));
+    };
+    count = lines;
+  };
+}
+
+-- bytes have come, and were read
+pub record HasCome (first now : SourceView) (vcpus : List Vcpu) (held : List ℕ) (reading : Reading) : Type 0 where
+  pub bytes : List ℕ
+  pub consumed : Consumes first.rest now.rest bytes
+  pub later : first.faults ≤ now.faults
+  pub names : reading.names ≡ names_of vcpus
+  pub latencies : map latency_of reading.judge.trackers.items ≡ map sold_latency vcpus
+  pub read : HasReadBytes bytes held reading
+
+-- none so far
+pub none_come : (view : SourceView) (vcpus : List Vcpu) (held : List ℕ) (reading : Reading) → held ≡ []
+    → HasBegun vcpus reading → HasCome view view vcpus held reading
+none_come view vcpus held reading none begun = record {
+  bytes = [];
+  consumed = Consumes-nil view.rest;
+  later = omega arith;
+  names = begun.names;
+  latencies = begun.latencies;
+  read = record {
+    whole = [];
+    ended = inl refl;
+    parts = sym none;
+    read = rw lines_of-nil begun.read;
+  };
+}
+
+-- one more piece
+pub piece_come : (first old new : SourceView) (vcpus : List Vcpu) (held more : List ℕ) (reading next : Reading)
+    (count : ℕ) (into : List ℕ) → HasCome first old vcpus held reading → Gave old new into (got.Bytes count)
+    → old.faults ≤ new.faults → next.names ≡ reading.names
+    → map latency_of next.judge.trackers.items ≡ map latency_of reading.judge.trackers.items
+    → ((bytes : List ℕ) → HasReadBytes bytes held reading → HasReadBytes (bytes ++ take count into) more next)
+    → HasCome first new vcpus more next
+piece_come first old new vcpus held more reading next count into come gave later names latencies read = record {
+  bytes = come.bytes ++ take count into;
+  consumed = Consumes-trans _ _ _ _ _ come.consumed gave.2;
+  later = omega (arith, come.later, later);
+  names = names ∙ come.names;
+  latencies = latencies ∙ come.latencies;
+  read = read come.bytes come.read;
+}
+
+-- a fault of lines is one of a trace that begins so
+fault_of : (old new : SourceView) (vcpus : List Vcpu) (bytes : List ℕ) (fault : JudgeFault)
+    → IsFaultIn (names_of vcpus) (lines_of bytes) fault → HasFault old new vcpus bytes fault
+fault_of old new vcpus bytes (BadLine number text) is = is
+fault_of old new vcpus bytes ReadFault is = absurd is
+fault_of old new vcpus bytes TooLong is = tt
+fault_of old new vcpus bytes NoMemory is = tt
+
+-- a piece with a fault
+pub piece_fault : (first old new : SourceView) (vcpus : List Vcpu) (held : List ℕ) (reading : Reading) (count : ℕ)
+    (into : List ℕ) (fault : JudgeFault) → HasCome first old vcpus held reading
+    → Gave old new into (got.Bytes count) → old.faults ≤ new.faults
+    → ((bytes : List ℕ) → HasReadBytes bytes held reading
+    → IsFaultIn reading.names (lines_of (bytes ++ take count into)) fault)
+    → JudgesTrace first new vcpus (Err fault)
+piece_fault first old new vcpus held reading count into fault come gave later bad =
+    let told : IsFaultIn (names_of vcpus) (lines_of (come.bytes ++ take count into)) fault =
+    subst (λ names. IsFaultIn names (lines_of (come.bytes ++ take count into)) fault) come.names
+    (bad come.bytes come.read) in
+    record {
+      bytes = come.bytes ++ take count into;
+      consumed = Consumes-trans _ _ _ _ _ come.consumed gave.2;
+      later = omega (arith, come.later, later);
+      told = fault_of first new vcpus (come.bytes ++ take count into) fault told;
+    }
+
+-- the source failed, or memory or numbers ran out
+pub failed_come : (first old new : SourceView) (vcpus : List Vcpu) (held into : List ℕ) (reading : Reading)
+    → HasCome first old vcpus held reading → Gave old new into got.Failed → old.faults ≤ new.faults
+    → JudgesTrace first new vcpus (Err ReadFault)
+failed_come first old new vcpus held into reading come gave later = record {
+  bytes = come.bytes;
+  consumed = Consumes-kept _ _ _ _ come.consumed gave.0;
+  later = omega (arith, come.later, later);
+  told = (let rose = gave.1 in omega (arith, come.later, rose));
+}
+
+pub ended_come : (first old new : SourceView) (vcpus : List Vcpu) (held into : List ℕ) (reading : Reading)
+    (result : Result Report JudgeFault) → HasCome first old vcpus held reading → Gave old new into got.End
+    → old.faults ≤ new.faults
+    → MatchResult result
+    (λ report. (all : List ℕ) → HasReadBytes all held reading → IsReportOf vcpus all report)
+    (λ fault. (all : List ℕ) → HasReadBytes all held reading → IsFaultIn (names_of vcpus) (lines_of all) fault)
+    → JudgesTrace first new vcpus result
+ended_come first old new vcpus held into reading (Ok report) come gave later told = record {
+  bytes = come.bytes;
+  consumed = Consumes-kept _ _ _ _ come.consumed gave.0;
+  later = omega (arith, come.later, later);
+  told = (gave.1, told come.bytes come.read);
+}
+ended_come first old new vcpus held into reading (Err fault) come gave later told = record {
+  bytes = come.bytes;
+  consumed = Consumes-kept _ _ _ _ come.consumed gave.0;
+  later = omega (arith, come.later, later);
+  told = fault_of first new vcpus come.bytes fault (told come.bytes come.read);
+}
+
+pub too_long : (first now : SourceView) (vcpus : List Vcpu) (held : List ℕ) (reading : Reading)
+    → HasCome first now vcpus held reading → JudgesTrace first now vcpus (Err TooLong)
+too_long first now vcpus held reading come = record {
+  bytes = come.bytes;
+  consumed = come.consumed;
+  later = come.later;
+  told = tt;
+}
+
+pub no_memory : (view : SourceView) (vcpus : List Vcpu) → JudgesTrace view view vcpus (Err NoMemory)
+no_memory view vcpus = record {
+  bytes = [];
+  consumed = Consumes-nil view.rest;
+  later = omega arith;
+  told = tt;
+}
+
+-- what is told in both cases
+pub in_both : {T E : Type 0} (result : Result T E) (A : T → Type 0) (B : E → Type 0) → IfOk result A
+    → IfErr result B → MatchResult result A B
+in_both (Ok value) A B one two = one
+in_both (Err fault) A B one two = two

@@ -1,0 +1,11 @@
+pub mod CourseLemmas
+pub mod JudgedLemmas
+pub mod JudgingLemmas
+pub mod MarkLemmas
+pub mod PieceLemmas
+pub mod ReadingLemmas
+pub mod ReportLemmas
+pub mod SettledLemmas
+pub mod TraceLemmas
+pub mod TrackerLemmas
+pub mod WaitLemmas

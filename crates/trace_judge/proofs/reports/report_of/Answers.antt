@@ -1,0 +1,11 @@
+use Rattle.std.proofs.Common.{refl}
+use Rattle.trace_judge.proofs.ReportLemmas.{report_told}
+use Rattle.trace_judge.proofs.reports.report_of.Goals as goal
+
+pub returns : goal.returns
+returns c = record {
+  told = λ marks is.
+      report_told marks c.args.tracker.now c.settle.new.self c.args.reservation.now c.args.end_ns _ is
+      c.settle.ensures.settled c.requires.latency c.settle.ensures.latency refl refl refl refl c.late_of.ensures
+      c.is_kept.ensures;
+}

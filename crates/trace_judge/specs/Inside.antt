@@ -1,0 +1,5 @@
+pub mod Begun
+pub mod Judged
+pub mod Readings
+pub mod Reported
+pub mod Settled

@@ -1,0 +1,20 @@
+-- What is kept of a trace.
+use Rattle.std.specs.Prelude.{◌≡◌, ℕ, [], List, Some, slice_get}
+use Rattle.trace_doc.specs.declared.mark.Mark.{Mark}
+use Rattle.trace_judge.specs.Clashes.{IsCountOf, falls, is_unknown, lines_where}
+use Rattle.trace_judge.specs.Inside.Settled.{IsTracked}
+use Rattle.trace_judge.specs.Traces.{end_of, marks_of, trace_of}
+use Rattle.trace_judge.specs.declared.judge.Judge.{Judge}
+use Rattle.trace_judge.specs.declared.tracker.Tracker.{Tracker}
+
+-- how long a vCPU's waits may be
+abbrev pub latency_of : Tracker → ℕ
+latency_of tracker = tracker.waits.latency_ns
+
+-- the marks have been taken
+pub record HasJudged (marks : List Mark) (judge : Judge) : Type 0 where
+  pub end_ns : judge.end_ns ≡ end_of marks
+  pub falls : IsCountOf (lines_where falls [] marks) judge.falls
+  pub unknown : IsCountOf (lines_where is_unknown [] (trace_of marks)) judge.unknown
+  pub each : (vcpu : ℕ) (tracker : Tracker) → slice_get judge.trackers.items vcpu ≡ Some tracker
+      → IsTracked (marks_of vcpu (trace_of marks)) tracker

@@ -1,0 +1,23 @@
+//! A judge of what ran on a host: it takes the marks of a trace one after the other, and keeps of each vCPU what is
+//! told of it.
+//!
+//! `specs/Traces.antt` says what the marks of a trace say of the vCPUs over time, `specs/Courses.antt` how long a vCPU
+//! is in a state, `specs/Waits.antt` what its waits are, `specs/Clashes.antt` which lines can't be, and `specs/Reports.antt`
+//! what is told. Each number is that of these definitions over the whole trace.
+#![tactic(auto)]
+
+mod counts;
+mod fault;
+mod judge;
+mod judging;
+mod reading;
+mod report;
+mod reports;
+mod source;
+mod times;
+mod tracker;
+mod waits;
+
+pub use fault::JudgeFault;
+pub use judging::judge_trace;
+pub use report::{LineCount, LongestWait, Report, VcpuReport};
