@@ -40,7 +40,7 @@ fn worker_of<'a>(
     requires fresh { IsFresh course.now (view_of seat.old) }
     requires core { HoldsCore (view_of seat.old) core }
     requires fits { FitsRounds course.now rounds }
-    ensures ready { IfOk result (IsReady board.now) }
+    ensures ready { IfOk result (λ w. IsReady board.now w.seat w.actor) }
     ensures board { IsSeatOf board.now seat.new }
     ensures fresh { IsFresh course.now (view_of seat.new) }
     ensures others { (a : ℕ) → a ≢ core → holds (view_of seat.new) a ≡ holds (view_of seat.old) a }
@@ -64,7 +64,7 @@ fn workers_of<'a>(
     requires cores { (c : ℕ) → c < course.now.cores → holds (view_of seat.old) c ≡ true }
     requires controller { holds (view_of seat.old) the_controller ≡ true }
     requires fits { FitsRounds course.now rounds }
-    ensures ready { IfOk result (λ workers. All (IsReady board.now) workers.items) }
+    ensures ready { IfOk result (λ workers. All (λ w. IsReady board.now w.seat w.actor) workers.items) }
     ensures board { IsSeatOf board.now seat.new }
     ensures fresh { IsFresh course.now (view_of seat.new) }
     ensures controller { holds (view_of seat.new) the_controller ≡ true }
@@ -77,16 +77,16 @@ fn workers_of<'a>(
 }
 
 fn step(board: &RoundBoard, worker: &mut Worker<'_>) -> CoreAnswer
-    requires { IsReady board.now worker.old }
-    ensures { IsReady board.now worker.new }
+    requires { IsReady board.now worker.old.seat worker.old.actor }
+    ensures { IsReady board.now worker.new.seat worker.new.actor }
 {
     core_step(board, &mut worker.seat, &mut worker.actor)
 }
 
 // A step of each core. Whether all have finished.
 fn turn(board: &RoundBoard, workers: &mut Vec<Worker<'_>>) -> bool
-    requires { All (IsReady board.now) workers.old.items }
-    ensures { All (IsReady board.now) workers.new.items }
+    requires { All (λ w. IsReady board.now w.seat w.actor) workers.old.items }
+    ensures { All (λ w. IsReady board.now w.seat w.actor) workers.new.items }
 {
     let mut finished = true;
     for at in 0..workers.len() {
@@ -99,8 +99,8 @@ fn turn(board: &RoundBoard, workers: &mut Vec<Worker<'_>>) -> bool
 
 // Whether all cores finish within so many turns.
 fn finish(board: &RoundBoard, workers: &mut Vec<Worker<'_>>, turns: u32) -> bool
-    requires { All (IsReady board.now) workers.old.items }
-    ensures { All (IsReady board.now) workers.new.items }
+    requires { All (λ w. IsReady board.now w.seat w.actor) workers.old.items }
+    ensures { All (λ w. IsReady board.now w.seat w.actor) workers.new.items }
 {
     for _turn in 0..turns {
         if turn(board, workers) {

@@ -7,7 +7,7 @@ use Rattle.threads_tests.specs.Workers.{IsReady}
 use Rattle.threads_tests.proofs.actors.workers_of.Goals as goal
 
 -- a list of one that is ready
-one_ready : (board : RoundBoard) (worker : Worker) → IsReady board worker → All (IsReady board) (worker ∷ [])
+one_ready : (board : RoundBoard) (worker : Worker) → IsReady board worker.seat worker.actor → All (λ (w : Worker). IsReady board w.seat w.actor) (worker ∷ [])
 one_ready board worker is zero d lt = is
 one_ready board worker is (suc k) d lt = absurd (omega (arith, lt))
 
@@ -30,7 +30,7 @@ loop-core-preserved c =
       cores = λ d from lt. c.worker_of.ensures.others d (λ is. absurd (omega (arith, is, from)))
           ∙ was.cores d (omega (arith, from)) lt;
       controller = c.worker_of.ensures.others controller away ∙ was.controller;
-      ready = subst (All (IsReady board)) (sym c.in_ok-push.ensures.items)
-          (All-append (IsReady board) c.loop-core.workers.items (worker ∷ []) was.ready
+      ready = subst (All (λ (w : Worker). IsReady board w.seat w.actor)) (sym c.in_ok-push.ensures.items)
+          (All-append (λ (w : Worker). IsReady board w.seat w.actor) c.loop-core.workers.items (worker ∷ []) was.ready
           (one_ready board worker c.in_ok-worker_of.ensures.ready));
     }
