@@ -1,0 +1,4 @@
+pub mod BesideLemmas
+pub mod GoingLemmas
+pub mod RunLemmas
+pub mod TurnLemmas

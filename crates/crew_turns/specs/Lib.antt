@@ -1,0 +1,5 @@
+pub mod Going
+pub mod Inside
+pub mod Kinds
+pub mod Numbers
+pub mod Troops

@@ -1,0 +1,17 @@
+-- What is said of numbers alone: of the least of some clocks.
+-- Source: the rules of this project.
+use Rattle.std.specs.Prelude.{◌≡◌, ◌≢◌, ◌⊎◌, ℕ, ◌<◌, ◌≤◌, List, slice_index}
+use Rattle.crew_turns.specs.declared.clocks.TheConstants.{OUT}
+
+-- no core of the first n is behind core c
+abbrev pub IsLeast : List ℕ → ℕ → ℕ → Type 0
+IsLeast ticks c n = (d : ℕ) → d < n → slice_index ticks c ≤ slice_index ticks d
+
+-- each core before core c is ahead of it
+abbrev pub IsFirst : List ℕ → ℕ → Type 0
+IsFirst ticks c = (d : ℕ) → d < c → slice_index ticks c < slice_index ticks d
+
+-- the tick is the least clock of the first n cores but core c, or OUT where no other is to go on
+pub record IsLeastBut (ticks : List ℕ) (c n tick : ℕ) : Type 0 where
+  pub low : (d : ℕ) → d < n → d ≢ c → tick ≤ slice_index ticks d
+  pub one : (tick ≡ OUT) ⊎ ((d : ℕ) × (d < n) × (d ≢ c) × (slice_index ticks d ≡ tick))
