@@ -8,7 +8,6 @@ VERSION = 0.1.0
 to = $(DESTDIR)$(PREFIX)
 program = crates/tableau/out/tableau
 tools = crates/tableau_tools/out/tableau_tools
-package = tableau-$(VERSION)-x86_64-linux
 
 all:
 	@test "$$TABLEAU_BUILD" != try || { echo "TABLEAU_BUILD=try builds nothing to install" >&2; exit 1; }
@@ -55,8 +54,10 @@ uninstall:
 	rm -f "$(to)/share/fish/vendor_completions.d/tableau-tools.fish"
 	rm -rf "$(to)/share/doc/tableau"
 
-dist:
-	rm -rf $(package)
-	$(MAKE) install PREFIX= DESTDIR="$(package)"
-	tar -czf $(package).tar.gz $(package)
-	rm -rf $(package)
+# what is installed, packed for hosts without the kit, with a checksum
+dist: all
+	packaging/dist $(VERSION)
+
+# the same as a Debian package
+deb: all
+	packaging/deb $(VERSION)
