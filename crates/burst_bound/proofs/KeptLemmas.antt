@@ -5,7 +5,7 @@ use Rattle.tab_core.proofs.Lists.{element_at}
 use Rattle.table_form.specs.Running.Courses.{CourseView}
 use Rattle.table_form.specs.Running.State.{State, CoreState, IsCore}
 use Rattle.dispatch_core.specs.States.{StateView}
-use Rattle.core_workers.specs.Groups.{CrewView, actor_of}
+use Rattle.core_workers.specs.Views.{CrewView, actor_of}
 use Rattle.burst_bound.specs.Inside.Seeing.{AreInOrder}
 use Rattle.burst_bound.specs.KeptRuns.{IsKeptRun}
 use Rattle.burst_bound.proofs.SeenLemmas.{core_in_order}

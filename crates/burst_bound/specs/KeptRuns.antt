@@ -4,7 +4,7 @@ use Rattle.table_form.specs.Running.Courses.{CourseView}
 use Rattle.table_form.specs.Running.Invariant.{IsComplete, StateInvariant}
 use Rattle.table_form.specs.Running.State.{State, CoreState, IsCore}
 use Rattle.dispatch_core.specs.States.{StateView}
-use Rattle.core_workers.specs.Groups.{CrewView, actor_of}
+use Rattle.core_workers.specs.Views.{CrewView, actor_of}
 
 -- a whole run of the course led to the state, and the crew's actors have its rounds' used counts and all its stints
 pub record IsKeptRun (course : CourseView) (rounds : ℕ) (crew : CrewView) (s : State) : Type 0 where

@@ -1,5 +1,8 @@
 -- What a step brings, by what its actor keeps.
-use Rattle.std.proofs.Common.{◌≡◌, ℕ, ◌<◌, true, List, length, inl, inr, sym, ap, ◌∙◌, subst, arith}
+use Rattle.std.proofs.Common.{◌≡◌, ℕ, ◌*◌, ◌<◌, true, List, length, inl, inr, refl, sym, ap, ◌∙◌, subst, arith}
+use mathlib.Core.Logic.{dite}
+use native.Mathlib.Decide.{ℕ_discrete}
+use Rattle.tab_core.specs.declared.TheConstants.{ROUND}
 use Rattle.tab_core.specs.declared.actor.Actor.TheVariants.{Core, Controller}
 use Rattle.tab_core.specs.declared.stint.Stint.{Stint}
 use Rattle.table_form.specs.Running.Choice.{IsDispatch}
@@ -22,14 +25,46 @@ use Rattle.plan_switch.specs.declared.state.ControlState.{ControlState}
 use Rattle.plan_switch.specs.declared.answer.ControlAnswer.{ControlAnswer}
 use Rattle.plan_switch.specs.declared.answer.ControlAnswer.TheVariants as control
 use Rattle.plan_switch.specs.Told.{ControlTold}
-use Rattle.core_workers.specs.Inside.Teams.{PartsGoOn}
-use Rattle.core_workers.specs.Inside.Turns.{CoreStep, LeadStep}
-use Rattle.core_workers.specs.Waiting.{CoreWaits, IsOn}
-use Rattle.core_workers.proofs.PartsLemmas.{on_cores, on_entered, on_hears, on_more, on_none, on_posts, on_sees, parts_changed}
+use Rattle.crew_turns.specs.Going.{IsOn, IsQuiet, PartsGoOn}
+use Rattle.crew_turns.proofs.GoingLemmas.{actors_none, actors_step, on_more, on_none, parts_changed}
+use Rattle.core_workers.specs.Crews.{HasFinished}
+use Rattle.core_workers.specs.Waiting.{CoreWaits, LeadWaits}
+use Rattle.core_workers.proofs.PartsLemmas.{on_cores, on_entered, on_hears, on_posts, on_sees}
+
+-- what a core's step brings, by what it answers
+abbrev pub CoreStep : CourseView → StateView → View → CoreAnswer → StateView → View → Type 0
+CoreStep course a v (Ran s) b w = a.clock < b.clock
+CoreStep course a v (Behind who tick) b w = (b.clock ≡ a.clock) × IsQuiet v w × CoreWaits course b.core v w
+CoreStep course a v Finished b w = (b.clock ≡ a.clock) × IsQuiet v w × HasFinished b
+
+-- what the controller's step brings, which has posted n events before and k afterwards
+abbrev pub LeadStep : CourseView → ℕ → View → ControlAnswer → ℕ → View → Type 0
+LeadStep course n v (control.Posted count) k w = n < k
+LeadStep course n v (control.Behind core tick) k w = (k ≡ n) × IsQuiet v w × LeadWaits course k v w
+LeadStep course n v control.Finished k w = (k ≡ n) × IsQuiet v w × (k ≡ length course.ticks)
+
+-- a step in which the actor didn't get on
+quiet_none : (v : View) → IsQuiet v v
+quiet_none v = record { actors = actors_none v; clocks = λ a. refl; floors = λ a. refl }
+
+quiet_step : (v w : View) (c : ℕ) → ChangesOnly v w c → (part w c).clock ≡ (part v c).clock → (part w c).floors ≡ (part v c).floors → IsQuiet v w
+quiet_step v w c changes clock floors = record {
+  actors = actors_step v w c changes;
+  clocks = λ a. dite (ℕ_discrete a c)
+      (λ e. subst (λ (i : ℕ). (part w i).clock ≡ (part v i).clock) (sym e) clock)
+      (λ ne. ap (λ (p : Part). p.clock) (changes.parts a ne));
+  floors = λ a. dite (ℕ_discrete a c)
+      (λ e. subst (λ (i : ℕ). (part w i).floors ≡ (part v i).floors) (sym e) floors)
+      (λ ne. ap (λ (p : Part). p.floors) (changes.parts a ne));
+}
 
 -- the actor's clock is that of its core's part
 clock_now : (course : CourseView) (a b : StateView) (w : View) → IsSameCore a b → AgreesWith course b w → b.clock ≡ (part w a.core).clock
 clock_now course a b w same agrees = agrees.stands.clock ∙ ap (λ (c : ℕ). (part w c).clock) same.core
+
+-- entering posts nothing
+entered_floors : (p q : Part) → ComesToEnter p q → q.floors ≡ p.floors
+entered_floors p q enters = elim enters [ inl had ↦ ap (λ (r : Part). r.floors) had.1 | inr d ↦ ap (λ (r : Part). r.floors) d.becomes ]
 
 -- what was heard doesn't matter to the stint that comes next
 next_same : (course : CourseView) (c : ℕ) (p q : Part) (s : Stint) → SamePart p q → ComesNext course c p s → ComesNext course c q s
@@ -90,29 +125,34 @@ pub core_stepped : (course : CourseView) (a b : StateView) (v w : View) (answer 
 core_stepped course a b v w (Ran s) ok same was now changes told =
     let begins = told.2 in
     let runs = told.3 in
-    let p : Part = part v a.core in
-    let clock : p.clock ≡ a.clock = sym was.stands.clock in
-    let es = entered_same (sees p told.0) told.1 begins.enters in
+    let es = entered_same (sees (part v a.core) told.0) told.1 begins.enters in
     let bounds = stint_bounds course a.core told.1.stints s ok runs.next.follows in
-    let from : s.from ≡ p.clock = runs.next.begins.from ∙ es.clock in
-    let end : b.clock ≡ s.end = clock_now course a b w same now ∙ ap (λ (q : Part). q.clock) runs.becomes in
-    (omega (arith, bounds.0, from, clock, end), end)
+    omega (arith, bounds.0, runs.next.begins.from, es.clock, was.stands.clock, clock_now course a b w same now, ap (λ (q : Part). q.clock) runs.becomes)
 core_stepped course a b v w (Behind Controller tick) ok same was now changes told =
     let lacks = told.1 in
-    let lt : a.core < course.cores = omega (arith, was.stands.core.0, was.stands.of_outline.cores_are) in (
-      clock_now course a b w same now ∙ (ap (λ (p : Part). p.clock) lacks.becomes ∙ sym was.stands.clock),
-      lacks_waits course a.core tick v w ok lt changes lacks,
+    let lt : a.core < course.cores = omega (arith, was.stands.core.0, was.stands.of_outline.cores_are) in
+    let clock : (part w a.core).clock ≡ (part v a.core).clock = ap (λ (p : Part). p.clock) lacks.becomes in (
+      clock_now course a b w same now ∙ (clock ∙ sym was.stands.clock),
+      quiet_step v w a.core changes clock (ap (λ (p : Part). p.floors) lacks.becomes),
+      subst (λ (c : ℕ). CoreWaits course c v w) (sym same.core) (lacks_waits course a.core tick v w ok lt changes lacks),
     )
 core_stepped course a b v w (Behind (Core d) tick) ok same was now changes told =
     let begins = told.2 in
     let finds = told.3 in
-    let es = entered_same (sees (part v a.core) told.0) told.1 begins.enters in
-    let hs = found_same course a.core d tick told.0 told.1 v w changes begins.enters finds in (
-      clock_now course a b w same now ∙ (hs.clock ∙ (es.clock ∙ sym was.stands.clock)),
-      finds_waits course a.core d tick told.0 told.1 v w changes begins.enters finds told.4,
+    let p : Part = sees (part v a.core) told.0 in
+    let es = entered_same p told.1 begins.enters in
+    let hs = found_same course a.core d tick told.0 told.1 v w changes begins.enters finds in
+    let clock : (part w a.core).clock ≡ (part v a.core).clock = hs.clock ∙ es.clock in (
+      clock_now course a b w same now ∙ (clock ∙ sym was.stands.clock),
+      quiet_step v w a.core changes clock (hs.floors ∙ entered_floors p told.1 begins.enters),
+      subst (λ (c : ℕ). CoreWaits course c v w) (sym same.core) (finds_waits course a.core d tick told.0 told.1 v w changes begins.enters finds told.4),
     )
 core_stepped course a b v w Finished ok same was now changes told =
-    (clock_now course a b w same now ∙ (ap (λ (u : View). (part u a.core).clock) told.1 ∙ sym was.stands.clock), was.stands.clock ∙ told.0)
+    let stays : b.clock ≡ a.clock = clock_now course a b w same now ∙ (ap (λ (u : View). (part u a.core).clock) told.1 ∙ sym was.stands.clock) in (
+      stays,
+      subst (IsQuiet v) (sym told.1) (quiet_none v),
+      stays ∙ (was.stands.clock ∙ (told.0 ∙ ap (λ (r : ℕ). r * ROUND) (sym same.rounds))),
+    )
 
 -- so the core's part is some steps on
 core_on : (course : CourseView) (rounds c : ℕ) (v w : View) (answer : CoreAnswer) → IsCourse course → ChangesOnly v w c → CoreTold course rounds c v answer w → IsOn (part v c) (part w c)
@@ -145,12 +185,16 @@ pub lead_stepped : (course : CourseView) (k l : ControlState) (v w : View) (answ
 lead_stepped course k l v w (control.Posted count) was now changes told =
     let posts = told.2 in
     let hs = heard_same controller _ _ _ (part v controller) posts.heard posts.near in
-    (told.0, omega (arith, now.posted, ap (λ (p : Part). length p.floors) posts.becomes, length_push posts.heard.floors (controllers.floor_of (outline_of course) k.posted), ap length hs.floors, was.posted))
+    omega (arith, now.posted, ap (λ (p : Part). length p.floors) posts.becomes, length_push posts.heard.floors (controllers.floor_of (outline_of course) k.posted), ap length hs.floors, was.posted)
 lead_stepped course k l v w (control.Behind d tick) was now changes told =
     let low = told.1 in
-    let hs = heard_same controller _ _ _ (part v controller) low.heard low.near in (
-      omega (arith, now.posted, ap (λ (p : Part). length p.floors) low.becomes, ap length hs.floors, was.posted),
-      record {
+    let hs = heard_same controller _ _ _ (part v controller) low.heard low.near in
+    let clock : (part w controller).clock ≡ (part v controller).clock = ap (λ (p : Part). p.clock) low.becomes ∙ hs.clock in
+    let floors : (part w controller).floors ≡ (part v controller).floors = ap (λ (p : Part). p.floors) low.becomes ∙ hs.floors in
+    let stays : l.posted ≡ k.posted = now.posted ∙ (ap length floors ∙ sym was.posted) in (
+      stays,
+      quiet_step v w controller changes clock floors,
+      subst (λ (n : ℕ). LeadWaits course n v w) (sym stays) (record {
         some = told.0;
         awaits = record {
           before = low.heard;
@@ -163,10 +207,11 @@ lead_stepped course k l v w (control.Behind d tick) was now changes told =
           low = low.low;
           exact = λ has. low.exact (sym (changes.actors d) ∙ has) ∙ ap (λ (p : Part). p.clock) (sym (changes.parts d low.other));
         };
-      },
+      }),
     )
 lead_stepped course k l v w control.Finished was now changes told =
-    (now.posted ∙ (ap (λ (u : View). length (part u controller).floors) told.1 ∙ sym was.posted), told.0)
+    let stays : l.posted ≡ k.posted = now.posted ∙ (ap (λ (u : View). length (part u controller).floors) told.1 ∙ sym was.posted) in
+    (stays, subst (IsQuiet v) (sym told.1) (quiet_none v), stays ∙ told.0)
 
 -- and its part is some steps on
 lead_on : (course : CourseView) (n : ℕ) (v w : View) (answer : ControlAnswer) → ControlTold (outline_of course) n v answer w → IsOn (part v controller) (part w controller)

@@ -13,7 +13,7 @@ use Rattle.board_state.specs.RunViews.{IsFinished, IsRunView}
 use Rattle.board_state.proofs.FinishedLemmas.{counts_used, view_complete}
 use Rattle.board_state.proofs.RunViewLemmas.{view_kept}
 use Rattle.board_state.proofs.ViewLemmas.{IsAgreedBy, finished_view, run_view}
-use Rattle.core_workers.specs.Groups.{CrewView, actor_of}
+use Rattle.core_workers.specs.Views.{CrewView, actor_of}
 use Rattle.core_workers.specs.Crews.{AllAgree, HeldFinished, HoldsAll, IsCrew, IsWhole}
 
 module _ (crew : CrewView) (v : View) (is : IsCrew crew) (whole : IsWhole crew) (agree : AllAgree crew v) (all : HoldsAll crew v) (shown : ViewInvariant v) where

@@ -1,14 +1,13 @@
 -- A crew at rest, all of whose parts the view holds, has finished.
-use Rattle.std.proofs.Common.{◌≡◌, ℕ, ◌*◌, ◌<◌, inl, inr, sym, ap, ◌∙◌, subst, arith}
+use Rattle.std.proofs.Common.{◌≡◌, ℕ, ◌*◌, ◌<◌, inl, inr, sym, ap, ◌∙◌, arith}
 use Rattle.tab_core.specs.declared.TheConstants.{ROUND}
-use Rattle.table_form.specs.Running.Courses.{CourseView, tick_at}
+use Rattle.table_form.specs.Running.Courses.{tick_at}
 use Rattle.round_words.specs.declared.view.View.{View}
 use Rattle.round_words.specs.Shown.{HoldsCore}
-use Rattle.round_words.specs.Views.{controller, part}
+use Rattle.round_words.specs.Views.{part}
 use Rattle.run_promises.proofs.ChoiceLemmas.{stint_bounds}
-use Rattle.core_workers.specs.Groups.{CrewView}
+use Rattle.core_workers.specs.Views.{CrewView}
 use Rattle.core_workers.specs.Crews.{AllAgree, CoresFinished, HasPosted, HeldFinished, HoldsAll, IsCrew, IsWhole}
-use Rattle.core_workers.specs.Inside.Teams.{GoesOn}
 use Rattle.core_workers.specs.Waiting.{AreAtRest, AwaitsEvent, AwaitsOther, LeastWaits}
 
 module _ (crew : CrewView) (v w : View) (is : IsCrew crew) (whole : IsWhole crew) (agree : AllAgree crew w) (all : HoldsAll crew w) (rest : AreAtRest crew v w) where
@@ -52,10 +51,3 @@ module _ (crew : CrewView) (v w : View) (is : IsCrew crew) (whole : IsWhole crew
 
   pub rest_finished : HeldFinished crew w
   rest_finished = record { cores = all_end; control = λ _. all_posted }
-
--- the view of a crew that went on still holds all parts
-pub all_held : (crew crew' : CrewView) (u v : View) → GoesOn crew u crew' v → HoldsAll crew u → HoldsAll crew' v
-all_held crew crew' u v on all = record {
-  cores = λ d lt. on.actors.actors d ∙ all.cores d (subst (λ (k : CourseView). d < k.cores) on.same.course lt);
-  control = on.actors.actors controller ∙ all.control;
-}

@@ -8,7 +8,7 @@ use Rattle.round_words.proofs.StartLemmas.{all_are_new}
 use Rattle.dispatch_core.specs.Parts.{IsNewPart}
 use Rattle.plan_switch.specs.Controllers as controllers
 use Rattle.core_workers.specs.Crews.{HoldsAll, IsFresh}
-use Rattle.core_workers.specs.Groups.{CrewView}
+use Rattle.core_workers.specs.Views.{CrewView}
 
 there : (n : ℕ) (rest : List (Option Part)) (a : ℕ) → a < n → is_some (part_at (replicate n (Some new_part) ++ rest) a) ≡ true
 there zero rest a lt = absurd (omega arith)
@@ -43,6 +43,10 @@ holds_started crew v is le = subst (HoldsAll crew) (sym is) (record {
       let rest : List (Option Part) = Some new_part ∷ [] in
       ap is_some (ap (part_at (all_new crew.course.cores)) (sym a) ∙ (past crew.course.cores (Some new_part) (replicate (32 - crew.course.cores) None ++ rest) ((32 - crew.course.cores) + 0) ∙ past (32 - crew.course.cores) None rest 0)));
 })
+
+-- a crew of nobody, by a course
+abbrev pub nobody : CourseView → CrewView
+nobody course = record { course = course; rounds = 0; control = record { posted = 0; known = [] }; actors = [] }
 
 -- the same, of a board started with what the course tells
 pub fresh_as : (course : CourseView) (v : View) (lag cores events : ℕ) → lag ≡ course.lag → cores ≡ course.cores → events ≡ length course.ticks → v ≡ just_started lag cores events → IsFresh course v

@@ -9,7 +9,7 @@ use Rattle.round_words.specs.Views.{controller, holds, part}
 use Rattle.dispatch_core.specs.Parts.{IsNewPart, IsOfOutline}
 use Rattle.dispatch_core.specs.States.{AgreesWith, IsSameCore, StateView}
 use Rattle.plan_switch.specs.Controllers as controllers
-use Rattle.core_workers.specs.Groups.{CrewView, actor_of}
+use Rattle.core_workers.specs.Views.{CrewView, actor_of}
 
 -- the actor is that of core c, in the crew's run
 pub record IsActorOf (crew : CrewView) (c : ℕ) (a : StateView) : Type 0 where
@@ -70,14 +70,6 @@ CoresFinished crew v = (c : ℕ) (a : StateView) → actor_of crew c ≡ Some a 
 pub record HeldFinished (crew : CrewView) (v : View) : Type 0 where
   pub cores : CoresFinished crew v
   pub control : holds v controller ≡ true → HasPosted crew
-
--- the same board, and parts of the same actors
-pub record SameActors (v w : View) : Type 0 where
-  pub started : w.started ≡ v.started
-  pub lag : w.lag ≡ v.lag
-  pub cores : w.cores ≡ v.cores
-  pub events : w.events ≡ v.events
-  pub actors : (a : ℕ) → holds w a ≡ holds v a
 
 -- the view was started for the course, and nothing has happened to the parts that it holds
 pub record IsFresh (course : CourseView) (v : View) : Type 0 where

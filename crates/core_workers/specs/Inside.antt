@@ -1,5 +1,2 @@
-pub mod Clocks
 pub mod Making
-pub mod Places
-pub mod Teams
-pub mod Turns
+pub mod Players

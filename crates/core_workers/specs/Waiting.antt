@@ -6,17 +6,11 @@ use Rattle.table_form.specs.Running.Courses.{CourseView, tick_at}
 use Rattle.round_words.specs.declared.view.Part.{Part}
 use Rattle.round_words.specs.declared.view.View.{View}
 use Rattle.round_words.specs.Shown.{HoldsCore}
-use Rattle.round_words.specs.Views.{controller, heard_of, holds, part, hears, sees}
+use Rattle.round_words.specs.Views.{controller, holds, part, hears, sees}
+use Rattle.crew_turns.specs.Going.{IsOn}
 use Rattle.dispatch_core.specs.Told.{ComesNext}
-use Rattle.core_workers.specs.Groups.{CrewView}
+use Rattle.core_workers.specs.Views.{CrewView}
 use Rattle.core_workers.specs.Crews.{CoresFinished, HasPosted}
-
--- q is an actor's part p, maybe some steps on: its clock is later or it has seen no less at that clock, and
--- it has heard each core no less often
-pub record IsOn (p q : Part) : Type 0 where
-  pub clock : p.clock ≤ q.clock
-  pub sights : q.clock ≡ p.clock → length p.sights ≤ length q.sights
-  pub heard : (d : ℕ) → length (heard_of p d) ≤ length (heard_of q d)
 
 -- the last that core c did since v was to see a count, which lacks an event of tick at most the core's clock
 -- less the lag

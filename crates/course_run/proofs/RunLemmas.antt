@@ -24,7 +24,7 @@ use Rattle.board_state.specs.RunViews.{HoldsAllParts}
 use Rattle.core_workers.proofs.CrewLemmas.{at_was}
 use Rattle.core_workers.proofs.FinishedLemmas.{complete, counts, ended, kept, promises, run}
 use Rattle.core_workers.specs.Crews.{AllAgree, HeldFinished, HoldsAll, IsCrew, IsSameCrew, IsWhole}
-use Rattle.core_workers.specs.Groups.{CrewView, actor_of}
+use Rattle.core_workers.specs.Views.{CrewView, actor_of}
 use Rattle.stint_limit.proofs.StintBoundLemmas.{few_stints}
 use Rattle.trace_report.specs.ReportViews.{ReportView}
 use Rattle.trace_report.specs.RunReports.{IsReportOf}

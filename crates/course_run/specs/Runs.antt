@@ -17,7 +17,7 @@ use Rattle.dispatch_core.specs.declared.account.CoreAccount.{CoreAccount}
 use Rattle.round_words.specs.declared.view.View.{View}
 use Rattle.board_state.specs.Readings.{state_of}
 use Rattle.board_state.specs.RunViews.{HoldsAllParts}
-use Rattle.core_workers.specs.Groups.{CrewView, actor_of}
+use Rattle.core_workers.specs.Views.{CrewView, actor_of}
 use Rattle.trace_report.specs.ReportViews.{ReportView}
 use Rattle.trace_report.specs.RunReports.{IsReportOf}
 

@@ -35,6 +35,33 @@ board_of v w s = record { started = s.started; lag = s.lag; cores = s.cores; eve
 board_twice : (u v w : View) → IsSameBoard u v → IsSameBoard v w → IsSameBoard u w
 board_twice u v w x y = record { started = y.started ∙ x.started; lag = y.lag ∙ x.lag; cores = y.cores ∙ x.cores; events = y.events ∙ x.events }
 
+-- a seat is parted, and what comes of its two parts meets again: the parts are those of the same actors
+pub actors_met : (mask : ℕ) (v left own x y w : View) → left ≡ without mask v → own ≡ only mask v → SameActors left x → SameActors own y → w ≡ both x y → SameActors v w
+actors_met mask v left own x y w is is' one two joined = subst (SameActors v) (sym joined) (record {
+  started = one.started ∙ ap (λ (z : View). z.started) is;
+  lag = one.lag ∙ ap (λ (z : View). z.lag) is;
+  cores = one.cores ∙ ap (λ (z : View). z.cores) is;
+  events = one.events ∙ ap (λ (z : View). z.events) is;
+  actors = λ a. holds_both x y a ∙ (ap₂ (λ (b c : Bool). b || c) (one.actors a ∙ ap (λ (z : View). holds z a) is) (two.actors a ∙ ap (λ (z : View). holds z a) is') ∙ by (names mask a) mask v a refl);
+})
+  where
+    or_none : (b : Bool) → (b || false) ≡ b
+    or_none true = refl
+    or_none false = refl
+
+    by : (b : Bool) (m : ℕ) (v : View) (a : ℕ) → names m a ≡ b → (holds (without m v) a || holds (only m v) a) ≡ holds v a
+    by true m v a e = ap₂ (λ (b c : Bool). b || c) (without_named m v a e) (only_named m v a e).0
+    by false m v a e = ap₂ (λ (b c : Bool). b || c) (without_others m v a e).0 (only_others m v a e) ∙ or_none (holds v a)
+
+-- and of one board
+pub board_met : (mask : ℕ) (v left own x y : View) → left ≡ without mask v → own ≡ only mask v → SameActors left x → SameActors own y → IsSameBoard x y
+board_met mask v left own x y is is' one two = record {
+  started = two.started ∙ (ap (λ (z : View). z.started) is' ∙ sym (one.started ∙ ap (λ (z : View). z.started) is));
+  lag = two.lag ∙ (ap (λ (z : View). z.lag) is' ∙ sym (one.lag ∙ ap (λ (z : View). z.lag) is));
+  cores = two.cores ∙ (ap (λ (z : View). z.cores) is' ∙ sym (one.cores ∙ ap (λ (z : View). z.cores) is));
+  events = two.events ∙ (ap (λ (z : View). z.events) is' ∙ sym (one.events ∙ ap (λ (z : View). z.events) is));
+}
+
 -- the mask of core n alone
 pub mask_is : (k n : ℕ) → k ≡ n → n < 32 → 1 * 2 ^ k % 18446744073709551616 ≡ 2 ^ n
 mask_is k n e lt = (one_shifted k 18446744073709551615 refl (omega (arith, e, lt))).0 ∙ ap (λ (i : ℕ). 2 ^ i) e
@@ -166,18 +193,4 @@ module _ {C L : Type 0} (core : Kind C) (control : Kind L) (core_laws : IsLawful
     }
 
     pub whole_actors : SameActors v w
-    whole_actors = subst (SameActors v) (sym joined) (record {
-      started = actors.started ∙ ap (λ (z : View). z.started) left_is;
-      lag = actors.lag ∙ ap (λ (z : View). z.lag) left_is;
-      cores = actors.cores ∙ ap (λ (z : View). z.cores) left_is;
-      events = actors.events ∙ ap (λ (z : View). z.events) left_is;
-      actors = λ a. holds_both x y a ∙ (ap₂ (λ (b c : Bool). b || c) (actors.actors a ∙ ap (λ (z : View). holds z a) left_is) (one_actors.actors a ∙ ap (λ (z : View). holds z a) own_is) ∙ by (names (2 ^ n) a) a refl);
-    })
-      where
-        or_none : (b : Bool) → (b || false) ≡ b
-        or_none true = refl
-        or_none false = refl
-
-        by : (b : Bool) (a : ℕ) → names (2 ^ n) a ≡ b → (holds (without (2 ^ n) v) a || holds (only (2 ^ n) v) a) ≡ holds v a
-        by true a e = ap₂ (λ (b c : Bool). b || c) (without_named (2 ^ n) v a e) (only_named (2 ^ n) v a e).0
-        by false a e = ap₂ (λ (b c : Bool). b || c) (without_others (2 ^ n) v a e).0 (only_others (2 ^ n) v a e) ∙ or_none (holds v a)
+    whole_actors = actors_met (2 ^ n) v left own x y w left_is own_is actors one_actors joined

@@ -85,7 +85,6 @@ module _ {C L : Type 0} (core : Kind C) (control : Kind L) (core_laws : IsLawful
     each = on.agree;
     control_agrees = λ has. control_laws.parted lead.actor v u (agreed.control_agrees (sym (on.actors.actors controller) ∙ has)) (board_of v u on.actors)
         (subst (λ (k : ℕ). holds u k ≡ true) (sym agreed.troop.lead_is) has) (subst (λ (k : ℕ). part u k ≡ part v k) (sym agreed.troop.lead_is) on.control);
-    manned = λ i lt has. omega (arith, agreed.manned i lt (sym (on.actors.actors i) ∙ has), on.count);
   }
 
   held_mid : posting ≡ true → holds u controller ≡ true
@@ -161,7 +160,6 @@ module _ {C L : Type 0} (core : Kind C) (control : Kind L) (core_laws : IsLawful
       each = λ i p at has. core_laws.parted p.actor u w (on.agree i p at (sym (changes_lead.actors i) ∙ has)) (board_step u w controller changes_lead)
           (subst (λ (k : ℕ). holds w k ≡ true) (sym (are'.each i p at)) has) (changes_lead.parts (core.number p.actor) (away i p at));
       control_agrees = λ _. agrees;
-      manned = λ i lt has. mid_agreed.manned i lt (sym (changes_lead.actors i) ∙ has);
     }
 
     pub end_ticks : AreTicks core cores' w ticks'

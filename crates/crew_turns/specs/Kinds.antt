@@ -2,7 +2,7 @@
 -- Source: the rules of this project.
 use Rattle.std.specs.Prelude.{◌≡◌, ℕ, ◌<◌, ◌≤◌, true}
 use Rattle.round_words.specs.declared.view.View.{View}
-use Rattle.round_words.specs.Views.{controller, holds, part}
+use Rattle.round_words.specs.Views.{holds, part}
 use Rattle.crew_turns.specs.Going.{IsQuiet, IsSameBoard, PartsGoOn}
 use Rattle.crew_turns.specs.declared.stepper.Turn.{Turn}
 use Rattle.crew_turns.specs.declared.stepper.Turn.TheVariants.{Moved, Waits, Stopped, Ended}
@@ -25,7 +25,6 @@ pub record Kind (A : Type 0) : Type 1 where
   pub waits : A → View → View → Type 0
 
 pub record IsLawful {A : Type 0} (kind : Kind A) : Type 0 where
-  pub small : (a : A) → kind.number a ≤ controller
   -- it is where its part is held, of a board that was started, and agrees with each view of the board that has the part
   pub begun : (a : A) (v : View) → kind.agrees a v → v.started ≡ true
   pub held : (a : A) (v : View) → kind.agrees a v → holds v (kind.number a) ≡ true

@@ -12,12 +12,11 @@ pub record AreTroop {C L : Type 0} (core : Kind C) (control : Kind L) (cores : L
   pub each : (i : ℕ) (p : Player C) → slice_get cores i ≡ Some p → core.number p.actor ≡ i
   pub lead_is : control.number lead.actor ≡ controller
 
--- those whose parts the view holds agree with them, and it holds no other core's part
+-- those whose parts the view holds agree with them
 pub record AreAgreed {C L : Type 0} (core : Kind C) (control : Kind L) (cores : List (Player C)) (lead : Player L) (v : View) : Type 0 where
   pub troop : AreTroop core control cores lead
   pub each : (i : ℕ) (p : Player C) → slice_get cores i ≡ Some p → holds v i ≡ true → core.agrees p.actor v
   pub control_agrees : holds v controller ≡ true → control.agrees lead.actor v
-  pub manned : (i : ℕ) → i < controller → holds v i ≡ true → i < length cores
 
 -- all of them agree with their parts, which the view holds
 pub record AreHeld {C L : Type 0} (core : Kind C) (control : Kind L) (cores : List (Player C)) (lead : Player L) (v : View) : Type 0 where

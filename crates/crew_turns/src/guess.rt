@@ -36,11 +36,6 @@ impl Guess {
         (self.places[1] % 64) as u32
     }
 
-    /// Whether no core that it knows of is below this tick.
-    pub fn is_from(&self, tick: u32) -> bool {
-        self.places[1] >= tick as u64 * 64
-    }
-
     /// Up to which clock the core of this clock runs on by itself: a stint, or as far as it gets where it is the only
     /// one.
     pub fn limit(&self, clock: u32) -> u32

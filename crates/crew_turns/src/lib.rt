@@ -21,6 +21,7 @@ pub use beside::work_beside;
 pub use clocks::{Least, OUT, find_least};
 pub use driving::{Rest, drive_all};
 pub use gate::{FreeGate, Gate};
+pub use guess::Guess;
 pub use patience::{PATIENCE, Patience};
 pub use player::Player;
 pub use stepper::{CoreStepper, Site, Stepper, Turn};

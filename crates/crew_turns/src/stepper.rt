@@ -2,7 +2,6 @@ ghost use Rattle.std.specs.Prelude.{◌≡◌, ◌<◌, ◌≤◌};
 ghost use Rattle.round_words.specs.declared.view.View.{View as ViewValue};
 ghost use Rattle.round_words.specs.Changes.{ChangesOnly};
 ghost use Rattle.round_words.specs.Seats.{view_of, IsSeatOf};
-ghost use Rattle.round_words.specs.Views.{controller as the_controller};
 ghost use Rattle.crew_turns.specs.declared.clocks.TheConstants.{OUT as THE_OUT};
 ghost use Rattle.crew_turns.specs.Going.{PartsGoOn};
 ghost use Rattle.crew_turns.specs.Kinds.{IsLawful, Kind, Stepped};
@@ -52,9 +51,6 @@ pub trait CoreStepper: Stepper {
     /// Its clock, in ticks.
     fn clock(&self) -> u32
         ensures { result ≡ Self.Stepper.kind.place self.now };
-
-    /// It isn't the controller.
-    ghost is_core: { (a : Self) → Self.Stepper.kind.number a < the_controller };
 
     /// No run is as long as `OUT` ticks.
     ghost is_short: { (a : Self) (v : ViewValue) → Self.Stepper.kind.agrees a v → Self.Stepper.kind.end a < THE_OUT };

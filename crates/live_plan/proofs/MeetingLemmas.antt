@@ -8,10 +8,10 @@ use Rattle.round_words.specs.declared.view.View.{View}
 use Rattle.round_words.specs.Views.{both, controller, holds, names, only, without}
 use Rattle.round_words.proofs.MaskLemmas.{holds_both}
 use Rattle.round_words.proofs.ViewsLemmas.{both_mine, both_theirs, only_named, only_others, without_named, without_others}
-use Rattle.core_workers.specs.Crews.{SameActors}
+use Rattle.crew_turns.specs.Going.{IsSameBoard, SameActors}
 use Rattle.core_workers.specs.Numbers.{NamesFrom}
-use Rattle.core_workers.proofs.CrewLemmas.{SameBoard, lead_part}
-use Rattle.core_workers.proofs.MeetingLemmas.{actors_met, board_met}
+use Rattle.crew_turns.proofs.BesideLemmas.{actors_met, board_met}
+use Rattle.core_workers.specs.ActorLaws.{lead_part}
 use Rattle.live_plan.specs.declared.team.Lead.{Lead}
 use Rattle.live_plan.specs.declared.team.Member.{Member}
 use Rattle.live_plan.specs.Actors.{LiveAgrees}
@@ -105,7 +105,7 @@ module _ (b : LiveView) (rounds : ℕ) (lower upper : List Member) (lead : Lead)
     pub actors_whole : SameActors v w
     actors_whole = actors_met mask v left own x y w left_is own_is as_left as_own met
 
-    board : SameBoard x y
+    board : IsSameBoard x y
     board = board_met mask v left own x y left_is own_is as_left as_own
 
     upper_off : (j : ℕ) → j < length upper → holds x (length lower + j) ≡ false

@@ -12,9 +12,11 @@ use Rattle.round_words.specs.Views.{controller, holds, part}
 use Rattle.dispatch_core.specs.States.{FollowsPlans, IsSameCore, StateView}
 use Rattle.plan_switch.specs.Controllers.{HasPosted}
 use Rattle.plan_switch.specs.declared.state.ControlState.{ControlState}
-use Rattle.core_workers.specs.declared.clocks.TheConstants.{OUT}
-use Rattle.core_workers.specs.Crews.{HasFinished, SameActors}
-use Rattle.core_workers.proofs.CrewLemmas.{SameBoard, actors_step, lead_part, stands_part}
+use Rattle.crew_turns.specs.declared.clocks.TheConstants.{OUT}
+use Rattle.crew_turns.specs.Going.{IsSameBoard, SameActors}
+use Rattle.core_workers.specs.Crews.{HasFinished}
+use Rattle.crew_turns.proofs.GoingLemmas.{actors_step}
+use Rattle.core_workers.specs.ActorLaws.{lead_part, stands_part}
 use Rattle.live_plan.specs.declared.answer.LiveAnswer.{LiveAnswer}
 use Rattle.live_plan.specs.declared.answer.LiveAnswer.TheVariants as answer
 use Rattle.live_plan.specs.declared.controller.LiveControl.{LiveControl}
@@ -35,14 +37,14 @@ use Rattle.live_plan.specs.Inside.Working.{AreBelow, AreTicks, BlockAgrees, Core
 use Rattle.live_plan.proofs.PlacesLemmas.{set_each}
 
 -- an actor agrees with each view of the board that has its part
-pub live_part : (b : LiveView) (a : StateView) (v w : View) → LiveAgrees b a v → SameBoard v w → holds w a.core ≡ true
+pub live_part : (b : LiveView) (a : StateView) (v w : View) → LiveAgrees b a v → IsSameBoard v w → holds w a.core ≡ true
     → part w a.core ≡ part v a.core → LiveAgrees b a w
 live_part b a v w agrees board has is = record {
   stands = stands_part b.outline a v w agrees.stands board has is;
   plans = λ course live. subst (FollowsPlans course a) (sym is) (agrees.plans course live);
 }
 
-pub same_board : (v w : View) → SameActors v w → SameBoard v w
+pub same_board : (v w : View) → SameActors v w → IsSameBoard v w
 same_board v w same = record { started = same.started; lag = same.lag; cores = same.cores; events = same.events }
 
 -- another's step leaves it in agreement

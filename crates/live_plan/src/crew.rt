@@ -12,7 +12,7 @@ use crate::book::LiveBook;
 use crate::cell_shelf::CellShelf;
 use crate::planner::LivePlanner;
 use crate::team::{Lead, Maker, Member};
-use core_workers::Patience;
+use crew_turns::Patience;
 use slice_table::RowOwners;
 use std::alloc::Global;
 use std::marker::Model;

@@ -1,5 +1,5 @@
 ghost use Rattle.round_words.specs.Seats.{view_of, IsSeatOf};
-ghost use Rattle.core_workers.specs.Crews.{SameActors};
+ghost use Rattle.crew_turns.specs.Going.{SameActors};
 ghost use Rattle.live_plan.specs.Crews.{IsMakerOf};
 ghost use Rattle.live_plan.specs.Inside.Working.{HasPlanned, HaveEnded, IsWorking};
 
@@ -8,7 +8,7 @@ use crate::planner::{PlannerAnswer, planner_step};
 use crate::site::Site;
 use crate::team::{Lead, Maker, Member};
 use crate::turning::{Progress, Roster, turn};
-use core_workers::{Gate, Patience};
+use crew_turns::{Gate, Patience};
 use round_words::RoundSeat;
 use std::alloc::Global;
 use std::sync::Wait;

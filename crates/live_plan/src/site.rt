@@ -1,5 +1,5 @@
 use crate::book::LiveBook;
-use core_workers::Gate;
+use crew_turns::Gate;
 use round_words::RoundBoard;
 
 /// What the actors of a live run share: the board, the book, how many rounds the run has, and the gate.

@@ -4,7 +4,7 @@ ghost use Rattle.round_words.specs.Changes.{ChangesOnly};
 ghost use Rattle.round_words.specs.Seats.{view_of, IsSeatOf};
 ghost use Rattle.round_words.specs.Views.{controller as the_controller};
 ghost use Rattle.plan_switch.specs.Controllers.{HasPosted};
-ghost use Rattle.core_workers.specs.declared.clocks.TheConstants.{OUT as THE_OUT};
+ghost use Rattle.crew_turns.specs.declared.clocks.TheConstants.{OUT as THE_OUT};
 ghost use Rattle.core_workers.specs.Crews.{HasFinished};
 ghost use Rattle.live_plan.specs.Actors.{LiveAgrees};
 ghost use Rattle.live_plan.specs.Crews.{IsMemberOf};
@@ -20,7 +20,7 @@ use crate::kept::Kept;
 use crate::site::Site;
 use crate::stepping::step_keeping;
 use crate::team::{Lead, Member};
-use core_workers::{Gate, OUT};
+use crew_turns::{Gate, OUT};
 use round_words::RoundSeat;
 
 // the controller's number as an actor

@@ -2,7 +2,7 @@ ghost use Rattle.std.specs.Prelude.{◌≡◌, ◌≢◌, ◌<◌, ◌≤◌, le
 ghost use Rattle.tab_core.specs.declared.TheConstants.{MAX_CORES};
 ghost use Rattle.round_words.specs.Seats.{view_of, IsSeatOf};
 ghost use Rattle.round_words.specs.Views.{controller as the_controller, holds};
-ghost use Rattle.core_workers.specs.Crews.{SameActors};
+ghost use Rattle.crew_turns.specs.Going.{SameActors};
 ghost use Rattle.live_plan.specs.Inside.Keeping.{AreKept};
 ghost use Rattle.live_plan.specs.Inside.Working.{AllFinished, AreBelow, AreTicks, BlockAgrees, CoresGoOn, HaveEnded, IsBlock, IsRoster, IsWorking};
 ghost use Rattle.live_plan.specs.declared.turning.Progress.TheVariants.{Done as AreDone};
@@ -13,7 +13,7 @@ use crate::kept::Kept;
 use crate::site::Site;
 use crate::steps::{CONTROLLER, run_member, step_lead};
 use crate::team::{Lead, Member};
-use core_workers::{Gate, Guess, OUT, find_least};
+use crew_turns::{Gate, Guess, OUT, find_least};
 use round_words::RoundSeat;
 
 /// What became of a turn.

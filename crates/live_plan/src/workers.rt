@@ -5,7 +5,7 @@ ghost use Rattle.table_form.specs.Running.Invariant.{IsComplete, StateInvariant}
 ghost use Rattle.table_form.specs.Running.Promises.{KeepsPromises};
 ghost use Rattle.round_words.specs.Seats.{view_of, IsSeatOf};
 ghost use Rattle.board_state.specs.Readings.{state_of};
-ghost use Rattle.core_workers.specs.Crews.{SameActors};
+ghost use Rattle.crew_turns.specs.Going.{SameActors};
 ghost use Rattle.live_plan.specs.Actors.{LiveActorView};
 ghost use Rattle.live_plan.specs.Courses.{IsLiveCourse};
 ghost use Rattle.live_plan.specs.Crews.{AllAgree, HaveFinished, HoldsAll, IsCrewOf, IsMakerOf, StoppedAt, actor_of, planner_of};
@@ -17,7 +17,8 @@ use crate::crew::LiveCrew;
 use crate::driving::{drive, drive_on, plan_all};
 use crate::site::Site;
 use crate::team::{Lead, Maker, Member};
-use core_workers::{Gate, Patience, mask_from};
+use core_workers::mask_from;
+use crew_turns::{Gate, Patience};
 use round_words::{RoundBoard, RoundSeat};
 use std::alloc::Global;
 use std::sync::Wait;

@@ -24,9 +24,8 @@ use Rattle.board_state.proofs.Lists.{in_map, of_map}
 use Rattle.board_state.proofs.RunViewLemmas.{is_core}
 use Rattle.board_state.specs.Readings.{core_state, state_of}
 use Rattle.board_state.specs.RunViews.{HoldsAllParts, IsFinished, IsRunView}
-use Rattle.core_workers.proofs.StartLemmas.{fresh_as, holds_started}
+use Rattle.core_workers.proofs.StartLemmas.{fresh_as, holds_started, nobody}
 use Rattle.core_workers.specs.Crews.{IsFresh}
-use Rattle.core_workers.specs.Groups.{cores_view}
 use Rattle.course_run.specs.Runs.{AreAccountsOf, IsReportOfState, stints_of}
 use Rattle.trace_report.specs.ReportViews.{ReportView}
 use Rattle.trace_report.specs.RunReports.{IsReportOf}
@@ -75,7 +74,7 @@ module _ (b : LiveView) (v : View) (lag cores events : ℕ) (lag_is : lag ≡ b.
   -- and has all parts
   pub holds_live : (crew : CrewView) → IsCrewOf b crew → b.outline.cores ≤ 32 → HoldsAll crew v
   holds_live crew of few =
-      let all = holds_started (cores_view (bare b) 0 (record { per = 1; first = 0 }) []) v same_start few in record {
+      let all = holds_started (nobody (bare b)) v same_start few in record {
         cores = λ c lt. all.cores c (omega (arith, lt, of.cores));
         control = all.control;
       }

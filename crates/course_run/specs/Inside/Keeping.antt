@@ -5,7 +5,7 @@ use Rattle.table_form.specs.Running.Courses.{CourseView}
 use Rattle.dispatch_core.specs.States.{StateView}
 use Rattle.round_words.specs.declared.view.View.{View}
 use Rattle.core_workers.specs.Crews.{AllAgree, IsFresh}
-use Rattle.core_workers.specs.Groups.{CrewView, actor_of}
+use Rattle.core_workers.specs.Views.{CrewView, actor_of}
 use Rattle.stint_limit.specs.StintBounds.{IsLargestSpans, IsStintBound, stints_of_round}
 use Rattle.course_run.specs.Runs.{IsTooLong, keeps_stints}
 use Rattle.course_run.specs.declared.keeping.RunFault.{RunFault}

@@ -4,7 +4,7 @@ use Rattle.tab_core.specs.declared.TheConstants.{MAX_ROUNDS, ROUND}
 use Rattle.dispatch_core.specs.Accounts.{IsWithin}
 use Rattle.dispatch_core.specs.States.{StateView}
 use Rattle.dispatch_core.specs.declared.account.CoreAccount.{CoreAccount}
-use Rattle.core_workers.specs.Groups.{CrewView, actor_of}
+use Rattle.core_workers.specs.Views.{CrewView, actor_of}
 
 abbrev pub used_in : Option StateView → List ℕ
 used_in None = []

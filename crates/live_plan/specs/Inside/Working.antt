@@ -4,8 +4,9 @@ use Rattle.tab_core.specs.declared.TheConstants.{MAX_CORES, MAX_ROUNDS}
 use Rattle.round_words.specs.declared.view.View.{View}
 use Rattle.round_words.specs.Views.{controller, holds, part}
 use Rattle.plan_switch.specs.Controllers.{HasPosted}
-use Rattle.core_workers.specs.declared.clocks.TheConstants.{OUT}
-use Rattle.core_workers.specs.Crews.{HasFinished, SameActors}
+use Rattle.crew_turns.specs.declared.clocks.TheConstants.{OUT}
+use Rattle.crew_turns.specs.Going.{SameActors}
+use Rattle.core_workers.specs.Crews.{HasFinished}
 use Rattle.live_plan.specs.declared.team.Lead.{Lead}
 use Rattle.live_plan.specs.declared.team.Member.{Member}
 use Rattle.live_plan.specs.declared.turning.Roster.{Roster}

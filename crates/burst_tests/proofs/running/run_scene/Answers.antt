@@ -4,7 +4,7 @@ use Rattle.table_form.specs.Running.State.{State}
 use Rattle.stint_limit.proofs.StintBoundLemmas.{all_stints}
 use Rattle.board_state.specs.Readings.{state_of}
 use Rattle.tab_words.specs.declared.command.RunMode.TheVariants.{Burst}
-use Rattle.core_workers.specs.Groups.{CrewView}
+use Rattle.core_workers.specs.Views.{CrewView}
 use Rattle.course_run.specs.Runs.{IsRunOf}
 use Rattle.burst_bound.specs.KeptRuns.{IsKeptRun}
 use Rattle.burst_tests.proofs.KeptLemmas.{kept_run}

@@ -6,7 +6,7 @@ use Rattle.tab_words.proofs.NumberedTextLemmas.{all_written, next_broken, next_w
 use Rattle.vcpu_names.specs.Names.{names_of}
 use Rattle.table_form.specs.Running.Courses.{CourseView}
 use Rattle.trace_report.specs.TraceText.{trace_text}
-use Rattle.core_workers.specs.Groups.{actor_of}
+use Rattle.core_workers.specs.Views.{actor_of}
 use Rattle.course_run.specs.Runs.{RanView, kept_in, kept_stints}
 use Rattle.course_run.proofs.write.put_traces.Goals as goal
 

@@ -1,6 +1,6 @@
 use Rattle.std.proofs.Common.{◌≡◌}
 use Rattle.round_words.specs.Seats.{view_of, IsSeatOf}
-use Rattle.core_workers.specs.Crews.{SameActors}
+use Rattle.crew_turns.specs.Going.{SameActors}
 use Rattle.live_plan.specs.Inside.Working.{IsRoster, IsWorking}
 use Rattle.live_plan.proofs.driving.drive_on.Given as goal
 

@@ -5,7 +5,7 @@ use Rattle.table_form.specs.Running.Invariant.{IsComplete}
 use Rattle.round_words.specs.declared.view.View.{View}
 use Rattle.round_words.specs.Seats.{view_of}
 use Rattle.board_state.specs.Readings.{state_of}
-use Rattle.core_workers.proofs.CrewLemmas.{actors_twice}
+use Rattle.crew_turns.proofs.GoingLemmas.{actors_twice}
 use Rattle.live_plan.specs.declared.team.Member.{Member}
 use Rattle.live_plan.specs.Actors.{LiveActorView}
 use Rattle.live_plan.specs.Courses.{IsLiveCourse}

@@ -1,24 +1,20 @@
-use Rattle.std.proofs.Common.{◌≡◌, ◌≤◌, ◌<◌, ℕ, [], length, ap, ◌∙◌, arith}
+use Rattle.std.proofs.Common.{◌≡◌, ◌≤◌, ◌<◌, ℕ, length, ap, ◌∙◌, arith}
 use Rattle.table_form.specs.Running.Outlines.{OutlineView}
 use Rattle.round_words.specs.declared.view.View.{View}
 use Rattle.round_words.specs.Seats.{view_of}
 use Rattle.round_words.specs.Shown.{HoldsCore}
 use Rattle.round_words.specs.Views.{just_started}
-use Rattle.core_workers.proofs.StartLemmas.{holds_started}
+use Rattle.core_workers.proofs.StartLemmas.{holds_started, nobody}
 use Rattle.core_workers.specs.Crews.{HoldsAll}
-use Rattle.core_workers.specs.Groups.{CrewView, cores_view}
 use Rattle.live_plan.specs.Books.{LiveView}
 use Rattle.live_plan.specs.Crews.{bare}
 use Rattle.live_run.proofs.LiveRunsLemmas.{fresh_live}
 use Rattle.live_tests.proofs.stepping.start.Goals as goal
 
-abbrev crew_of : LiveView → CrewView
-crew_of b = cores_view (bare b) 0 (record { per = 1; first = 0 }) []
-
 -- a board that was just started for the book holds all parts
 holds_all : (b : LiveView) (v : View) (lag cores events : ℕ) → lag ≡ b.outline.lag → cores ≡ b.outline.cores
-    → events ≡ length b.outline.ticks → v ≡ just_started lag cores events → b.outline.cores ≤ 32 → HoldsAll (crew_of b) v
-holds_all b v lag cores events lag_is cores_are events_are is few = holds_started (crew_of b) v
+    → events ≡ length b.outline.ticks → v ≡ just_started lag cores events → b.outline.cores ≤ 32 → HoldsAll (nobody (bare b)) v
+holds_all b v lag cores events lag_is cores_are events_are is few = holds_started (nobody (bare b)) v
     (is ∙ (ap (λ (l : ℕ). just_started l cores events) lag_is
     ∙ (ap (λ (n : ℕ). just_started b.outline.lag n events) cores_are
     ∙ ap (just_started b.outline.lag b.outline.cores) events_are))) few

@@ -1,27 +1,23 @@
-use Rattle.std.proofs.Common.{◌≡◌, ◌%◌, ◌/◌, ◌<◌, ℕ, Some, get_or, sym, ap, ◌∙◌, subst, arith}
-use Rattle.std.proofs.lemmas.Option.{get_or_from_slice_get, slice_get_within}
-use Rattle.std.specs.Prelude.{vec_len}
-use Rattle.core_workers.specs.declared.team.Group.{Group}
-use Rattle.core_workers.specs.declared.team.Member.{Member}
-use Rattle.core_workers.specs.Groups.{CrewView, actor_of}
-use Rattle.core_workers.proofs.CrewLemmas.{whole_at}
+use Rattle.std.proofs.Common.{◌≡◌, ◌<◌, ℕ, Some, get_or, sym, ap, ◌∙◌, subst, arith}
+use Rattle.std.proofs.lemmas.Option.{get_or_from_slice_get}
+use Rattle.crew_turns.specs.declared.player.Player.{Player}
+use Rattle.dispatch_core.specs.States.{ActorView}
+use Rattle.core_workers.specs.Views.{CrewView, actor_of}
+use Rattle.core_workers.proofs.PlayersLemmas.{at_core, shows}
 use Rattle.core_workers.proofs.crew.Crew.actor.Goals as goal
 
 pub index-requires : goal.index-requires
 index-requires c =
-    let at = whole_at c.self.inside.course.now c.self.inside.team c.self.invariant c.index-number.result c.args.core c.index-number.ensures.value (subst (λ (x : CrewView). c.args.core < x.course.cores) (sym c.self.view_is) c.requires) in
-    omega (arith, slice_get_within c.self.inside.team.groups.items (c.index-number.result / c.self.inside.team.per) at.0 at.1)
-
-pub index-requires-2 : goal.index-requires-2
-index-requires-2 c =
-    let at = whole_at c.self.inside.course.now c.self.inside.team c.self.invariant c.index-number.result c.args.core c.index-number.ensures.value (subst (λ (x : CrewView). c.args.core < x.course.cores) (sym c.self.view_is) c.requires) in
-    let group : c.index.result.now ≡ at.0 = c.index.ensures ∙ get_or_from_slice_get c.self.inside.team.groups.items (c.index-number.result / c.self.inside.team.per) at.0 c.index.result.now at.1 in
-    subst (λ (x : Group). c.index-number.result % c.self.inside.team.per < vec_len x.members) (sym group) (omega (arith, slice_get_within at.0.members.items (c.index-number.result % c.self.inside.team.per) at.2 at.3))
+    let x = c.self.inside in
+    let within : c.args.core < x.course.now.cores = subst (λ (k : CrewView). c.args.core < k.course.cores) (sym c.self.view_is) c.requires in
+    omega (arith, within, c.self.invariant.count, c.index-number.ensures.value)
 
 pub returns : goal.returns
 returns c =
-    let at = whole_at c.self.inside.course.now c.self.inside.team c.self.invariant c.index-number.result c.args.core c.index-number.ensures.value (subst (λ (x : CrewView). c.args.core < x.course.cores) (sym c.self.view_is) c.requires) in
-    let group : c.index.result.now ≡ at.0 = c.index.ensures ∙ get_or_from_slice_get c.self.inside.team.groups.items (c.index-number.result / c.self.inside.team.per) at.0 c.index.result.now at.1 in
-    let place : ℕ = c.index-number.result % c.self.inside.team.per in
-    let m : c.index-2.result.now ≡ at.2 = c.index-2.ensures ∙ (ap (λ (x : Group). get_or x.members.items place c.index-2.result.now) group ∙ get_or_from_slice_get at.0.members.items place at.2 c.index-2.result.now at.3) in
-    subst (λ (x : CrewView). actor_of x c.args.core ≡ Some c.index-2.result.now.state) c.self.view_is (at.4 ∙ ap (λ (x : Member). Some x.state) (sym m))
+    let x = c.self.inside in
+    let within : c.args.core < x.course.now.cores = subst (λ (k : CrewView). c.args.core < k.course.cores) (sym c.self.view_is) c.requires in
+    let p = at_core x.course.now x.rounds x.cores.items x.lead c.self.invariant c.args.core within in
+    let is : c.index.result.now ≡ p.0 = c.index.ensures
+    ∙ (ap (λ (n : ℕ). get_or x.cores.items n c.index.result.now) c.index-number.ensures.value ∙ get_or_from_slice_get x.cores.items c.args.core p.0 c.index.result.now p.1) in
+    subst (λ (k : CrewView). actor_of k c.args.core ≡ Some c.state.result.now) c.self.view_is
+    (shows x.course.now x.rounds x.cores.items x.lead c.self.invariant c.args.core p.0 p.1 ∙ ap Some (ap (λ (q : Player ActorView). q.actor.state) (sym is) ∙ sym c.state.ensures))

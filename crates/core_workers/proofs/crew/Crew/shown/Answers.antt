@@ -1,13 +1,13 @@
 use Rattle.std.proofs.Common.{subst}
 use Rattle.core_workers.specs.Crews.{IsCrew, IsWhole}
-use Rattle.core_workers.specs.Groups.{CrewView, deal_of}
-use Rattle.core_workers.proofs.CrewLemmas.{crew_is}
+use Rattle.core_workers.specs.Views.{CrewView}
+use Rattle.core_workers.proofs.PlayersLemmas.{players_crew, players_whole}
 use Rattle.core_workers.proofs.crew.Crew.shown.Goals as goal
 
 pub returns : goal.returns
 returns c =
-    let team = c.self.inside.team in
-    subst (λ (x : CrewView). IsCrew x × IsWhole x) c.self.view_is (
-      crew_is c.self.inside.course.now team.lead.rounds team.lead.control (deal_of team) team.groups.items c.self.invariant.kept.groups,
-      c.self.invariant.whole,
+    let x = c.self.inside in
+    subst (λ (k : CrewView). IsCrew k × IsWhole k) c.self.view_is (
+      players_crew x.course.now x.rounds x.cores.items x.lead c.self.invariant,
+      players_whole x.course.now x.rounds x.cores.items x.lead c.self.invariant,
     )

@@ -1,6 +1,6 @@
 use Rattle.std.proofs.Common.{◌≡◌, ◌<◌, ℕ, length}
 use Rattle.std.specs.Prelude.{slice_index}
-use Rattle.core_workers.specs.declared.clocks.TheConstants.{OUT}
+use Rattle.crew_turns.specs.declared.clocks.TheConstants.{OUT}
 use Rattle.live_plan.proofs.turning.Roster.of.Given as goal
 
 abbrev pub invariant-loop-place : goal.invariant-loop-place

@@ -4,7 +4,7 @@ use Rattle.tab_words.specs.declared.command.RunMode.TheVariants.{Burst}
 use Rattle.plan_book.specs.declared.outcome.Outcome.{Outcome as PlanOutcome}
 use Rattle.plan_book.proofs.WaitsLemmas.{waits}
 use Rattle.board_state.specs.Readings.{state_of}
-use Rattle.core_workers.specs.Groups.{CrewView}
+use Rattle.core_workers.specs.Views.{CrewView}
 use Rattle.burst_bound.specs.KeptRuns.{IsKeptRun}
 use Rattle.burst_bound.specs.Reports.{AreBurstAnswers}
 use Rattle.table_form.specs.Running.State.{State}

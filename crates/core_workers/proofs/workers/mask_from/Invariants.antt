@@ -1,7 +1,0 @@
-use Rattle.core_workers.specs.Numbers.{NamesFrom}
-use Rattle.core_workers.proofs.workers.mask_from.Given as goal
-
-abbrev pub invariant-loop-at : goal.invariant-loop-at
-invariant-loop-at l = record {
-  named : NamesFrom l.fn.first l.at l.mask;
-}
