@@ -1,24 +1,13 @@
--- The column of names.
-use Rattle.std.proofs.Common.{◌*◌, ◌/◌, ◌<◌, ◌^◌, arith, ◌≡◌, ℕ, ◌+◌, ◌∙◌, ap, sym, max, List, length, refl, add-one, Option, Some, ◌++◌}
+-- Rows of vCPUs, and their shares.
+use Rattle.std.proofs.Common.{◌*◌, ◌/◌, ◌<◌, ◌^◌, arith, ◌≡◌, ℕ, ◌∙◌, ap, sym, List, Option, Some, ◌++◌}
 use Rattle.vcpu_names.specs.Names.{name_at}
-use Rattle.view_table.specs.Table.{core_words, row_cells, row_of, vcpu_row, width_below}
+use Rattle.view_table.specs.Table.{core_words, row_cells, row_of, vcpu_row}
 use Rattle.view_table.specs.Waits.{wait_of}
 use Rattle.std.proofs.Math.Nat.{div-le_self}
 use Rattle.std.specs.List.{slice_get}
 use Rattle.tab_core.specs.declared.vcpu.Vcpu.{Vcpu}
 use Rattle.view_doc.specs.declared.view.Stretch.{Stretch}
 use Rattle.view_doc.specs.declared.view.Task.{Task}
-
--- its width before the first name
-pub width_below-zero : (names : List (List ℕ)) → width_below names 0 ≡ 4
-unfolding width_below
-width_below-zero names = refl
-
--- and with one more
-pub width_below-more : (names : List (List ℕ)) (v : ℕ)
-    → width_below names (v + 1) ≡ max (width_below names v) (length (name_at names v))
-unfolding width_below
-width_below-more names v = ap (width_below names) (add-one v)
 
 -- the row of a vCPU that has a line
 pub row_at : (host : Option (List Vcpu)) (tick width : ℕ) (names : List (List ℕ)) (tasks : List Task)

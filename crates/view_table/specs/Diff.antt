@@ -9,7 +9,7 @@ use Rattle.view_doc.specs.declared.view.Task.{Task}
 use Rattle.view_doc.specs.declared.view.Use.{Use}
 use Rattle.view_doc.specs.declared.view.Use.TheVariants.{Idle, Slot, Shared}
 use Rattle.view_doc.specs.declared.view.View.{View}
-use Rattle.view_table.specs.Cells.{count_cell, millis_cell, percent_cell}
+use Rattle.table_cells.specs.Cells.{count_cell, millis_cell, percent_cell}
 use Rattle.view_table.specs.Loads.{load_of}
 use Rattle.view_table.specs.Table.{of_round, share_of}
 use Rattle.view_table.specs.Waits.{wait_of}

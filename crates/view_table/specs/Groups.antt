@@ -8,9 +8,9 @@ use Rattle.vcpu_names.specs.Names.{name_at}
 use Rattle.view_doc.specs.declared.view.Stretch.{Stretch}
 use Rattle.view_doc.specs.declared.view.Task.{Task}
 use Rattle.view_doc.specs.declared.view.View.{View}
-use Rattle.view_table.specs.Cells.{count_cell, left, millis_cell, percent_cell, right}
+use Rattle.table_cells.specs.Cells.{count_cell, left, millis_cell, percent_cell, right, width_below}
 use Rattle.view_table.specs.Loads.{stands_on}
-use Rattle.view_table.specs.Table.{asked_of, core_head, core_row, share_of, wait_cell, width_below}
+use Rattle.view_table.specs.Table.{asked_of, core_head, core_row, share_of, wait_cell}
 use Rattle.view_table.specs.Waits.{wait_of}
 
 -- where the VM's part of a name ends, by so many of its bytes: at the last dot behind the first byte,

@@ -1,3 +1,2 @@
 -- What the writers keep on their way, private to this crate.
-pub mod CellTexts
 pub mod Walks

@@ -1,4 +1,3 @@
-pub mod Cells
 pub mod Diff
 pub mod Figures
 pub mod Groups

@@ -9,7 +9,7 @@ use Rattle.vcpu_names.specs.Names.{name_at}
 use Rattle.view_doc.specs.declared.view.Stretch.{Stretch}
 use Rattle.view_doc.specs.declared.view.Task.{Task}
 use Rattle.view_doc.specs.declared.view.View.{View}
-use Rattle.view_table.specs.Cells.{count_cell, left, millis_cell, percent_cell, right}
+use Rattle.table_cells.specs.Cells.{count_cell, left, millis_cell, percent_cell, right, width_below, yes_or_no}
 use Rattle.view_table.specs.Loads.{load_of, stands_on}
 use Rattle.view_table.specs.Waits.{wait_of}
 
@@ -33,20 +33,11 @@ abbrev pub is_kept : ℕ → Reservation → ℕ → ℕ → Bool
 is_kept tick r share wait = nat_le r.share_ppm share
     && (nat_lt wait (2 * ROUND) && nat_le (wait * tick) r.latency_ns)
 
--- the width of the column of names, which has four bytes at least
-unfoldable pub width_below : List (List ℕ) → ℕ → ℕ
-width_below names zero = 4
-width_below names (suc v) = max (width_below names v) (length (name_at names v))
-
 -- ---- cells
 
 -- a wait, which has no end where it takes two rounds
 abbrev pub wait_cell : ℕ → ℕ → List ℕ
 wait_cell tick wait = if nat_lt wait (2 * ROUND) then millis_cell 7 (wait * tick) else right 11 (codes "endless")
-
-abbrev pub yes_or_no : Bool → List ℕ
-yes_or_no true = codes "yes"
-yes_or_no false = codes "no"
 
 -- the share that was asked for, or a dash
 abbrev pub asked_cell : Option Reservation → List ℕ

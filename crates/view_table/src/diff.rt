@@ -1,17 +1,17 @@
 ghost use Rattle.std.specs.Prelude.{◌≡◌, ◌<◌, ◌*◌, ◌==◌, IfSome, length, min};
 ghost use Rattle.tab_io.specs.Sinks.{Writes};
 ghost use Rattle.tab_words.specs.Texts.{texts_below};
-ghost use Rattle.view_table.specs.Cells.{count_cell, millis_cell, percent_cell};
+ghost use Rattle.table_cells.specs.Cells.{count_cell, millis_cell, percent_cell};
 ghost use Rattle.view_table.specs.Diff.{change_line, changes, count_change, count_line, diff_text, home_change, is_shared_named, is_slot_named, load_change, load_line, load_lines, lone_line, new_lines, number_of, old_lines, period_change, same_slot, same_slots, same_use, share_change, slots_change, wait_change, wait_word};
 ghost use Rattle.view_table.specs.Figures.{AreFigures};
-ghost use Rattle.view_table.specs.Inside.CellTexts.{cell_text};
+ghost use Rattle.table_cells.specs.CellTexts.{cell_text};
 ghost use Rattle.view_table.specs.Waits.{wait_of};
 
-use crate::cells::{Cell, put_cells};
 use crate::figures::Figures;
 use crate::rows::{load_of, name_at, of_round, share_of};
 use tab_core::{Name, ROUND};
 use tab_io::{Sink, WriteFault, write_all};
+use table_cells::{Cell, put_cells};
 use view_doc::{Stretch, Task, Use, View};
 
 /// Writes what differs between two plans, whose figures these are, for a tick of so many nanoseconds: a

@@ -5,10 +5,9 @@ ghost use Rattle.tab_words.specs.Texts.{texts_below};
 ghost use Rattle.vcpu_names.specs.Names.{name_at};
 ghost use Rattle.view_table.specs.Figures.{AreFigures};
 ghost use Rattle.view_table.specs.Groups.{any_below, asked_at, is_of, least_cell, least_in, lesser, most_in, ppm_of, share_in, sum_cell, sum_in, vm_core, vm_figures, vm_head, vm_line, vm_of, vm_row, vm_stands, vm_table_of, vm_table_text};
-ghost use Rattle.view_table.specs.Inside.CellTexts.{cell_text};
+ghost use Rattle.table_cells.specs.CellTexts.{cell_text};
 ghost use Rattle.view_table.specs.Waits.{wait_of};
 
-use crate::cells::{Cell, put_cells, put_left};
 use crate::diff::figure_of;
 use crate::figures::Figures;
 use crate::rows::{asked_of, name_at, share_of, wait_cell, width_of};
@@ -16,6 +15,7 @@ use crate::table::{put_core_head, put_cores};
 use tab_core::{MAX_CORES, Name, Reservation, Vcpu};
 use tab_io::{Sink, WriteFault, write_all};
 use tab_words::put_numbered;
+use table_cells::{Cell, put_cells, put_left};
 use view_doc::View;
 
 /// Writes the tables of a plan by virtual machine: a row for each VM, which is the part of its vCPUs'

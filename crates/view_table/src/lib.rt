@@ -4,7 +4,6 @@
 //! each vCPU. Each text is a definition of `specs/`, and what is written is that text.
 #![tactic(auto)]
 
-mod cells;
 mod diff;
 mod figures;
 mod groups;

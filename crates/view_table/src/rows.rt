@@ -1,13 +1,13 @@
 ghost use Rattle.std.specs.Prelude.{◌<◌, ◌^◌, ◌≡◌, ◌*◌, ◌-◌, ℕ, slice_index};
 ghost use Rattle.tab_core.specs.declared.TheConstants.{MAX_CORES, ROUND};
-ghost use Rattle.view_table.specs.Cells.{count_cell, millis_cell};
-ghost use Rattle.view_table.specs.Inside.CellTexts.{cell_text};
+ghost use Rattle.table_cells.specs.Cells.{count_cell, millis_cell, width_below};
+ghost use Rattle.table_cells.specs.CellTexts.{cell_text};
 ghost use Rattle.view_table.specs.Loads.{is_slot, load_of, ticks_on};
-ghost use Rattle.view_table.specs.Table.{asked_cell, asked_of, is_kept, kept_cell, of_round, promised_cell, share_of, wait_cell, yes_or_no, width_below};
+ghost use Rattle.view_table.specs.Table.{asked_cell, asked_of, is_kept, kept_cell, of_round, promised_cell, share_of, wait_cell};
 ghost use Rattle.vcpu_names.specs.Names.{name_at};
 
-use crate::cells::Cell;
 use tab_core::{Name, ROUND, Reservation, Vcpu, WHOLE_PPM};
+use table_cells::{Cell, yes_or_no};
 use view_doc::{Stretch, Task, Use};
 
 // A cost in each period as parts per million of a core.
@@ -170,12 +170,6 @@ pub(crate) fn kept_cell(
         Some(r) => Cell::Right(6, yes_or_no(is_kept(tick_ns, r, share, wait))),
         None => Cell::Right(6, b"-"),
     }
-}
-
-fn yes_or_no(truth: bool) -> &'static [u8]
-    ensures { result.now ≡ yes_or_no truth }
-{
-    if truth { b"yes" } else { b"no" }
 }
 
 fn is_kept(tick_ns: u32, r: &Reservation, share: u64, wait: u32) -> bool

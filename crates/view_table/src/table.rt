@@ -6,7 +6,6 @@ ghost use Rattle.view_table.specs.Figures.{AreFigures};
 ghost use Rattle.view_table.specs.Loads.{load_of};
 ghost use Rattle.view_table.specs.Table.{asked_cells, core_cells, core_head, core_row, core_word, core_words, head_text, plain_cells, row_cells, table_of, table_text, vcpu_row};
 
-use crate::cells::{Cell, put_cells, put_left};
 use crate::figures::Figures;
 use crate::rows::{
     asked_cell, asked_of, core_cell, kept_cell, load_of, loads_of, name_at, of_round, period_cell,
@@ -15,6 +14,7 @@ use crate::rows::{
 use tab_core::{MAX_CORES, Reservation, Vcpu};
 use tab_io::{Sink, WriteFault, write_all};
 use tab_words::put_numbered;
+use table_cells::{Cell, put_cells, put_left};
 use view_doc::{Stretch, Task, View};
 
 /// Writes the tables of a plan, whose figures these are, for a tick of so many nanoseconds.

@@ -1,6 +1,7 @@
 -- The cells of a table: texts and numbers in columns of a width, which longer ones overrun.
-use Rattle.std.specs.Prelude.{ℕ, ◌-◌, ◌/◌, ◌%◌, ◌++◌, List, codes, decimal, length}
+use Rattle.std.specs.Prelude.{ℕ, zero, suc, ◌-◌, ◌/◌, ◌%◌, ◌++◌, Bool, true, false, max, List, codes, decimal, length}
 use Rattle.tab_words.specs.Texts.{texts_below}
+use Rattle.vcpu_names.specs.Names.{name_at}
 
 -- so many spaces
 unfoldable pub spaces : ℕ → List ℕ
@@ -33,3 +34,12 @@ percent_cell width ppm = count_cell width (ppm / 10000) ++ four_behind (ppm % 10
 -- nanoseconds as milliseconds with three digits behind the point, rounded down
 unfoldable pub millis_cell : ℕ → ℕ → List ℕ
 millis_cell width ns = count_cell width (ns / 1000000) ++ three_behind (ns / 1000 % 1000)
+
+abbrev pub yes_or_no : Bool → List ℕ
+yes_or_no true = codes "yes"
+yes_or_no false = codes "no"
+
+-- the width of the column of the first names, which has four bytes at least
+unfoldable pub width_below : List (List ℕ) → ℕ → ℕ
+width_below names zero = 4
+width_below names (suc v) = max (width_below names v) (length (name_at names v))

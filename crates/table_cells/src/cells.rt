@@ -1,29 +1,33 @@
-ghost use Rattle.std.specs.Prelude.{◌-◌, flat_map, length};
+ghost use Rattle.std.specs.Prelude.{◌≡◌, ◌-◌, flat_map, length};
 ghost use Rattle.tab_io.specs.Sinks.{Writes};
-ghost use Rattle.view_table.specs.Cells.{count_cell, left, millis_cell, percent_cell, right, spaces, four_behind, three_behind};
-ghost use Rattle.view_table.specs.Inside.CellTexts.{cell_text};
+ghost use Rattle.table_cells.specs.Cells.{count_cell, left, millis_cell, percent_cell, right, spaces, four_behind, three_behind, yes_or_no};
+ghost use Rattle.table_cells.specs.CellTexts.{cell_text};
 
 use itoa::Buffer;
 use tab_io::{Sink, WriteFault, write_all};
 use tab_words::{TextPiece, put_pieces};
 
-// A cell of a table: a text or a number in a column of a width.
+/// A cell of a table: a text or a number in a column of a width, which a longer one overruns.
 #[derive(Clone, Copy)]
-pub(crate) enum Cell<'a> {
-    // As it is.
+pub enum Cell<'a> {
+    /// As it is.
     Text(&'a [u8]),
-    // At the left of its column, and at the right.
+    /// At the left of its column.
     Left(usize, &'a [u8]),
+    /// At the right of its column.
     Right(usize, &'a [u8]),
-    // A whole number, parts per million as percent, and nanoseconds as milliseconds; the width is that
-    // of what stands before the point.
+    /// A whole number.
     Count(usize, u64),
+    /// Parts per million as percent with four digits; the width is that of what stands before the point.
     Percent(usize, u64),
+    /// Nanoseconds as milliseconds with three digits, rounded down; the width is that of what stands before the point.
     Millis(usize, u64),
 }
 
-// Writes the cells, one after the other.
-pub(crate) fn put_cells<K: Sink>(sink: &mut K, cells: &[Cell<'_>]) -> Result<(), WriteFault>
+/// Writes the cells, one after the other.
+///
+/// A fault leaves a prefix of their text in the sink. Nothing is settled, and nothing is allocated.
+pub fn put_cells<K: Sink>(sink: &mut K, cells: &[Cell<'_>]) -> Result<(), WriteFault>
     ensures { Writes (K.state sink.old) (K.state sink.new) (flat_map cell_text cells.now) result }
 {
     for cell in cells {
@@ -61,11 +65,21 @@ fn put_padding<K: Sink>(sink: &mut K, width: usize, text: &[u8]) -> Result<(), W
     put_spaces(sink, width.saturating_sub(text.len()))
 }
 
-pub(crate) fn put_left<K: Sink>(sink: &mut K, width: usize, text: &[u8]) -> Result<(), WriteFault>
+/// Writes a text at the left of its column.
+///
+/// A fault leaves a prefix of it in the sink. Nothing is settled, and nothing is allocated.
+pub fn put_left<K: Sink>(sink: &mut K, width: usize, text: &[u8]) -> Result<(), WriteFault>
     ensures { Writes (K.state sink.old) (K.state sink.new) (left width text.now) result }
 {
     write_all(sink, text)?;
     put_padding(sink, width, text)
+}
+
+/// The word for a truth.
+pub fn yes_or_no(truth: bool) -> &'static [u8]
+    ensures { result.now ≡ yes_or_no truth }
+{
+    if truth { b"yes" } else { b"no" }
 }
 
 fn put_right<K: Sink>(sink: &mut K, width: usize, text: &[u8]) -> Result<(), WriteFault>

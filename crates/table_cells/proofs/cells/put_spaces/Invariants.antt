@@ -2,7 +2,7 @@ use Rattle.std.proofs.Common.{Ok}
 use Rattle.tab_io.specs.Sinks.{Writes}
 use Rattle.tab_words.specs.Texts.{texts_below}
 use Rattle.std.proofs.Common.{codes}
-use Rattle.view_table.proofs.cells.put_spaces.Given as goal
+use Rattle.table_cells.proofs.cells.put_spaces.Given as goal
 
 -- the texts so far came
 abbrev pub invariant-loop-space : goal.invariant-loop-space

@@ -1,7 +1,7 @@
 use Rattle.std.proofs.lemmas.Result.{err_from_is_err_and}
 use Rattle.tab_words.proofs.PieceLemmas.{pieces_last, pieces_broken}
-use Rattle.view_table.specs.Inside.CellTexts.{cell_text}
-use Rattle.view_table.proofs.cells.put_cells.Goals as goal
+use Rattle.table_cells.specs.CellTexts.{cell_text}
+use Rattle.table_cells.proofs.cells.put_cells.Goals as goal
 
 pub returns-in_err-put_cell : goal.returns-in_err-put_cell
 returns-in_err-put_cell g c =

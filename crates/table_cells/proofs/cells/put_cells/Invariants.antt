@@ -1,7 +1,7 @@
 use Rattle.std.proofs.Common.{take, flat_map, Ok}
 use Rattle.tab_io.specs.Sinks.{Writes}
-use Rattle.view_table.specs.Inside.CellTexts.{cell_text}
-use Rattle.view_table.proofs.cells.put_cells.Given as goal
+use Rattle.table_cells.specs.CellTexts.{cell_text}
+use Rattle.table_cells.proofs.cells.put_cells.Given as goal
 
 -- the texts so far came
 abbrev pub invariant-loop-cell : goal.invariant-loop-cell

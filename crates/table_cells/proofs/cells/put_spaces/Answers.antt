@@ -1,8 +1,8 @@
 use Rattle.std.proofs.lemmas.Result.{err_from_is_err_and}
 use Rattle.tab_words.proofs.NumberedTextLemmas.{all_written, next_broken, next_written, none_written}
 use Rattle.std.proofs.Common.{codes}
-use Rattle.view_table.specs.Cells.{spaces}
-use Rattle.view_table.proofs.cells.put_spaces.Goals as goal
+use Rattle.table_cells.specs.Cells.{spaces}
+use Rattle.table_cells.proofs.cells.put_spaces.Goals as goal
 
 pub loop-space-init : goal.loop-space-init
 loop-space-init g c = none_written _ _ (tt {0})

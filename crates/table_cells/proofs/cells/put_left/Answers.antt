@@ -1,8 +1,8 @@
 use Rattle.std.proofs.lemmas.Result.{err_from_is_err_and}
 use Rattle.std.proofs.Common.{refl}
 use Rattle.tab_io.proofs.SinkLemmas.{all_left, left_behind, left_broken, left_last}
-use Rattle.view_table.specs.Cells.{left}
-use Rattle.view_table.proofs.cells.put_left.Goals as goal
+use Rattle.table_cells.specs.Cells.{left}
+use Rattle.table_cells.proofs.cells.put_left.Goals as goal
 
 pub returns-in_err-write_all : goal.returns-in_err-write_all
 unfolding left

@@ -1,8 +1,8 @@
 use Rattle.std.proofs.lemmas.Result.{err_from_is_err_and}
 use Rattle.std.proofs.Common.{refl}
 use Rattle.tab_io.proofs.SinkLemmas.{all_left, left_behind, left_broken, left_last}
-use Rattle.view_table.specs.Cells.{right}
-use Rattle.view_table.proofs.cells.put_right.Goals as goal
+use Rattle.table_cells.specs.Cells.{right}
+use Rattle.table_cells.proofs.cells.put_right.Goals as goal
 
 pub returns-in_err-put_padding : goal.returns-in_err-put_padding
 unfolding right

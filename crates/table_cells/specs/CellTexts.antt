@@ -1,8 +1,8 @@
 -- What the cells that the writers name write.
 use Rattle.std.specs.Prelude.{ℕ, List}
-use Rattle.view_table.specs.Cells.{count_cell, left, millis_cell, percent_cell, right}
-use Rattle.view_table.specs.declared.cells.Cell.{Cell}
-use Rattle.view_table.specs.declared.cells.Cell.TheVariants.{Text, Left, Right, Count, Percent, Millis}
+use Rattle.table_cells.specs.Cells.{count_cell, left, millis_cell, percent_cell, right}
+use Rattle.table_cells.specs.declared.cells.Cell.{Cell}
+use Rattle.table_cells.specs.declared.cells.Cell.TheVariants.{Text, Left, Right, Count, Percent, Millis}
 
 abbrev pub cell_text : Cell → List ℕ
 cell_text (Text text) = text.now
