@@ -6,7 +6,7 @@ use Rattle.std.proofs.lemmas.Bool.{cases_lt, ltb-true, ltb-false}
 use Rattle.trace_doc.specs.declared.mark.State.{State}
 use Rattle.trace_doc.specs.declared.mark.State.TheVariants.{Block, Run, Wait}
 use Rattle.trace_judge.specs.Courses.{Course, IsHeld, is_in}
-use Rattle.trace_judge.specs.Windows.{IsLeastWindow, IsWindow, is_runnable, run_in}
+use Rattle.trace_judge.specs.Windows.{IsWindow, is_runnable, run_in}
 use Rattle.trace_judge.specs.Inside.Windowed.{AreStretches, HasTrail, HasWindows, IsLeastRun, IsLeastSoFar, IsStart, IsStretch, lesser_of, ran_by}
 use Rattle.trace_judge.specs.declared.least.Least.{Least}
 use Rattle.trace_judge.specs.declared.windows.Pause.{Pause}
@@ -178,7 +178,8 @@ start_within course to time windows stretch rest pause has is low high since ran
       ran = ran ∙ sym here ∙ sym (ap (ran_by course) since);
       idle = here ∙ sym ran;
       first = λ t above below.
-          (let less = stretch_first course windows.pause.since_ns stretch time t all.0 low (omega arith) (omega arith) in
+          (let less = stretch_first course windows.pause.since_ns stretch time t all.0 low (omega arith) (omega arith)
+          in
           omega (arith, less, ran));
     }
 
@@ -604,7 +605,8 @@ pub wait_more : (course : Course) (from to ran run : ℕ) (old passed new : Wind
     → run ≡ ran - pause.ran_ns → new.window_ns ≡ passed.window_ns → new.open_ns ≡ passed.open_ns
     → new.pause ≡ passed.pause → new.runs ≡ passed.runs → new.least ≡ lesser_of passed.least run pause.since_ns
     → HasWindows course to new
-wait_more course from to ran run old passed new pause order has held is whole window opened same start value windows begin
+wait_more course from to ran run old passed new pause order has held is whole window opened same start value windows
+    begin
     paused runs least =
     let idle = ran_not course (Some Wait) from to (omega arith) refl held in
     let trail = trail_idle course from to (to - old.window_ns) (to - old.window_ns) old (omega arith) idle
@@ -625,7 +627,8 @@ pub run_more : (course : Course) (from to time : ℕ) (old pushed new : Windows)
     → time ≡ to - old.window_ns
     → ((later : ℕ) → time ≤ later → HasTrail course later time pushed → HasTrail course later time new)
     → IsLeastSoFar course old.window_ns to pushed.least → HasWindows course to new
-run_more course from to time old pushed new one order has held ran begins ends window opened paused runs windows begin same is_time
+run_more course from to time old pushed new one order has held ran begins ends window opened paused runs windows begin
+    same is_time
     next least =
     let grown = ran_on course from to (omega arith) held in
     let before = trail_by course from to old (omega arith) has in

@@ -1,7 +1,6 @@
-use Rattle.std.proofs.Common.{◌≡◌, ◌<◌, [], ◌∷◌, ◌++◌, append_assoc, length, get_or, arith, ap, sym, ◌∙◌}
+use Rattle.std.proofs.Common.{◌≡◌, [], ◌∷◌, ◌++◌, append_assoc, length, get_or, arith, ap, sym, ◌∙◌}
 use Rattle.std.proofs.lemmas.Grind.{common_steps}
 use Rattle.std.proofs.lemmas.List.{length_push}
-use Rattle.trace_judge.specs.Inside.Reported.{sold_terms}
 use Rattle.trace_judge.proofs.ReportLemmas.{next_is, reports_more, same_at, same_length}
 use Rattle.trace_judge.proofs.reports.reports_of.Goals as goal
 

@@ -1,4 +1,4 @@
-use Rattle.std.proofs.Common.{arith, refl, sym, ap, ◌≡◌, ◌∙◌, ◌-◌, ◌+◌}
+use Rattle.std.proofs.Common.{arith}
 use Rattle.trace_judge.proofs.WindowLemmas.{run_first, run_old, wait_none}
 use Rattle.trace_judge.proofs.windows.Windows.least_running.Goals as goal
 
@@ -8,7 +8,8 @@ returns-then-self-opened c = λ course has is held.
 
 pub returns : goal.returns
 returns c = λ course has is held.
-    rw c.lesser.ensures (run_first course c.args.from c.args.to _ c.args.self.now (omega arith) has held (omega arith) (omega arith)
+    rw c.lesser.ensures (run_first course c.args.from c.args.to _ c.args.self.now (omega arith) has held (omega
+    arith) (omega arith)
     (omega (arith, is)))
 
 pub returns-then-to-self : goal.returns-then-to-self
