@@ -1,5 +1,5 @@
 -- What is kept of a trace, with one more mark behind.
-use Rattle.std.proofs.Common.{arith, ◌≡◌, ℕ, ◌<◌, Bool, true, false, if◌then◌else◌, List, [], ◌∷◌, ◌++◌, length, map, max, get_or, nat_lt, Some, None, set, ap, refl, sym, subst, ◌∙◌, ⊎_elim}
+use Rattle.std.proofs.Common.{arith, ◌≡◌, ℕ, ◌<◌, Bool, true, false, if◌then◌else◌, List, [], ◌∷◌, ◌++◌, length, map, max, get_or, nat_lt, Some, None, Result, Ok, Err, OnOk, set, ap, refl, sym, subst, ◌∙◌, ⊎_elim}
 use Rattle.std.proofs.lemmas.Bool.{cases_eq, eq-eqb, ne_eqb}
 use Rattle.std.proofs.lemmas.List.{get_or-map, get_or-set_other, get_or-set_same, length-set, map-set, set-get_or}
 use Rattle.std.proofs.lemmas.Option.{same_Some, slice_get-get_or, slice_get_read, slice_get_within}
@@ -7,7 +7,7 @@ use Rattle.std.specs.List.{slice_get}
 use Rattle.std.specs.Option.{is_none}
 use Rattle.trace_doc.specs.declared.mark.Mark.{Mark}
 use Rattle.trace_judge.specs.Clashes.{IsCountOf, falls, is_unknown, lines_where}
-use Rattle.trace_judge.specs.Inside.Judged.{HasJudged, latency_of}
+use Rattle.trace_judge.specs.Inside.Judged.{HasJudged, terms_of}
 use Rattle.trace_judge.specs.Inside.Settled.{IsTracked}
 use Rattle.trace_judge.specs.Traces.{end_of, is_vcpu, marks_of, trace_of}
 use Rattle.trace_judge.specs.declared.judge.Judge.{Judge}
@@ -123,12 +123,17 @@ judged_unknown marks mark old new has top counts is same =
     judged_by marks mark old new has top counts
     (rw same (each_same (trace_of marks) (risen_mark old.end_ns mark) old.trackers.items is has.each))
 
--- the latencies stay where a vCPU's does
-pub same_latencies : (trackers : List Tracker) (vcpu : ℕ) (before more : Tracker) → vcpu < length trackers
-    → before ≡ get_or trackers vcpu before → latency_of more ≡ latency_of before
-    → map latency_of (set trackers vcpu more) ≡ map latency_of trackers
-same_latencies trackers vcpu before more low read same =
-    map-set latency_of trackers vcpu more
-    ∙ ap (set (map latency_of trackers) vcpu) (same ∙ ap latency_of read
-    ∙ sym (get_or-map latency_of trackers vcpu before (latency_of before) low))
-    ∙ set-get_or (map latency_of trackers) vcpu (latency_of before)
+-- what follows where a call succeeds
+pub on_ok : {T E A B : Type 0} (result : Result T E) → (A → B) → OnOk result A → OnOk result B
+on_ok (Ok value) f is = f is
+on_ok (Err fault) f is = tt
+
+-- the terms stay where a vCPU's does
+pub same_terms : (trackers : List Tracker) (vcpu : ℕ) (before more : Tracker) → vcpu < length trackers
+    → before ≡ get_or trackers vcpu before → terms_of more ≡ terms_of before
+    → map terms_of (set trackers vcpu more) ≡ map terms_of trackers
+same_terms trackers vcpu before more low read same =
+    map-set terms_of trackers vcpu more
+    ∙ ap (set (map terms_of trackers) vcpu) (same ∙ ap terms_of read
+    ∙ sym (get_or-map terms_of trackers vcpu before (terms_of before) low))
+    ∙ set-get_or (map terms_of trackers) vcpu (terms_of before)

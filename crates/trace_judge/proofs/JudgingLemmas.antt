@@ -15,9 +15,9 @@ use Rattle.trace_doc.proofs.RowLemmas.{rows_from-nil}
 use Rattle.trace_judge.specs.Clashes.{IsCountOf}
 use Rattle.trace_judge.specs.Faults.{IsFaultIn}
 use Rattle.trace_judge.specs.Inside.Begun.{HasBegun}
-use Rattle.trace_judge.specs.Inside.Judged.{latency_of}
+use Rattle.trace_judge.specs.Inside.Judged.{terms_of}
 use Rattle.trace_judge.specs.Inside.Readings.{HasReadBytes}
-use Rattle.trace_judge.specs.Inside.Reported.{sold_latency}
+use Rattle.trace_judge.specs.Inside.Reported.{sold_terms}
 use Rattle.trace_judge.specs.Inside.Settled.{IsTracked}
 use Rattle.trace_judge.specs.Judgements.{HasFault, JudgesTrace}
 use Rattle.trace_judge.specs.Reports.{IsReportOf}
@@ -27,13 +27,13 @@ use Rattle.trace_judge.specs.declared.reading.Reading.{Reading}
 use Rattle.trace_judge.specs.declared.report.Report.{Report}
 
 -- before the first line
-pub has_begun : (vcpus : List Vcpu) (reading : Reading) → reading.names ≡ names_of vcpus
-    → map latency_of reading.judge.trackers.items ≡ map sold_latency vcpus → reading.lines ≡ 0
+pub has_begun : (window : ℕ) (vcpus : List Vcpu) (reading : Reading) → reading.names ≡ names_of vcpus
+    → map terms_of reading.judge.trackers.items ≡ map (sold_terms window) vcpus → reading.lines ≡ 0
     → reading.judge.end_ns ≡ 0 → IsCountOf [] reading.judge.falls → IsCountOf [] reading.judge.unknown
-    → All (λ tracker. IsTracked [] tracker) reading.judge.trackers.items → HasBegun vcpus reading
-has_begun vcpus reading names latencies lines ends falls unknown tracked = record {
+    → All (λ tracker. IsTracked [] tracker) reading.judge.trackers.items → HasBegun window vcpus reading
+has_begun window vcpus reading names terms lines ends falls unknown tracked = record {
   names = names;
-  latencies = latencies;
+  terms = terms;
   read = record {
     marks = [];
     said = rw (rows_from-nil 1) tt;
@@ -50,23 +50,23 @@ has_begun vcpus reading names latencies lines ends falls unknown tracked = recor
 }
 
 -- bytes have come, and were read
-pub record HasCome (first now : SourceView) (vcpus : List Vcpu) (held : List ℕ) (reading : Reading) : Type 0 where
+pub record HasCome (first now : SourceView) (vcpus : List Vcpu) (window : ℕ) (held : List ℕ) (reading : Reading) : Type 0 where
   pub bytes : List ℕ
   pub consumed : Consumes first.rest now.rest bytes
   pub later : first.faults ≤ now.faults
   pub names : reading.names ≡ names_of vcpus
-  pub latencies : map latency_of reading.judge.trackers.items ≡ map sold_latency vcpus
+  pub terms : map terms_of reading.judge.trackers.items ≡ map (sold_terms window) vcpus
   pub read : HasReadBytes bytes held reading
 
 -- none so far
-pub none_come : (view : SourceView) (vcpus : List Vcpu) (held : List ℕ) (reading : Reading) → held ≡ []
-    → HasBegun vcpus reading → HasCome view view vcpus held reading
-none_come view vcpus held reading none begun = record {
+pub none_come : (view : SourceView) (vcpus : List Vcpu) (window : ℕ) (held : List ℕ) (reading : Reading) → held ≡ []
+    → HasBegun window vcpus reading → HasCome view view vcpus window held reading
+none_come view vcpus window held reading none begun = record {
   bytes = [];
   consumed = Consumes-nil view.rest;
   later = omega arith;
   names = begun.names;
-  latencies = begun.latencies;
+  terms = begun.terms;
   read = record {
     whole = [];
     ended = inl refl;
@@ -76,18 +76,18 @@ none_come view vcpus held reading none begun = record {
 }
 
 -- one more piece
-pub piece_come : (first old new : SourceView) (vcpus : List Vcpu) (held more : List ℕ) (reading next : Reading)
-    (count : ℕ) (into : List ℕ) → HasCome first old vcpus held reading → Gave old new into (got.Bytes count)
+pub piece_come : (first old new : SourceView) (vcpus : List Vcpu) (window : ℕ) (held more : List ℕ) (reading next : Reading)
+    (count : ℕ) (into : List ℕ) → HasCome first old vcpus window held reading → Gave old new into (got.Bytes count)
     → old.faults ≤ new.faults → next.names ≡ reading.names
-    → map latency_of next.judge.trackers.items ≡ map latency_of reading.judge.trackers.items
+    → map terms_of next.judge.trackers.items ≡ map terms_of reading.judge.trackers.items
     → ((bytes : List ℕ) → HasReadBytes bytes held reading → HasReadBytes (bytes ++ take count into) more next)
-    → HasCome first new vcpus more next
-piece_come first old new vcpus held more reading next count into come gave later names latencies read = record {
+    → HasCome first new vcpus window more next
+piece_come first old new vcpus window held more reading next count into come gave later names terms read = record {
   bytes = come.bytes ++ take count into;
   consumed = Consumes-trans _ _ _ _ _ come.consumed gave.2;
   later = omega (arith, come.later, later);
   names = names ∙ come.names;
-  latencies = latencies ∙ come.latencies;
+  terms = terms ∙ come.terms;
   read = read come.bytes come.read;
 }
 
@@ -100,13 +100,13 @@ fault_of old new vcpus bytes TooLong is = tt
 fault_of old new vcpus bytes NoMemory is = tt
 
 -- a piece with a fault
-pub piece_fault : (first old new : SourceView) (vcpus : List Vcpu) (held : List ℕ) (reading : Reading) (count : ℕ)
-    (into : List ℕ) (fault : JudgeFault) → HasCome first old vcpus held reading
+pub piece_fault : (first old new : SourceView) (vcpus : List Vcpu) (window : ℕ) (held : List ℕ) (reading : Reading) (count : ℕ)
+    (into : List ℕ) (fault : JudgeFault) → HasCome first old vcpus window held reading
     → Gave old new into (got.Bytes count) → old.faults ≤ new.faults
     → ((bytes : List ℕ) → HasReadBytes bytes held reading
     → IsFaultIn reading.names (lines_of (bytes ++ take count into)) fault)
-    → JudgesTrace first new vcpus (Err fault)
-piece_fault first old new vcpus held reading count into fault come gave later bad =
+    → JudgesTrace first new vcpus window (Err fault)
+piece_fault first old new vcpus window held reading count into fault come gave later bad =
     let told : IsFaultIn (names_of vcpus) (lines_of (come.bytes ++ take count into)) fault =
     subst (λ names. IsFaultIn names (lines_of (come.bytes ++ take count into)) fault) come.names
     (bad come.bytes come.read) in
@@ -118,47 +118,47 @@ piece_fault first old new vcpus held reading count into fault come gave later ba
     }
 
 -- the source failed, or memory or numbers ran out
-pub failed_come : (first old new : SourceView) (vcpus : List Vcpu) (held into : List ℕ) (reading : Reading)
-    → HasCome first old vcpus held reading → Gave old new into got.Failed → old.faults ≤ new.faults
-    → JudgesTrace first new vcpus (Err ReadFault)
-failed_come first old new vcpus held into reading come gave later = record {
+pub failed_come : (first old new : SourceView) (vcpus : List Vcpu) (window : ℕ) (held into : List ℕ) (reading : Reading)
+    → HasCome first old vcpus window held reading → Gave old new into got.Failed → old.faults ≤ new.faults
+    → JudgesTrace first new vcpus window (Err ReadFault)
+failed_come first old new vcpus window held into reading come gave later = record {
   bytes = come.bytes;
   consumed = Consumes-kept _ _ _ _ come.consumed gave.0;
   later = omega (arith, come.later, later);
   told = (let rose = gave.1 in omega (arith, come.later, rose));
 }
 
-pub ended_come : (first old new : SourceView) (vcpus : List Vcpu) (held into : List ℕ) (reading : Reading)
-    (result : Result Report JudgeFault) → HasCome first old vcpus held reading → Gave old new into got.End
+pub ended_come : (first old new : SourceView) (vcpus : List Vcpu) (window : ℕ) (held into : List ℕ) (reading : Reading)
+    (result : Result Report JudgeFault) → HasCome first old vcpus window held reading → Gave old new into got.End
     → old.faults ≤ new.faults
     → MatchResult result
-    (λ report. (all : List ℕ) → HasReadBytes all held reading → IsReportOf vcpus all report)
+    (λ report. (all : List ℕ) → HasReadBytes all held reading → IsReportOf window vcpus all report)
     (λ fault. (all : List ℕ) → HasReadBytes all held reading → IsFaultIn (names_of vcpus) (lines_of all) fault)
-    → JudgesTrace first new vcpus result
-ended_come first old new vcpus held into reading (Ok report) come gave later told = record {
+    → JudgesTrace first new vcpus window result
+ended_come first old new vcpus window held into reading (Ok report) come gave later told = record {
   bytes = come.bytes;
   consumed = Consumes-kept _ _ _ _ come.consumed gave.0;
   later = omega (arith, come.later, later);
   told = (gave.1, told come.bytes come.read);
 }
-ended_come first old new vcpus held into reading (Err fault) come gave later told = record {
+ended_come first old new vcpus window held into reading (Err fault) come gave later told = record {
   bytes = come.bytes;
   consumed = Consumes-kept _ _ _ _ come.consumed gave.0;
   later = omega (arith, come.later, later);
   told = fault_of first new vcpus come.bytes fault (told come.bytes come.read);
 }
 
-pub too_long : (first now : SourceView) (vcpus : List Vcpu) (held : List ℕ) (reading : Reading)
-    → HasCome first now vcpus held reading → JudgesTrace first now vcpus (Err TooLong)
-too_long first now vcpus held reading come = record {
+pub too_long : (first now : SourceView) (vcpus : List Vcpu) (window : ℕ) (held : List ℕ) (reading : Reading)
+    → HasCome first now vcpus window held reading → JudgesTrace first now vcpus window (Err TooLong)
+too_long first now vcpus window held reading come = record {
   bytes = come.bytes;
   consumed = come.consumed;
   later = come.later;
   told = tt;
 }
 
-pub no_memory : (view : SourceView) (vcpus : List Vcpu) → JudgesTrace view view vcpus (Err NoMemory)
-no_memory view vcpus = record {
+pub no_memory : (view : SourceView) (vcpus : List Vcpu) (window : ℕ) → JudgesTrace view view vcpus window (Err NoMemory)
+no_memory view vcpus window = record {
   bytes = [];
   consumed = Consumes-nil view.rest;
   later = omega arith;

@@ -9,3 +9,4 @@ pub mod SettledLemmas
 pub mod TraceLemmas
 pub mod TrackerLemmas
 pub mod WaitLemmas
+pub mod WindowLemmas

@@ -3,3 +3,4 @@ pub mod Judged
 pub mod Readings
 pub mod Reported
 pub mod Settled
+pub mod Windowed

@@ -20,9 +20,10 @@ HasFault old new vcpus bytes TooLong = Unit {0}
 HasFault old new vcpus bytes NoMemory = Unit {0}
 
 -- the source gave these bytes, which are all, and this is told of them; or a fault came behind them
-pub record JudgesTrace (old new : SourceView) (vcpus : List Vcpu) (result : Result Report JudgeFault) : Type 0 where
+pub record JudgesTrace (old new : SourceView) (vcpus : List Vcpu) (window : ℕ) (result : Result Report JudgeFault)
+    : Type 0 where
   pub bytes : List ℕ
   pub consumed : Consumes old.rest new.rest bytes
   pub later : old.faults ≤ new.faults
-  pub told : MatchResult result (λ report. IsAtEnd new.rest × IsReportOf vcpus bytes report)
+  pub told : MatchResult result (λ report. IsAtEnd new.rest × IsReportOf window vcpus bytes report)
       (HasFault old new vcpus bytes)

@@ -6,3 +6,4 @@ pub mod Judgements
 pub mod Reports
 pub mod Traces
 pub mod Waits
+pub mod Windows

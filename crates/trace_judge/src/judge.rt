@@ -4,6 +4,7 @@ ghost use Rattle.std.specs.Option.{ForSome};
 use crate::counts::counted_if;
 use crate::report::LineCount;
 use crate::tracker::Tracker;
+use std::alloc::AllocError;
 use trace_doc::Mark;
 
 // What is kept of a trace.
@@ -22,19 +23,19 @@ pub(crate) struct Judge {
 }
 
 impl Judge {
-    ghost use Rattle.std.specs.Prelude.{◌≡◌, ℕ, ◌<◌, ◌≤◌, [], ◌∷◌, ◌++◌, List, length, map};
+    ghost use Rattle.std.specs.Prelude.{◌≡◌, ℕ, ◌<◌, ◌≤◌, [], ◌∷◌, ◌++◌, List, OnOk, length, map};
     ghost use Rattle.std.specs.Option.{ForSome};
     ghost use Rattle.trace_doc.specs.declared.mark.Mark.{Mark};
-    ghost use Rattle.trace_judge.specs.Inside.Judged.{HasJudged, latency_of};
+    ghost use Rattle.trace_judge.specs.Inside.Judged.{HasJudged, terms_of};
 
     // Takes the mark of the next line that says something.
-    pub(crate) fn take(&mut self, mark: &Mark)
+    pub(crate) fn take(&mut self, mark: &Mark) -> Result<(), AllocError>
         requires later { self.old.line < mark.now.line }
         requires known { ForSome mark.now.vcpu (λ vcpu. vcpu < length self.old.trackers.items) }
         ensures line { self.new.line ≡ mark.now.line }
-        ensures latencies { map latency_of self.new.trackers.items ≡ map latency_of self.old.trackers.items }
-        ensures judged { (marks : List Mark) → HasJudged marks self.old
-            → HasJudged (marks ++ mark.now ∷ []) self.new }
+        ensures terms { map terms_of self.new.trackers.items ≡ map terms_of self.old.trackers.items }
+        ensures judged { OnOk result ((marks : List Mark) → HasJudged marks self.old
+            → HasJudged (marks ++ mark.now ∷ []) self.new) }
     {
         let fell = mark.time_ns < self.end_ns;
         self.falls = counted_if(&self.falls, fell, mark.line);
@@ -42,7 +43,7 @@ impl Judge {
         self.end_ns = self.end_ns.max(mark.time_ns);
         self.line = mark.line;
         let Some(vcpu) = mark.vcpu else {
-            return;
+            return Ok(());
         };
         let risen = Mark {
             line: mark.line,
@@ -52,6 +53,6 @@ impl Judge {
             cpu: mark.cpu,
         };
         let tracker = &mut self.trackers[vcpu.index()];
-        tracker.take(&risen);
+        tracker.take(&risen)
     }
 }

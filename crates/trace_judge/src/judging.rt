@@ -1,12 +1,12 @@
-ghost use Rattle.std.specs.Prelude.{◌≡◌, ℕ, ◌≤◌, [], All, IfErr, IfOk, List, length, map};
+ghost use Rattle.std.specs.Prelude.{◌≡◌, ℕ, ◌<◌, ◌≤◌, [], All, IfErr, IfOk, List, length, map};
 ghost use Rattle.tab_core.specs.declared.TheConstants.{MAX_VCPUS};
 ghost use Rattle.tab_words.specs.Lines.{lines_of};
 ghost use Rattle.vcpu_names.specs.Names.{names_of};
 ghost use Rattle.trace_judge.specs.Faults.{IsFaultIn};
 ghost use Rattle.trace_judge.specs.Inside.Begun.{HasBegun};
-ghost use Rattle.trace_judge.specs.Inside.Judged.{latency_of};
+ghost use Rattle.trace_judge.specs.Inside.Judged.{terms_of};
 ghost use Rattle.trace_judge.specs.Inside.Readings.{HasReadBytes};
-ghost use Rattle.trace_judge.specs.Inside.Reported.{sold_latency};
+ghost use Rattle.trace_judge.specs.Inside.Reported.{sold_terms};
 ghost use Rattle.trace_judge.specs.Inside.Settled.{IsTracked};
 ghost use Rattle.trace_judge.specs.Judgements.{JudgesTrace};
 ghost use Rattle.trace_judge.specs.Reports.{IsReportOf};
@@ -27,19 +27,21 @@ use vcpu_names::Names;
 const PIECE: usize = 65_536;
 
 /// Reads the trace of a host of at most 256 vCPUs to its end, in one pass, and tells of it by the definitions of
-/// `specs/Reports.antt`.
+/// `specs/Reports.antt`. Shares are those of windows of `window_ns` ns.
 ///
 /// `BadLine` comes where a line says nothing, and names the first. The memory that is taken doesn't grow with the
-/// trace, but with its longest line.
+/// trace, but with its longest line and with how often vCPUs run within a window.
 pub fn judge_trace<S: Source>(
     alloc: Global,
     source: &mut S,
     vcpus: &[Vcpu],
+    window_ns: u64,
 ) -> Result<Report, JudgeFault>
-    requires { length vcpus.now ≤ MAX_VCPUS }
-    ensures { JudgesTrace (S.state source.old) (S.state source.new) vcpus.now result }
+    requires many { length vcpus.now ≤ MAX_VCPUS }
+    requires window { 0 < window_ns }
+    ensures { JudgesTrace (S.state source.old) (S.state source.new) vcpus.now window_ns result }
 {
-    let Ok(mut reading) = begin(alloc, vcpus) else {
+    let Ok(mut reading) = begin(alloc, vcpus, window_ns) else {
         return Err(JudgeFault::NoMemory);
     };
     let Ok(mut room) = vec![in alloc; 0u8; PIECE] else {
@@ -54,7 +56,7 @@ pub fn judge_trace<S: Source>(
                     return Err(fault);
                 }
             }
-            Got::End => return finish(alloc, reading, &held, vcpus),
+            Got::End => return finish(alloc, reading, &held, vcpus, window_ns),
             Got::Failed => return Err(JudgeFault::ReadFault),
         }
     }
@@ -62,15 +64,16 @@ pub fn judge_trace<S: Source>(
 }
 
 // Before the first line.
-fn begin(alloc: Global, vcpus: &[Vcpu]) -> Result<Reading<'_>, NoMemory>
-    requires { length vcpus.now ≤ MAX_VCPUS }
-    ensures { IfOk result (HasBegun vcpus.now) }
+fn begin(alloc: Global, vcpus: &[Vcpu], window_ns: u64) -> Result<Reading<'_>, NoMemory>
+    requires many { length vcpus.now ≤ MAX_VCPUS }
+    requires window { 0 < window_ns }
+    ensures { IfOk result (HasBegun window_ns vcpus.now) }
 {
     let names = Names::of(alloc, vcpus)?;
     let judge = Judge {
         end_ns: 0,
         line: 0,
-        trackers: trackers_of(alloc, vcpus)?,
+        trackers: trackers_of(alloc, vcpus, window_ns)?,
         falls: no_lines(),
         unknown: no_lines(),
     };
@@ -82,14 +85,17 @@ fn begin(alloc: Global, vcpus: &[Vcpu]) -> Result<Reading<'_>, NoMemory>
 }
 
 // What is kept of each vCPU before the first line.
-fn trackers_of(alloc: Global, vcpus: &[Vcpu]) -> Result<Vec<Tracker>, NoMemory>
-    ensures latencies { IfOk result (λ trackers. map latency_of trackers.items ≡ map sold_latency vcpus.now) }
+fn trackers_of(alloc: Global, vcpus: &[Vcpu], window_ns: u64) -> Result<Vec<Tracker>, NoMemory>
+    requires { 0 < window_ns }
+    ensures terms { IfOk result (λ trackers. map terms_of trackers.items
+        ≡ map (sold_terms window_ns) vcpus.now) }
     ensures begun { IfOk result (λ trackers. All (λ tracker. tracker.since_ns ≤ 0) trackers.items) }
     ensures tracked { IfOk result (λ trackers. All (λ tracker. IsTracked [] tracker) trackers.items) }
 {
     let mut trackers = Vec::new(alloc);
     for vcpu in vcpus {
-        if trackers.push(Tracker::begin(latency_sold(vcpu))).is_err() {
+        let tracker = Tracker::begin(alloc, latency_sold(vcpu), window_ns);
+        if trackers.push(tracker).is_err() {
             return Err(std::alloc::AllocError);
         }
     }
@@ -102,11 +108,13 @@ fn finish(
     mut reading: Reading<'_>,
     held: &[u8],
     vcpus: &[Vcpu],
+    window_ns: u64,
 ) -> Result<Report, JudgeFault>
+    requires some { 0 < window_ns }
     requires names { reading.names ≡ names_of vcpus.now }
-    requires latencies { map latency_of reading.judge.trackers.items ≡ map sold_latency vcpus.now }
+    requires terms { map terms_of reading.judge.trackers.items ≡ map (sold_terms window_ns) vcpus.now }
     ensures told { IfOk result (λ report. (bytes : List ℕ) → HasReadBytes bytes held.now reading.entry
-        → IsReportOf vcpus.now bytes report) }
+        → IsReportOf window_ns vcpus.now bytes report) }
     ensures fault { IfErr result (λ fault. (bytes : List ℕ) → HasReadBytes bytes held.now reading.entry
         → IsFaultIn (names_of vcpus.now) (lines_of bytes) fault) }
 {
@@ -114,9 +122,10 @@ fn finish(
         return Err(fault);
     }
     let judge = reading.judge;
-    match reports_of(alloc, &judge.trackers, vcpus, judge.end_ns) {
+    match reports_of(alloc, judge.trackers, vcpus, judge.end_ns, window_ns) {
         Ok(vcpus) => Ok(Report {
             end_ns: judge.end_ns,
+            window_ns,
             vcpus,
             falls: judge.falls,
             unknown: judge.unknown,

@@ -2,14 +2,15 @@
 //! told of it.
 //!
 //! `specs/Traces.antt` says what the marks of a trace say of the vCPUs over time, `specs/Courses.antt` how long a vCPU
-//! is in a state, `specs/Waits.antt` what its waits are, `specs/Clashes.antt` which lines can't be, and `specs/Reports.antt`
-//! what is told. Each number is that of these definitions over the whole trace.
+//! is in a state, `specs/Waits.antt` what its waits are, `specs/Windows.antt` what its share is in windows of time,
+//! `specs/Clashes.antt` which lines can't be, and `specs/Reports.antt` what is told. Each number is that of these definitions over the whole trace.
 #![tactic(auto)]
 
 mod counts;
 mod fault;
 mod judge;
 mod judging;
+mod least;
 mod reading;
 mod report;
 mod reports;
@@ -17,7 +18,8 @@ mod source;
 mod times;
 mod tracker;
 mod waits;
+mod windows;
 
 pub use fault::JudgeFault;
 pub use judging::judge_trace;
-pub use report::{LineCount, LongestWait, Report, VcpuReport};
+pub use report::{LeastShare, LineCount, LongestWait, Report, VcpuReport};

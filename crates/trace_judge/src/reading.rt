@@ -23,14 +23,14 @@ impl<'a> Reading<'a> {
     ghost use Rattle.std.specs.Prelude.{◌≡◌, ℕ, ◌∷◌, [], ◌++◌, List, IfErr, OnOk, map};
     ghost use Rattle.tab_words.specs.Lines.{lines_of};
     ghost use Rattle.trace_judge.specs.Faults.{IsFaultIn};
-    ghost use Rattle.trace_judge.specs.Inside.Judged.{latency_of};
+    ghost use Rattle.trace_judge.specs.Inside.Judged.{terms_of};
     ghost use Rattle.trace_judge.specs.Inside.Readings.{HasRead};
 
     // Reads the lines of a text, of which each has its end.
     pub(crate) fn take_lines(&mut self, alloc: Global, text: &[u8]) -> Result<(), JudgeFault>
         ensures names { self.new.names ≡ self.old.names }
-        ensures latencies { map latency_of self.new.judge.trackers.items
-            ≡ map latency_of self.old.judge.trackers.items }
+        ensures terms { map terms_of self.new.judge.trackers.items
+            ≡ map terms_of self.old.judge.trackers.items }
         ensures read { OnOk result ((lines : List (List ℕ)) → HasRead lines self.old
             → HasRead (lines ++ lines_of text.now) self.new) }
         ensures fault { IfErr result (λ fault. (lines : List (List ℕ)) → HasRead lines self.old
@@ -47,8 +47,8 @@ impl<'a> Reading<'a> {
     // Reads the next line.
     fn take_line(&mut self, alloc: Global, line: &[u8]) -> Result<(), JudgeFault>
         ensures names { self.new.names ≡ self.old.names }
-        ensures latencies { map latency_of self.new.judge.trackers.items
-            ≡ map latency_of self.old.judge.trackers.items }
+        ensures terms { map terms_of self.new.judge.trackers.items
+            ≡ map terms_of self.old.judge.trackers.items }
         ensures read { OnOk result ((lines : List (List ℕ)) → HasRead lines self.old
             → HasRead (lines ++ line.now ∷ []) self.new) }
         ensures fault { IfErr result (λ fault. (lines : List (List ℕ)) → HasRead lines self.old
@@ -64,8 +64,8 @@ impl<'a> Reading<'a> {
         let Some(mark) = mark_of(&self.names, number, line) else {
             return Err(bad_line(alloc, number, line));
         };
-        self.judge.take(&mark);
         self.lines = number;
+        self.judge.take(&mark)?;
         Ok(())
     }
 }

@@ -8,6 +8,15 @@ pub struct LongestWait {
     pub cpu: Option<u32>,
 }
 
+/// The least share of a CPU that a vCPU had in a window of time throughout which it was runnable.
+#[derive(Clone, Copy, Debug, PartialEq, Eq)]
+pub struct LeastShare {
+    /// In parts per million, rounded down.
+    pub share_ppm: u32,
+    /// The time when the first window with the least run time began.
+    pub at_ns: u64,
+}
+
 /// How many lines there are of a kind, and the number of the first.
 #[derive(Clone, Copy, Debug, PartialEq, Eq)]
 pub struct LineCount {
@@ -25,7 +34,10 @@ pub struct VcpuReport {
     pub longest: Option<LongestWait>,
     /// How many of its waits were longer than its latency, and none where it has no reservation.
     pub late: Option<u64>,
-    /// Whether it got what was promised: each wait is within its latency.
+    /// None where no window lies in the trace throughout which it was runnable.
+    pub least: Option<LeastShare>,
+    /// Whether it got what was promised: each wait is within its latency, and each window throughout which it was
+    /// runnable has its share. What has no reservation has no promise that could be broken.
     pub kept: bool,
 }
 
@@ -34,6 +46,8 @@ pub struct VcpuReport {
 pub struct Report {
     /// The time of the last line, which ends the trace.
     pub end_ns: u64,
+    /// How long each window is in which shares are looked at.
+    pub window_ns: u64,
     /// The vCPUs by number.
     pub vcpus: Vec<VcpuReport>,
     /// Lines whose time is before that of an earlier line.

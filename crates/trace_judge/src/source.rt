@@ -8,7 +8,7 @@ impl<'a> Reading<'a> {
     ghost use Rattle.std.specs.Prelude.{◌≡◌, ℕ, ◌++◌, List, IfErr, OnOk, map};
     ghost use Rattle.tab_words.specs.Lines.{lines_of};
     ghost use Rattle.trace_judge.specs.Faults.{IsFaultIn};
-    ghost use Rattle.trace_judge.specs.Inside.Judged.{latency_of};
+    ghost use Rattle.trace_judge.specs.Inside.Judged.{terms_of};
     ghost use Rattle.trace_judge.specs.Inside.Readings.{HasReadBytes};
 
     // Reads the next piece of the trace's bytes, before which these were held, and holds those behind its last line
@@ -20,8 +20,8 @@ impl<'a> Reading<'a> {
         piece: &[u8],
     ) -> Result<(), JudgeFault>
         ensures names { self.new.names ≡ self.old.names }
-        ensures latencies { map latency_of self.new.judge.trackers.items
-            ≡ map latency_of self.old.judge.trackers.items }
+        ensures terms { map terms_of self.new.judge.trackers.items
+            ≡ map terms_of self.old.judge.trackers.items }
         ensures read { OnOk result ((bytes : List ℕ) → HasReadBytes bytes held.old.items self.old
             → HasReadBytes (bytes ++ piece.now) held.new.items self.new) }
         ensures fault { IfErr result (λ fault. (bytes : List ℕ) → HasReadBytes bytes held.old.items self.old

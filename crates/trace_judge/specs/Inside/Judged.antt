@@ -7,9 +7,9 @@ use Rattle.trace_judge.specs.Traces.{end_of, marks_of, trace_of}
 use Rattle.trace_judge.specs.declared.judge.Judge.{Judge}
 use Rattle.trace_judge.specs.declared.tracker.Tracker.{Tracker}
 
--- how long a vCPU's waits may be
-abbrev pub latency_of : Tracker → ℕ
-latency_of tracker = tracker.waits.latency_ns
+-- how long a vCPU's waits may be, and how long each window is
+abbrev pub terms_of : Tracker → ℕ × ℕ
+terms_of tracker = (tracker.waits.latency_ns, tracker.windows.window_ns)
 
 -- the marks have been taken
 pub record HasJudged (marks : List Mark) (judge : Judge) : Type 0 where

@@ -3,6 +3,7 @@ use Rattle.std.specs.Prelude.{◌≡◌, ℕ, ◌+◌, ◌<◌, ◌≤◌, nat_l
 use Rattle.trace_doc.specs.declared.mark.Mark.{Mark}
 use Rattle.trace_doc.specs.declared.mark.State.TheVariants as state
 use Rattle.trace_judge.specs.Courses.{Course, IsHeld, time_before}
+use Rattle.trace_judge.specs.Inside.Windowed.{HasWindows}
 use Rattle.trace_judge.specs.Traces.{state_at, told_at}
 use Rattle.trace_judge.specs.Waits.{IsLongest, late_before, waited}
 use Rattle.trace_judge.specs.declared.report.LongestWait.{LongestWait}
@@ -10,6 +11,7 @@ use Rattle.trace_judge.specs.declared.times.Times.{Times}
 use Rattle.trace_judge.specs.declared.tracker.Tracker.{Tracker}
 use Rattle.trace_judge.specs.declared.waits.Begun.{Begun}
 use Rattle.trace_judge.specs.declared.waits.Waits.{Waits}
+use Rattle.trace_judge.specs.declared.windows.Windows.{Windows}
 
 -- the times in the states before a time
 pub record HasTimes (course : Course) (time : ℕ) (times : Times) : Type 0 where
@@ -46,9 +48,10 @@ longer_of (Some wait) begun ns =
 
 -- all of one vCPU before a time
 pub record HasSettled (course : Course) (told : ℕ → Option ℕ) (time : ℕ) (times : Times) (waits : Waits)
-    : Type 0 where
+    (windows : Windows) : Type 0 where
   pub in_states : HasTimes course time times
   pub in_waits : HasWaits course told time waits
+  pub in_windows : HasWindows course time windows
 
 -- two functions of time agree before a time
 pub record AgreeBefore {X : Type 0} (time : ℕ) (one two : ℕ → X) : Type 0 where
@@ -60,10 +63,10 @@ pub record IsTracked (marks : List Mark) (tracker : Tracker) : Type 0 where
   pub cpu : (t : ℕ) → tracker.since_ns ≤ t → told_at marks t ≡ tracker.cpu
   pub settled : (course : Course) (told : ℕ → Option ℕ) → AgreeBefore tracker.since_ns course (state_at marks)
       → AgreeBefore tracker.since_ns told (told_at marks)
-      → HasSettled course told tracker.since_ns tracker.times tracker.waits
+      → HasSettled course told tracker.since_ns tracker.times tracker.waits tracker.windows
 
 -- counting goes on from the tracker's time to another
 pub record CountsOn (old : Tracker) (to : ℕ) (new : Tracker) : Type 0 where
   pub counts : (course : Course) (told : ℕ → Option ℕ)
-      → HasSettled course told old.since_ns old.times old.waits → IsHeld course old.state old.since_ns to
-      → (old.since_ns < to → told old.since_ns ≡ old.cpu) → HasSettled course told to new.times new.waits
+      → HasSettled course told old.since_ns old.times old.waits old.windows → IsHeld course old.state old.since_ns to
+      → (old.since_ns < to → told old.since_ns ≡ old.cpu) → HasSettled course told to new.times new.waits new.windows

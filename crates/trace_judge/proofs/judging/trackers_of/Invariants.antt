@@ -1,13 +1,13 @@
 use Rattle.std.proofs.Common.{◌≡◌, ◌≤◌, [], map, take}
 use Rattle.std.specs.List.{All}
-use Rattle.trace_judge.specs.Inside.Judged.{latency_of}
-use Rattle.trace_judge.specs.Inside.Reported.{sold_latency}
+use Rattle.trace_judge.specs.Inside.Judged.{terms_of}
+use Rattle.trace_judge.specs.Inside.Reported.{sold_terms}
 use Rattle.trace_judge.specs.Inside.Settled.{IsTracked}
 use Rattle.trace_judge.proofs.judging.trackers_of.Given as goal
 
 abbrev pub invariant-loop-vcpu : goal.invariant-loop-vcpu
 invariant-loop-vcpu l = record {
-  latencies : map latency_of l.trackers.items ≡ map sold_latency (take l.vcpu-index l.vcpus);
+  terms : map terms_of l.trackers.items ≡ map (sold_terms l.window_ns) (take l.vcpu-index l.vcpus);
   begun : All (λ tracker. tracker.since_ns ≤ 0) l.trackers.items;
   tracked : All (λ tracker. IsTracked [] tracker) l.trackers.items;
 }

@@ -1,6 +1,6 @@
 use Rattle.std.proofs.Common.{◌≡◌, Some, refl, rules, sym, ap, ◌∙◌}
 use Rattle.std.specs.Option.{is_none}
-use Rattle.trace_judge.proofs.JudgedLemmas.{judged_known, judged_unknown, same_latencies}
+use Rattle.trace_judge.proofs.JudgedLemmas.{judged_known, judged_unknown, on_ok, same_terms}
 use Rattle.trace_judge.proofs.judge.Judge.take.Goals as goal
 
 pub returns-in_default-clause-judged : goal.returns-in_default-clause-judged
@@ -10,16 +10,16 @@ returns-in_default-clause-judged c = λ marks has.
     judged_unknown marks c.args.mark.now c.args.self.now _ has c.max-self.ensures
     (c.counted_if-self.ensures.counted, unknown) c.in_default.is refl
 
-pub returns-clause-latencies : goal.returns-clause-latencies
-returns-clause-latencies c =
-    same_latencies c.args.self.now.trackers.items c.index.result c.index_mut-tracker.result.now c.take.new.self
-    (search rules) c.index_mut-tracker.ensures.value c.take.ensures.latency
+pub returns-clause-terms : goal.returns-clause-terms
+returns-clause-terms c =
+    same_terms c.args.self.now.trackers.items c.index.result c.index_mut-tracker.result.now c.take.new.self
+    (search rules) c.index_mut-tracker.ensures.value c.take.ensures.terms
 
 pub returns-clause-judged : goal.returns-clause-judged
-returns-clause-judged c = λ marks has.
+returns-clause-judged c = on_ok c.take.result (λ next marks has.
     let none : c.is_none.result ≡ is_none c.args.mark.now.vcpu = search rules in
     let unknown = rw none at c.counted_if-self-2.ensures.counted in
     judged_known marks c.args.mark.now c.args.self.now _ c.index.result c.index_mut-tracker.result.now c.take.new.self
     has c.max-self.ensures (c.counted_if-self.ensures.counted, unknown)
     (c.in-Some.is ∙ ap Some (sym c.index.ensures.value)) (search rules) c.index_mut-tracker.ensures.value refl
-    (λ own is. rw (← c.max-self.ensures) (c.take.ensures.tracked own is))
+    (λ own is. rw (← c.max-self.ensures) (next own is))) c.take.ensures.tracked

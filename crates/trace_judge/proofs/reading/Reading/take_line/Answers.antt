@@ -16,4 +16,4 @@ pub returns-clause-read : goal.returns-clause-read
 returns-clause-read c = λ lines read.
     read_kept lines c.args.line.now c.in-Some.number c.in-Some-mark_of.mark c.args.self.now _ read (search rules)
     c.in-Some.ensures.1 c.in-Some-mark_of.ensures.0 c.in-Some-mark_of.ensures.1 refl refl
-    (λ marks has. c.take.ensures.judged marks has)
+    (λ marks has. c.in_ok-take.ensures.judged marks has)

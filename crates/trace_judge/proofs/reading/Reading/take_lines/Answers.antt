@@ -14,6 +14,6 @@ loop-line-preserved c =
     subst (GoesOn c.args.text.now c.args.self.now c.loop-line.self) c.in-Some.ensures.steps c.loop-line.invariant.on in
     record {
       names = c.in_default.ensures.names ∙ c.loop-line.invariant.names;
-      latencies = c.in_default.ensures.latencies ∙ c.loop-line.invariant.latencies;
+      terms = c.in_default.ensures.terms ∙ c.loop-line.invariant.terms;
       on = goes_on _ _ _ _ _ _ at c.in_default.ensures.read;
     }

@@ -1,0 +1,46 @@
+-- Windows of time in which a vCPU is runnable, and its share of a CPU in each.
+-- Source: a reservation's share is that of CPU reserves (Mercer, Savage and Tokuda, "Processor capacity reserves", 1994):
+-- a part of each window in which there is something to run.
+use Rattle.std.specs.Prelude.{◌≡◌, ℕ, ◌+◌, ◌*◌, ◌/◌, ◌<◌, ◌≤◌, Bool, true, false, Option, Some, None, MatchOption}
+use Rattle.tab_core.specs.declared.TheConstants.{WHOLE_PPM}
+use Rattle.trace_doc.specs.declared.mark.State.{State}
+use Rattle.trace_doc.specs.declared.mark.State.TheVariants.{Run, Wait, Block}
+use Rattle.trace_judge.specs.Courses.{Course, time_between}
+use Rattle.trace_judge.specs.declared.report.LeastShare.{LeastShare}
+
+-- it runs or waits to
+abbrev pub is_runnable : Option State → Bool
+is_runnable (Some Run) = true
+is_runnable (Some Wait) = true
+is_runnable (Some Block) = false
+is_runnable None = false
+
+-- the window of so many ns that begins at a time lies before another, and the vCPU is runnable in all of it
+pub record IsWindow (course : Course) (window time start : ℕ) : Type 0 where
+  pub within : start + window ≤ time
+  pub runnable : (t : ℕ) → start ≤ t → t < start + window → is_runnable (course t) ≡ true
+
+-- how long it runs in the window
+abbrev pub run_in : Course → ℕ → ℕ → ℕ
+run_in course window start = time_between course Run start (start + window)
+
+-- no window before a time has less, and each that begins earlier has more
+pub record IsLeastWindow (course : Course) (window time start : ℕ) : Type 0 where
+  pub is_one : IsWindow course window time start
+  pub least : (s : ℕ) → IsWindow course window time s → run_in course window start ≤ run_in course window s
+  pub first : (s : ℕ) → IsWindow course window time s → s < start
+      → run_in course window start < run_in course window s
+
+-- the share of a window of which so much was run, in parts per million and rounded down
+abbrev pub share_of : ℕ → ℕ → ℕ
+share_of run window = run * WHOLE_PPM / window
+
+-- the least share of all windows before a time
+pub record IsLeastShare (course : Course) (window time : ℕ) (least : LeastShare) : Type 0 where
+  pub start : IsLeastWindow course window time least.at_ns
+  pub share : least.share_ppm ≡ share_of (run_in course window least.at_ns) window
+
+-- that, or none where there is no window
+abbrev pub IsLeast : Course → ℕ → ℕ → Option LeastShare → Type 0
+IsLeast course window time least = MatchOption least ((s : ℕ) → IsWindow course window time s → ⊥)
+    (IsLeastShare course window time)
