@@ -14,7 +14,7 @@ _tableau_tools() {
     case ${COMP_WORDS[1]},$word in
       table,-*) words='--by --tick --help' ;;
       diff,-* | export,-*) words='--tick --help' ;;
-      host,-*) words='--cores --help' ;;
+      host,-*) words='--cores --tick --help' ;;
       chart,-*) words='--text --by --cores --vcpus --from --to --width --tick --help' ;;
       sections,-*) words='--help' ;;
     esac

@@ -8,7 +8,7 @@ complete -c tableau-tools -n __fish_use_subcommand -a host -d 'Write the host do
 complete -c tableau-tools -n __fish_use_subcommand -a chart -d 'Draw a plan, replay or trace'
 complete -c tableau-tools -l help -d 'Print the words'
 complete -c tableau-tools -n __fish_use_subcommand -l version -d 'Print the version'
-complete -c tableau-tools -n '__fish_seen_subcommand_from table diff export chart' -l tick -x -d 'Nanoseconds of a tick'
+complete -c tableau-tools -n '__fish_seen_subcommand_from table diff export chart host' -l tick -x -d 'Nanoseconds of a tick'
 complete -c tableau-tools -n '__fish_seen_subcommand_from export; and not __fish_seen_subcommand_from csv chrome json' -a 'csv chrome json'
 complete -c tableau-tools -n '__fish_seen_subcommand_from table' -l by -x -a 'vcpu vm' -d 'What has a row'
 complete -c tableau-tools -n '__fish_seen_subcommand_from host' -l cores -x -d 'Cores of the host, 1 to 32'

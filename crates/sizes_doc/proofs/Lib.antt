@@ -1,4 +1,6 @@
 mod MeasureLemmas
+mod DecimalLemmas
+mod PointLemmas
 mod SizeLemmas
 mod TwiceLemmas
 mod SizedLemmas

@@ -6,13 +6,13 @@ use Rattle.tab_words.specs.Words.{words_of}
 use Rattle.script_doc.specs.Statements.{Statement, is_skipped, statements_from, statements_of}
 use Rattle.script_doc.proofs.StatementLemmas.{statements_from-nil, statements_from-kept, statements_from-skipped}
 use Rattle.sizes_doc.specs.SizeLines.{AreSizes, IsFirstBad, IsSizeLine}
-use Rattle.sizes_doc.specs.Sizes.{HasBadPart, InPart, IsBadPart, IsSize, Parts, part_words}
+use Rattle.sizes_doc.specs.Sizes.{HasBadPart, HasParts, InPart, IsBadPart, IsSize, Parts}
 use Rattle.sizes_doc.specs.declared.fault.Part.{Part}
 use Rattle.sizes_doc.specs.declared.fault.SizesFault.TheVariants.{BadSize}
 use Rattle.sizes_doc.specs.declared.size.Size.{Size}
 
 -- a bad part of the words' parts is one of the words
-pub part_told : (words : List (List ℕ)) (parts : Parts) (r : Result Size Part) → words ≡ part_words parts
+pub part_told : (words : List (List ℕ)) (parts : Parts) (r : Result Size Part) → HasParts words parts
     → IfErr r (IsBadPart parts) → IfErr r (HasBadPart words)
 part_told words parts (Ok size) is bad = tt
 part_told words parts (Err part) is bad = InPart parts part is bad

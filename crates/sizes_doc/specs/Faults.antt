@@ -9,11 +9,18 @@ use Rattle.sizes_doc.specs.declared.fault.SizesFault.TheVariants as sizes
 
 -- how the part isn't as it has to be
 abbrev pub bad_part_words : Part → List ℕ
-bad_part_words part.Form = codes "it isn't NAME VMS x VCPUS SHARE LATENCY"
+bad_part_words part.Form =
+    codes "it isn't NAME VMS x VCPUS SHARE LATENCY [capped], nor vm NAME VCPUS SHARE LATENCY [capped]; in a command it is one word, in quotes"
 bad_part_words part.Machines = codes "the count of VMs isn't 1 to " ++ decimal MAX_VCPUS
 bad_part_words part.Vcpus = codes "the count of vCPUs isn't 1 to " ++ decimal MAX_VCPUS
-bad_part_words part.Share = codes "the share isn't above 0 and up to 100%"
-bad_part_words part.Latency = codes "the latency isn't a time of up to 1000 s"
+bad_part_words part.Share =
+    codes "the share isn't a number of % or ppm: write it as 20%, 12.5% or 125000ppm, with four decimals at most"
+bad_part_words part.ShareUnit = codes "the share has no unit: write it as 20% or 200000ppm"
+bad_part_words part.ShareZero = codes "the share is 0: the least is 1ppm"
+bad_part_words part.ShareAbove = codes "the share is above 100%, a whole core"
+bad_part_words part.Latency = codes "the latency isn't a whole number of s, ms, us or ns: write it as 20ms"
+bad_part_words part.LatencyUnit = codes "the latency has no unit: write it as 20ms, or with s, us or ns"
+bad_part_words part.LatencyAbove = codes "the latency is above 1000s"
 
 -- the fault in words
 abbrev pub fault_words : SizesFault → List ℕ

@@ -1,27 +1,33 @@
 -- The host that sizes make.
 -- Source: the names are this project's own. The numbers are what a host document takes where it names none.
-use Rattle.std.specs.Prelude.{◌≡◌, ℕ, ◌+◌, ◌*◌, ◌<◌, ◌≤◌, true, false, List, ◌∷◌, ◌++◌, All, codes, decimal, flat_map, length, map, slice_get, Some}
+use Rattle.std.specs.Prelude.{◌≡◌, ℕ, ◌+◌, ◌*◌, ◌<◌, ◌≤◌, Bool, true, false, List, ◌∷◌, ◌++◌, All, codes, decimal, flat_map, length, map, slice_get, Some}
 use Rattle.std.specs.List.{range_with_len}
 use Rattle.tab_core.specs.Name.{IsName}
 use Rattle.tab_core.specs.Vcpus.{HaveDistinctNames}
-use Rattle.tab_core.specs.declared.TheConstants.{MAX_VCPUS, TICK_NS}
+use Rattle.tab_core.specs.declared.TheConstants.{MAX_VCPUS}
 use Rattle.tab_core.specs.declared.host.Host.{Host}
 use Rattle.tab_core.specs.declared.vcpu.Vcpu.{Vcpu}
 use Rattle.sizes_doc.specs.declared.fault.SizesFault.{SizesFault}
 use Rattle.sizes_doc.specs.declared.fault.SizesFault.TheVariants.{BadName, SameName, TooMany}
 use Rattle.sizes_doc.specs.declared.size.Size.{Size}
 
--- the name of a vCPU: that of its size, the number of its VM and its own number in that, both from 0
-abbrev pub vcpu_name : List ℕ → ℕ → ℕ → List ℕ
-vcpu_name name machine number = name ++ (codes "-" ++ (decimal machine ++ (codes "." ++ decimal number)))
+-- the name of a VM: that of its size, for one alone, and else with its number after it, from 0
+abbrev pub machine_name : Bool → List ℕ → ℕ → List ℕ
+machine_name true name machine = name
+machine_name false name machine = name ++ (codes "-" ++ decimal machine)
 
--- it is admitted and runnable, and not capped
+-- the name of a vCPU: that of its VM and its own number in that, from 0
+abbrev pub vcpu_name : Size → ℕ → ℕ → List ℕ
+vcpu_name size machine number =
+    machine_name size.alone size.name.now machine ++ (codes "." ++ decimal number)
+
+-- it is admitted and runnable, and capped if its size is
 abbrev pub vcpu_of : Size → ℕ → ℕ → Vcpu
 vcpu_of size machine number = record {
-  name = vcpu_name size.name.now machine number;
+  name = vcpu_name size machine number;
   reservation = Some size.reservation;
   runnable = true;
-  capped = false;
+  capped = size.capped;
 }
 
 -- the vCPUs of a VM
@@ -41,9 +47,9 @@ pub record HaveGoodNames (vcpus : List Vcpu) : Type 0 where
   pub good : All (λ vcpu. IsName vcpu.name) vcpus
   pub distinct : HaveDistinctNames vcpus
 
--- the host of these sizes
-pub record IsHostOf (cores : ℕ) (sizes : List Size) (host : Host) : Type 0 where
-  pub tick_ns : host.tick_ns ≡ TICK_NS
+-- the host of these sizes, with this tick
+pub record IsHostOf (cores tick : ℕ) (sizes : List Size) (host : Host) : Type 0 where
+  pub tick_ns : host.tick_ns ≡ tick
   pub cores_are : host.cores ≡ cores
   pub lag : host.lag ≡ 1000
   pub sliver : host.sliver ≡ 30
@@ -58,7 +64,7 @@ pub record HasBadName (size : Size) : Type 0 where
   pub number : ℕ
   pub low : machine < size.machines
   pub within : number < size.vcpus
-  pub bad : ¬ (IsName (vcpu_name size.name.now machine number))
+  pub bad : ¬ (IsName (vcpu_name size machine number))
 
 -- the vCPU of this number has the name of an earlier one
 pub record IsTwice (vcpus : List Vcpu) (vcpu : ℕ) : Type 0 where

@@ -7,15 +7,23 @@ use std::error::Error;
 use std::fmt;
 use tab_core::MAX_VCPUS;
 
-/// A part of a size that isn't as it has to be.
+/// What is wrong with a size: the part of it that isn't as it has to be, and how.
 #[derive(Clone, Copy, Debug, PartialEq, Eq)]
 pub enum Part {
-    /// The words are not NAME VMS x VCPUS SHARE LATENCY.
+    /// The words are neither NAME VMS x VCPUS SHARE LATENCY nor vm NAME VCPUS SHARE LATENCY, with or
+    /// without `capped` as the last.
     Form,
     Machines,
     Vcpus,
+    /// The share is no number with a unit, nor one without.
     Share,
+    ShareUnit,
+    ShareZero,
+    ShareAbove,
+    /// The latency is no number with a unit, nor one without.
     Latency,
+    LatencyUnit,
+    LatencyAbove,
 }
 
 impl fmt::Display for Part {
@@ -23,11 +31,28 @@ impl fmt::Display for Part {
 
     fn fmt<W: fmt::Write>(&self, f: &mut fmt::Formatter<W>) -> fmt::Result {
         match self {
-            Part::Form => write!(f, "it isn't NAME VMS x VCPUS SHARE LATENCY"),
+            Part::Form => write!(
+                f,
+                "it isn't NAME VMS x VCPUS SHARE LATENCY [capped], nor vm NAME VCPUS SHARE LATENCY [capped]; in a command it is one word, in quotes"
+            ),
             Part::Machines => write!(f, "the count of VMs isn't 1 to {MAX_VCPUS}"),
             Part::Vcpus => write!(f, "the count of vCPUs isn't 1 to {MAX_VCPUS}"),
-            Part::Share => write!(f, "the share isn't above 0 and up to 100%"),
-            Part::Latency => write!(f, "the latency isn't a time of up to 1000 s"),
+            Part::Share => write!(
+                f,
+                "the share isn't a number of % or ppm: write it as 20%, 12.5% or 125000ppm, with four decimals at most"
+            ),
+            Part::ShareUnit => write!(f, "the share has no unit: write it as 20% or 200000ppm"),
+            Part::ShareZero => write!(f, "the share is 0: the least is 1ppm"),
+            Part::ShareAbove => write!(f, "the share is above 100%, a whole core"),
+            Part::Latency => write!(
+                f,
+                "the latency isn't a whole number of s, ms, us or ns: write it as 20ms"
+            ),
+            Part::LatencyUnit => write!(
+                f,
+                "the latency has no unit: write it as 20ms, or with s, us or ns"
+            ),
+            Part::LatencyAbove => write!(f, "the latency is above 1000s"),
         }
     }
 }

@@ -5,6 +5,7 @@
 //! the first line that isn't a size, and which part of it.
 #![tactic(auto)]
 
+mod decimals;
 mod fault;
 mod measure;
 mod size;

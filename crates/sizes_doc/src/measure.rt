@@ -1,7 +1,9 @@
-ghost use Rattle.std.specs.Prelude.{◌≡◌, ◌≢◌, ℕ, ◌++◌, ◌^◌, ◌<◌, ◌≤◌, List, MatchOption};
-ghost use Rattle.tab_core.specs.declared.TheConstants.{MAX_LATENCY_NS, MAX_VCPUS, WHOLE_PPM};
-ghost use Rattle.sizes_doc.specs.Sizes.{IsCount, IsLatency, IsMeasure, IsShare};
+ghost use Rattle.std.specs.Prelude.{◌≡◌, ◌≢◌, ℕ, ◌*◌, ◌++◌, List, IfErr, IfOk, MatchOption, decimal};
+ghost use Rattle.sizes_doc.specs.Inside.Held.{Holds, IsHeld};
+ghost use Rattle.sizes_doc.specs.Sizes.{IsBadLatency, IsBadShare, IsCount, IsLatency, IsMeasure, IsPart, IsPercent, IsPercentage, IsShare, IsTime};
 
+use crate::decimals::pointed_of;
+use crate::fault::Part;
 use tab_core::{MAX_LATENCY_NS, MAX_VCPUS, WHOLE_PPM};
 use tab_words::read_number;
 
@@ -9,70 +11,128 @@ use tab_words::read_number;
 pub(crate) fn count_of(word: &[u8]) -> Option<u32>
     ensures { MatchOption result ((n : ℕ) → IsCount word.now n → ⊥) (IsCount word.now) }
 {
-    match measured(word, b"", 1, 1, u64::from(MAX_VCPUS)) {
-        Some(count) => Some(count as u32),
-        None => None,
+    let Some(count) = read_number(word) else {
+        return None;
+    };
+    if count < 1 {
+        return None;
     }
+    let most = u64::from(MAX_VCPUS);
+    if count > most {
+        return None;
+    }
+    Some(count as u32)
 }
 
-// The share that a word is, in parts per million.
-pub(crate) fn share_of(word: &[u8]) -> Option<u32>
-    ensures { MatchOption result ((n : ℕ) → IsShare word.now n → ⊥) (IsShare word.now) }
+// The share that a word is, in parts per million, or why it is none.
+pub(crate) fn share_of(word: &[u8]) -> Result<u32, Part>
+    ensures ok { IfOk result (IsShare word.now) }
+    ensures part { IfErr result (IsBadShare word.now) }
 {
-    let whole = u64::from(WHOLE_PPM);
-    if let Some(ppm) = measured(word, b"%", 10_000, 1, whole) {
-        return Some(ppm as u32);
+    let Some(ppm) = part_of(word) else {
+        return match percentage_of(word) {
+            Some(_) => Err(Part::ShareUnit),
+            None => Err(Part::Share),
+        };
+    };
+    if ppm == 0 {
+        return Err(Part::ShareZero);
     }
-    match measured(word, b"", 1, 1, whole) {
-        Some(ppm) => Some(ppm as u32),
-        None => None,
+    if ppm > u64::from(WHOLE_PPM) {
+        return Err(Part::ShareAbove);
     }
+    Ok(ppm as u32)
 }
 
-// The latency that a word is, in nanoseconds.
-#[tactic(auto, using(crate::proofs::MeasureLemmas::no_latency))]
-pub(crate) fn latency_of(word: &[u8]) -> Option<u64>
-    ensures { MatchOption result ((n : ℕ) → IsLatency word.now n → ⊥) (IsLatency word.now) }
+// The latency that a word is, in nanoseconds, or why it is none.
+pub(crate) fn latency_of(word: &[u8]) -> Result<u64, Part>
+    ensures ok { IfOk result (IsLatency word.now) }
+    ensures part { IfErr result (IsBadLatency word.now) }
 {
-    if let Some(ns) = measured(word, b"ms", 1_000_000, 0, MAX_LATENCY_NS) {
+    let Some(ns) = time_of(word) else {
+        return match in_unit(word, b"", 1) {
+            Some(_) => Err(Part::LatencyUnit),
+            None => Err(Part::Latency),
+        };
+    };
+    if ns > MAX_LATENCY_NS {
+        return Err(Part::LatencyAbove);
+    }
+    Ok(ns)
+}
+
+// The parts per million that a word is.
+fn part_of(word: &[u8]) -> Option<u64>
+    ensures { MatchOption result ((ppm : ℕ) → IsPart word.now ppm → ⊥) (Holds (IsPart word.now)) }
+{
+    if let Some(ppm) = percent_of(word) {
+        return Some(ppm);
+    }
+    in_unit(word, b"ppm", 1)
+}
+
+// The parts per million that a percentage with its sign is.
+fn percent_of(word: &[u8]) -> Option<u64>
+    ensures { MatchOption result ((ppm : ℕ) → IsPercent word.now ppm → ⊥) (Holds (IsPercent word.now)) }
+{
+    let Some(bytes) = without(word, b"%") else {
+        return None;
+    };
+    percentage_of(bytes)
+}
+
+// Those that a percentage without its sign is.
+fn percentage_of(bytes: &[u8]) -> Option<u64>
+    ensures { MatchOption result ((ppm : ℕ) → IsPercentage bytes.now ppm → ⊥)
+        (Holds (IsPercentage bytes.now)) }
+{
+    if let Some(ppm) = in_unit(bytes, b"", 10_000) {
+        return Some(ppm);
+    }
+    pointed_of(bytes)
+}
+
+// The nanoseconds that a time is.
+fn time_of(word: &[u8]) -> Option<u64>
+    ensures { MatchOption result ((ns : ℕ) → IsTime word.now ns → ⊥) (Holds (IsTime word.now)) }
+{
+    if let Some(ns) = in_unit(word, b"ms", 1_000_000) {
         return Some(ns);
     }
-    if let Some(ns) = measured(word, b"us", 1000, 0, MAX_LATENCY_NS) {
+    if let Some(ns) = in_unit(word, b"us", 1000) {
         return Some(ns);
     }
-    match measured(word, b"", 1, 0, MAX_LATENCY_NS) {
-        Some(ns) => Some(ns),
-        None => None,
+    if let Some(ns) = in_unit(word, b"ns", 1) {
+        return Some(ns);
     }
+    in_unit(word, b"s", 1_000_000_000)
 }
 
-// The value of a number with this unit behind it, where it is within these bounds.
-fn measured(word: &[u8], unit: &[u8], factor: u64, least: u64, most: u64) -> Option<u64>
-    requires some { 1 ≤ factor }
-    requires low { most < 2 ^ 64 }
-    ensures { MatchOption result
-        ((value : ℕ) → least ≤ value → value ≤ most → IsMeasure unit.now factor word.now value → ⊥)
-        (λ value. (least ≤ value) × (value ≤ most) × IsMeasure unit.now factor word.now value) }
+// The value of a number with this unit after it.
+fn in_unit(word: &[u8], unit: &[u8], factor: u64) -> Option<u64>
+    ensures { MatchOption result ((value : ℕ) → IsMeasure unit.now factor word.now value → ⊥)
+        (Holds (IsMeasure unit.now factor word.now)) }
 {
     let Some(digits) = without(word, unit) else {
         return None;
     };
-    let Some(number) = read_number(digits) else {
-        return None;
-    };
-    let Some(value) = number.checked_mul(factor) else {
-        return None;
-    };
-    if value < least {
-        return None;
+    match read_number(digits) {
+        Some(number) => Some(times(number, factor)),
+        None => None,
     }
-    if value > most {
-        return None;
-    }
-    Some(value)
 }
 
-// The word without the unit behind it.
+// So many times the factor.
+pub(crate) fn times(number: u64, factor: u64) -> u64
+    ensures { IsHeld (number * factor) result }
+{
+    match number.checked_mul(factor) {
+        Some(value) => value,
+        None => u64::MAX,
+    }
+}
+
+// The word without the unit after it.
 fn without<'a>(word: &'a [u8], unit: &[u8]) -> Option<&'a [u8]>
     ensures { MatchOption result ((front : List ℕ) → word.now ≢ front ++ unit.now)
         (λ front. word.now ≡ front.now ++ unit.now) }

@@ -1,8 +1,8 @@
-ghost use Rattle.std.specs.Prelude.{◌≡◌, ◌<◌, ◌^◌, ◌⊎◌, length, IfErr, IfOk, MatchOption};
+ghost use Rattle.std.specs.Prelude.{◌≡◌, ℕ, ◌<◌, ◌^◌, ◌⊎◌, ◌∷◌, Bool, List, length, IfErr, IfOk, MatchOption};
 ghost use Rattle.tab_words.specs.Words.{words_of};
 ghost use Rattle.script_doc.specs.Statements.{statements_of};
-ghost use Rattle.sizes_doc.specs.Sizes.{HasBadPart, IsBadPart, IsSize, IsSizeOf, Parts, part_words};
-ghost use Rattle.sizes_doc.specs.Inside.Written.{parts_in};
+ghost use Rattle.sizes_doc.specs.Sizes.{HasBadPart, HasParts, IsBadPart, IsSize, IsSizeOf, Parts, last_words};
+ghost use Rattle.sizes_doc.specs.Inside.Written.{HasHead, parts_in};
 ghost use Rattle.sizes_doc.specs.SizeLines.{AreSizes, IsFirstBad};
 ghost use Rattle.sizes_doc.specs.declared.fault.SizesFault.TheVariants.{NoMemory};
 
@@ -16,10 +16,10 @@ use tab_words::{Lines, Words};
 
 /// The sizes of a text of less than 2^32 bytes, a line each.
 ///
-/// A size is NAME VMS x VCPUS SHARE LATENCY. Counts are 1 to 256. A share is in percent of a core, as
-/// `20%`, or in parts per million, as `200000`, above 0 and up to a whole core. A latency is in
-/// milliseconds, as `20ms`, in microseconds, as `500us`, or in nanoseconds, as `20000000`, and at most
-/// 1000 s. A line without words and one whose first byte is `#` are skipped, and count as lines.
+/// A size is NAME VMS x VCPUS SHARE LATENCY, or vm NAME VCPUS SHARE LATENCY for one VM; `capped` may
+/// follow as the last word. Counts are 1 to 256. A share is in percent of a core, with up to four
+/// decimals, as `12.5%`, or in parts per million, as `125000ppm`, above 0 and up to a whole core. A
+/// latency is a whole number of s, ms, us or ns, as `20ms`, and at most 1000 s. A line without words and one whose first byte is `#` are skipped, and count as lines.
 /// `BadSize` comes where another line stands there, and names the first and its first bad part.
 pub fn read_sizes(alloc: Global, bytes: &[u8]) -> Result<Vec<Size<'_>>, SizesFault>
     requires { length bytes.now < 2 ^ 32 }
@@ -55,40 +55,109 @@ fn size_of(number: u32, line: &[u8]) -> Result<Size<'_>, Part>
 // The parts of a size, as they are written.
 #[derive(Drop)]
 struct Written<'a> {
+    head: Head<'a>,
+    rest: Rest<'a>,
+}
+
+// Those that say how many VMs and vCPUs there are, and their name.
+#[derive(Drop)]
+struct Head<'a> {
+    alone: bool,
     name: &'a [u8],
     machines: &'a [u8],
     vcpus: &'a [u8],
+}
+
+// Those that say what each vCPU is sold.
+#[derive(Drop)]
+struct Rest<'a> {
     share: &'a [u8],
     latency: &'a [u8],
+    capped: bool,
 }
 
 // The parts that the line has, if it has the form of a size.
 fn parts_of(line: &[u8]) -> Option<Written<'_>>
-    ensures { MatchOption result ((parts : Parts) → words_of line.now ≡ part_words parts → ⊥)
-        (λ written. words_of line.now ≡ part_words (parts_in written)) }
+    ensures { MatchOption result ((parts : Parts) → HasParts (words_of line.now) parts → ⊥)
+        (λ written. HasParts (words_of line.now) (parts_in written)) }
 {
     let mut words = Words::of(line);
-    let (Some(name), Some(machines), Some(by), Some(vcpus), Some(share), Some(latency), None) = (
-        words.next(),
-        words.next(),
-        words.next(),
-        words.next(),
-        words.next(),
-        words.next(),
-        words.next(),
-    ) else {
+    let Some(head) = head_of(&mut words) else {
         return None;
     };
-    if by != b"x".as_slice() {
+    match rest_of(&mut words) {
+        Some(rest) => Some(Written { head, rest }),
+        None => None,
+    }
+}
+
+// The parts of the head, which are taken off the words.
+fn head_of<'a>(words: &mut Words<'a>) -> Option<Head<'a>>
+    ensures { MatchOption result
+        ((alone : Bool) (name machines vcpus : List ℕ) (rest : List (List ℕ))
+        → HasHead words.old alone name machines vcpus rest → ⊥)
+        (λ head. HasHead words.old head.alone head.name.now head.machines.now head.vcpus.now words.new) }
+{
+    let (Some(first), Some(second), Some(third)) = (words.next(), words.next(), words.next()) else {
+        return None;
+    };
+    if third == b"x".as_slice() {
+        let Some(vcpus) = words.next() else {
+            return None;
+        };
+        return Some(Head {
+            alone: false,
+            name: first,
+            machines: second,
+            vcpus,
+        });
+    }
+    if first != b"vm".as_slice() {
         return None;
     }
-    Some(Written {
-        name,
-        machines,
-        vcpus,
-        share,
-        latency,
+    Some(Head {
+        alone: true,
+        name: second,
+        machines: b"1",
+        vcpus: third,
     })
+}
+
+// The other parts, where these words are all of them.
+fn rest_of<'a>(words: &mut Words<'a>) -> Option<Rest<'a>>
+    ensures { MatchOption result
+        ((share latency : List ℕ) (capped : Bool)
+        → words.old ≡ share ∷ latency ∷ last_words capped → ⊥)
+        (λ rest. words.old ≡ rest.share.now ∷ rest.latency.now ∷ last_words rest.capped) }
+{
+    let (Some(share), Some(latency)) = (words.next(), words.next()) else {
+        return None;
+    };
+    match is_capped(words) {
+        Some(capped) => Some(Rest {
+            share,
+            latency,
+            capped,
+        }),
+        None => None,
+    }
+}
+
+// Whether these words, after the latency, are `capped` or none.
+fn is_capped(words: &mut Words<'_>) -> Option<bool>
+    ensures { MatchOption result ((capped : Bool) → words.old ≡ last_words capped → ⊥)
+        (λ capped. words.old ≡ last_words capped) }
+{
+    let Some(word) = words.next() else {
+        return Some(false);
+    };
+    if word != b"capped".as_slice() {
+        return None;
+    }
+    match words.next() {
+        Some(_) => None,
+        None => Some(true),
+    }
 }
 
 // The size of these parts, or the first bad one.
@@ -97,26 +166,24 @@ fn size_from<'a>(number: u32, parts: &Written<'a>) -> Result<Size<'a>, Part>
     ensures ok { IfOk result (IsSizeOf (parts_in parts.now)) }
     ensures part { IfErr result (IsBadPart (parts_in parts.now)) }
 {
-    let Some(machines) = count_of(parts.machines) else {
+    let Some(machines) = count_of(parts.head.machines) else {
         return Err(Part::Machines);
     };
-    let Some(vcpus) = count_of(parts.vcpus) else {
+    let Some(vcpus) = count_of(parts.head.vcpus) else {
         return Err(Part::Vcpus);
     };
-    let Some(share_ppm) = share_of(parts.share) else {
-        return Err(Part::Share);
-    };
-    let Some(latency_ns) = latency_of(parts.latency) else {
-        return Err(Part::Latency);
-    };
+    let share_ppm = share_of(parts.rest.share)?;
+    let latency_ns = latency_of(parts.rest.latency)?;
     Ok(Size {
         line: number,
-        name: parts.name,
+        alone: parts.head.alone,
+        name: parts.head.name,
         machines,
         vcpus,
         reservation: Reservation {
             share_ppm,
             latency_ns,
         },
+        capped: parts.rest.capped,
     })
 }

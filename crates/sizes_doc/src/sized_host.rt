@@ -1,6 +1,6 @@
 ghost use Rattle.std.specs.Prelude.{◌≡◌, ◌<◌, ◌≤◌, ◌⊎◌, ◌++◌, ◌*◌, ◌+◌, All, IfErr, IfOk, IsSome, OnOk};
 ghost use Rattle.tab_core.specs.Name.{IsName};
-ghost use Rattle.tab_core.specs.declared.TheConstants.{MAX_CORES, MAX_VCPUS};
+ghost use Rattle.tab_core.specs.declared.TheConstants.{MAX_CORES, MAX_TICK_NS, MAX_VCPUS, MIN_TICK_NS};
 ghost use Rattle.sizes_doc.specs.SizedHost.{HasBadName, HasFault, IsHostOf, machine_vcpus, size_vcpus, vcpu_name, vcpu_of};
 ghost use Rattle.sizes_doc.specs.declared.fault.SizesFault.TheVariants.{NoMemory, BadName};
 
@@ -8,17 +8,25 @@ use crate::fault::SizesFault;
 use crate::size::Size;
 use crate::twice::first_twice;
 use std::alloc::Global;
-use tab_core::{Host, MAX_VCPUS, Name, NameFault, TICK_NS, Vcpu, Vcpus};
+use tab_core::{Host, MAX_VCPUS, Name, NameFault, Vcpu, Vcpus};
 
 /// The host of these sizes, with so many cores: the vCPUs of the first size's VMs, one VM after the
-/// other, then those of the next size. The tick is the default, the lag 1000 ticks, the sliver 30 and
-/// the quantum 1000. Each vCPU is admitted and runnable, and none is capped.
+/// other, then those of the next size. A tick has `tick_ns` nanoseconds; the lag is 1000 ticks, the sliver
+/// 30 and the quantum 1000. Each vCPU is admitted and runnable, and capped if its size is.
 ///
-/// The vCPUs of VM K of a size are named NAME-K.0, NAME-K.1 and so on, with K from 0.
-pub fn host_of_sizes(alloc: Global, cores: u32, sizes: &[Size<'_>]) -> Result<Host, SizesFault>
+/// The vCPUs of VM K of a size are named NAME-K.0, NAME-K.1 and so on, with K from 0, and those of one VM
+/// with a name of its own NAME.0, NAME.1 and so on.
+pub fn host_of_sizes(
+    alloc: Global,
+    cores: u32,
+    tick_ns: u32,
+    sizes: &[Size<'_>],
+) -> Result<Host, SizesFault>
     requires some_core { 1 ≤ cores }
     requires few_cores { cores ≤ MAX_CORES }
-    ensures host { IfOk result (IsHostOf cores sizes.now) }
+    requires least_tick { MIN_TICK_NS ≤ tick_ns }
+    requires most_tick { tick_ns ≤ MAX_TICK_NS }
+    ensures host { IfOk result (IsHostOf cores tick_ns sizes.now) }
     ensures admitted { IfOk result (λ host. All (λ vcpu. IsSome vcpu.reservation) host.vcpus) }
     ensures fault { IfErr result (λ fault. (fault ≡ NoMemory) ⊎ HasFault sizes.now fault) }
 {
@@ -33,7 +41,7 @@ pub fn host_of_sizes(alloc: Global, cores: u32, sizes: &[Size<'_>]) -> Result<Ho
         return Err(SizesFault::SameName { vcpu });
     }
     Ok(Host {
-        tick_ns: TICK_NS,
+        tick_ns,
         cores,
         lag: 1000,
         sliver: 30,
@@ -77,25 +85,29 @@ fn push_machine(
 fn vcpu_of(alloc: Global, size: &Size<'_>, machine: u32, number: u32) -> Result<Vcpu, SizesFault>
     ensures ok { IfOk result (λ vcpu. vcpu ≡ vcpu_of size.now machine number) }
     ensures fault { IfErr result (λ fault. (fault ≡ NoMemory)
-        ⊎ ((fault ≡ BadName size.now.line) × ¬ (IsName (vcpu_name size.now.name.now machine number)))) }
+        ⊎ ((fault ≡ BadName size.now.line) × ¬ (IsName (vcpu_name size.now machine number)))) }
 {
     let name = name_of(alloc, size, machine, number)?;
     Ok(Vcpu {
         name,
         reservation: Some(size.reservation),
         runnable: true,
-        capped: false,
+        capped: size.capped,
     })
 }
 
 // Its name.
 fn name_of(alloc: Global, size: &Size<'_>, machine: u32, number: u32) -> Result<Name, SizesFault>
-    ensures ok { IfOk result (λ name. name ≡ vcpu_name size.now.name.now machine number) }
+    ensures ok { IfOk result (λ name. name ≡ vcpu_name size.now machine number) }
     ensures fault { IfErr result (λ fault. (fault ≡ NoMemory)
-        ⊎ ((fault ≡ BadName size.now.line) × ¬ (IsName (vcpu_name size.now.name.now machine number)))) }
+        ⊎ ((fault ≡ BadName size.now.line) × ¬ (IsName (vcpu_name size.now machine number)))) }
 {
     let mut bytes = size.name.to_vec(alloc)?;
-    let end = format!(in alloc; "-{machine}.{number}")?;
+    if !size.alone {
+        let middle = format!(in alloc; "-{machine}")?;
+        bytes.extend_from_slice(middle.as_bytes())?;
+    }
+    let end = format!(in alloc; ".{number}")?;
     bytes.extend_from_slice(end.as_bytes())?;
     match Name::of(alloc, bytes.as_slice()) {
         Ok(name) => Ok(name),

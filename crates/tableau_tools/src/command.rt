@@ -180,6 +180,7 @@ fn host_command<'a>(alloc: Global) -> Result<Command<'a>, AllocError> {
     Command::new(alloc, "host")
         .about("Writes the host document of sizes of VMs")
         .arg(cores_arg(alloc))?
+        .arg(tick_arg(alloc))?
         .arg(sizes_arg(alloc))
 }
 
@@ -198,7 +199,9 @@ fn sizes_arg<'a>(alloc: Global) -> Arg<'a> {
     Arg::new(alloc, "SIZE")
         .action(ArgAction::Append)
         .num_args(1..)
-        .help("VMs of a size, as \"small 18 x 2 20% 20ms\"; without it, lines of standard input")
+        .help(
+            "VMs of a size, as \"small 18 x 2 20% 20ms\", or one VM, as \"vm mail 4 30% 50ms\"; without it, lines of standard input",
+        )
 }
 
 // The file to read.

@@ -1,5 +1,5 @@
 ghost use Rattle.std.specs.Prelude.{◌<◌, ◌≤◌, ◌^◌, All, IfOk, IsSome, length};
-ghost use Rattle.tab_core.specs.declared.TheConstants.{MAX_CORES};
+ghost use Rattle.tab_core.specs.declared.TheConstants.{MAX_CORES, MAX_TICK_NS, MIN_TICK_NS};
 
 use crate::fault::Fault;
 use crate::input::input_of;
@@ -8,20 +8,24 @@ use clap::ArgMatches;
 use host_gen::write_host;
 use sizes_doc::{host_of_sizes, read_sizes};
 use std::alloc::Global;
-use tab_core::{Host, MAX_CORES};
+use tab_core::{Host, MAX_CORES, MAX_TICK_NS, MIN_TICK_NS, TICK_NS};
 
 // The most bytes of sizes that are taken from words.
 const ROOM: usize = 1_048_576;
 
 /// Does `host`: it writes the document of the host that the sizes make.
 pub(crate) fn host(rt: &HostRuntime, matches: &ArgMatches<'_>) -> Result<(), Fault> {
-    // (the words were refused where the cores are not 1 to 32)
+    // (the words were refused where the cores or the tick are out of their range)
     let cores = matches
         .get_one::<u32>("cores")
         .unwrap_or(1)
         .clamp(1, MAX_CORES);
+    let tick_ns = matches
+        .get_one::<u32>("tick")
+        .unwrap_or(TICK_NS)
+        .clamp(MIN_TICK_NS, MAX_TICK_NS);
     let text = text_of(rt, matches)?;
-    let host = host_from(rt.alloc(), &text, cores)?;
+    let host = host_from(rt.alloc(), &text, cores, tick_ns)?;
     put_host(rt, &host)
 }
 
@@ -47,14 +51,16 @@ fn text_of(rt: &HostRuntime, matches: &ArgMatches<'_>) -> Result<Vec<u8>, Fault>
 }
 
 // The host that the lines of sizes make.
-fn host_from(alloc: Global, text: &[u8], cores: u32) -> Result<Host, Fault>
+fn host_from(alloc: Global, text: &[u8], cores: u32, tick_ns: u32) -> Result<Host, Fault>
     requires short { length text.now < 2 ^ 32 }
     requires some_core { 1 ≤ cores }
     requires few_cores { cores ≤ MAX_CORES }
+    requires least_tick { MIN_TICK_NS ≤ tick_ns }
+    requires most_tick { tick_ns ≤ MAX_TICK_NS }
     ensures { IfOk result (λ host. All (λ vcpu. IsSome vcpu.reservation) host.vcpus) }
 {
     match read_sizes(alloc, text) {
-        Ok(sizes) => match host_of_sizes(alloc, cores, sizes.as_slice()) {
+        Ok(sizes) => match host_of_sizes(alloc, cores, tick_ns, sizes.as_slice()) {
             Ok(host) => Ok(host),
             Err(fault) => Err(Fault::from(fault)),
         },
