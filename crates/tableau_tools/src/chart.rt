@@ -2,8 +2,9 @@ ghost use Rattle.std.specs.Prelude.{◌<◌, ◌≤◌, IfOk, length};
 ghost use Rattle.tab_core.specs.declared.TheConstants.{MAX_CORES, MAX_VCPUS};
 
 use crate::fault::Fault;
-use crate::input::view_of;
+use crate::input::input_of;
 use crate::output::{finish, output_of};
+use crate::plan::view_of;
 use clap::ArgMatches;
 use tab_core::{MAX_CORES, MAX_TICK_NS, MAX_VCPUS, TICK_NS};
 use view_chart::write_chart;
@@ -46,7 +47,8 @@ fn drawn_view_of(rt: &HostRuntime, matches: &ArgMatches<'_>) -> Result<View, Fau
     ensures vcpus { IfOk result (λ view. length view.names.items ≤ MAX_VCPUS) }
     ensures tasks { IfOk result (λ view. length view.tasks.items ≤ MAX_VCPUS) }
 {
-    let view = view_of(rt, matches)?;
+    let input = input_of(rt, matches.get_str("FILE"))?;
+    let view = view_of(rt.alloc(), input)?;
     let most = MAX_VCPUS as usize;
     if view.cores > MAX_CORES || view.names.len() > most || view.tasks.len() > most {
         return Err(Fault::TooMany);

@@ -1,6 +1,7 @@
 use crate::fault::Fault;
-use crate::input::view_of;
+use crate::input::input_of;
 use crate::output::{finish, output_of};
+use crate::plan::view_of;
 use clap::ArgMatches;
 use tab_core::{MAX_TICK_NS, TICK_NS};
 use tab_io::{Sink, WriteFault};
@@ -9,7 +10,8 @@ use view_export::{write_chrome, write_csv, write_json};
 
 /// Does `export`: it reads a text and writes it in the format that the words name.
 pub(crate) fn export(rt: &HostRuntime, matches: &ArgMatches<'_>) -> Result<(), Fault> {
-    let view = view_of(rt, matches)?;
+    let input = input_of(rt, matches.get_str("FILE"))?;
+    let view = view_of(rt.alloc(), input)?;
     let mut sink = output_of(rt)?;
     let tick_ns = matches.get_one::<u32>("tick").unwrap_or(TICK_NS);
     put_view(&mut sink, matches.get_str("FORMAT"), &view, tick_ns)?;

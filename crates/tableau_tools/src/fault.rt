@@ -1,34 +1,71 @@
 use host_doc::HostFault;
 use sizes_doc::SizesFault;
 use std::alloc::{AllocError, AllocFailed};
+use std::io;
 use tab_io::WriteFault;
 use thiserror::Error;
-use view_doc::ReadView;
 use view_lanes::ChartFault;
 
-// Why a command doesn't end well.
-#[derive(Clone, Copy, Debug, Error)]
+/// Why a command doesn't end well. A place is the name of a file with a colon and a space, or nothing.
+#[derive(Debug, Drop, Error)]
 pub(crate) enum Fault {
-    #[error("line {line} isn't of a plan, a replay or a trace, or may not stand there")]
-    BadLine { line: u32 },
-    #[error("line {line} of the plan isn't of a plan text, or may not stand there")]
-    BadPlanLine { line: u32 },
-    #[error("the {0}")]
-    BadHost(HostFault),
+    #[error("{place}line {line} isn't of a plan, a replay or a trace, or may not stand there: '{text}'")]
+    BadLine {
+        place: String,
+        line: u32,
+        text: String,
+    },
+    #[error("{place}line {line} of the plan isn't of a plan text, or may not stand there: '{text}'")]
+    BadPlanLine {
+        place: String,
+        line: u32,
+        text: String,
+    },
+    #[error("{place}the text ends before line {line}, and isn't whole")]
+    EndsEarly {
+        place: String,
+        line: u32,
+    },
+    #[error("{place}the plan was refused: {refusal}")]
+    Refused {
+        place: String,
+        refusal: String,
+    },
+    #[error("{place}{what}")]
+    OtherText {
+        place: String,
+        what: &'static str,
+    },
+    #[error("{place}the {fault}")]
+    BadHost {
+        place: String,
+        fault: HostFault,
+    },
     #[error("{0}")]
     BadSizes(SizesFault),
-    #[error("the text is no plan")]
-    NoPlan,
-    #[error("{count} sections, and not a plan, or a host and its plan, with a line %% between them")]
-    BadSections { count: u32 },
-    #[error("line {line} of file {file} is %%, which parts sections")]
-    HasSeparator { file: u32, line: u32 },
-    #[error("the input is longer than 67108864 bytes")]
-    TooLong,
-    #[error("the input can't be read")]
-    ReadFault,
-    #[error("the file can't be opened")]
-    NoFile,
+    #[error("{place}the text is no plan")]
+    NoPlan {
+        place: String,
+    },
+    #[error("{place}{count} sections, and not a plan, or a host and its plan, with a line %% between them")]
+    BadSections {
+        place: String,
+        count: u32,
+    },
+    #[error("{place}line {line} is %%, which parts sections")]
+    HasSeparator {
+        place: String,
+        line: u32,
+    },
+    #[error("{place}the input is longer than 67108864 bytes")]
+    TooLong {
+        place: String,
+    },
+    #[error("{place}{why}")]
+    Unread {
+        place: String,
+        why: io::Error,
+    },
     #[error("a word of the command isn't text")]
     NoText,
     #[error("the cores or vCPUs aren't of the form FIRST-LAST")]
@@ -43,10 +80,27 @@ pub(crate) enum Fault {
     Nothing,
     #[error("there are more cores or vCPUs than 32 or 256")]
     TooMany,
-    #[error("want of memory")]
+    #[error("out of memory")]
     NoMemory,
     #[error("the output failed")]
     WriteFault,
+}
+
+impl Fault {
+    /// The status of a command that ends so: those of `tableau`.
+    pub(crate) fn status(&self) -> u8 {
+        match self {
+            Fault::NoText
+            | Fault::BadLanes
+            | Fault::OtherLanes
+            | Fault::TextByVcpu
+            | Fault::TooNarrow => 1,
+            Fault::Unread { .. } => 4,
+            Fault::WriteFault => 5,
+            Fault::NoMemory => 6,
+            _ => 2,
+        }
+    }
 }
 
 impl From<AllocError> for Fault {
@@ -64,15 +118,6 @@ impl<T: Drop> From<AllocFailed<T>> for Fault {
 impl From<WriteFault> for Fault {
     fn from(_: WriteFault) -> Fault {
         Fault::WriteFault
-    }
-}
-
-impl From<ReadView> for Fault {
-    fn from(fault: ReadView) -> Fault {
-        match fault {
-            ReadView::BadLine { line } => Fault::BadLine { line },
-            ReadView::NoMemory => Fault::NoMemory,
-        }
     }
 }
 

@@ -34,20 +34,27 @@ fn text_of(rt: &HostRuntime, matches: &ArgMatches<'_>) -> Result<Vec<u8>, Fault>
     ensures { IfOk result (λ text. length text.items < 2 ^ 32) }
 {
     let Some(words) = matches.get_strs("SIZE") else {
-        return input_of(rt, None);
+        return Ok(input_of(rt, None)?.bytes);
     };
     let mut text = Vec::new(rt.alloc());
     for word in words {
         if word.len() > ROOM || text.len() > ROOM {
-            return Err(Fault::TooLong);
+            return Err(too_long(rt));
         }
         text.extend_from_slice(word.as_bytes())?;
         text.push(b'\n')?;
     }
     if text.len() > 2 * ROOM {
-        return Err(Fault::TooLong);
+        return Err(too_long(rt));
     }
     Ok(text)
+}
+
+// The sizes of the words are too long.
+fn too_long(rt: &HostRuntime) -> Fault {
+    Fault::TooLong {
+        place: String::new(rt.alloc()),
+    }
 }
 
 // The host that the lines of sizes make.

@@ -2,44 +2,55 @@ ghost use Rattle.std.specs.Prelude.{◌≤◌, IfOk, length};
 ghost use Rattle.tableau_tools.specs.declared.input.TheConstants.{LIMIT};
 
 use crate::fault::Fault;
-use clap::ArgMatches;
-use std::fs;
-use std::io::Read;
-use tab_io::{ReadAll, StdSource, read_all};
-use view_doc::{View, read_view};
+use crate::shown::place_of;
+use std::alloc::Global;
+use std::io::{ErrorKind, Read};
+use std::{fs, io};
 
 // The most bytes that are read.
 pub(crate) const LIMIT: usize = 67_108_864;
 
-/// What the file that the words name shows, or standard input where they name none.
-pub(crate) fn view_of(rt: &HostRuntime, matches: &ArgMatches<'_>) -> Result<View, Fault> {
-    let bytes = input_of(rt, matches.get_str("FILE"))?;
-    let view = read_view(rt.alloc(), &bytes)?;
-    Ok(view)
+/// A text that was read.
+#[derive(Drop)]
+pub(crate) struct Input {
+    /// The file's name with a colon and a space, as it stands before a fault of the text; nothing for standard input.
+    pub(crate) place: String,
+    pub(crate) bytes: Vec<u8>,
+    ghost few: { length bytes.items ≤ LIMIT },
 }
 
-/// All bytes of the file of this path, or of standard input where there is none.
-pub(crate) fn input_of(rt: &HostRuntime, path: Option<&str>) -> Result<Vec<u8>, Fault>
-    ensures { IfOk result (λ bytes. length bytes.items ≤ LIMIT) }
-{
+/// All of the file of this path, or of standard input where there is none or the path is `-`.
+pub(crate) fn input_of(rt: &HostRuntime, path: Option<&str>) -> Result<Input, Fault> {
     match path {
+        None | Some("-") => read_whole(rt.alloc(), "", rt.reader()),
         Some(path) => match fs::open(rt, path) {
-            Ok(file) => bytes_of(rt, file),
-            Err(_) => Err(Fault::NoFile),
+            Ok(file) => read_whole(rt.alloc(), path, file),
+            Err(why) => Err(fault_of(rt.alloc(), path, why)),
         },
-        None => bytes_of(rt, rt.reader()),
     }
 }
 
 // All bytes of a reader, of which there are few enough.
-fn bytes_of<R: Read + Drop>(rt: &HostRuntime, reader: R) -> Result<Vec<u8>, Fault>
-    ensures { IfOk result (λ bytes. length bytes.items ≤ LIMIT) }
-{
-    let mut source = StdSource::of(reader);
-    match read_all(rt.alloc(), &mut source, LIMIT) {
-        Ok(bytes) => Ok(bytes),
-        Err(ReadAll::ReadFault) => Err(Fault::ReadFault),
-        Err(ReadAll::TooLong { .. }) => Err(Fault::TooLong),
-        Err(ReadAll::NoMemory) => Err(Fault::NoMemory),
+fn read_whole<R: Read + Drop>(alloc: Global, path: &str, reader: R) -> Result<Input, Fault> {
+    let mut bytes = Vec::new(alloc);
+    let mut few = reader.take(LIMIT as u64 + 1);
+    if let Err(why) = few.read_to_end(&mut bytes) {
+        return Err(fault_of(alloc, path, why));
+    }
+    let place = place_of(alloc, path)?;
+    if bytes.len() > LIMIT {
+        return Err(Fault::TooLong { place });
+    }
+    Ok(Input { place, bytes })
+}
+
+// Why a file can't be opened or read, in the system's words.
+fn fault_of(alloc: Global, path: &str, why: io::Error) -> Fault {
+    if why.kind() == ErrorKind::OutOfMemory {
+        return Fault::NoMemory;
+    }
+    match place_of(alloc, path) {
+        Ok(place) => Fault::Unread { place, why },
+        Err(_) => Fault::NoMemory,
     }
 }

@@ -11,9 +11,11 @@ mod export;
 mod fault;
 mod host;
 mod input;
+mod mistaken;
 mod output;
 mod plan;
 mod sections;
+mod shown;
 mod table;
 
 use clap::error::ErrorKind;
@@ -22,60 +24,64 @@ use fault::Fault;
 use std::io;
 use std::process::ExitCode;
 
-// The status of a text that is refused, and of a fault.
-const REFUSED: u8 = 1;
-
-// The status of a fault of `diff`, whose 1 says that the plans differ.
-const DIFF_REFUSED: u8 = 3;
+// The status of `diff` for a fault, since its 1 says that the plans differ.
+const DIFF_FAULT: u8 = 2;
 
 fn main(rt: HostRuntime) -> ExitCode {
     let words = match program_words::words(&rt, rt.alloc()) {
         Ok(words) => words,
         Err(fault) if fault.kind() == io::ErrorKind::OutOfMemory => {
-            return ExitCode::from(refusal(&rt, Fault::NoMemory, REFUSED));
+            return ExitCode::from(refusal(&rt, &Fault::NoMemory));
         }
-        Err(_) => return ExitCode::from(refusal(&rt, Fault::NoText, REFUSED)),
+        Err(_) => return ExitCode::from(refusal(&rt, &Fault::NoText)),
     };
     match run(&rt, words.as_slice()) {
         Ok(status) => ExitCode::from(status),
-        Err(fault) => ExitCode::from(refusal(&rt, fault, refused(words.as_slice()))),
+        Err(fault) => {
+            let status = refusal(&rt, &fault);
+            ExitCode::from(if is_diff(words.as_slice()) {
+                DIFF_FAULT
+            } else {
+                status
+            })
+        }
     }
 }
 
-// The status of a fault of the command that these words name.
-fn refused(words: &[String]) -> u8 {
+// Whether the words name the command that compares.
+fn is_diff(words: &[String]) -> bool {
     match words.get(1) {
-        Some(word) if word.as_str() == "diff" => DIFF_REFUSED,
-        _ => REFUSED,
+        Some(word) => word.as_str() == "diff",
+        None => false,
     }
 }
 
 // Says why a command doesn't end well, and gives the status.
-fn refusal(rt: &HostRuntime, fault: Fault, status: u8) -> u8 {
+fn refusal(rt: &HostRuntime, fault: &Fault) -> u8 {
     // (where the line can't be written, the status says it)
     let _ = eprintln!(rt; "tableau-tools: {fault}");
-    status
+    fault.status()
 }
 
-// Does what the words say. The status is 0 or the command's, or 2 where they are no command.
+// Does what the words say. The status is 0 or the command's, or that of words that are no command: 1, or 2 for `diff`.
 fn run(rt: &HostRuntime, words: &[String]) -> Result<u8, Fault> {
     let Ok(command) = command::command(rt.alloc()) else {
         return Err(Fault::NoMemory);
     };
     match command.try_get_matches_from(words) {
         Ok(matches) => dispatch(rt, &matches),
-        Err(error) => told(rt, &error),
+        Err(error) => told(rt, &error, if is_diff(words) { DIFF_FAULT } else { 1 }),
     }
 }
 
 // Prints what clap answers, which is help or a version or a usage, and gives its status.
-fn told(rt: &HostRuntime, error: &Error) -> Result<u8, Fault> {
+fn told(rt: &HostRuntime, error: &Error, status: u8) -> Result<u8, Fault> {
     if error.kind() == ErrorKind::OutOfMemory {
         return Err(Fault::NoMemory);
     }
     let printed = error.print(rt);
     if error.exit_code() != 0 {
-        return Ok(2);
+        return Ok(status);
     }
     match printed {
         Ok(()) => Ok(0),

@@ -1,7 +1,7 @@
 ghost use Rattle.std.specs.Prelude.{◌<◌, ◌^◌, length};
 
 use crate::fault::Fault;
-use crate::input::input_of;
+use crate::input::{Input, input_of};
 use crate::output::{finish, output_of};
 use clap::ArgMatches;
 use section_join::{first_cut, lacks_feed, returns_in, write_mended, write_separator};
@@ -10,18 +10,16 @@ use tab_io::{Sink, WriteFault};
 /// Does `sections`: it writes files as the sections of one text, and tells what it mended.
 pub(crate) fn sections(rt: &HostRuntime, matches: &ArgMatches<'_>) -> Result<(), Fault> {
     let mut texts = Vec::new(rt.alloc());
-    let mut number = 0u32;
     let Some(paths) = matches.get_strs("FILE") else {
         return Ok(());
     };
     for path in paths {
-        number = number.saturating_add(1);
-        let text = input_of(rt, Some(*path))?;
-        if let Some(line) = first_cut(&text) {
-            return Err(Fault::HasSeparator { file: number, line });
+        let Input { place, bytes } = input_of(rt, Some(*path))?;
+        if let Some(line) = first_cut(&bytes) {
+            return Err(Fault::HasSeparator { place, line });
         }
-        tell_mended(rt, path, &text);
-        texts.push(text)?;
+        tell_mended(rt, &place, &bytes);
+        texts.push(bytes)?;
     }
     let mut sink = output_of(rt)?;
     put_texts(&mut sink, texts.as_slice())?;
@@ -29,18 +27,18 @@ pub(crate) fn sections(rt: &HostRuntime, matches: &ArgMatches<'_>) -> Result<(),
 }
 
 // Tells on standard error what is mended in a file.
-fn tell_mended(rt: &HostRuntime, path: &str, text: &[u8])
+fn tell_mended(rt: &HostRuntime, place: &str, text: &[u8])
     requires { length text.now < 2 ^ 31 }
 {
     let returns = returns_in(text);
     if returns > 0 {
         // (where a line can't be written, what is written stays as it is)
         let _ = eprintln!(rt;
-            "tableau-tools: {path}: lines that ended in a carriage return: {returns}"
+            "tableau-tools: {place}lines that ended in a carriage return: {returns}"
         );
     }
     if lacks_feed(text) {
-        let _ = eprintln!(rt; "tableau-tools: {path}: the last line had no line feed");
+        let _ = eprintln!(rt; "tableau-tools: {place}the last line had no line feed");
     }
 }
 

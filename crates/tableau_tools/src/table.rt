@@ -2,7 +2,7 @@ ghost use Rattle.std.specs.Prelude.{◌≤◌, length};
 ghost use Rattle.tab_core.specs.declared.TheConstants.{MAX_CORES, MAX_VCPUS};
 
 use crate::fault::Fault;
-use crate::input::input_of;
+use crate::input::{Input, input_of};
 use crate::output::{finish, output_of};
 use crate::plan::{host_of, plan_of};
 use clap::ArgMatches;
@@ -14,19 +14,20 @@ use view_table::{figures_of, write_table, write_vm_table};
 /// Does `table`: it reads a plan, or a host and its plan, and writes their tables.
 pub(crate) fn table(rt: &HostRuntime, matches: &ArgMatches<'_>) -> Result<(), Fault> {
     let by = matches.get_str("by");
-    let bytes = input_of(rt, matches.get_str("FILE"))?;
+    let Input { place, bytes } = input_of(rt, matches.get_str("FILE"))?;
     let sections = cut_sections(&bytes);
     if sections.count() == 2 {
-        let host = host_of(rt.alloc(), sections.part(0))?;
-        let view = plan_of(rt.alloc(), sections.part(1))?;
+        let host = host_of(rt.alloc(), &place, sections.part(0))?;
+        let view = plan_of(rt.alloc(), place, sections.part(1))?;
         return put_tables(rt, by, Some(host.vcpus.items()), &view, host.tick_ns);
     }
     if sections.count() != 1 {
         return Err(Fault::BadSections {
+            place,
             count: sections.count(),
         });
     }
-    let view = plan_of(rt.alloc(), sections.part(0))?;
+    let view = plan_of(rt.alloc(), place, sections.part(0))?;
     let tick_ns = matches.get_one::<u32>("tick").unwrap_or(TICK_NS);
     put_tables(rt, by, None, &view, tick_ns)
 }

@@ -1,0 +1,80 @@
+use crate::fault::Fault;
+use crate::shown::{line_of, shown};
+use std::alloc::Global;
+use tab_words::Lines;
+
+/// What a command wants to read.
+#[derive(Clone, Copy)]
+pub(crate) enum Wanted {
+    /// A plan alone.
+    Plan,
+    /// A plan, a replay or a trace.
+    View,
+}
+
+/// The fault of a text that isn't what is wanted, by its first bad line. A text of another kind, given by mistake, is said
+/// to be that: a refusal, a host document, a report, or JSON.
+pub(crate) fn bad_line(
+    alloc: Global,
+    place: String,
+    bytes: &[u8],
+    line: u32,
+    wanted: Wanted,
+) -> Fault {
+    let first = first_line(bytes);
+    if let Some(refusal) = first.strip_prefix(b"refused: ") {
+        return match shown(alloc, refusal) {
+            Ok(refusal) => Fault::Refused { place, refusal },
+            Err(_) => Fault::NoMemory,
+        };
+    }
+    if let Some(what) = other_kind(first, wanted) {
+        return Fault::OtherText { place, what };
+    }
+    let Some(text) = line_of(bytes, line) else {
+        return Fault::EndsEarly { place, line };
+    };
+    match shown(alloc, text) {
+        Ok(text) => match wanted {
+            Wanted::Plan => Fault::BadPlanLine { place, line, text },
+            Wanted::View => Fault::BadLine { place, line, text },
+        },
+        Err(_) => Fault::NoMemory,
+    }
+}
+
+// The first line that says something: it isn't blank, and no remark of a host document.
+fn first_line(bytes: &[u8]) -> &[u8] {
+    for line in Lines::over(bytes) {
+        let line = line.trim_ascii();
+        if !line.is_empty() && !line.starts_with(b"#") {
+            return line;
+        }
+    }
+    &[]
+}
+
+// What a text is that begins with this line, where it is one of those that are given by mistake.
+fn other_kind(first: &[u8], wanted: Wanted) -> Option<&'static str> {
+    if first.starts_with(b"[[vcpu]]") || is_key(first, b"cores") || is_key(first, b"format") {
+        return Some("it is a host document: tableau plan makes a plan of it");
+    }
+    if first.starts_with(b"{") || first.starts_with(b"[") {
+        return Some("it is JSON, which is written here and not read");
+    }
+    if first.starts_with(b"run ") {
+        return Some(match wanted {
+            Wanted::Plan => "it is the report of a run, and no plan",
+            Wanted::View => "it is a report without its trace: tableau run ROUNDS trace writes one",
+        });
+    }
+    None
+}
+
+// Whether the line gives this key of a host document a value.
+fn is_key(line: &[u8], key: &[u8]) -> bool {
+    match line.strip_prefix(key) {
+        Some(rest) => rest.trim_ascii_start().starts_with(b"="),
+        None => false,
+    }
+}
