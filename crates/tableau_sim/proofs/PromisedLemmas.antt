@@ -1,5 +1,5 @@
 -- What `ran` and `tested` of the call say has what they promise.
-use Rattle.std.proofs.Common.{◌≡◌, ℕ, List, [], Some, Result, Ok, Err, None, length, slice_get, refl, ◌∙◌, sym, arith}
+use Rattle.std.proofs.Common.{◌≡◌, ℕ, List, [], Result, Ok, Err, None, refl, ◌∙◌, arith}
 use Rattle.std.specs.Prelude.{IfOk}
 use Rattle.std.specs.Result.{result_err}
 use Rattle.std.proofs.lemmas.Option.{slice_get_within}
@@ -19,7 +19,7 @@ use Rattle.table_form.specs.Running.Courses.{CourseView}
 use Rattle.plan_promises.proofs.RunPromisesLemmas.{run_promises}
 use Rattle.round_words.specs.declared.view.View.{View}
 use Rattle.board_state.specs.Readings.{state_of}
-use Rattle.tableau_sim.specs.Promised.{HasMember, HasRunAsPromised, HasTestedAsPromised, RanAsPromised, StatesHost}
+use Rattle.tableau_sim.specs.Promised.{HasRunAsPromised, HasTestedAsPromised, RanAsPromised, StatesHost}
 use Rattle.tableau_sim.specs.Run.{RunsWhole}
 use Rattle.tableau_sim.specs.Seats.{HasRun, HasTested}
 
