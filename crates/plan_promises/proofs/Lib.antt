@@ -1,2 +1,5 @@
+pub mod HistoriesLemmas
 pub mod OffersLemmas
 pub mod ReservationsLemmas
+pub mod RunPromisesLemmas
+pub mod RunsLemmas

@@ -18,10 +18,10 @@ use Rattle.plan_promises.specs.Reservations.{IsReserved, KeepsReservations}
 use Rattle.plan_promises.proofs.OffersLemmas.{period_offers, short_waits}
 
 -- the vCPU's task is the chosen one of its reservation, with a tick
-record HasChosen (tasks : List (Option Periodic)) (tick v : ℕ) (reservation : Reservation) : Type 0 where
-  task : Periodic
-  at : slice_get tasks v ≡ Some (Some task)
-  chosen : IsChosen reservation tick task
+pub record HasChosen (tasks : List (Option Periodic)) (tick v : ℕ) (reservation : Reservation) : Type 0 where
+  pub task : Periodic
+  pub at : slice_get tasks v ≡ Some (Some task)
+  pub chosen : IsChosen reservation tick task
 
 -- the chosen budget of a reservation that is there
 chosen_in : (o : Option Periodic) (tick : ℕ) (reservation : Reservation) → IsTaskOf (Some reservation) tick o
@@ -30,7 +30,7 @@ chosen_in None tick reservation is = absurd is
 chosen_in (Some task) tick reservation is = (task, refl, is)
 
 -- each vCPU with a reservation has its chosen budget for a task
-has_chosen : (host : Host) (tasks : List (Option Periodic)) (v : ℕ) (reservation : Reservation)
+pub has_chosen : (host : Host) (tasks : List (Option Periodic)) (v : ℕ) (reservation : Reservation)
     → AreTasksOf host tasks → IsReserved host v reservation
     → HasChosen tasks host.tick_ns v reservation
 has_chosen host tasks v reservation are is =
@@ -43,7 +43,7 @@ has_chosen host tasks v reservation are is =
     record { task = chosen.0; at = found.1 ∙ ap Some chosen.1; chosen = chosen.2 }
 
 -- the chosen cost is at least the share of a period
-enough_cost : (reservation : Reservation) (tick : ℕ) (task : Periodic) → IsChosen reservation tick task
+pub enough_cost : (reservation : Reservation) (tick : ℕ) (task : Periodic) → IsChosen reservation tick task
     → reservation.share_ppm * task.period ≤ WHOLE_PPM * task.cost
 enough_cost reservation tick task is = (let cost = is.cost_is in omega arith)
 

@@ -1,1 +1,4 @@
+pub mod Histories
 pub mod Reservations
+pub mod RunPromises
+pub mod Runs

@@ -7,7 +7,7 @@ use Rattle.tab_words.specs.declared.command.RunMode.TheVariants.{Live}
 use Rattle.script_doc.specs.declared.event.Event.{Event}
 use Rattle.table_form.specs.Running.Promises.{KeepsPromises}
 use Rattle.plan_book.specs.declared.outcome.Outcome.{Outcome as PlanOutcome}
-use Rattle.plan_book.proofs.WaitsLemmas.{waits}
+use Rattle.plan_promises.proofs.RunsLemmas.{run_keeps}
 use Rattle.round_words.specs.declared.view.View.{View}
 use Rattle.round_words.specs.Views.{opening}
 use Rattle.board_state.specs.Readings.{state_of}
@@ -55,7 +55,7 @@ module _ (rounds : ℕ) (host : Host) (events : List Event) (view : View) (ran :
         };
         holds = is.so_far.holds;
         promises = promises;
-        waits = waits host events ran.book.course rounds (state_of ran.book.course view) of promises.invariant promises.short_gaps;
+        reservations = run_keeps host events ran.book.course rounds (state_of ran.book.course view) of promises;
         complete = is.complete;
       }
 

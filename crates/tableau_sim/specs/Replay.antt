@@ -26,7 +26,7 @@ use Rattle.step_machine.specs.Traces.{IsTrace}
 use Rattle.step_machine.specs.declared.trace.Made.{Made}
 use Rattle.tableau_sim.specs.declared.status.Status.TheVariants as status
 use Rattle.plan_book.specs.Courses.{IsCourseOf}
-use Rattle.plan_book.specs.Waits.{WaitsWithinLatency}
+use Rattle.plan_promises.specs.Runs.{RunKeepsReservations}
 use Rattle.tableau_sim.specs.Hosts.{IsHostFault}
 use Rattle.tableau_sim.specs.Outcomes.{Outcome}
 use Rattle.tableau_sim.specs.Outcomes.Outcome.{Refuses, Writes}
@@ -64,7 +64,7 @@ pub record RunsTo (rounds : ℕ) (parts : Parts) (course : CourseView) (state : 
   pub leads : Leads course rounds (opening course.cores) parts.steps state
   pub course_kept : IsCourse course
   pub promises : KeepsPromises course rounds state
-  pub waits : WaitsWithinLatency parts.host parts.events course state
+  pub reservations : RunKeepsReservations parts.host parts.events course state
   pub trace : IsTrace course rounds (opening course.cores) parts.steps state made
 
 -- the step on this line is the first that isn't done, with this answer, in a run of the course that

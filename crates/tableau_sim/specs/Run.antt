@@ -16,7 +16,7 @@ use Rattle.period_choice.specs.Tasks.{IsFirstWithoutPeriod}
 use Rattle.plan_make.specs.Planned.{IsFirstWithoutRoom}
 use Rattle.plan_book.specs.Books.{BookView, IsBookOf}
 use Rattle.plan_book.specs.Courses.{IsCourseOf}
-use Rattle.plan_book.specs.Waits.{WaitsWithinLatency}
+use Rattle.plan_promises.specs.Runs.{RunKeepsReservations}
 use Rattle.table_form.specs.Running.Courses.{CourseView, IsCourse, outline_of}
 use Rattle.table_form.specs.Running.Invariant.{IsComplete}
 use Rattle.table_form.specs.Running.Promises.{KeepsPromises}
@@ -41,7 +41,7 @@ use Rattle.tableau_sim.specs.Sections.{host_section}
 -- The view holds all parts of a board that was started for the course that the events make of the host.
 -- Read as a state it is a whole run of so many rounds that keeps all promises: all cores use one plan in a
 -- round, no vCPU runs on two cores at once, each is offered its cost in each of its periods, no core idles
--- while somebody may run there, and each wait is within the vCPU's latency
+-- while somebody may run there, and each vCPU gets its share and waits within its latency
 pub record RunsWhole (rounds : ℕ) (host : Host) (events : List Event) (course : CourseView)
     (view : View) : Type 0 where
   pub course_is : IsCourseOf host events course
@@ -49,7 +49,7 @@ pub record RunsWhole (rounds : ℕ) (host : Host) (events : List Event) (course 
   pub started : IsOfOutline (outline_of course) view
   pub holds : HoldsAllParts view
   pub promises : KeepsPromises course rounds (state_of course view)
-  pub waits : WaitsWithinLatency host events course (state_of course view)
+  pub reservations : RunKeepsReservations host events course (state_of course view)
   pub complete : IsComplete course rounds (state_of course view)
 
 -- the text of a run whose view this is: its trace if it is asked for, and the report

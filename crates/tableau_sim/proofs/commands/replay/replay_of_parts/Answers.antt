@@ -4,7 +4,7 @@ use Rattle.table_form.specs.Running.Courses.{CourseView}
 use Rattle.run_promises.proofs.PromiseLemmas.{promised}
 use Rattle.step_machine.specs.Refusals.{IsFaultOf, IsRefused}
 use Rattle.tableau_sim.specs.Replay.{Replays}
-use Rattle.plan_book.proofs.WaitsLemmas.{waits}
+use Rattle.plan_promises.proofs.RunsLemmas.{run_keeps}
 use Rattle.step_machine.proofs.GivenSteps.{each_names_core, place_in}
 use Rattle.tableau_sim.proofs.StopsLemmas.{plan_stopped}
 use Rattle.tableau_sim.proofs.commands.replay.replay_of_parts.Goals as goal
@@ -36,8 +36,8 @@ returns-in-Ok-replay g c = λ sections read.
         leads = rw (c.course.ensures, c.items.ensures) at c.in-Ok-replay.ensures.ok;
         course_kept = course_kept;
         promises = promises;
-        waits = waits c.args.host c.args.script c.in-Ok.book.course c.args.rounds world.state of
-            kept promises.short_gaps;
+        reservations = run_keeps c.args.host c.args.script c.in-Ok.book.course c.args.rounds world.state of
+            promises;
         trace = rw (c.course.ensures, c.items.ensures) at c.in-Ok-replay.ensures.trace;
       }),
       rw c.course.ensures at c.in-Ok-replay.ensures.of_course,

@@ -2,7 +2,7 @@ use Rattle.std.proofs.Common.{◌≡◌, ◌++◌, ℕ, List, Err, length, refl,
 use Rattle.std.proofs.lemmas.List.{length-map}
 use Rattle.tab_words.specs.declared.command.RunMode.TheVariants.{Burst}
 use Rattle.plan_book.specs.declared.outcome.Outcome.{Outcome as PlanOutcome}
-use Rattle.plan_book.proofs.WaitsLemmas.{waits}
+use Rattle.plan_promises.proofs.RunsLemmas.{run_keeps}
 use Rattle.board_state.specs.Readings.{state_of}
 use Rattle.core_workers.specs.Views.{CrewView}
 use Rattle.burst_bound.specs.KeptRuns.{IsKeptRun}
@@ -114,8 +114,8 @@ returns-in-Ok-run_course-clause-answers g c = λ sections given.
           started = ran.started;
           holds = ran.holds;
           promises = ran.promises;
-          waits = waits run.host run.script book.course c.args.rounds (state_of book.course view) of
-              ran.promises.invariant ran.promises.short_gaps;
+          reservations = run_keeps run.host run.script book.course c.args.rounds (state_of book.course view) of
+              ran.promises;
           complete = ran.complete;
         }) (λ bound long.
             let most = short long.asked bound long.is in

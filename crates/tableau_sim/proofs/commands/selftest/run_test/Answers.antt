@@ -1,6 +1,6 @@
 use Rattle.std.proofs.Common.{◌≡◌, ◌++◌, ℕ, List, [], subst, sym, inl}
 use Rattle.tab_words.specs.declared.command.RunMode.TheVariants.{Report}
-use Rattle.plan_book.proofs.WaitsLemmas.{waits}
+use Rattle.plan_promises.proofs.RunsLemmas.{run_keeps}
 use Rattle.board_state.specs.Readings.{state_of}
 use Rattle.course_run.proofs.TellingLemmas.{can_be_told, tells_of_state}
 use Rattle.course_run.specs.RunText.{run_text}
@@ -39,8 +39,7 @@ returns-in-Ok-run_course-clause-answers g c =
           started = ran.started;
           holds = ran.holds;
           promises = ran.promises;
-          waits = waits host [] book.course 4 (state_of book.course view) of ran.promises.invariant
-              ran.promises.short_gaps;
+          reservations = run_keeps host [] book.course 4 (state_of book.course view) of ran.promises;
           complete = ran.complete;
         }) ran.report,
         tt {0},
