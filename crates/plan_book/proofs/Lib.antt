@@ -10,4 +10,3 @@ pub mod OneCourse
 pub mod OneState
 pub mod PlannedAfter
 pub mod SameShape
-pub mod WaitsLemmas

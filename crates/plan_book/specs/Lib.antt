@@ -5,4 +5,3 @@ pub mod Courses
 pub mod Inside
 pub mod Mades
 pub mod States
-pub mod Waits

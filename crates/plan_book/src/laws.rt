@@ -2,23 +2,10 @@ ghost use Rattle.std.specs.Prelude.{◌≡◌, ◌≤◌, List, ℕ, length};
 ghost use Rattle.tab_core.specs.Vcpus.{capped_of};
 ghost use Rattle.tab_core.specs.declared.host.Host.{Host};
 ghost use Rattle.table_form.specs.Running.Courses.{CourseView, IsCourseForm, plan_after};
-ghost use Rattle.table_form.specs.Running.Invariant.{StateInvariant};
-ghost use Rattle.table_form.specs.Running.Gaps.{HasShortGaps};
-ghost use Rattle.table_form.specs.Running.State.{State};
 ghost use Rattle.script_doc.specs.declared.event.Event.{Event};
 ghost use Rattle.plan_book.specs.After.{IsKnownAfter};
 ghost use Rattle.plan_book.specs.Courses.{IsCourseOf};
 ghost use Rattle.plan_book.specs.States.{BookState};
-ghost use Rattle.plan_book.specs.Waits.{WaitsWithinLatency};
-
-/// In a run on the course of a host and a script, whose gaps are no longer than the tasks allow,
-/// each wait is within the greater of the vCPU's latencies at its two ends, in nanoseconds of the host's
-/// tick.
-pub fn every_wait_is_within_latency()
-    ensures { (host : Host) (events : List Event) (course : CourseView) (rounds : ℕ) (state : State)
-        → IsCourseOf host events course → StateInvariant course rounds state → HasShortGaps course state
-        → WaitsWithinLatency host events course state }
-{}
 
 /// Each plan of a course has the capped vCPUs of the course's host, whatever the changes.
 pub fn the_capped_stay_capped()

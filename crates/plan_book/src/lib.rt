@@ -2,10 +2,8 @@
 //! runnable vCPUs, and what became of each change of reservations.
 //!
 //! Layers above may rely on `IsKnownAfter` of `specs/After.antt`, which says what is known after
-//! the first events, on `IsBookOf` of `specs/Books.antt` and `IsCourseOf` of `specs/Courses.antt`,
-//! which say what a book and its course show of it, and on `WaitsWithinLatency` of
-//! `specs/Waits.antt`, which bounds the waits of a run on such a course. All hosts of a run have one
-//! tick.
+//! the first events, and on `IsBookOf` of `specs/Books.antt` and `IsCourseOf` of `specs/Courses.antt`,
+//! which say what a book and its course show of it. All hosts of a run have one tick.
 #![tactic(auto)]
 
 mod book;
@@ -19,10 +17,7 @@ mod planning;
 
 pub use book::PlanBook;
 pub use fault::BookFault;
-pub use laws::{
-    a_run_has_one_tick, a_script_makes_one_course, every_wait_is_within_latency,
-    the_capped_stay_capped,
-};
+pub use laws::{a_run_has_one_tick, a_script_makes_one_course, the_capped_stay_capped};
 pub use make::{make_book, make_book_with, ticks_in};
 pub use outcome::Outcome;
 pub use planning::planned;
