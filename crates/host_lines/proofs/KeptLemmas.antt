@@ -1,0 +1,134 @@
+-- What it says of a plan that it has no fault.
+use Rattle.std.proofs.Common.{◌≡◌, ℕ, ◌≤◌, ◌&&◌, Bool, true, false, not, if◌then◌else◌, List, length, Option, Some, None, refl, sym, arith}
+use Rattle.std.specs.Prelude.{IfNone, nat_le, nat_lt, slice_get}
+use Rattle.std.proofs.lemmas.Bool.{le-leb, leb-true, not-false}
+use Rattle.std.proofs.lemmas.Option.{slice_get_within}
+use Rattle.tab_core.specs.declared.TheConstants.{MAX_CORES}
+use Rattle.tab_core.specs.declared.reservation.Reservation.{Reservation}
+use Rattle.tab_core.specs.declared.vcpu.Vcpu.{Vcpu}
+use Rattle.vcpu_names.specs.Names.{name_at}
+use Rattle.view_doc.specs.declared.view.Stretch.{Stretch}
+use Rattle.view_doc.specs.declared.view.Task.{Task}
+use Rattle.host_lines.specs.declared.scheduler.Scheduler.{Scheduler}
+use Rattle.host_lines.specs.declared.scheduler.Scheduler.TheVariants.{Rtds, Deadline, FullDeadline}
+use Rattle.host_lines.specs.declared.unkept.Unkept.{Unkept}
+use Rattle.host_lines.specs.declared.unkept.Unkept.TheVariants.{NoGuest, NoTask, OutOfRange, RoundedOut, NotKept, Overbooked}
+use Rattle.host_lines.specs.Budgets.{budget_in, is_taken, is_task, is_within, least_budget, least_period, load_on, parts_of, period_in}
+use Rattle.host_lines.specs.Guests.{has_guest}
+use Rattle.host_lines.specs.Reserved.{is_kept, reserved_of}
+use Rattle.host_lines.specs.Supply.{IsKeptThere, IsVcpuKept}
+use Rattle.host_lines.specs.Unkept.{core_fault, kept_fault, split_fault, task_fault, unkept_in, vcpu_fault}
+use Rattle.host_lines.proofs.FaultLemmas.{neither, none_has}
+use Rattle.host_lines.proofs.RoomLemmas.{room}
+use Rattle.host_lines.proofs.SupplyLemmas.{keeps}
+
+-- a test that found no fault
+passed : (b : Bool) (fault : Unkept) (rest : Option Unkept) → (if b then Some fault else rest) ≡ None
+    → (b ≡ false) × (rest ≡ None)
+passed true fault rest h = absurd cc
+passed false fault rest h = (refl, h)
+
+held : (b : Bool) (fault : Unkept) → (if b then None else Some fault) ≡ None → b ≡ true
+held true fault h = refl
+held false fault h = absurd cc
+
+both : (a b : Bool) → (a && b) ≡ true → (a ≡ true) × (b ≡ true)
+both true b h = (refl, h)
+both false b h = absurd cc
+
+-- schedulers take no period and no budget of nothing
+some_period : (s : Scheduler) → 1 ≤ least_period s
+some_period Rtds = omega arith
+some_period Deadline = omega arith
+some_period FullDeadline = omega arith
+
+some_budget : (s : Scheduler) → 1 ≤ least_budget s
+some_budget Rtds = omega arith
+some_budget Deadline = omega arith
+some_budget FullDeadline = omega arith
+
+-- what a task without a fault has
+record IsSound (s : Scheduler) (tick : ℕ) (host : List Vcpu) (name : List ℕ) (t : Task) : Type 0 where
+  taken : is_taken s tick t ≡ true
+  period : 1 ≤ period_in s tick t
+  budget : 1 ≤ budget_in s tick t
+  within : budget_in s tick t ≤ period_in s tick t
+  reservation : Reservation
+  reserved : reserved_of host name ≡ Some reservation
+  kept : is_kept s (period_in s tick t) (budget_in s tick t) reservation ≡ true
+
+reserved_there : (s : Scheduler) (v period budget : ℕ) (o : Option Reservation)
+    → kept_fault s v period budget o ≡ None → (r : Reservation) × (o ≡ Some r) × (is_kept s period budget r ≡ true)
+reserved_there s v period budget None h = absurd cc
+reserved_there s v period budget (Some r) h = (r, refl, held (is_kept s period budget r) (NotKept v) h)
+
+not_less : (a b : ℕ) → nat_lt a b ≡ false → b ≤ a
+not_less a b h = grind (arith)
+
+sound : (s : Scheduler) (tick : ℕ) (host : List Vcpu) (v : ℕ) (name : List ℕ) (t : Task)
+    → task_fault s tick host v name t ≡ None → IsSound s tick host name t
+sound s tick host v name t h =
+    let guest = passed (not (has_guest name)) (NoGuest v) _ h in
+    let task = passed (not (is_task t)) (NoTask v) _ guest.1 in
+    let range = passed (not (is_within s (period_in s tick t) (budget_in s tick t))) (OutOfRange v) _ task.1 in
+    let less = passed (nat_lt (period_in s tick t) (budget_in s tick t)) (RoundedOut v) _ range.1 in
+    let there = reserved_there s v (period_in s tick t) (budget_in s tick t) (reserved_of host name) less.1 in
+    let is : is_task t ≡ true = not-false (is_task t) task.0 in
+    let in_range : is_within s (period_in s tick t) (budget_in s tick t) ≡ true = not-false _ range.0 in
+    let order : budget_in s tick t ≤ period_in s tick t = not_less _ _ less.0 in
+    let fits : nat_le (budget_in s tick t) (period_in s tick t) ≡ true = le-leb _ _ order in
+    let first = both (nat_le (least_period s) (period_in s tick t)) _ in_range in
+    let second = both _ (nat_le (least_budget s) (budget_in s tick t)) first.1 in
+    let low : least_period s ≤ period_in s tick t = leb-true _ _ first.0 in
+    let high : least_budget s ≤ budget_in s tick t = leb-true _ _ second.1 in
+    let p = some_period s in
+    let b = some_budget s in
+    record {
+      taken = rw (is, in_range, fits) refl;
+      period = omega arith;
+      budget = omega arith;
+      within = order;
+      reservation = there.0;
+      reserved = there.1;
+      kept = there.2;
+    }
+
+-- such a task's reservation is kept
+kept_vcpu : (s : Scheduler) (tick : ℕ) (host : List Vcpu) (name : List ℕ) (t : Task)
+    → IsSound s tick host name t → IsVcpuKept s tick host name t
+kept_vcpu s tick host name t is =
+    let parts = both _ _ is.kept in
+    record {
+      reservation = is.reservation;
+      reserved = is.reserved;
+      keeps = keeps _ (period_in s tick t) (budget_in s tick t) is.reservation is.budget is.within
+          (leb-true _ _ parts.0) (leb-true _ _ parts.1);
+    }
+
+-- a plan without a fault is kept
+pub kept_there : (s : Scheduler) (tick : ℕ) (host : List Vcpu) (names : List (List ℕ)) (tasks : List Task)
+    (slots : List Stretch) → unkept_in s tick host names tasks slots ≡ None
+    → IsKeptThere s tick host names tasks
+kept_there s tick host names tasks slots h =
+    let first = neither _ _ h in
+    let second = neither (split_fault tasks slots) _ first.1 in
+    let one : (v : ℕ) (t : Task) → slice_get tasks v ≡ Some t → IsSound s tick host (name_at names v) t =
+    λ v t at.
+    (let low = slice_get_within tasks v t at in
+    let none = none_has (vcpu_fault s tick host names tasks) (length tasks) v first.0 low in
+    sound s tick host v (name_at names v) t (rw at at none)) in
+    record {
+      each = λ v t at. kept_vcpu s tick host (name_at names v) t (one v t at);
+      room = λ core time low common.
+          (let none = none_has (core_fault s tick tasks) MAX_CORES core second.1 low in
+          let most = passed (nat_lt (parts_of s) (load_on s tick core tasks)) (Overbooked core) None none in
+          room s tick core time tasks (λ v t at. ((one v t at).taken, (one v t at).period))
+          (not_less _ _ most.0) common);
+    }
+
+-- whatever is found, it is kept where that is nothing
+pub kept_where : (s : Scheduler) (tick : ℕ) (host : List Vcpu) (names : List (List ℕ)) (tasks : List Task)
+    (slots : List Stretch) (found : Option Unkept) → found ≡ unkept_in s tick host names tasks slots
+    → IfNone found (IsKeptThere s tick host names tasks)
+kept_where s tick host names tasks slots None h = kept_there s tick host names tasks slots (sym h)
+kept_where s tick host names tasks slots (Some fault) h = tt

@@ -1,0 +1,5 @@
+pub mod FaultLemmas
+pub mod KeptLemmas
+pub mod LineLemmas
+pub mod RoomLemmas
+pub mod SupplyLemmas

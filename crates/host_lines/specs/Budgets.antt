@@ -1,0 +1,81 @@
+-- Periods and budgets in a scheduler's unit of time, and the parts of a core that they come to.
+-- Source: of Linux, kernel/sched/deadline.c and its page "Deadline Task Scheduling" (a runtime of 1024 ns at least,
+-- sched_deadline_period_min_us and _max_us, sched_rt_runtime_us of sched_rt_period_us); of Xen,
+-- xen/common/sched/rt.c (a period and a budget of 10 us at least).
+use Rattle.std.specs.Prelude.{ℕ, ◌+◌, ◌-◌, ◌*◌, ◌/◌, ◌==◌, ◌&&◌, nat_le, Bool, if◌then◌else◌, List}
+use Rattle.std.specs.List.{sum_by}
+use Rattle.tab_core.specs.declared.TheConstants.{ROUND}
+use Rattle.view_doc.specs.declared.view.Task.{Task}
+use Rattle.host_lines.specs.declared.TheConstants.{PARTS}
+use Rattle.host_lines.specs.declared.scheduler.Scheduler.{Scheduler}
+use Rattle.host_lines.specs.declared.scheduler.Scheduler.TheVariants.{Rtds, Deadline, FullDeadline}
+
+-- ---- schedulers
+
+-- the nanoseconds of a unit of time
+abbrev pub unit_of : Scheduler → ℕ
+unit_of Rtds = 1000
+unit_of Deadline = 1
+unit_of FullDeadline = 1
+
+-- the least and the greatest period, and the least budget, in that unit
+abbrev pub least_period : Scheduler → ℕ
+least_period Rtds = 10
+least_period Deadline = 100000
+least_period FullDeadline = 100000
+
+abbrev pub most_period : Scheduler → ℕ
+most_period Rtds = 4294967295
+most_period Deadline = 4194304000
+most_period FullDeadline = 4194304000
+
+abbrev pub least_budget : Scheduler → ℕ
+least_budget Rtds = 10
+least_budget Deadline = 1024
+least_budget FullDeadline = 1024
+
+-- the parts of a core that are given away: all, or 95 percent
+abbrev pub parts_of : Scheduler → ℕ
+parts_of Rtds = PARTS
+parts_of Deadline = PARTS / 100 * 95
+parts_of FullDeadline = PARTS
+
+-- ---- tasks
+
+-- a task of a plan, with a tick of so many nanoseconds: its period is rounded down, and its cost up
+abbrev pub period_in : Scheduler → ℕ → Task → ℕ
+period_in s tick t = t.period * tick / unit_of s
+
+abbrev pub budget_in : Scheduler → ℕ → Task → ℕ
+budget_in s tick t = (t.cost * tick + (unit_of s - 1)) / unit_of s
+
+-- its cost is at least a tick and at most its period, and its period at most a round
+abbrev pub is_task : Task → Bool
+is_task t = nat_le 1 t.cost && (nat_le t.cost t.period && nat_le t.period ROUND)
+
+-- a period and a budget that the scheduler takes
+abbrev pub is_within : Scheduler → ℕ → ℕ → Bool
+is_within s period budget =
+    nat_le (least_period s) period && (nat_le period (most_period s) && nat_le (least_budget s) budget)
+
+abbrev pub fits_period : Scheduler → ℕ → ℕ → Bool
+fits_period s period budget = is_within s period budget && nat_le budget period
+
+-- the task has a period and a budget there
+abbrev pub is_taken : Scheduler → ℕ → Task → Bool
+is_taken s tick t = is_task t && fits_period s (period_in s tick t) (budget_in s tick t)
+
+-- ---- cores
+
+-- a budget in each period as parts of a core, rounded up
+abbrev pub part_of : ℕ → ℕ → ℕ
+part_of period budget = (budget * PARTS + (period - 1)) / period
+
+-- the parts of its home that a task is given there
+abbrev pub part_on : Scheduler → ℕ → ℕ → Task → ℕ
+part_on s tick core t = if (t.home == core) && is_taken s tick t
+    then part_of (period_in s tick t) (budget_in s tick t) else 0
+
+-- the parts of a core that are given
+abbrev pub load_on : Scheduler → ℕ → ℕ → List Task → ℕ
+load_on s tick core tasks = sum_by (part_on s tick core) tasks

@@ -1,0 +1,105 @@
+-- The texts for schedulers: comments, what makes room, and the lines of each vCPU by number.
+-- Source: of Xen, the manual page xl(1), vcpu-pin and sched-rtds; of Linux, chrt(1) of util-linux, and
+-- Documentation/admin-guide/cgroup-v2.rst, "Cpuset".
+use Rattle.std.specs.Prelude.{ℕ, ◌+◌, ◌++◌, Bool, true, false, List, [], codes, decimal, length, Option, Some, None, slice_get}
+use Rattle.tab_core.specs.declared.vcpu.Vcpu.{Vcpu}
+use Rattle.tab_words.specs.Texts.{texts_below}
+use Rattle.vcpu_names.specs.Names.{name_at}
+use Rattle.view_doc.specs.declared.view.Task.{Task}
+use Rattle.view_doc.specs.declared.view.View.{View}
+use Rattle.host_lines.specs.declared.heads.TheConstants.{ADMITTED, ADMIT_ALL, DEADLINE_HEAD, PARTITIONS, RTDS_HEAD}
+use Rattle.host_lines.specs.declared.scheduler.Scheduler.{Scheduler}
+use Rattle.host_lines.specs.declared.scheduler.Scheduler.TheVariants.{Rtds, Deadline, FullDeadline}
+use Rattle.host_lines.specs.Budgets.{budget_in, period_in}
+use Rattle.host_lines.specs.Guests.{guest_of, number_of}
+use Rattle.host_lines.specs.Reserved.{is_capped}
+
+-- ---- what it is made from
+
+-- the comment that says so, for so many cores and vCPUs, and with the CPU that core 0 is
+unfoldable pub made_line : ℕ → ℕ → ℕ → ℕ → List ℕ
+made_line cores vcpus tick first = codes "# The plan has " ++ (decimal cores ++ (codes " cores and "
+    ++ (decimal vcpus ++ (codes " vCPUs, in ticks of " ++ (decimal tick ++ (codes " ns. Its core 0 is CPU "
+    ++ (decimal first ++ codes ".\n")))))))
+
+-- the text of a vCPU by its name and its task, if it has one
+abbrev pub task_text : (List ℕ → Task → List ℕ) → List ℕ → Option Task → List ℕ
+task_text text name None = []
+task_text text name (Some t) = text name t
+
+-- the text of the vCPU of a number
+abbrev pub vcpu_text : (List ℕ → Task → List ℕ) → List (List ℕ) → List Task → ℕ → List ℕ
+vcpu_text text names tasks v = task_text text (name_at names v) (slice_get tasks v)
+
+-- ---- Xen
+
+-- the vCPU of this number of a guest runs on this CPU alone
+unfoldable pub pin_line : List ℕ → List ℕ → ℕ → List ℕ
+pin_line guest number cpu = codes "xl vcpu-pin " ++ (guest ++ (codes " " ++ (number ++ (codes " "
+    ++ (decimal cpu ++ (codes " " ++ (decimal cpu ++ codes "\n")))))))
+
+-- it has this period and this budget, in microseconds, and takes unused time or doesn't
+unfoldable pub rtds_line : List ℕ → List ℕ → ℕ → ℕ → ℕ → List ℕ
+rtds_line guest number period budget extra = codes "xl sched-rtds -d " ++ (guest ++ (codes " -v "
+    ++ (number ++ (codes " -p " ++ (decimal period ++ (codes " -b " ++ (decimal budget
+    ++ (codes " -e " ++ (decimal extra ++ codes "\n")))))))))
+
+-- whether unused time is taken
+abbrev pub extra_of : Bool → ℕ
+extra_of true = 0
+extra_of false = 1
+
+-- the lines of a vCPU, of a host with a tick of so many nanoseconds, where core 0 is the first CPU
+abbrev pub rtds_of : ℕ → ℕ → List Vcpu → List ℕ → Task → List ℕ
+rtds_of first tick host name t = pin_line (guest_of name) (number_of name) (first + t.home)
+    ++ rtds_line (guest_of name) (number_of name) (period_in Rtds tick t) (budget_in Rtds tick t)
+    (extra_of (is_capped host name))
+
+-- the text for Xen's RTDS, of a plan of these vCPUs, and of a view
+abbrev pub rtds_text_of : ℕ → ℕ → List Vcpu → ℕ → List (List ℕ) → List Task → List ℕ
+rtds_text_of first tick host cores names tasks = RTDS_HEAD.now ++ (made_line cores (length tasks) tick first
+    ++ texts_below (vcpu_text (rtds_of first tick host) names tasks) (length tasks))
+
+abbrev pub rtds_text : ℕ → ℕ → List Vcpu → View → List ℕ
+rtds_text first tick host view =
+    rtds_text_of first tick host view.cores view.names.items view.tasks.items
+
+-- ---- Linux's deadline tasks
+
+-- the vCPU's thread goes into the partition of a CPU
+unfoldable pub into_line : List ℕ → List ℕ → ℕ → List ℕ
+into_line guest number cpu = codes "into " ++ (guest ++ (codes " " ++ (number ++ (codes " "
+    ++ (decimal cpu ++ codes "\n")))))
+
+-- it gets this budget in each period, in nanoseconds
+unfoldable pub chrt_line : ℕ → ℕ → List ℕ
+chrt_line period budget = codes "chrt --deadline --sched-runtime " ++ (decimal budget
+    ++ (codes " --sched-deadline " ++ (decimal period ++ (codes " --sched-period " ++ (decimal period
+    ++ codes " --pid 0 \"$task\"\n")))))
+
+abbrev pub deadline_of : Scheduler → ℕ → ℕ → List ℕ → Task → List ℕ
+deadline_of s first tick name t = into_line (guest_of name) (number_of name) (first + t.home)
+    ++ chrt_line (period_in s tick t) (budget_in s tick t)
+
+-- the CPUs of the cores
+abbrev pub cpu_word : ℕ → ℕ → List ℕ
+cpu_word first core = codes " " ++ decimal (first + core)
+
+abbrev pub cpus_line : ℕ → ℕ → List ℕ
+cpus_line first cores = codes "cpus=\"" ++ (texts_below (cpu_word first) cores ++ codes "\"\n")
+
+-- how much of a CPU the kernel admits
+abbrev pub admitted : Scheduler → List ℕ
+admitted Rtds = ADMITTED.now
+admitted Deadline = ADMITTED.now
+admitted FullDeadline = ADMIT_ALL.now
+
+-- the text for deadline tasks, of a plan of these vCPUs, and of a view
+abbrev pub deadline_text_of : Scheduler → ℕ → ℕ → ℕ → List (List ℕ) → List Task → List ℕ
+deadline_text_of s first tick cores names tasks = DEADLINE_HEAD.now
+    ++ (made_line cores (length tasks) tick first ++ (admitted s ++ (cpus_line first cores ++ (PARTITIONS.now
+    ++ texts_below (vcpu_text (deadline_of s first tick) names tasks) (length tasks)))))
+
+abbrev pub deadline_text : Scheduler → ℕ → ℕ → View → List ℕ
+deadline_text s first tick view =
+    deadline_text_of s first tick view.cores view.names.items view.tasks.items

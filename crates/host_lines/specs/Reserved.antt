@@ -1,0 +1,25 @@
+-- What the host beside a plan says of a vCPU of some name.
+-- Source: the rules of this project.
+use Rattle.std.specs.Prelude.{ℕ, ◌+◌, ◌-◌, ◌*◌, ◌&&◌, nat_le, Bool, false, if◌then◌else◌, List, [], ◌∷◌, Option, None}
+use Rattle.std.specs.Str.{bytes_eq}
+use Rattle.tab_core.specs.declared.TheConstants.{WHOLE_PPM}
+use Rattle.tab_core.specs.declared.reservation.Reservation.{Reservation}
+use Rattle.tab_core.specs.declared.vcpu.Vcpu.{Vcpu}
+use Rattle.host_lines.specs.declared.scheduler.Scheduler.{Scheduler}
+use Rattle.host_lines.specs.Budgets.{unit_of}
+
+-- what it has reserved, if one of this name is admitted
+abbrev pub reserved_of : List Vcpu → List ℕ → Option Reservation
+reserved_of [] name = None
+reserved_of (vcpu ∷ vcpus) name = if bytes_eq vcpu.name name then vcpu.reservation else reserved_of vcpus name
+
+-- whether it is capped
+abbrev pub is_capped : List Vcpu → List ℕ → Bool
+is_capped [] name = false
+is_capped (vcpu ∷ vcpus) name = if bytes_eq vcpu.name name then vcpu.capped else is_capped vcpus name
+
+-- a budget in each period keeps a reservation: it is the share of the period, and what it leaves of two periods
+-- is within the latency
+abbrev pub is_kept : Scheduler → ℕ → ℕ → Reservation → Bool
+is_kept s period budget r = nat_le (r.share_ppm * period) (WHOLE_PPM * budget)
+    && nat_le (unit_of s * ((period - budget) + (period - budget))) r.latency_ns

@@ -1,0 +1,88 @@
+-- Why the vCPUs of a plan aren't put on a scheduler: the first fault of a vCPU by number, else the first slot away from
+-- its vCPU's home, else the first core that would be overbooked.
+-- Source: the rules of this project.
+use Rattle.std.specs.Prelude.{ℕ, zero, suc, ◌==◌, nat_lt, not, Bool, false, if◌then◌else◌, List, [], ◌∷◌, length, Option, Some, None, slice_get}
+use Rattle.std.specs.Option.{option_or}
+use Rattle.tab_core.specs.declared.TheConstants.{MAX_CORES}
+use Rattle.tab_core.specs.declared.reservation.Reservation.{Reservation}
+use Rattle.tab_core.specs.declared.vcpu.Vcpu.{Vcpu}
+use Rattle.vcpu_names.specs.Names.{name_at}
+use Rattle.view_doc.specs.declared.view.Stretch.{Stretch}
+use Rattle.view_doc.specs.declared.view.Task.{Task}
+use Rattle.view_doc.specs.declared.view.Use.{Use}
+use Rattle.view_doc.specs.declared.view.Use.TheVariants.{Idle, Slot, Shared}
+use Rattle.view_doc.specs.declared.view.View.{View}
+use Rattle.host_lines.specs.declared.scheduler.Scheduler.{Scheduler}
+use Rattle.host_lines.specs.declared.unkept.Unkept.{Unkept}
+use Rattle.host_lines.specs.declared.unkept.Unkept.TheVariants.{NoGuest, NoTask, OutOfRange, RoundedOut, Stranger, NotKept, Split, Overbooked}
+use Rattle.host_lines.specs.Budgets.{budget_in, is_task, is_within, load_on, parts_of, period_in}
+use Rattle.host_lines.specs.Guests.{has_guest}
+use Rattle.host_lines.specs.Reserved.{is_kept, reserved_of}
+
+-- ---- vCPUs
+
+-- what was reserved is there, and kept
+abbrev pub kept_fault : Scheduler → ℕ → ℕ → ℕ → Option Reservation → Option Unkept
+kept_fault s v period budget None = Some (Stranger v)
+kept_fault s v period budget (Some r) = if is_kept s period budget r then None else Some (NotKept v)
+
+abbrev pub budget_fault : Scheduler → List Vcpu → ℕ → List ℕ → ℕ → ℕ → Option Unkept
+budget_fault s host v name period budget =
+    if not (is_within s period budget) then Some (OutOfRange v)
+    else if nat_lt period budget then Some (RoundedOut v)
+    else kept_fault s v period budget (reserved_of host name)
+
+-- the fault of a vCPU of a plan
+abbrev pub task_fault : Scheduler → ℕ → List Vcpu → ℕ → List ℕ → Task → Option Unkept
+task_fault s tick host v name t =
+    if not (has_guest name) then Some (NoGuest v)
+    else if not (is_task t) then Some (NoTask v)
+    else budget_fault s host v name (period_in s tick t) (budget_in s tick t)
+
+abbrev pub task_fault_in : Scheduler → ℕ → List Vcpu → ℕ → List ℕ → Option Task → Option Unkept
+task_fault_in s tick host v name None = None
+task_fault_in s tick host v name (Some t) = task_fault s tick host v name t
+
+abbrev pub vcpu_fault : Scheduler → ℕ → List Vcpu → List (List ℕ) → List Task → ℕ → Option Unkept
+vcpu_fault s tick host names tasks v = task_fault_in s tick host v (name_at names v) (slice_get tasks v)
+
+-- ---- slots
+
+-- the home of a vCPU is another core
+abbrev pub is_away : Option Task → ℕ → Bool
+is_away None core = false
+is_away (Some t) core = not (t.home == core)
+
+-- a slot on another core than its vCPU's home
+abbrev pub slot_fault : List Task → ℕ → Use → Option Unkept
+slot_fault tasks core Idle = None
+slot_fault tasks core (Slot v) = if is_away (slice_get tasks v) core then Some (Split v) else None
+slot_fault tasks core (Shared v) = None
+
+-- the first such slot
+abbrev pub split_fault : List Task → List Stretch → Option Unkept
+split_fault tasks [] = None
+split_fault tasks (s ∷ ss) = option_or (slot_fault tasks s.core s.by) (split_fault tasks ss)
+
+-- ---- cores
+
+-- more parts of a core than are given away
+abbrev pub core_fault : Scheduler → ℕ → List Task → ℕ → Option Unkept
+core_fault s tick tasks core =
+    if nat_lt (parts_of s) (load_on s tick core tasks) then Some (Overbooked core) else None
+
+-- ---- all
+
+-- the first fault of the numbers below n
+unfoldable pub first_below : (ℕ → Option Unkept) → ℕ → Option Unkept
+first_below fault zero = None
+first_below fault (suc n) = option_or (first_below fault n) (fault n)
+
+abbrev pub unkept_in : Scheduler → ℕ → List Vcpu → List (List ℕ) → List Task → List Stretch → Option Unkept
+unkept_in s tick host names tasks slots =
+    option_or (first_below (vcpu_fault s tick host names tasks) (length tasks))
+    (option_or (split_fault tasks slots) (first_below (core_fault s tick tasks) MAX_CORES))
+
+-- why a plan, beside its host, isn't put on a scheduler
+abbrev pub unkept_of : Scheduler → ℕ → List Vcpu → View → Option Unkept
+unkept_of s tick host view = unkept_in s tick host view.names.items view.tasks.items view.slots.items

@@ -1,0 +1,63 @@
+//! The texts of exports that no plan changes, as shells read them.
+
+/// How a text for Xen's RTDS begins.
+pub(crate) const RTDS_HEAD: &[u8] = b"\
+# Xen's RTDS for the vCPUs of a plan, written by tableau-tools export rtds.
+# Kept there: each vCPU's budget in each of its periods, so its share and its longest wait; and its cap (-e 0).
+# Not kept: which ticks of a period are whose. A vCPU that isn't capped takes what others leave (-e 1), as Xen shares it.
+# Apply: sh FILE, as root, where the guests are in a pool of RTDS (sched=rtds) and nothing else is on these CPUs.
+# Undo, for each guest: xl vcpu-pin GUEST all all all; xl sched-rtds -d GUEST -v all -p 10000 -b 4000 -e 1
+";
+
+/// How a text for Linux's deadline tasks begins.
+pub(crate) const DEADLINE_HEAD: &[u8] = b"\
+# Deadline tasks of Linux for the vCPUs of a plan, written by tableau-tools export deadline.
+# Kept there: each vCPU's budget in each of its periods, so its share and its longest wait; and the cap, of every vCPU.
+# Not kept: which ticks of a period are whose, and what a vCPU leaves unused goes to no other that isn't capped.
+# Apply: SPARE=0-1 sh FILE, as root, with cgroups v2 alone; SPARE has the CPUs of the guests' other threads.
+# Undo, for each vCPU: chrt --other --pid 0 THREAD; then move the guests out of the group, and remove its folders.
+set -e
+group=/sys/fs/cgroup/tableau
+# thread GUEST N: the thread of a vCPU, of QEMU by libvirt, or as the program says that THREAD names.
+thread() {
+    if [ -n \"$THREAD\" ]; then
+        \"$THREAD\" \"$1\" \"$2\"
+    else
+        grep -lx \"CPU $2/KVM\" \"/proc/$(cat \"/run/libvirt/qemu/$1.pid\")/task/\"*/comm | cut -d/ -f5
+    fi
+}
+# core CPU: a partition of this CPU alone.
+core() {
+    mkdir -p \"$group/cpu$1\"
+    echo threaded > \"$group/cpu$1/cgroup.type\"
+    echo \"$1\" > \"$group/cpu$1/cpuset.cpus\"
+    echo root > \"$group/cpu$1/cpuset.cpus.partition\"
+}
+# into GUEST N CPU: the vCPU's thread goes into that partition, and its guest's other threads to the spare CPUs.
+into() {
+    task=$(thread \"$1\" \"$2\")
+    grep -q '^0::/tableau' \"/proc/$task/cgroup\" || echo \"$task\" > \"$group/cgroup.procs\"
+    echo \"$task\" > \"$group/cpu$3/cgroup.threads\"
+}
+";
+
+/// What is said of 95 percent.
+pub(crate) const ADMITTED: &[u8] = b"\
+# The kernel admits 95 percent of a CPU unless told, and the plan has no more on any.
+";
+
+/// What tells the kernel to admit all of a CPU.
+pub(crate) const ADMIT_ALL: &[u8] = b"\
+# The kernel admits 95 percent of a CPU unless told; undo this by kernel.sched_rt_runtime_us=950000.
+sysctl -w kernel.sched_rt_runtime_us=-1
+";
+
+/// What makes the partitions.
+pub(crate) const PARTITIONS: &[u8] = b"\
+echo +cpuset > /sys/fs/cgroup/cgroup.subtree_control
+mkdir -p \"$group\"
+echo \"${SPARE:?has no CPUs}\" $cpus | tr ' ' ',' > \"$group/cpuset.cpus\"
+echo root > \"$group/cpuset.cpus.partition\"
+echo +cpuset > \"$group/cgroup.subtree_control\"
+for cpu in $cpus; do core \"$cpu\"; done
+";

@@ -1,0 +1,23 @@
+//! What a plan's vCPUs are given on the schedulers of hosts: for each a budget in each of its periods, in the
+//! scheduler's unit of time, why some plan isn't put there, and the lines that do it.
+//!
+//! `specs/Budgets.antt` has the arithmetic, `specs/Unkept.antt` the refusals and `specs/Supply.antt` what a scheduler
+//! keeps that gives each vCPU its budget in each of its periods. The texts are those of `specs/Lines.antt`.
+#![tactic(auto)]
+
+mod budget;
+mod guest;
+mod heads;
+mod lines;
+mod loads;
+mod reserved;
+mod scheduler;
+mod unkept;
+
+pub use lines::{write_deadline, write_rtds};
+pub use scheduler::Scheduler;
+pub use unkept::{Unkept, unkept_of};
+
+/// Parts of a core's time, by which budgets of different periods are added. Where periods divide a round of
+/// 102,600 ticks and a tick is a whole number of the scheduler's units, each budget is a whole number of them.
+pub const PARTS: u64 = 102_600_000;
