@@ -1,4 +1,5 @@
 use host_doc::HostFault;
+use host_lines::Unkept;
 use sizes_doc::SizesFault;
 use std::alloc::{AllocError, AllocFailed};
 use tab_io::WriteFault;
@@ -21,6 +22,10 @@ pub(crate) enum Fault {
     NoPlan,
     #[error("{count} sections, and not a plan, or a host and its plan, with a line %% between them")]
     BadSections { count: u32 },
+    #[error("{count} sections, and not a host and its plan, with a line %% between them")]
+    NoHost { count: u32 },
+    #[error("{0}")]
+    Unkept(Unkept),
     #[error("line {line} of file {file} is %%, which parts sections")]
     HasSeparator { file: u32, line: u32 },
     #[error("the input is longer than 67108864 bytes")]
