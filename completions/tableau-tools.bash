@@ -6,14 +6,15 @@ _tableau_tools() {
     words='table diff sections export host chart --help --version'
   else
     case ${COMP_WORDS[1]},$before in
-      *,--tick | *,--cores | *,--vcpus | *,--from | *,--to | *,--width) return ;;
-      export,export) words='csv chrome json' ;;
+      *,--tick | *,--cores | *,--vcpus | *,--from | *,--to | *,--width | *,--first-cpu) return ;;
+      export,export) words='csv chrome json rtds deadline' ;;
       chart,--by) words='core vcpu' ;;
       table,--by) words='vcpu vm' ;;
     esac
     case ${COMP_WORDS[1]},$word in
       table,-*) words='--by --tick --help' ;;
-      diff,-* | export,-*) words='--tick --help' ;;
+      diff,-*) words='--tick --help' ;;
+      export,-*) words='--tick --first-cpu --full --help' ;;
       host,-*) words='--cores --tick --help' ;;
       chart,-*) words='--text --by --cores --vcpus --from --to --width --tick --help' ;;
       sections,-*) words='--help' ;;

@@ -2,6 +2,9 @@ use clap::{Arg, ArgAction, Command, value_parser};
 use std::alloc::{AllocError, Global};
 use tab_core::{MAX_CORES, MAX_TICK_NS, MIN_TICK_NS};
 
+// The greatest number of a CPU.
+const MAX_CPU: i64 = 8191;
+
 /// The words of the program.
 pub(crate) fn command<'a>(alloc: Global) -> Result<Command<'a>, AllocError> {
     let command = Command::new(alloc, "tableau-tools")
@@ -114,18 +117,41 @@ fn width_arg<'a>(alloc: Global) -> Arg<'a> {
 // The words of `export`.
 fn export_command<'a>(alloc: Global) -> Result<Command<'a>, AllocError> {
     Command::new(alloc, "export")
-        .about("Writes a plan, replay or trace for other programs")
+        .about(
+            "Writes a plan, replay or trace for other programs, or a plan for the scheduler of a host",
+        )
         .arg(format_arg(alloc))?
         .arg(file_arg(alloc))?
-        .arg(tick_arg(alloc))
+        .arg(tick_arg(alloc))?
+        .arg(first_cpu_arg(alloc))?
+        .arg(full_arg(alloc))
 }
 
 // The form of an export.
 fn format_arg<'a>(alloc: Global) -> Arg<'a> {
     Arg::new(alloc, "FORMAT")
         .required(true)
-        .value_parser(["csv", "chrome", "json"].as_slice())
-        .help("The text to write: comma-separated values, trace events, or JSON")
+        .value_parser(["csv", "chrome", "json", "rtds", "deadline"].as_slice())
+        .help(
+            "The text to write: comma-separated values, trace events, JSON; lines for Xen's RTDS or Linux's deadline tasks",
+        )
+}
+
+// Which CPU the first core is.
+fn first_cpu_arg<'a>(alloc: Global) -> Arg<'a> {
+    Arg::new(alloc, "first-cpu")
+        .long("first-cpu")
+        .value_name("N")
+        .value_parser(value_parser!(u32).range(0..=MAX_CPU))
+        .help("With rtds and deadline, the CPU that core 0 is; without it, 0")
+}
+
+// Whether the kernel is told to admit whole cores.
+fn full_arg<'a>(alloc: Global) -> Arg<'a> {
+    Arg::new(alloc, "full")
+        .long("full")
+        .action(ArgAction::SetTrue)
+        .help("With deadline, all of a core, and not 95 percent: the lines tell the kernel so")
 }
 
 // The words of `table`.

@@ -17,9 +17,9 @@ const ROOM: usize = 1_048_576;
 /// Does `diff`: it writes what differs between two plans, and says whether anything does.
 pub(crate) fn diff(rt: &HostRuntime, matches: &ArgMatches<'_>) -> Result<bool, Fault> {
     let old = input_of(rt, matches.get_str("OLD"))?;
-    let old = plan_of(rt.alloc(), old.place, &old.bytes)?;
+    let old = plan_of(rt.alloc(), &old.place, &old.bytes)?;
     let new = input_of(rt, matches.get_str("NEW"))?;
-    let new = plan_of(rt.alloc(), new.place, &new.bytes)?;
+    let new = plan_of(rt.alloc(), &new.place, &new.bytes)?;
     let tick_ns = matches.get_one::<u32>("tick").unwrap_or(TICK_NS);
     put_differences(rt, &old, &new, tick_ns)
 }

@@ -1,8 +1,10 @@
 use crate::fault::Fault;
 use crate::input::input_of;
+use crate::lines::export_lines;
 use crate::output::{finish, output_of};
 use crate::plan::view_of;
 use clap::ArgMatches;
+use host_lines::Scheduler;
 use tab_core::{MAX_TICK_NS, TICK_NS};
 use tab_io::{Sink, WriteFault};
 use view_doc::View;
@@ -10,11 +12,27 @@ use view_export::{write_chrome, write_csv, write_json};
 
 /// Does `export`: it reads a text and writes it in the format that the words name.
 pub(crate) fn export(rt: &HostRuntime, matches: &ArgMatches<'_>) -> Result<(), Fault> {
+    match matches.get_str("FORMAT") {
+        Some("rtds") => export_lines(rt, matches, Scheduler::Rtds),
+        Some("deadline") if matches.get_flag("full") => {
+            export_lines(rt, matches, Scheduler::FullDeadline)
+        }
+        Some("deadline") => export_lines(rt, matches, Scheduler::Deadline),
+        format => export_view(rt, matches, format),
+    }
+}
+
+// Reads a text and writes its view in a format.
+fn export_view(
+    rt: &HostRuntime,
+    matches: &ArgMatches<'_>,
+    format: Option<&str>,
+) -> Result<(), Fault> {
     let input = input_of(rt, matches.get_str("FILE"))?;
     let view = view_of(rt.alloc(), input)?;
     let mut sink = output_of(rt)?;
     let tick_ns = matches.get_one::<u32>("tick").unwrap_or(TICK_NS);
-    put_view(&mut sink, matches.get_str("FORMAT"), &view, tick_ns)?;
+    put_view(&mut sink, format, &view, tick_ns)?;
     finish(&mut sink)
 }
 

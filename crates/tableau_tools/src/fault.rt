@@ -1,4 +1,5 @@
 use host_doc::HostFault;
+use host_lines::Unkept;
 use sizes_doc::SizesFault;
 use std::alloc::{AllocError, AllocFailed};
 use std::io;
@@ -51,6 +52,16 @@ pub(crate) enum Fault {
     BadSections {
         place: String,
         count: u32,
+    },
+    #[error("{place}{count} sections, and not a host and its plan, with a line %% between them")]
+    NoHost {
+        place: String,
+        count: u32,
+    },
+    #[error("{place}{fault}")]
+    Unkept {
+        place: String,
+        fault: Unkept,
     },
     #[error("{place}line {line} is %%, which parts sections")]
     HasSeparator {

@@ -11,6 +11,7 @@ mod export;
 mod fault;
 mod host;
 mod input;
+mod lines;
 mod mistaken;
 mod output;
 mod plan;

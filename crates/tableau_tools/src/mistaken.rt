@@ -16,11 +16,14 @@ pub(crate) enum Wanted {
 /// to be that: a refusal, a host document, a report, or JSON.
 pub(crate) fn bad_line(
     alloc: Global,
-    place: String,
+    place: &str,
     bytes: &[u8],
     line: u32,
     wanted: Wanted,
 ) -> Fault {
+    let Ok(place) = String::from_str(alloc, place) else {
+        return Fault::NoMemory;
+    };
     let first = first_line(bytes);
     if let Some(refusal) = first.strip_prefix(b"refused: ") {
         return match shown(alloc, refusal) {

@@ -15,7 +15,7 @@ pub(crate) fn view_of(alloc: Global, input: Input) -> Result<View, Fault> {
         Ok(view) => Ok(view),
         Err(ReadView::BadLine { line }) => Err(bad_line(
             alloc,
-            input.place,
+            &input.place,
             &input.bytes,
             line,
             Wanted::View,
@@ -25,25 +25,27 @@ pub(crate) fn view_of(alloc: Global, input: Input) -> Result<View, Fault> {
 }
 
 /// What a plan text shows. It is a plan alone, without a run behind it. The place is that of a fault.
-pub(crate) fn plan_of(alloc: Global, place: String, bytes: &[u8]) -> Result<View, Fault>
+pub(crate) fn plan_of(alloc: Global, place: &str, bytes: &[u8]) -> Result<View, Fault>
     requires { length bytes.now < 2 ^ 31 }
     ensures cores { IfOk result (λ view. view.cores ≤ MAX_CORES) }
     ensures vcpus { IfOk result (λ view. length view.tasks.items ≤ MAX_VCPUS) }
 {
     match read_view(alloc, bytes) {
-        Ok(view) => checked(place, view),
+        Ok(view) => checked(alloc, place, view),
         Err(ReadView::BadLine { line }) => Err(bad_line(alloc, place, bytes, line, Wanted::Plan)),
         Err(ReadView::NoMemory) => Err(Fault::NoMemory),
     }
 }
 
 // The view, if it is a plan's.
-fn checked(place: String, view: View) -> Result<View, Fault>
+fn checked(alloc: Global, place: &str, view: View) -> Result<View, Fault>
     ensures cores { IfOk result (λ view. view.cores ≤ MAX_CORES) }
     ensures vcpus { IfOk result (λ view. length view.tasks.items ≤ MAX_VCPUS) }
 {
     if view.is_run || view.cores > MAX_CORES || view.tasks.len() > MAX_VCPUS as usize {
-        return Err(Fault::NoPlan { place });
+        return Err(Fault::NoPlan {
+            place: String::from_str(alloc, place)?,
+        });
     }
     Ok(view)
 }

@@ -18,7 +18,7 @@ pub(crate) fn table(rt: &HostRuntime, matches: &ArgMatches<'_>) -> Result<(), Fa
     let sections = cut_sections(&bytes);
     if sections.count() == 2 {
         let host = host_of(rt.alloc(), &place, sections.part(0))?;
-        let view = plan_of(rt.alloc(), place, sections.part(1))?;
+        let view = plan_of(rt.alloc(), &place, sections.part(1))?;
         return put_tables(rt, by, Some(host.vcpus.items()), &view, host.tick_ns);
     }
     if sections.count() != 1 {
@@ -27,7 +27,7 @@ pub(crate) fn table(rt: &HostRuntime, matches: &ArgMatches<'_>) -> Result<(), Fa
             count: sections.count(),
         });
     }
-    let view = plan_of(rt.alloc(), place, sections.part(0))?;
+    let view = plan_of(rt.alloc(), &place, sections.part(0))?;
     let tick_ns = matches.get_one::<u32>("tick").unwrap_or(TICK_NS);
     put_tables(rt, by, None, &view, tick_ns)
 }
