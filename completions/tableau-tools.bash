@@ -3,10 +3,10 @@ _tableau_tools() {
   local word=${COMP_WORDS[COMP_CWORD]} before=${COMP_WORDS[COMP_CWORD - 1]} words=''
   COMPREPLY=()
   if [ "$COMP_CWORD" -eq 1 ]; then
-    words='table diff sections export host chart --help --version'
+    words='table diff sections export host judge chart --help --version'
   else
     case ${COMP_WORDS[1]},$before in
-      *,--tick | *,--cores | *,--vcpus | *,--from | *,--to | *,--width | *,--first-cpu) return ;;
+      *,--tick | *,--cores | *,--vcpus | *,--from | *,--to | *,--width | *,--first-cpu | *,--window) return ;;
       export,export) words='csv chrome json rtds deadline' ;;
       chart,--by) words='core vcpu' ;;
       table,--by) words='vcpu vm' ;;
@@ -16,6 +16,7 @@ _tableau_tools() {
       diff,-*) words='--tick --help' ;;
       export,-*) words='--tick --first-cpu --full --help' ;;
       host,-*) words='--cores --tick --help' ;;
+      judge,-*) words='--window --json --help' ;;
       chart,-*) words='--text --by --cores --vcpus --from --to --width --tick --help' ;;
       sections,-*) words='--help' ;;
     esac

@@ -5,6 +5,9 @@ use tab_core::{MAX_CORES, MAX_TICK_NS, MIN_TICK_NS};
 // The greatest number of a CPU.
 const MAX_CPU: i64 = 8191;
 
+// The most milliseconds of a window, which are an hour.
+const MAX_WINDOW_MS: u32 = 3_600_000;
+
 /// The words of the program.
 pub(crate) fn command<'a>(alloc: Global) -> Result<Command<'a>, AllocError> {
     let command = Command::new(alloc, "tableau-tools")
@@ -16,6 +19,7 @@ pub(crate) fn command<'a>(alloc: Global) -> Result<Command<'a>, AllocError> {
     let command = with_command(command, chart_command(alloc))?;
     let command = with_command(command, diff_command(alloc))?;
     let command = with_command(command, export_command(alloc))?;
+    let command = with_command(command, judge_command(alloc))?;
     let command = with_command(command, sections_command(alloc))?;
     with_command(command, host_command(alloc))
 }
@@ -179,14 +183,55 @@ fn diff_command<'a>(alloc: Global) -> Result<Command<'a>, AllocError> {
         .about(
             "Writes what differs between two plans; ends with 1 where they differ, 3 for a fault",
         )
-        .arg(plan_arg(alloc, "OLD", "A plan text"))?
-        .arg(plan_arg(alloc, "NEW", "Another plan text"))?
+        .arg(named_arg(alloc, "OLD", "A plan text"))?
+        .arg(named_arg(alloc, "NEW", "Another plan text"))?
         .arg(tick_arg(alloc))
 }
 
-// A plan to compare.
-fn plan_arg<'a>(alloc: Global, name: &'a str, help: &'a str) -> Arg<'a> {
+// A file that has to be named.
+fn named_arg<'a>(alloc: Global, name: &'a str, help: &'a str) -> Arg<'a> {
     Arg::new(alloc, name).required(true).help(help)
+}
+
+// The words of `judge`.
+fn judge_command<'a>(alloc: Global) -> Result<Command<'a>, AllocError> {
+    Command::new(alloc, "judge")
+        .about(
+            "Writes whether a host kept its promises, by a trace of what ran; ends with 1 where it didn't, 3 for a fault",
+        )
+        .arg(named_arg(
+            alloc,
+            "HOST",
+            "A host document: what its vCPUs have reserved",
+        ))?
+        .arg(trace_arg(alloc))?
+        .arg(window_arg(alloc))?
+        .arg(json_arg(alloc))
+}
+
+// Whether JSON is written.
+fn json_arg<'a>(alloc: Global) -> Arg<'a> {
+    Arg::new(alloc, "json")
+        .long("json")
+        .action(ArgAction::SetTrue)
+        .help("One JSON object in place of tables")
+}
+
+// The trace to judge.
+fn trace_arg<'a>(alloc: Global) -> Arg<'a> {
+    Arg::new(alloc, "TRACE").help(
+        "Lines TIME_NS,VCPU,STATE or TIME_NS,VCPU,STATE,CPU; without it, or as -, standard input",
+    )
+}
+
+// How long a window is.
+fn window_arg<'a>(alloc: Global) -> Arg<'a> {
+    Arg::new(alloc, "window")
+        .long("window")
+        .value_name("MS")
+        .value_parser(value_parser!(u32).range(1..=i64::from(MAX_WINDOW_MS)))
+        .default_value("1000")
+        .help("Milliseconds of the windows in which shares are counted, 1 to 3600000")
 }
 
 // The words of `sections`.

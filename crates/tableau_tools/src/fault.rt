@@ -42,6 +42,16 @@ pub(crate) enum Fault {
         place: String,
         fault: HostFault,
     },
+    #[error("{place}line {line} of the trace isn't TIME_NS,VCPU,STATE or TIME_NS,VCPU,STATE,CPU: '{text}'")]
+    BadTraceLine {
+        place: String,
+        line: u64,
+        text: String,
+    },
+    #[error("{place}the trace has too many lines")]
+    LongTrace {
+        place: String,
+    },
     #[error("{0}")]
     BadSizes(SizesFault),
     #[error("{place}the text is no plan")]
@@ -77,6 +87,10 @@ pub(crate) enum Fault {
         place: String,
         why: io::Error,
     },
+    #[error("{place}the input can't be read")]
+    ReadFault {
+        place: String,
+    },
     #[error("a word of the command isn't text")]
     NoText,
     #[error("the cores or vCPUs aren't of the form FIRST-LAST")]
@@ -106,7 +120,7 @@ impl Fault {
             | Fault::OtherLanes
             | Fault::TextByVcpu
             | Fault::TooNarrow => 1,
-            Fault::Unread { .. } => 4,
+            Fault::Unread { .. } | Fault::ReadFault { .. } => 4,
             Fault::WriteFault => 5,
             Fault::NoMemory => 6,
             _ => 2,

@@ -25,7 +25,7 @@ pub(crate) fn input_of(rt: &HostRuntime, path: Option<&str>) -> Result<Input, Fa
         None | Some("-") => read_whole(rt.alloc(), "", rt.reader()),
         Some(path) => match fs::open(rt, path) {
             Ok(file) => read_whole(rt.alloc(), path, file),
-            Err(why) => Err(fault_of(rt.alloc(), path, why)),
+            Err(why) => Err(unread(rt.alloc(), path, why)),
         },
     }
 }
@@ -35,7 +35,7 @@ fn read_whole<R: Read + Drop>(alloc: Global, path: &str, reader: R) -> Result<In
     let mut bytes = Vec::new(alloc);
     let mut few = reader.take(LIMIT as u64 + 1);
     if let Err(why) = few.read_to_end(&mut bytes) {
-        return Err(fault_of(alloc, path, why));
+        return Err(unread(alloc, path, why));
     }
     let place = place_of(alloc, path)?;
     if bytes.len() > LIMIT {
@@ -44,8 +44,8 @@ fn read_whole<R: Read + Drop>(alloc: Global, path: &str, reader: R) -> Result<In
     Ok(Input { place, bytes })
 }
 
-// Why a file can't be opened or read, in the system's words.
-fn fault_of(alloc: Global, path: &str, why: io::Error) -> Fault {
+/// Why a file of this path can't be opened or read, in the system's words.
+pub(crate) fn unread(alloc: Global, path: &str, why: io::Error) -> Fault {
     if why.kind() == ErrorKind::OutOfMemory {
         return Fault::NoMemory;
     }

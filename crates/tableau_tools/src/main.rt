@@ -1,7 +1,8 @@
 //! The program `tableau-tools`: it shows what `tableau` wrote.
 //!
 //! Each command has a file. What it reads is a text, and what it writes is a definition's text of the
-//! view that was read: `view_doc` has the reader, `view_table`, `view_chart`, `view_text` and `view_export` the texts.
+//! view that was read: `view_doc` has the reader, `view_table`, `view_chart`, `view_text` and `view_export` the texts. Of
+//! a trace of another host `trace_judge` has the reader, and `view_judge` the texts.
 #![tactic(auto)]
 
 mod chart;
@@ -11,6 +12,7 @@ mod export;
 mod fault;
 mod host;
 mod input;
+mod judge;
 mod lines;
 mod mistaken;
 mod output;
@@ -25,8 +27,8 @@ use fault::Fault;
 use std::io;
 use std::process::ExitCode;
 
-// The status of `diff` for a fault, since its 1 says that the plans differ.
-const DIFF_FAULT: u8 = 2;
+// The status of `diff` and of `judge` for a fault, since their 1 says that the plans differ, or that a promise was broken.
+const NO_ANSWER: u8 = 2;
 
 fn main(rt: HostRuntime) -> ExitCode {
     let words = match program_words::words(&rt, rt.alloc()) {
@@ -40,8 +42,8 @@ fn main(rt: HostRuntime) -> ExitCode {
         Ok(status) => ExitCode::from(status),
         Err(fault) => {
             let status = refusal(&rt, &fault);
-            ExitCode::from(if is_diff(words.as_slice()) {
-                DIFF_FAULT
+            ExitCode::from(if answers(words.as_slice()) {
+                NO_ANSWER
             } else {
                 status
             })
@@ -49,10 +51,10 @@ fn main(rt: HostRuntime) -> ExitCode {
     }
 }
 
-// Whether the words name the command that compares.
-fn is_diff(words: &[String]) -> bool {
+// Whether the words name a command whose status is its answer.
+fn answers(words: &[String]) -> bool {
     match words.get(1) {
-        Some(word) => word.as_str() == "diff",
+        Some(word) => word.as_str() == "diff" || word.as_str() == "judge",
         None => false,
     }
 }
@@ -64,14 +66,14 @@ fn refusal(rt: &HostRuntime, fault: &Fault) -> u8 {
     fault.status()
 }
 
-// Does what the words say. The status is 0 or the command's, or that of words that are no command: 1, or 2 for `diff`.
+// Does what the words say. The status is 0 or the command's, or that of words that are no command: 1, or 2 for `diff` and `judge`.
 fn run(rt: &HostRuntime, words: &[String]) -> Result<u8, Fault> {
     let Ok(command) = command::command(rt.alloc()) else {
         return Err(Fault::NoMemory);
     };
     match command.try_get_matches_from(words) {
         Ok(matches) => dispatch(rt, &matches),
-        Err(error) => told(rt, &error, if is_diff(words) { DIFF_FAULT } else { 1 }),
+        Err(error) => told(rt, &error, if answers(words) { NO_ANSWER } else { 1 }),
     }
 }
 
@@ -99,6 +101,7 @@ fn dispatch(rt: &HostRuntime, matches: &ArgMatches<'_>) -> Result<u8, Fault> {
         Some(("sections", matches)) => sections::sections(rt, matches)?,
         Some(("host", matches)) => host::host(rt, matches)?,
         Some(("diff", matches)) => return Ok(u8::from(diff::diff(rt, matches)?)),
+        Some(("judge", matches)) => return Ok(u8::from(!judge::judge(rt, matches)?)),
         _ => {}
     }
     Ok(0)

@@ -1,0 +1,22 @@
+use Rattle.std.proofs.lemmas.Result.{err_from_is_err_and}
+use Rattle.tab_words.proofs.NumberedTextLemmas.{all_written, next_broken, next_written, none_written}
+use Rattle.view_judge.specs.Json.{entry_text}
+use Rattle.view_judge.proofs.json.put_entries.Goals as goal
+
+pub loop-vcpu-init : goal.loop-vcpu-init
+loop-vcpu-init g c = none_written _ _ (tt {0})
+
+pub returns-in_err-put_entry : goal.returns-in_err-put_entry
+returns-in_err-put_entry g c =
+    let p = err_from_is_err_and c.from_residual.result c.from_residual.ensures.1 in
+    rw p.1 (next_broken _ _ _ (entry_text c.args.vcpus.now c.args.reports.now) c.loop-vcpu.vcpu _ (tt {0}) _
+    c.in_err-put_entry.field-0.0 c.loop-vcpu-test.true c.loop-vcpu.invariant c.put_entry.ensures
+    c.in_err-put_entry.was)
+
+pub loop-vcpu-preserved : goal.loop-vcpu-preserved
+loop-vcpu-preserved g c = next_written _ _ _ (entry_text c.args.vcpus.now c.args.reports.now) c.loop-vcpu.vcpu
+    (tt {0}) c.in_ok-put_entry.field-0 _ c.loop-vcpu.invariant c.put_entry.ensures c.in_ok-put_entry.was
+
+pub returns : goal.returns
+returns g c = all_written _ _ (entry_text c.args.vcpus.now c.args.reports.now) c.loop-vcpu.vcpu _ (tt {0})
+    c.loop-vcpu.auto.vcpu-end c.loop-vcpu-test.false c.loop-vcpu.invariant

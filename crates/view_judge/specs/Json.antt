@@ -1,0 +1,89 @@
+-- What a judge says of a trace as JSON: an object, in which the host's vCPUs stand in their order.
+-- Source: RFC 8259. Names need no escape.
+use Rattle.std.specs.Prelude.{◌==◌, ℕ, Bool, true, false, if◌then◌else◌, ◌++◌, List, [], codes, decimal, length, Option, Some, None, slice_get}
+use Rattle.tab_core.specs.declared.vcpu.Vcpu.{Vcpu}
+use Rattle.tab_words.specs.Texts.{texts_below}
+use Rattle.trace_judge.specs.declared.report.LeastShare.{LeastShare}
+use Rattle.trace_judge.specs.declared.report.LongestWait.{LongestWait}
+use Rattle.trace_judge.specs.declared.report.Report.{Report}
+use Rattle.trace_judge.specs.declared.report.VcpuReport.{VcpuReport}
+use Rattle.view_judge.specs.Verdicts.{is_kept}
+
+-- ---- the members of a vCPU's object
+
+-- its name, and how long it was in each state
+unfoldable pub times_text : List ℕ → VcpuReport → List ℕ
+times_text name report = codes "{\"name\":\"" ++ (name ++ (codes "\",\"run_ns\":" ++ (decimal report.run_ns
+    ++ (codes ",\"wait_ns\":" ++ (decimal report.wait_ns ++ (codes ",\"block_ns\":" ++ (decimal report.block_ns
+    ++ codes ",")))))))
+
+-- its longest wait
+unfoldable pub wait_text : LongestWait → List ℕ
+wait_text wait = codes "\"longest_wait_ns\":" ++ (decimal wait.ns ++ (codes ",\"longest_wait_at_ns\":"
+    ++ (decimal wait.at_ns ++ codes ",")))
+
+abbrev pub longest_text : Option LongestWait → List ℕ
+longest_text None = codes "\"longest_wait_ns\":null,\"longest_wait_at_ns\":null,"
+longest_text (Some wait) = wait_text wait
+
+-- how many waits were too long
+unfoldable pub count_text : ℕ → List ℕ
+count_text count = codes "\"late_waits\":" ++ (decimal count ++ codes ",")
+
+abbrev pub late_text : Option ℕ → List ℕ
+late_text None = codes "\"late_waits\":null,"
+late_text (Some count) = count_text count
+
+-- its least share of a window
+unfoldable pub share_text : LeastShare → List ℕ
+share_text least = codes "\"least_share_ppm\":" ++ (decimal least.share_ppm ++ (codes ",\"least_share_at_ns\":"
+    ++ (decimal least.at_ns ++ codes ",")))
+
+abbrev pub least_text : Option LeastShare → List ℕ
+least_text None = codes "\"least_share_ppm\":null,\"least_share_at_ns\":null,"
+least_text (Some least) = share_text least
+
+-- whether all was kept, which ends its object
+abbrev pub kept_text : Bool → List ℕ
+kept_text true = codes "\"kept\":true}"
+kept_text false = codes "\"kept\":false}"
+
+abbrev pub vcpu_object : List ℕ → VcpuReport → List ℕ
+vcpu_object name report = times_text name report ++ (longest_text report.longest ++ (late_text report.late
+    ++ (least_text report.least ++ kept_text report.kept)))
+
+-- ---- the whole
+
+-- the object of a vCPU of which something is said
+abbrev pub said_of : List ℕ → Option VcpuReport → List ℕ
+said_of name None = []
+said_of name (Some report) = vcpu_object name report
+
+abbrev pub object_of : Option Vcpu → Option VcpuReport → List ℕ
+object_of None report = []
+object_of (Some vcpu) report = said_of vcpu.name report
+
+-- a comma before each but the first
+abbrev pub comma_before : ℕ → List ℕ
+comma_before v = if v == 0 then [] else codes ","
+
+-- what stands there for the vCPU of a number
+abbrev pub entry_text : List Vcpu → List VcpuReport → ℕ → List ℕ
+entry_text vcpus reports v = comma_before v ++ object_of (slice_get vcpus v) (slice_get reports v)
+
+abbrev pub truth_text : Bool → List ℕ
+truth_text true = codes "true"
+truth_text false = codes "false"
+
+-- the text up to the vCPUs
+unfoldable pub json_begin : ℕ → List ℕ → List ℕ
+json_begin window kept = codes "{\"form\":1,\"window_ns\":" ++ (decimal window ++ (codes ",\"kept\":"
+    ++ (kept ++ codes ",\"vcpus\":[")))
+
+-- the text of what is said of the vCPUs of a host
+abbrev pub json_of : ℕ → Bool → List Vcpu → List VcpuReport → List ℕ
+json_of window kept vcpus reports = json_begin window (truth_text kept)
+    ++ (texts_below (entry_text vcpus reports) (length reports) ++ codes "]}\n")
+
+abbrev pub json_text : List Vcpu → Report → List ℕ
+json_text vcpus report = json_of report.window_ns (is_kept report) vcpus report.vcpus.items

@@ -1,0 +1,132 @@
+-- The tables of what a judge says: how long each vCPU ran and waited beside what it was promised, and what is wrong with
+-- the trace itself.
+use Rattle.std.specs.Prelude.{ℕ, Bool, true, false, ◌++◌, List, [], codes, decimal, length, Option, Some, None, slice_get}
+use Rattle.tab_core.specs.declared.reservation.Reservation.{Reservation}
+use Rattle.tab_core.specs.declared.vcpu.Vcpu.{Vcpu}
+use Rattle.tab_words.specs.Texts.{texts_below}
+use Rattle.table_cells.specs.Cells.{left, millis_cell, right, width_below, yes_or_no}
+use Rattle.trace_judge.specs.declared.report.LineCount.{LineCount}
+use Rattle.trace_judge.specs.declared.report.Report.{Report}
+use Rattle.trace_judge.specs.declared.report.VcpuReport.{VcpuReport}
+use Rattle.vcpu_names.specs.Names.{names_of}
+use Rattle.view_judge.specs.Cells.{asked_cell, begin_cell, cpu_cell, late_cell, least_cell, longest_cell, promised_cell, window_cell}
+use Rattle.view_judge.specs.Verdicts.{is_kept}
+
+-- what parts a column from the one before
+abbrev pub gap : List ℕ
+gap = codes "  "
+
+-- ---- shares
+
+unfoldable pub share_head : ℕ → List ℕ
+share_head width = left width (codes "vcpu")
+    ++ codes "       run ms      wait ms     block ms   asked %   least %       from ms\n"
+
+-- how long a vCPU was in each state, the share that it asked for, and its least share of a window with the window's begin
+unfoldable pub share_cells : ℕ → List ℕ → Option Reservation → VcpuReport → List ℕ
+share_cells width name reserved report = left width name
+    ++ (gap ++ (millis_cell 7 report.run_ns
+    ++ (gap ++ (millis_cell 7 report.wait_ns
+    ++ (gap ++ (millis_cell 7 report.block_ns
+    ++ (gap ++ (asked_cell reserved
+    ++ (gap ++ (least_cell report.least
+    ++ (gap ++ (window_cell report.least ++ codes "\n"))))))))))))
+
+-- the row of a vCPU of which something is said
+abbrev pub share_said : ℕ → Vcpu → Option VcpuReport → List ℕ
+share_said width vcpu None = []
+share_said width vcpu (Some report) = share_cells width vcpu.name vcpu.reservation report
+
+abbrev pub share_row_of : ℕ → Option Vcpu → Option VcpuReport → List ℕ
+share_row_of width None report = []
+share_row_of width (Some vcpu) report = share_said width vcpu report
+
+-- the row of the vCPU of a number
+abbrev pub share_row : ℕ → List Vcpu → List VcpuReport → ℕ → List ℕ
+share_row width vcpus reports v = share_row_of width (slice_get vcpus v) (slice_get reports v)
+
+-- ---- waits
+
+unfoldable pub wait_head : ℕ → List ℕ
+wait_head width = codes "\n" ++ (left width (codes "vcpu")
+    ++ codes "   longest ms       from ms   cpu  promised ms   late  kept\n")
+
+-- the longest wait of a vCPU with its begin and the CPU where it had been, what it was promised, how many waits were
+-- longer, and whether it got what it was promised
+unfoldable pub wait_cells : ℕ → List ℕ → Option Reservation → VcpuReport → List ℕ
+wait_cells width name reserved report = left width name
+    ++ (gap ++ (longest_cell report.longest
+    ++ (gap ++ (begin_cell report.longest
+    ++ (gap ++ (cpu_cell report.longest
+    ++ (gap ++ (promised_cell reserved
+    ++ (gap ++ (late_cell report.late
+    ++ (gap ++ (right 4 (yes_or_no report.kept) ++ codes "\n"))))))))))))
+
+-- the row of a vCPU of which something is said
+abbrev pub wait_said : ℕ → Vcpu → Option VcpuReport → List ℕ
+wait_said width vcpu None = []
+wait_said width vcpu (Some report) = wait_cells width vcpu.name vcpu.reservation report
+
+abbrev pub wait_row_of : ℕ → Option Vcpu → Option VcpuReport → List ℕ
+wait_row_of width None report = []
+wait_row_of width (Some vcpu) report = wait_said width vcpu report
+
+-- the row of the vCPU of a number
+abbrev pub wait_row : ℕ → List Vcpu → List VcpuReport → ℕ → List ℕ
+wait_row width vcpus reports v = wait_row_of width (slice_get vcpus v) (slice_get reports v)
+
+-- ---- the whole
+
+abbrev pub kept_word : Bool → List ℕ
+kept_word true = codes "kept"
+kept_word false = codes "not kept"
+
+-- when the trace ends, how long a window is, and whether all was kept
+unfoldable pub verdict_text : ℕ → ℕ → List ℕ → List ℕ
+verdict_text end window kept = codes "\ntrace up to " ++ (millis_cell 0 end
+    ++ (codes " ms, in windows of " ++ (millis_cell 0 window ++ (codes " ms: " ++ (kept ++ codes "\n")))))
+
+-- how many lines are of a kind, and the first of them
+unfoldable pub line_text : List ℕ → ℕ → ℕ → List ℕ
+line_text kind count first = kind ++ (codes ": " ++ (decimal count ++ (codes ", the first is line " ++ (decimal first
+    ++ codes "\n"))))
+
+abbrev pub first_text : List ℕ → ℕ → Option ℕ → List ℕ
+first_text kind count None = []
+first_text kind count (Some first) = line_text kind count first
+
+-- nothing where none is
+abbrev pub count_text : List ℕ → LineCount → List ℕ
+count_text kind lines = first_text kind lines.count lines.first
+
+abbrev pub shared_kind : List ℕ
+shared_kind = codes "lines that put two vCPUs on one CPU"
+
+abbrev pub doubled_kind : List ℕ
+doubled_kind = codes "lines that put a vCPU on two CPUs"
+
+abbrev pub fall_kind : List ℕ
+fall_kind = codes "lines whose time falls"
+
+abbrev pub unknown_kind : List ℕ
+unknown_kind = codes "lines of a vCPU that the host doesn't have"
+
+-- what is wrong with the trace itself
+abbrev pub lines_text : Report → List ℕ
+lines_text report = count_text shared_kind report.shared ++ (count_text doubled_kind report.doubled
+    ++ (count_text fall_kind report.falls ++ count_text unknown_kind report.unknown))
+
+-- both tables, with names in a column of a width
+abbrev pub rows_text : ℕ → List Vcpu → List VcpuReport → List ℕ
+rows_text width vcpus reports = share_head width ++ (texts_below (share_row width vcpus reports) (length reports)
+    ++ (wait_head width ++ texts_below (wait_row width vcpus reports) (length reports)))
+
+-- what stands behind them
+abbrev pub end_text : Bool → Report → List ℕ
+end_text kept report = verdict_text report.end_ns report.window_ns (kept_word kept) ++ lines_text report
+
+abbrev pub tables_of : ℕ → Bool → List Vcpu → Report → List ℕ
+tables_of width kept vcpus report = rows_text width vcpus report.vcpus.items ++ end_text kept report
+
+abbrev pub tables_text : List Vcpu → Report → List ℕ
+tables_text vcpus report = tables_of (width_below (names_of vcpus) (length vcpus)) (is_kept report) vcpus report

@@ -1,0 +1,263 @@
+ghost use Rattle.std.specs.Prelude.{◌≡◌, length, slice_get};
+ghost use Rattle.tab_io.specs.Sinks.{Writes};
+ghost use Rattle.tab_words.specs.Texts.{texts_below};
+ghost use Rattle.view_judge.specs.Json.{comma_before, count_text, entry_text, json_begin, json_of, json_text, kept_text, late_text, least_text, longest_text, object_of, said_of, share_text, times_text, truth_text, vcpu_object, wait_text};
+
+use crate::verdict::is_kept;
+use tab_core::Vcpu;
+use tab_io::{Sink, WriteFault, write_all};
+use tab_words::{TextPiece, put_pieces};
+use trace_judge::{LeastShare, LongestWait, Report, VcpuReport};
+
+/// Writes what is said of the vCPUs of a host as JSON, in one line: the length of a window in ns, whether the host kept
+/// its promises, and an object for each vCPU in the host's order.
+///
+/// Times are in ns and shares in parts per million. Where there is no wait, no window or no reservation, null stands.
+///
+/// A fault leaves a prefix of the text in the sink. Nothing is settled, and nothing is allocated.
+pub fn write_json<K: Sink>(sink: &mut K, vcpus: &[Vcpu], report: &Report) -> Result<(), WriteFault>
+    ensures { Writes (K.state sink.old) (K.state sink.new) (json_text vcpus.now report.now) result }
+{
+    put_json(
+        sink,
+        report.window_ns,
+        is_kept(report),
+        vcpus,
+        &report.vcpus,
+    )
+}
+
+fn put_json<K: Sink>(
+    sink: &mut K,
+    window_ns: u64,
+    kept: bool,
+    vcpus: &[Vcpu],
+    reports: &[VcpuReport],
+) -> Result<(), WriteFault>
+    ensures { Writes (K.state sink.old) (K.state sink.new) (json_of window_ns kept vcpus.now reports.now) result }
+{
+    put_begin(sink, window_ns, kept)?;
+    put_entries(sink, vcpus, reports)?;
+    write_all(sink, b"]}\n")
+}
+
+fn truth_text(truth: bool) -> &'static [u8]
+    ensures { result.now ≡ truth_text truth }
+{
+    if truth { b"true" } else { b"false" }
+}
+
+// Writes the text up to the vCPUs.
+fn put_begin<K: Sink>(sink: &mut K, window_ns: u64, kept: bool) -> Result<(), WriteFault>
+    ensures { Writes (K.state sink.old) (K.state sink.new) (json_begin window_ns (truth_text kept)) result }
+{
+    put_window(sink, window_ns, truth_text(kept))
+}
+
+#[tactic(auto, unfolding(crate::specs::Json::json_begin))]
+fn put_window<K: Sink>(sink: &mut K, window_ns: u64, kept: &[u8]) -> Result<(), WriteFault>
+    ensures { Writes (K.state sink.old) (K.state sink.new) (json_begin window_ns kept.now) result }
+{
+    put_pieces(
+        sink,
+        &[
+            TextPiece::Text(b"{\"form\":1,\"window_ns\":"),
+            TextPiece::Wide(window_ns),
+            TextPiece::Text(b",\"kept\":"),
+            TextPiece::Text(kept),
+            TextPiece::Text(b",\"vcpus\":["),
+        ],
+    )
+}
+
+// Writes the object of each vCPU.
+fn put_entries<K: Sink>(
+    sink: &mut K,
+    vcpus: &[Vcpu],
+    reports: &[VcpuReport],
+) -> Result<(), WriteFault>
+    ensures { Writes (K.state sink.old) (K.state sink.new) (texts_below (entry_text vcpus.now reports.now) (length reports.now)) result }
+{
+    for vcpu in 0..reports.len() {
+        put_entry(sink, vcpus, reports, vcpu)?;
+    }
+    Ok(())
+}
+
+// Writes what stands there for the vCPU of a number.
+fn put_entry<K: Sink>(
+    sink: &mut K,
+    vcpus: &[Vcpu],
+    reports: &[VcpuReport],
+    vcpu: usize,
+) -> Result<(), WriteFault>
+    ensures { Writes (K.state sink.old) (K.state sink.new) (entry_text vcpus.now reports.now vcpu) result }
+{
+    put_comma(sink, vcpu)?;
+    put_one(sink, vcpus, reports, vcpu)
+}
+
+fn put_comma<K: Sink>(sink: &mut K, vcpu: usize) -> Result<(), WriteFault>
+    ensures { Writes (K.state sink.old) (K.state sink.new) (comma_before vcpu) result }
+{
+    write_all(sink, comma_before(vcpu))
+}
+
+fn comma_before(vcpu: usize) -> &'static [u8]
+    ensures { result.now ≡ comma_before vcpu }
+{
+    if vcpu == 0 { b"" } else { b"," }
+}
+
+fn put_one<K: Sink>(
+    sink: &mut K,
+    vcpus: &[Vcpu],
+    reports: &[VcpuReport],
+    vcpu: usize,
+) -> Result<(), WriteFault>
+    ensures { Writes (K.state sink.old) (K.state sink.new) (object_of (slice_get vcpus.now vcpu) (slice_get reports.now vcpu)) result }
+{
+    match vcpus.get(vcpu) {
+        Some(one) => put_said(sink, one.name.bytes(), reports, vcpu),
+        None => Ok(()),
+    }
+}
+
+fn put_said<K: Sink>(
+    sink: &mut K,
+    name: &[u8],
+    reports: &[VcpuReport],
+    vcpu: usize,
+) -> Result<(), WriteFault>
+    ensures { Writes (K.state sink.old) (K.state sink.new) (said_of name.now (slice_get reports.now vcpu)) result }
+{
+    match reports.get(vcpu) {
+        Some(report) => put_object(sink, name, report),
+        None => Ok(()),
+    }
+}
+
+fn put_object<K: Sink>(sink: &mut K, name: &[u8], report: &VcpuReport) -> Result<(), WriteFault>
+    ensures { Writes (K.state sink.old) (K.state sink.new) (vcpu_object name.now report.now) result }
+{
+    put_times(sink, name, report)?;
+    put_longest(sink, &report.longest)?;
+    put_late(sink, report.late)?;
+    put_least(sink, &report.least)?;
+    put_kept(sink, report.kept)
+}
+
+#[tactic(auto, unfolding(crate::specs::Json::times_text))]
+fn put_times<K: Sink>(sink: &mut K, name: &[u8], report: &VcpuReport) -> Result<(), WriteFault>
+    ensures { Writes (K.state sink.old) (K.state sink.new) (times_text name.now report.now) result }
+{
+    put_pieces(
+        sink,
+        &[
+            TextPiece::Text(b"{\"name\":\""),
+            TextPiece::Text(name),
+            TextPiece::Text(b"\",\"run_ns\":"),
+            TextPiece::Wide(report.run_ns),
+            TextPiece::Text(b",\"wait_ns\":"),
+            TextPiece::Wide(report.wait_ns),
+            TextPiece::Text(b",\"block_ns\":"),
+            TextPiece::Wide(report.block_ns),
+            TextPiece::Text(b","),
+        ],
+    )
+}
+
+fn put_longest<K: Sink>(sink: &mut K, longest: &Option<LongestWait>) -> Result<(), WriteFault>
+    ensures { Writes (K.state sink.old) (K.state sink.new) (longest_text longest.now) result }
+{
+    match longest {
+        Some(wait) => put_wait(sink, wait),
+        None => write_all(
+            sink,
+            b"\"longest_wait_ns\":null,\"longest_wait_at_ns\":null,",
+        ),
+    }
+}
+
+#[tactic(auto, unfolding(crate::specs::Json::wait_text))]
+fn put_wait<K: Sink>(sink: &mut K, wait: &LongestWait) -> Result<(), WriteFault>
+    ensures { Writes (K.state sink.old) (K.state sink.new) (wait_text wait.now) result }
+{
+    put_pieces(
+        sink,
+        &[
+            TextPiece::Text(b"\"longest_wait_ns\":"),
+            TextPiece::Wide(wait.ns),
+            TextPiece::Text(b",\"longest_wait_at_ns\":"),
+            TextPiece::Wide(wait.at_ns),
+            TextPiece::Text(b","),
+        ],
+    )
+}
+
+fn put_late<K: Sink>(sink: &mut K, late: Option<u64>) -> Result<(), WriteFault>
+    ensures { Writes (K.state sink.old) (K.state sink.new) (late_text late) result }
+{
+    match late {
+        Some(count) => put_count(sink, count),
+        None => write_all(sink, b"\"late_waits\":null,"),
+    }
+}
+
+#[tactic(auto, unfolding(crate::specs::Json::count_text))]
+fn put_count<K: Sink>(sink: &mut K, count: u64) -> Result<(), WriteFault>
+    ensures { Writes (K.state sink.old) (K.state sink.new) (count_text count) result }
+{
+    put_pieces(
+        sink,
+        &[
+            TextPiece::Text(b"\"late_waits\":"),
+            TextPiece::Wide(count),
+            TextPiece::Text(b","),
+        ],
+    )
+}
+
+fn put_least<K: Sink>(sink: &mut K, least: &Option<LeastShare>) -> Result<(), WriteFault>
+    ensures { Writes (K.state sink.old) (K.state sink.new) (least_text least.now) result }
+{
+    match least {
+        Some(share) => put_share(sink, share),
+        None => write_all(
+            sink,
+            b"\"least_share_ppm\":null,\"least_share_at_ns\":null,",
+        ),
+    }
+}
+
+#[tactic(auto, unfolding(crate::specs::Json::share_text))]
+fn put_share<K: Sink>(sink: &mut K, least: &LeastShare) -> Result<(), WriteFault>
+    ensures { Writes (K.state sink.old) (K.state sink.new) (share_text least.now) result }
+{
+    put_pieces(
+        sink,
+        &[
+            TextPiece::Text(b"\"least_share_ppm\":"),
+            TextPiece::Number(least.share_ppm),
+            TextPiece::Text(b",\"least_share_at_ns\":"),
+            TextPiece::Wide(least.at_ns),
+            TextPiece::Text(b","),
+        ],
+    )
+}
+
+fn put_kept<K: Sink>(sink: &mut K, kept: bool) -> Result<(), WriteFault>
+    ensures { Writes (K.state sink.old) (K.state sink.new) (kept_text kept) result }
+{
+    write_all(sink, kept_text(kept))
+}
+
+fn kept_text(kept: bool) -> &'static [u8]
+    ensures { result.now ≡ kept_text kept }
+{
+    if kept {
+        b"\"kept\":true}"
+    } else {
+        b"\"kept\":false}"
+    }
+}

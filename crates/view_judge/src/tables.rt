@@ -1,0 +1,350 @@
+ghost use Rattle.std.specs.Prelude.{◌≡◌, length, slice_get};
+ghost use Rattle.tab_io.specs.Sinks.{Writes};
+ghost use Rattle.tab_words.specs.Texts.{texts_below};
+ghost use Rattle.view_judge.specs.Tables.{count_text, doubled_kind, end_text, fall_kind, kept_word, line_text, lines_text, rows_text, share_cells, share_head, share_row, share_said, shared_kind, tables_of, tables_text, unknown_kind, verdict_text, wait_cells, wait_head, wait_row, wait_said};
+
+use crate::cells::{
+    asked_cell, begin_cell, cpu_cell, late_cell, least_cell, longest_cell, promised_cell, width_of,
+    window_cell,
+};
+use crate::verdict::is_kept;
+use tab_core::{Reservation, Vcpu};
+use tab_io::{Sink, WriteFault};
+use tab_words::{TextPiece, put_pieces};
+use table_cells::{Cell, put_cells, yes_or_no};
+use trace_judge::{LineCount, Report, VcpuReport};
+
+/// Writes what is said of the vCPUs of a host as tables.
+///
+/// The first has how long each vCPU ran, waited and was blocked, and its least share of a window beside the share that
+/// it has reserved. The second has its longest wait beside the latency that it was promised, how many waits were longer,
+/// and whether both promises were kept. Behind them stand whether all was kept, and which lines of the trace can't be.
+/// Times are in milliseconds with three digits, rounded down, and shares in percent with four.
+///
+/// A fault leaves a prefix of the text in the sink. Nothing is settled, and nothing is allocated.
+pub fn write_tables<K: Sink>(
+    sink: &mut K,
+    vcpus: &[Vcpu],
+    report: &Report,
+) -> Result<(), WriteFault>
+    ensures { Writes (K.state sink.old) (K.state sink.new) (tables_text vcpus.now report.now) result }
+{
+    put_tables(sink, width_of(vcpus), is_kept(report), vcpus, report)
+}
+
+fn put_tables<K: Sink>(
+    sink: &mut K,
+    width: usize,
+    kept: bool,
+    vcpus: &[Vcpu],
+    report: &Report,
+) -> Result<(), WriteFault>
+    ensures { Writes (K.state sink.old) (K.state sink.new) (tables_of width kept vcpus.now report.now) result }
+{
+    put_rows(sink, width, vcpus, &report.vcpus)?;
+    put_end(sink, kept, report)
+}
+
+// Writes both tables.
+fn put_rows<K: Sink>(
+    sink: &mut K,
+    width: usize,
+    vcpus: &[Vcpu],
+    reports: &[VcpuReport],
+) -> Result<(), WriteFault>
+    ensures { Writes (K.state sink.old) (K.state sink.new) (rows_text width vcpus.now reports.now) result }
+{
+    put_share_head(sink, width)?;
+    put_shares(sink, width, vcpus, reports)?;
+    put_wait_head(sink, width)?;
+    put_waits(sink, width, vcpus, reports)
+}
+
+// Writes what stands behind them.
+fn put_end<K: Sink>(sink: &mut K, kept: bool, report: &Report) -> Result<(), WriteFault>
+    ensures { Writes (K.state sink.old) (K.state sink.new) (end_text kept report.now) result }
+{
+    put_verdict(sink, report.end_ns, report.window_ns, kept)?;
+    put_lines(sink, report)
+}
+
+#[tactic(auto, unfolding(crate::specs::Tables::share_head))]
+fn put_share_head<K: Sink>(sink: &mut K, width: usize) -> Result<(), WriteFault>
+    ensures { Writes (K.state sink.old) (K.state sink.new) (share_head width) result }
+{
+    put_cells(
+        sink,
+        &[
+            Cell::Left(width, b"vcpu"),
+            Cell::Text(
+                b"       run ms      wait ms     block ms   asked %   least %       from ms\n",
+            ),
+        ],
+    )
+}
+
+#[tactic(auto, unfolding(crate::specs::Tables::wait_head))]
+fn put_wait_head<K: Sink>(sink: &mut K, width: usize) -> Result<(), WriteFault>
+    ensures { Writes (K.state sink.old) (K.state sink.new) (wait_head width) result }
+{
+    put_cells(
+        sink,
+        &[
+            Cell::Text(b"\n"),
+            Cell::Left(width, b"vcpu"),
+            Cell::Text(b"   longest ms       from ms   cpu  promised ms   late  kept\n"),
+        ],
+    )
+}
+
+// Writes the row of shares of each vCPU.
+fn put_shares<K: Sink>(
+    sink: &mut K,
+    width: usize,
+    vcpus: &[Vcpu],
+    reports: &[VcpuReport],
+) -> Result<(), WriteFault>
+    ensures { Writes (K.state sink.old) (K.state sink.new) (texts_below (share_row width vcpus.now reports.now) (length reports.now)) result }
+{
+    for vcpu in 0..reports.len() {
+        put_share_row(sink, width, vcpus, reports, vcpu)?;
+    }
+    Ok(())
+}
+
+fn put_share_row<K: Sink>(
+    sink: &mut K,
+    width: usize,
+    vcpus: &[Vcpu],
+    reports: &[VcpuReport],
+    vcpu: usize,
+) -> Result<(), WriteFault>
+    ensures { Writes (K.state sink.old) (K.state sink.new) (share_row width vcpus.now reports.now vcpu) result }
+{
+    match vcpus.get(vcpu) {
+        Some(one) => put_share_said(sink, width, one, reports, vcpu),
+        None => Ok(()),
+    }
+}
+
+fn put_share_said<K: Sink>(
+    sink: &mut K,
+    width: usize,
+    one: &Vcpu,
+    reports: &[VcpuReport],
+    vcpu: usize,
+) -> Result<(), WriteFault>
+    ensures { Writes (K.state sink.old) (K.state sink.new) (share_said width one.now (slice_get reports.now vcpu)) result }
+{
+    match reports.get(vcpu) {
+        Some(report) => put_share_cells(sink, width, one.name.bytes(), &one.reservation, report),
+        None => Ok(()),
+    }
+}
+
+fn put_share_cells<K: Sink>(
+    sink: &mut K,
+    width: usize,
+    name: &[u8],
+    reserved: &Option<Reservation>,
+    report: &VcpuReport,
+) -> Result<(), WriteFault>
+    ensures { Writes (K.state sink.old) (K.state sink.new) (share_cells width name.now reserved.now report.now) result }
+{
+    put_cells(
+        sink,
+        &[
+            Cell::Left(width, name),
+            Cell::Text(b"  "),
+            Cell::Millis(7, report.run_ns),
+            Cell::Text(b"  "),
+            Cell::Millis(7, report.wait_ns),
+            Cell::Text(b"  "),
+            Cell::Millis(7, report.block_ns),
+            Cell::Text(b"  "),
+            asked_cell(reserved),
+            Cell::Text(b"  "),
+            least_cell(&report.least),
+            Cell::Text(b"  "),
+            window_cell(&report.least),
+            Cell::Text(b"\n"),
+        ],
+    )
+}
+
+// Writes the row of waits of each vCPU.
+fn put_waits<K: Sink>(
+    sink: &mut K,
+    width: usize,
+    vcpus: &[Vcpu],
+    reports: &[VcpuReport],
+) -> Result<(), WriteFault>
+    ensures { Writes (K.state sink.old) (K.state sink.new) (texts_below (wait_row width vcpus.now reports.now) (length reports.now)) result }
+{
+    for vcpu in 0..reports.len() {
+        put_wait_row(sink, width, vcpus, reports, vcpu)?;
+    }
+    Ok(())
+}
+
+fn put_wait_row<K: Sink>(
+    sink: &mut K,
+    width: usize,
+    vcpus: &[Vcpu],
+    reports: &[VcpuReport],
+    vcpu: usize,
+) -> Result<(), WriteFault>
+    ensures { Writes (K.state sink.old) (K.state sink.new) (wait_row width vcpus.now reports.now vcpu) result }
+{
+    match vcpus.get(vcpu) {
+        Some(one) => put_wait_said(sink, width, one, reports, vcpu),
+        None => Ok(()),
+    }
+}
+
+fn put_wait_said<K: Sink>(
+    sink: &mut K,
+    width: usize,
+    one: &Vcpu,
+    reports: &[VcpuReport],
+    vcpu: usize,
+) -> Result<(), WriteFault>
+    ensures { Writes (K.state sink.old) (K.state sink.new) (wait_said width one.now (slice_get reports.now vcpu)) result }
+{
+    match reports.get(vcpu) {
+        Some(report) => put_wait_cells(sink, width, one.name.bytes(), &one.reservation, report),
+        None => Ok(()),
+    }
+}
+
+fn put_wait_cells<K: Sink>(
+    sink: &mut K,
+    width: usize,
+    name: &[u8],
+    reserved: &Option<Reservation>,
+    report: &VcpuReport,
+) -> Result<(), WriteFault>
+    ensures { Writes (K.state sink.old) (K.state sink.new) (wait_cells width name.now reserved.now report.now) result }
+{
+    put_cells(
+        sink,
+        &[
+            Cell::Left(width, name),
+            Cell::Text(b"  "),
+            longest_cell(&report.longest),
+            Cell::Text(b"  "),
+            begin_cell(&report.longest),
+            Cell::Text(b"  "),
+            cpu_cell(&report.longest),
+            Cell::Text(b"  "),
+            promised_cell(reserved),
+            Cell::Text(b"  "),
+            late_cell(report.late),
+            Cell::Text(b"  "),
+            Cell::Right(4, yes_or_no(report.kept)),
+            Cell::Text(b"\n"),
+        ],
+    )
+}
+
+// Writes when the trace ends, how long a window is, and whether all was kept.
+fn put_verdict<K: Sink>(
+    sink: &mut K,
+    end_ns: u64,
+    window_ns: u64,
+    kept: bool,
+) -> Result<(), WriteFault>
+    ensures { Writes (K.state sink.old) (K.state sink.new) (verdict_text end_ns window_ns (kept_word kept)) result }
+{
+    put_judged(sink, end_ns, window_ns, kept_word(kept))
+}
+
+#[tactic(auto, unfolding(crate::specs::Tables::verdict_text))]
+fn put_judged<K: Sink>(
+    sink: &mut K,
+    end_ns: u64,
+    window_ns: u64,
+    kept: &[u8],
+) -> Result<(), WriteFault>
+    ensures { Writes (K.state sink.old) (K.state sink.new) (verdict_text end_ns window_ns kept.now) result }
+{
+    put_cells(
+        sink,
+        &[
+            Cell::Text(b"\ntrace up to "),
+            Cell::Millis(0, end_ns),
+            Cell::Text(b" ms, in windows of "),
+            Cell::Millis(0, window_ns),
+            Cell::Text(b" ms: "),
+            Cell::Text(kept),
+            Cell::Text(b"\n"),
+        ],
+    )
+}
+
+fn kept_word(kept: bool) -> &'static [u8]
+    ensures { result.now ≡ kept_word kept }
+{
+    if kept { b"kept" } else { b"not kept" }
+}
+
+// Writes what is wrong with the trace itself.
+fn put_lines<K: Sink>(sink: &mut K, report: &Report) -> Result<(), WriteFault>
+    ensures { Writes (K.state sink.old) (K.state sink.new) (lines_text report.now) result }
+{
+    put_shared(sink, &report.shared)?;
+    put_doubled(sink, &report.doubled)?;
+    put_falls(sink, &report.falls)?;
+    put_unknown(sink, &report.unknown)
+}
+
+fn put_shared<K: Sink>(sink: &mut K, lines: &LineCount) -> Result<(), WriteFault>
+    ensures { Writes (K.state sink.old) (K.state sink.new) (count_text shared_kind lines.now) result }
+{
+    put_count(sink, b"lines that put two vCPUs on one CPU", lines)
+}
+
+fn put_doubled<K: Sink>(sink: &mut K, lines: &LineCount) -> Result<(), WriteFault>
+    ensures { Writes (K.state sink.old) (K.state sink.new) (count_text doubled_kind lines.now) result }
+{
+    put_count(sink, b"lines that put a vCPU on two CPUs", lines)
+}
+
+fn put_falls<K: Sink>(sink: &mut K, lines: &LineCount) -> Result<(), WriteFault>
+    ensures { Writes (K.state sink.old) (K.state sink.new) (count_text fall_kind lines.now) result }
+{
+    put_count(sink, b"lines whose time falls", lines)
+}
+
+fn put_unknown<K: Sink>(sink: &mut K, lines: &LineCount) -> Result<(), WriteFault>
+    ensures { Writes (K.state sink.old) (K.state sink.new) (count_text unknown_kind lines.now) result }
+{
+    put_count(sink, b"lines of a vCPU that the host doesn't have", lines)
+}
+
+// Writes how many lines are of a kind, and the first, where there is one.
+fn put_count<K: Sink>(sink: &mut K, kind: &[u8], lines: &LineCount) -> Result<(), WriteFault>
+    ensures { Writes (K.state sink.old) (K.state sink.new) (count_text kind.now lines.now) result }
+{
+    match lines.first {
+        Some(first) => put_line(sink, kind, lines.count, first),
+        None => Ok(()),
+    }
+}
+
+#[tactic(auto, unfolding(crate::specs::Tables::line_text))]
+fn put_line<K: Sink>(sink: &mut K, kind: &[u8], count: u64, first: u64) -> Result<(), WriteFault>
+    ensures { Writes (K.state sink.old) (K.state sink.new) (line_text kind.now count first) result }
+{
+    put_pieces(
+        sink,
+        &[
+            TextPiece::Text(kind),
+            TextPiece::Text(b": "),
+            TextPiece::Wide(count),
+            TextPiece::Text(b", the first is line "),
+            TextPiece::Wide(first),
+            TextPiece::Text(b"\n"),
+        ],
+    )
+}
