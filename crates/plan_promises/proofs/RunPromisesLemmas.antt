@@ -43,6 +43,7 @@ run_promises rounds host events course s of ok promises complete =
             let most = promises.invariant.posted_most in
             omega arith);
         rises = promises.one_table.rises;
+        recent = λ r d i at. (promises.invariant.fresh r d at).has i;
         one_plan = one_plan course rounds s promises.invariant;
         one_core = promises.one_core;
         shares = run_shares host events course rounds s of promises;
