@@ -1,27 +1,20 @@
 -- What is kept of a trace, with one more mark behind.
-use Rattle.std.proofs.Common.{arith, ◌≡◌, ℕ, ◌<◌, Bool, true, false, if◌then◌else◌, List, [], ◌∷◌, ◌++◌, length, map, max, get_or, nat_lt, Some, None, Result, Ok, Err, OnOk, set, ap, refl, sym, subst, ◌∙◌, ⊎_elim}
+use Rattle.std.proofs.Common.{arith, ◌≡◌, ℕ, ◌<◌, true, false, if◌then◌else◌, List, [], ◌∷◌, ◌++◌, length, map, max, get_or, nat_lt, Some, None, Result, Ok, Err, OnOk, set, ap, refl, sym, subst, ◌∙◌, ⊎_elim}
 use Rattle.std.proofs.lemmas.Bool.{cases_eq, eq-eqb, ne_eqb}
 use Rattle.std.proofs.lemmas.List.{get_or-map, get_or-set_other, get_or-set_same, length-set, map-set, set-get_or}
 use Rattle.std.proofs.lemmas.Option.{same_Some, slice_get-get_or, slice_get_read, slice_get_within}
 use Rattle.std.specs.List.{slice_get}
 use Rattle.std.specs.Option.{is_none}
 use Rattle.trace_doc.specs.declared.mark.Mark.{Mark}
-use Rattle.trace_judge.specs.Clashes.{IsCountOf, falls, is_unknown, lines_where}
+use Rattle.trace_judge.specs.Clashes.{IsCountOf, falls, is_unknown}
+use Rattle.trace_judge.specs.Inside.Clashed.{HasClashes}
 use Rattle.trace_judge.specs.Inside.Judged.{HasJudged, terms_of}
 use Rattle.trace_judge.specs.Inside.Settled.{IsTracked}
 use Rattle.trace_judge.specs.Traces.{end_of, is_vcpu, marks_of, trace_of}
 use Rattle.trace_judge.specs.declared.judge.Judge.{Judge}
-use Rattle.trace_judge.specs.declared.report.LineCount.{LineCount}
 use Rattle.trace_judge.specs.declared.tracker.Tracker.{Tracker}
-use Rattle.trace_judge.proofs.TraceLemmas.{latest-push, lines_where-push, marks_of-other, marks_of-own, risen-push, risen_mark}
-
--- the lines of a kind, with one more mark
-counted_next : (test : List Mark → Mark → Bool) (marks : List Mark) (mark : Mark) (old new : LineCount) (one : Bool)
-    → test marks mark ≡ one
-    → ((lines : List ℕ) → IsCountOf lines old → IsCountOf (lines ++ (if one then mark.line ∷ [] else [])) new)
-    → IsCountOf (lines_where test [] marks) old → IsCountOf (lines_where test [] (marks ++ mark ∷ [])) new
-counted_next test marks mark old new one is next counted =
-    rw (lines_where-push test [] marks mark, is) (next (lines_where test [] marks) counted)
+use Rattle.trace_judge.proofs.ClashLemmas.{clashes_unknown, counted_next}
+use Rattle.trace_judge.proofs.TraceLemmas.{latest-push, marks_of-other, marks_of-own, risen-push, risen_mark}
 
 -- the mark's vCPU is this one
 own_vcpu : (vcpu : ℕ) (mark : Mark) → mark.vcpu ≡ Some vcpu → is_vcpu vcpu mark.vcpu ≡ true
@@ -86,10 +79,11 @@ trace_more marks mark top is =
 -- behind a mark
 judged_by : (marks : List Mark) (mark : Mark) (old new : Judge) → HasJudged marks old
     → new.end_ns ≡ max old.end_ns mark.time_ns → CountsNext old mark new
+    → HasClashes (marks ++ mark ∷ []) new.clashes
     → ((v : ℕ) (tracker : Tracker) → slice_get new.trackers.items v ≡ Some tracker
     → IsTracked (marks_of v (trace_of marks ++ risen_mark old.end_ns mark ∷ [])) tracker)
     → HasJudged (marks ++ mark ∷ []) new
-judged_by marks mark old new has top counts each =
+judged_by marks mark old new has top counts clashes each =
     let more = trace_more marks mark old.end_ns has.end_ns in
     record {
       end_ns = top ∙ ap (λ t. max t mark.time_ns) has.end_ns ∙ sym (latest-push 0 marks mark);
@@ -98,29 +92,30 @@ judged_by marks mark old new has top counts each =
       unknown = rw more
           (counted_next is_unknown (trace_of marks) (risen_mark old.end_ns mark) old.unknown new.unknown
           (is_none mark.vcpu) refl counts.1 has.unknown);
+      clashes = clashes;
       each = rw more each;
     }
 
 -- behind a mark of a vCPU that the host has
 pub judged_known : (marks : List Mark) (mark : Mark) (old new : Judge) (vcpu : ℕ) (before more : Tracker)
     → HasJudged marks old → new.end_ns ≡ max old.end_ns mark.time_ns → CountsNext old mark new
-    → mark.vcpu ≡ Some vcpu → vcpu < length old.trackers.items
+    → (HasClashes marks old.clashes → HasClashes (marks ++ mark ∷ []) new.clashes) → mark.vcpu ≡ Some vcpu → vcpu < length old.trackers.items
     → before ≡ get_or old.trackers.items vcpu before → new.trackers.items ≡ set old.trackers.items vcpu more
     → ((own : List Mark) → IsTracked own before → IsTracked (own ++ risen_mark old.end_ns mark ∷ []) more)
     → HasJudged (marks ++ mark ∷ []) new
-judged_known marks mark old new vcpu before more has top counts is low read put next =
+judged_known marks mark old new vcpu before more has top counts clashes is low read put next =
     let there : slice_get old.trackers.items vcpu ≡ Some before =
     slice_get_read old.trackers.items (length old.trackers.items) vcpu before refl low read in
-    judged_by marks mark old new has top counts
+    judged_by marks mark old new has top counts (clashes has.clashes)
     (each_more (trace_of marks) (risen_mark old.end_ns mark) old.trackers.items new.trackers.items vcpu more is low put
     (next (marks_of vcpu (trace_of marks)) (has.each vcpu before there)) has.each)
 
 -- behind a mark of another
 pub judged_unknown : (marks : List Mark) (mark : Mark) (old new : Judge) → HasJudged marks old
     → new.end_ns ≡ max old.end_ns mark.time_ns → CountsNext old mark new → mark.vcpu ≡ None
-    → new.trackers.items ≡ old.trackers.items → HasJudged (marks ++ mark ∷ []) new
-judged_unknown marks mark old new has top counts is same =
-    judged_by marks mark old new has top counts
+    → new.clashes ≡ old.clashes → new.trackers.items ≡ old.trackers.items → HasJudged (marks ++ mark ∷ []) new
+judged_unknown marks mark old new has top counts is clashes same =
+    judged_by marks mark old new has top counts (rw clashes (clashes_unknown marks mark old.clashes is has.clashes))
     (rw same (each_same (trace_of marks) (risen_mark old.end_ns mark) old.trackers.items is has.each))
 
 -- what follows where a call succeeds

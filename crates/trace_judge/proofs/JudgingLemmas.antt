@@ -15,6 +15,7 @@ use Rattle.trace_doc.proofs.RowLemmas.{rows_from-nil}
 use Rattle.trace_judge.specs.Clashes.{IsCountOf}
 use Rattle.trace_judge.specs.Faults.{IsFaultIn}
 use Rattle.trace_judge.specs.Inside.Begun.{HasBegun}
+use Rattle.trace_judge.specs.Inside.Clashed.{HasClashes}
 use Rattle.trace_judge.specs.Inside.Judged.{terms_of}
 use Rattle.trace_judge.specs.Inside.Readings.{HasReadBytes}
 use Rattle.trace_judge.specs.Inside.Reported.{sold_terms}
@@ -30,8 +31,8 @@ use Rattle.trace_judge.specs.declared.report.Report.{Report}
 pub has_begun : (window : ℕ) (vcpus : List Vcpu) (reading : Reading) → reading.names ≡ names_of vcpus
     → map terms_of reading.judge.trackers.items ≡ map (sold_terms window) vcpus → reading.lines ≡ 0
     → reading.judge.end_ns ≡ 0 → IsCountOf [] reading.judge.falls → IsCountOf [] reading.judge.unknown
-    → All (λ tracker. IsTracked [] tracker) reading.judge.trackers.items → HasBegun window vcpus reading
-has_begun window vcpus reading names terms lines ends falls unknown tracked = record {
+    → HasClashes [] reading.judge.clashes → All (λ tracker. IsTracked [] tracker) reading.judge.trackers.items → HasBegun window vcpus reading
+has_begun window vcpus reading names terms lines ends falls unknown clashes tracked = record {
   names = names;
   terms = terms;
   read = record {
@@ -41,6 +42,7 @@ has_begun window vcpus reading names terms lines ends falls unknown tracked = re
       end_ns = ends;
       falls = falls;
       unknown = unknown;
+      clashes = clashes;
       each = λ v tracker at.
           subst (IsTracked []) (get_or_from_slice_get reading.judge.trackers.items v tracker tracker at)
           (tracked v tracker (slice_get_within reading.judge.trackers.items v tracker at));

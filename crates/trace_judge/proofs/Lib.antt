@@ -1,3 +1,4 @@
+pub mod ClashLemmas
 pub mod CourseLemmas
 pub mod JudgedLemmas
 pub mod JudgingLemmas

@@ -240,8 +240,10 @@ pub told_of : (window : ℕ) (vcpus : List Vcpu) (bytes : List ℕ) (reading : R
     → AreReports window reading.judge.trackers.items vcpus reading.judge.end_ns report.vcpus.items
     → length report.vcpus.items ≡ length vcpus → report.end_ns ≡ reading.judge.end_ns
     → report.window_ns ≡ window
-    → report.falls ≡ reading.judge.falls → report.unknown ≡ reading.judge.unknown → IsReportOf window vcpus bytes report
-told_of window vcpus bytes reading report read names same are many ends long falls unknown = record {
+    → report.falls ≡ reading.judge.falls → report.unknown ≡ reading.judge.unknown
+    → report.shared ≡ reading.judge.clashes.shared → report.doubled ≡ reading.judge.clashes.doubled
+    → IsReportOf window vcpus bytes report
+told_of window vcpus bytes reading report read names same are many ends long falls unknown shared doubled = record {
   marks = read.marks;
   said = subst (λ n. AreMarks n (rows_from 1 (lines_of bytes)) read.marks) names read.said;
   told = record {
@@ -249,6 +251,8 @@ told_of window vcpus bytes reading report read names same are many ends long fal
     lasts = long;
     falling = rw falls read.judged.falls;
     unknown = rw unknown read.judged.unknown;
+    shared = rw shared read.judged.clashes.shared;
+    doubled = rw doubled read.judged.clashes.doubled;
     many = many;
     each = λ v vcpu one at_vcpu at_one. each_told window vcpus reading.judge.trackers.items report.vcpus.items
         reading.judge.end_ns (trace_of read.marks) (end_of read.marks) read.judged.end_ns are read.judged.each same v

@@ -1,8 +1,12 @@
--- Lines that can't be: those whose time falls, and those of vCPUs that the host hasn't.
-use Rattle.std.specs.Prelude.{◌≡◌, ℕ, Bool, if◌then◌else◌, length, List, [], ◌∷◌, ◌++◌, nat_lt, slice_get}
+-- Lines that can't be: those whose time falls, those of vCPUs that the host hasn't, and those by which a CPU runs two
+-- vCPUs or a vCPU runs on two CPUs.
+use Rattle.std.specs.Prelude.{◌≡◌, ℕ, ◌==◌, ◌&&◌, Bool, false, not, if◌then◌else◌, length, List, [], ◌∷◌, ◌++◌, nat_lt, Option, Some, None, option_and_then, slice_get}
+use Rattle.std.specs.List.{list_any}
 use Rattle.std.specs.Option.{is_none}
 use Rattle.trace_doc.specs.declared.mark.Mark.{Mark}
-use Rattle.trace_judge.specs.Traces.{end_of}
+use Rattle.trace_doc.specs.declared.mark.State.TheVariants.{Run}
+use Rattle.trace_judge.specs.Courses.{is_same}
+use Rattle.trace_judge.specs.Traces.{end_of, last_that}
 use Rattle.trace_judge.specs.declared.report.LineCount.{LineCount}
 
 -- the numbers of the lines that pass a test, which also sees the marks before; these stand before the first
@@ -23,3 +27,32 @@ falls before mark = nat_lt mark.time_ns (end_of before)
 -- a vCPU that the host hasn't
 abbrev pub is_unknown : List Mark → Mark → Bool
 is_unknown before mark = is_none mark.vcpu
+
+-- ---- who runs where
+
+-- two numbers are known, and are the same
+abbrev pub are_same : Option ℕ → Option ℕ → Bool
+are_same (Some one) (Some two) = one == two
+are_same _ _ = false
+
+-- two numbers are known, and differ
+abbrev pub are_two : Option ℕ → Option ℕ → Bool
+are_two (Some one) (Some two) = not (one == two)
+are_two _ _ = false
+
+-- the CPU on which the vCPU of a mark runs from then on, if it runs and its CPU is told
+abbrev pub runs_on : Mark → Option ℕ
+runs_on mark = if is_same Run mark.state then mark.cpu else None
+
+-- the CPU on which a vCPU runs by the last of its marks
+abbrev pub cpu_by : List Mark → Option ℕ → Option ℕ
+cpu_by marks vcpu = option_and_then runs_on (last_that (λ mark. are_same mark.vcpu vcpu) marks)
+
+-- a vCPU runs on a CPU on which another runs by the marks before
+abbrev pub is_shared : List Mark → Mark → Bool
+is_shared before mark =
+    list_any (λ other. are_two other.vcpu mark.vcpu && are_same (cpu_by before other.vcpu) (runs_on mark)) before
+
+-- a vCPU runs on a CPU while it runs on another by the marks before
+abbrev pub is_doubled : List Mark → Mark → Bool
+is_doubled before mark = are_two (cpu_by before mark.vcpu) (runs_on mark)

@@ -1,4 +1,5 @@
 pub mod Begun
+pub mod Clashed
 pub mod Judged
 pub mod Readings
 pub mod Reported

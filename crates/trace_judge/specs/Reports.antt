@@ -7,7 +7,7 @@ use Rattle.tab_words.specs.Lines.{lines_of}
 use Rattle.trace_doc.specs.TraceLines.{AreMarks, rows_from}
 use Rattle.trace_doc.specs.declared.mark.Mark.{Mark}
 use Rattle.trace_doc.specs.declared.mark.State.TheVariants as state
-use Rattle.trace_judge.specs.Clashes.{IsCountOf, falls, is_unknown, lines_where}
+use Rattle.trace_judge.specs.Clashes.{IsCountOf, falls, is_doubled, is_shared, is_unknown, lines_where}
 use Rattle.trace_judge.specs.Courses.{Course, time_before}
 use Rattle.trace_judge.specs.Traces.{end_of, marks_of, state_at, told_at, trace_of}
 use Rattle.trace_judge.specs.Waits.{IsLongest, late_before, waited}
@@ -50,6 +50,8 @@ pub record IsReportOfMarks (window : ℕ) (vcpus : List Vcpu) (marks : List Mark
   pub lasts : report.window_ns ≡ window
   pub falling : IsCountOf (lines_where falls [] marks) report.falls
   pub unknown : IsCountOf (lines_where is_unknown [] (trace_of marks)) report.unknown
+  pub shared : IsCountOf (lines_where is_shared [] marks) report.shared
+  pub doubled : IsCountOf (lines_where is_doubled [] marks) report.doubled
   pub many : length report.vcpus.items ≡ length vcpus
   pub each : (v : ℕ) (vcpu : Vcpu) (one : VcpuReport) → slice_get vcpus v ≡ Some vcpu
       → slice_get report.vcpus.items v ≡ Some one

@@ -1,6 +1,7 @@
 ghost use Rattle.std.specs.Prelude.{◌≡◌, ℕ, ◌+◌, ◌<◌, ◌≤◌, ◌^◌, All, length, map};
 ghost use Rattle.std.specs.Option.{ForSome};
 
+use crate::clashes::Clashes;
 use crate::counts::counted_if;
 use crate::report::LineCount;
 use crate::tracker::Tracker;
@@ -17,9 +18,13 @@ pub(crate) struct Judge {
     pub(crate) trackers: Vec<Tracker>,
     pub(crate) falls: LineCount,
     pub(crate) unknown: LineCount,
+    pub(crate) clashes: Clashes,
     ghost past: { All (λ tracker. tracker.since_ns ≤ end_ns) trackers.items },
     ghost few_falls: { falls.count ≤ line },
     ghost few_unknown: { unknown.count ≤ line },
+    ghost few_shared: { clashes.shared.count ≤ line },
+    ghost few_doubled: { clashes.doubled.count ≤ line },
+    ghost alike: { length clashes.cpus.items ≡ length trackers.items },
 }
 
 impl Judge {
@@ -45,6 +50,7 @@ impl Judge {
         let Some(vcpu) = mark.vcpu else {
             return Ok(());
         };
+        self.clashes.take(vcpu.index(), mark);
         let risen = Mark {
             line: mark.line,
             time_ns: self.end_ns,

@@ -11,6 +11,7 @@ ghost use Rattle.trace_judge.specs.Inside.Settled.{IsTracked};
 ghost use Rattle.trace_judge.specs.Judgements.{JudgesTrace};
 ghost use Rattle.trace_judge.specs.Reports.{IsReportOf};
 
+use crate::clashes::Clashes;
 use crate::counts::no_lines;
 use crate::fault::JudgeFault;
 use crate::judge::Judge;
@@ -76,6 +77,7 @@ fn begin(alloc: Global, vcpus: &[Vcpu], window_ns: u64) -> Result<Reading<'_>, N
         trackers: trackers_of(alloc, vcpus, window_ns)?,
         falls: no_lines(),
         unknown: no_lines(),
+        clashes: Clashes::begin(alloc, vcpus.len())?,
     };
     Ok(Reading {
         names,
@@ -129,6 +131,8 @@ fn finish(
             vcpus,
             falls: judge.falls,
             unknown: judge.unknown,
+            shared: judge.clashes.shared,
+            doubled: judge.clashes.doubled,
         }),
         Err(_) => Err(JudgeFault::NoMemory),
     }

@@ -54,4 +54,8 @@ pub struct Report {
     pub falls: LineCount,
     /// Lines of vCPUs that the host doesn't have.
     pub unknown: LineCount,
+    /// Lines by which a vCPU runs on a CPU on which another runs.
+    pub shared: LineCount,
+    /// Lines by which a vCPU runs on a CPU while it runs on another.
+    pub doubled: LineCount,
 }

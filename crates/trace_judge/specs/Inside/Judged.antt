@@ -2,6 +2,7 @@
 use Rattle.std.specs.Prelude.{◌≡◌, ℕ, [], List, Some, slice_get}
 use Rattle.trace_doc.specs.declared.mark.Mark.{Mark}
 use Rattle.trace_judge.specs.Clashes.{IsCountOf, falls, is_unknown, lines_where}
+use Rattle.trace_judge.specs.Inside.Clashed.{HasClashes}
 use Rattle.trace_judge.specs.Inside.Settled.{IsTracked}
 use Rattle.trace_judge.specs.Traces.{end_of, marks_of, trace_of}
 use Rattle.trace_judge.specs.declared.judge.Judge.{Judge}
@@ -16,5 +17,6 @@ pub record HasJudged (marks : List Mark) (judge : Judge) : Type 0 where
   pub end_ns : judge.end_ns ≡ end_of marks
   pub falls : IsCountOf (lines_where falls [] marks) judge.falls
   pub unknown : IsCountOf (lines_where is_unknown [] (trace_of marks)) judge.unknown
+  pub clashes : HasClashes marks judge.clashes
   pub each : (vcpu : ℕ) (tracker : Tracker) → slice_get judge.trackers.items vcpu ≡ Some tracker
       → IsTracked (marks_of vcpu (trace_of marks)) tracker
