@@ -43,11 +43,17 @@ run_promises rounds host events course s of ok promises complete =
             let most = promises.invariant.posted_most in
             omega arith);
         rises = promises.one_table.rises;
-        recent = λ r d i at. (promises.invariant.fresh r d at).has i;
+        fresh = promises.invariant.fresh;
         one_plan = one_plan course rounds s promises.invariant;
         one_core = promises.one_core;
         shares = run_shares host events course rounds s of promises;
         waits = run_waits host events course rounds s of promises;
+        seen = λ c k core st at found.
+            (let stint = (promises.invariant.cores c core at).stints.each k st found in
+            let posted = stint.seen_posted in
+            let most = promises.invariant.posted_most in
+            (omega (arith, posted, most), stint.fresh));
+        seen_rises = λ c j k core st su at. (promises.invariant.cores c core at).stints.risen j k st su;
         work_conserving = promises.work_conserving;
         caps = promises.caps;
       };

@@ -1,12 +1,13 @@
 -- What a run promises to whoever was sold a vCPU, in the fewest words.
 -- Source: the rules of this project.
-use Rattle.std.specs.Prelude.{◌≡◌, ℕ, suc, ◌+◌, ◌*◌, ◌/◌, ◌<◌, ◌≤◌, List, Some, length, slice_get}
+use Rattle.std.specs.Prelude.{◌≡◌, ℕ, suc, ◌*◌, ◌/◌, ◌≤◌, List, Some, length, slice_get}
 use Rattle.tab_core.specs.declared.TheConstants.{ROUND}
 use Rattle.tab_core.specs.declared.host.Host.{Host}
 use Rattle.tab_core.specs.declared.stint.Stint.{Stint}
 use Rattle.table_form.specs.Running.Busy.{IsBusy}
 use Rattle.table_form.specs.Running.Capped.{KeepsCaps}
-use Rattle.table_form.specs.Running.Courses.{CourseView, tick_at}
+use Rattle.table_form.specs.Running.Courses.{CourseView}
+use Rattle.table_form.specs.Running.Invariant.{IsFresh}
 use Rattle.table_form.specs.Running.State.{State, CoreState, IsCore}
 use Rattle.table_form.specs.Running.Together.{Covers, RunsOnOneCore}
 use Rattle.script_doc.specs.declared.event.Event.{Event}
@@ -14,22 +15,26 @@ use Rattle.plan_promises.specs.Histories.{IsHistory}
 use Rattle.plan_promises.specs.Runs.{SharesKept, WaitsWithinLatency}
 
 -- Every core runs to the end of so many rounds. Each round was entered with a count of first events, which never
--- falls, and has each event whose tick and the lag are at most the round's begin. At each tick all cores use the plan
--- of the count of the tick's round. No vCPU runs on two cores at one tick. Each vCPU that is reserved in a round's
--- host gets its share there, and waits no longer than its latency. No core idles while a vCPU that it has seen
--- runnable may run there. A capped vCPU runs at no more ticks of a period than its cost
+-- falls and is fresh at the round's begin. At each tick all cores use the plan of the count of the tick's round. No
+-- vCPU runs on two cores at one tick. Each vCPU that is reserved in a round's host gets its share there, and waits no
+-- longer than its latency. Each stint goes by a seen count of events, which never falls on a core and is fresh as the
+-- stint begins; no core idles while a vCPU may run there that is runnable after these events. A capped vCPU runs at no
+-- more ticks of a period than its cost
 pub record RunPromises (rounds : ℕ) (hosts : ℕ → Host) (tick_ns : ℕ) (course : CourseView) (s : State) : Type 0 where
   pub whole : (c : ℕ) (core : CoreState) → IsCore s c core → core.clock ≡ rounds * ROUND
   pub entered : length s.decided ≡ rounds
   pub counts : (r d : ℕ) → slice_get s.decided r ≡ Some d → d ≤ length course.ticks
   pub rises : (r a b : ℕ) → slice_get s.decided r ≡ Some a → slice_get s.decided (suc r) ≡ Some b → a ≤ b
-  pub recent : (r d i : ℕ) → slice_get s.decided r ≡ Some d → i < length course.ticks
-      → tick_at course i + course.lag ≤ r * ROUND → i < d
+  pub fresh : (r d : ℕ) → slice_get s.decided r ≡ Some d → IsFresh course d (r * ROUND)
   pub one_plan : (c x : ℕ) (core : CoreState) (st : Stint) → IsCore s c core → Covers core x st
       → slice_get s.decided (x / ROUND) ≡ Some st.used
   pub one_core : RunsOnOneCore s
   pub shares : SharesKept hosts course s
   pub waits : WaitsWithinLatency hosts tick_ns course s
+  pub seen : (c k : ℕ) (core : CoreState) (st : Stint) → IsCore s c core → slice_get core.stints k ≡ Some st
+      → (st.seen ≤ length course.ticks) × IsFresh course st.seen st.from
+  pub seen_rises : (c j k : ℕ) (core : CoreState) (st su : Stint) → IsCore s c core → j ≤ k
+      → slice_get core.stints j ≡ Some st → slice_get core.stints k ≡ Some su → st.seen ≤ su.seen
   pub work_conserving : IsBusy course s
   pub caps : KeepsCaps course s
 
