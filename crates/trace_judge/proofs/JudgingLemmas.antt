@@ -1,6 +1,7 @@
 -- The bytes of a trace that have come from its source.
-use Rattle.std.proofs.Common.{arith, ◌≡◌, ℕ, ◌≤◌, List, [], ◌++◌, map, take, Result, Ok, Err, IfErr, IfOk, MatchResult, inl, refl, sym, subst, ◌∙◌}
+use Rattle.std.proofs.Common.{arith, ◌≡◌, ℕ, ◌+◌, ◌≤◌, List, [], ◌++◌, length, length-append, map, take, Result, Ok, Err, IfErr, IfOk, MatchResult, inl, refl, sym, subst, ◌∙◌}
 use Rattle.std.proofs.KnownBytes.{Consumes-kept, Consumes-nil, Consumes-trans}
+use Rattle.std.proofs.lemmas.List.{length-take-le}
 use Rattle.std.proofs.lemmas.Option.{get_or_from_slice_get, slice_get_within}
 use Rattle.std.specs.Io.KnownBytes.{Consumes}
 use Rattle.std.specs.List.{All}
@@ -9,7 +10,7 @@ use Rattle.tab_io.specs.Sources.{Gave}
 use Rattle.tab_io.specs.Views.{SourceView}
 use Rattle.tab_io.specs.declared.source.Got.TheVariants as got
 use Rattle.tab_words.specs.Lines.{lines_of}
-use Rattle.tab_words.proofs.LineLemmas.{lines_of-nil}
+use Rattle.tab_words.proofs.LineLemmas.{length-lines_of, lines_of-nil}
 use Rattle.vcpu_names.specs.Names.{names_of}
 use Rattle.trace_doc.proofs.RowLemmas.{rows_from-nil}
 use Rattle.trace_judge.specs.Clashes.{IsCountOf}
@@ -51,9 +52,11 @@ has_begun window vcpus reading names terms lines ends falls unknown clashes trac
   };
 }
 
--- bytes have come, and were read
-pub record HasCome (first now : SourceView) (vcpus : List Vcpu) (window : ℕ) (held : List ℕ) (reading : Reading) : Type 0 where
+-- bytes have come, one at least from each read, and were read
+pub record HasCome (first now : SourceView) (vcpus : List Vcpu) (window : ℕ) (held : List ℕ) (reading : Reading) (reads : ℕ)
+    : Type 0 where
   pub bytes : List ℕ
+  pub many : reads ≤ length bytes
   pub consumed : Consumes first.rest now.rest bytes
   pub later : first.faults ≤ now.faults
   pub names : reading.names ≡ names_of vcpus
@@ -62,9 +65,10 @@ pub record HasCome (first now : SourceView) (vcpus : List Vcpu) (window : ℕ) (
 
 -- none so far
 pub none_come : (view : SourceView) (vcpus : List Vcpu) (window : ℕ) (held : List ℕ) (reading : Reading) → held ≡ []
-    → HasBegun window vcpus reading → HasCome view view vcpus window held reading
+    → HasBegun window vcpus reading → HasCome view view vcpus window held reading 0
 none_come view vcpus window held reading none begun = record {
   bytes = [];
+  many = omega arith;
   consumed = Consumes-nil view.rest;
   later = omega arith;
   names = begun.names;
@@ -79,13 +83,15 @@ none_come view vcpus window held reading none begun = record {
 
 -- one more piece
 pub piece_come : (first old new : SourceView) (vcpus : List Vcpu) (window : ℕ) (held more : List ℕ) (reading next : Reading)
-    (count : ℕ) (into : List ℕ) → HasCome first old vcpus window held reading → Gave old new into (got.Bytes count)
+    (count reads : ℕ) (into : List ℕ) → HasCome first old vcpus window held reading reads
+    → Gave old new into (got.Bytes count)
     → old.faults ≤ new.faults → next.names ≡ reading.names
     → map terms_of next.judge.trackers.items ≡ map terms_of reading.judge.trackers.items
     → ((bytes : List ℕ) → HasReadBytes bytes held reading → HasReadBytes (bytes ++ take count into) more next)
-    → HasCome first new vcpus window more next
-piece_come first old new vcpus window held more reading next count into come gave later names terms read = record {
+    → HasCome first new vcpus window more next (reads + 1)
+piece_come first old new vcpus window held more reading next count reads into come gave later names terms read = record {
   bytes = come.bytes ++ take count into;
+  many = omega (arith, come.many, gave.0, length-append come.bytes (take count into), length-take-le count into gave.1);
   consumed = Consumes-trans _ _ _ _ _ come.consumed gave.2;
   later = omega (arith, come.later, later);
   names = names ∙ come.names;
@@ -98,17 +104,17 @@ fault_of : (old new : SourceView) (vcpus : List Vcpu) (bytes : List ℕ) (fault 
     → IsFaultIn (names_of vcpus) (lines_of bytes) fault → HasFault old new vcpus bytes fault
 fault_of old new vcpus bytes (BadLine number text) is = is
 fault_of old new vcpus bytes ReadFault is = absurd is
-fault_of old new vcpus bytes TooLong is = tt
+fault_of old new vcpus bytes TooLong is = omega (arith, is, length-lines_of bytes)
 fault_of old new vcpus bytes NoMemory is = tt
 
 -- a piece with a fault
-pub piece_fault : (first old new : SourceView) (vcpus : List Vcpu) (window : ℕ) (held : List ℕ) (reading : Reading) (count : ℕ)
-    (into : List ℕ) (fault : JudgeFault) → HasCome first old vcpus window held reading
+pub piece_fault : (first old new : SourceView) (vcpus : List Vcpu) (window : ℕ) (held : List ℕ) (reading : Reading)
+    (count reads : ℕ) (into : List ℕ) (fault : JudgeFault) → HasCome first old vcpus window held reading reads
     → Gave old new into (got.Bytes count) → old.faults ≤ new.faults
     → ((bytes : List ℕ) → HasReadBytes bytes held reading
     → IsFaultIn reading.names (lines_of (bytes ++ take count into)) fault)
     → JudgesTrace first new vcpus window (Err fault)
-piece_fault first old new vcpus window held reading count into fault come gave later bad =
+piece_fault first old new vcpus window held reading count reads into fault come gave later bad =
     let told : IsFaultIn (names_of vcpus) (lines_of (come.bytes ++ take count into)) fault =
     subst (λ names. IsFaultIn names (lines_of (come.bytes ++ take count into)) fault) come.names
     (bad come.bytes come.read) in
@@ -121,9 +127,9 @@ piece_fault first old new vcpus window held reading count into fault come gave l
 
 -- the source failed, or memory or numbers ran out
 pub failed_come : (first old new : SourceView) (vcpus : List Vcpu) (window : ℕ) (held into : List ℕ) (reading : Reading)
-    → HasCome first old vcpus window held reading → Gave old new into got.Failed → old.faults ≤ new.faults
+    (reads : ℕ) → HasCome first old vcpus window held reading reads → Gave old new into got.Failed → old.faults ≤ new.faults
     → JudgesTrace first new vcpus window (Err ReadFault)
-failed_come first old new vcpus window held into reading come gave later = record {
+failed_come first old new vcpus window held into reading reads come gave later = record {
   bytes = come.bytes;
   consumed = Consumes-kept _ _ _ _ come.consumed gave.0;
   later = omega (arith, come.later, later);
@@ -131,40 +137,23 @@ failed_come first old new vcpus window held into reading come gave later = recor
 }
 
 pub ended_come : (first old new : SourceView) (vcpus : List Vcpu) (window : ℕ) (held into : List ℕ) (reading : Reading)
-    (result : Result Report JudgeFault) → HasCome first old vcpus window held reading → Gave old new into got.End
+    (reads : ℕ) (result : Result Report JudgeFault) → HasCome first old vcpus window held reading reads → Gave old new into got.End
     → old.faults ≤ new.faults
     → MatchResult result
     (λ report. (all : List ℕ) → HasReadBytes all held reading → IsReportOf window vcpus all report)
     (λ fault. (all : List ℕ) → HasReadBytes all held reading → IsFaultIn (names_of vcpus) (lines_of all) fault)
     → JudgesTrace first new vcpus window result
-ended_come first old new vcpus window held into reading (Ok report) come gave later told = record {
+ended_come first old new vcpus window held into reading reads (Ok report) come gave later told = record {
   bytes = come.bytes;
   consumed = Consumes-kept _ _ _ _ come.consumed gave.0;
   later = omega (arith, come.later, later);
   told = (gave.1, told come.bytes come.read);
 }
-ended_come first old new vcpus window held into reading (Err fault) come gave later told = record {
+ended_come first old new vcpus window held into reading reads (Err fault) come gave later told = record {
   bytes = come.bytes;
   consumed = Consumes-kept _ _ _ _ come.consumed gave.0;
   later = omega (arith, come.later, later);
   told = fault_of first new vcpus come.bytes fault (told come.bytes come.read);
-}
-
-pub too_long : (first now : SourceView) (vcpus : List Vcpu) (window : ℕ) (held : List ℕ) (reading : Reading)
-    → HasCome first now vcpus window held reading → JudgesTrace first now vcpus window (Err TooLong)
-too_long first now vcpus window held reading come = record {
-  bytes = come.bytes;
-  consumed = come.consumed;
-  later = come.later;
-  told = tt;
-}
-
-pub no_memory : (view : SourceView) (vcpus : List Vcpu) (window : ℕ) → JudgesTrace view view vcpus window (Err NoMemory)
-no_memory view vcpus window = record {
-  bytes = [];
-  consumed = Consumes-nil view.rest;
-  later = omega arith;
-  told = tt;
 }
 
 -- what is told in both cases

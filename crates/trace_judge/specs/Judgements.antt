@@ -1,5 +1,5 @@
 -- What reading and judging a trace does to its source, and what it answers.
-use Rattle.std.specs.Prelude.{ℕ, ◌≤◌, List, MatchResult, Result}
+use Rattle.std.specs.Prelude.{ℕ, ◌+◌, ◌≤◌, ◌^◌, length, List, MatchResult, Result}
 use Rattle.std.specs.Io.KnownBytes.{Consumes, IsAtEnd}
 use Rattle.tab_core.specs.declared.vcpu.Vcpu.{Vcpu}
 use Rattle.tab_io.specs.FaultCounts.{Rose}
@@ -12,11 +12,11 @@ use Rattle.trace_judge.specs.declared.fault.JudgeFault.{JudgeFault}
 use Rattle.trace_judge.specs.declared.fault.JudgeFault.TheVariants.{BadLine, NoMemory, ReadFault, TooLong}
 use Rattle.trace_judge.specs.declared.report.Report.{Report}
 
--- why a trace that begins with these bytes isn't judged
+-- why a trace that begins with these bytes isn't judged; one that is too long has at least 2^64 - 1 bytes
 abbrev pub HasFault : SourceView → SourceView → List Vcpu → List ℕ → JudgeFault → Type 0
 HasFault old new vcpus bytes ReadFault = Rose old.faults new.faults
 HasFault old new vcpus bytes (BadLine number text) = IsFaultIn (names_of vcpus) (lines_of bytes) (BadLine number text)
-HasFault old new vcpus bytes TooLong = Unit {0}
+HasFault old new vcpus bytes TooLong = 2 ^ 64 ≤ length bytes + 1
 HasFault old new vcpus bytes NoMemory = Unit {0}
 
 -- the source gave these bytes, which are all, and this is told of them; or a fault came behind them

@@ -12,7 +12,7 @@ pub enum JudgeFault {
     BadLine { line: u64, text: Vec<u8> },
     /// The source failed, and its count of faults rose in this call.
     ReadFault,
-    /// There are more than 2^64 - 1 lines, or reads of the source.
+    /// The trace has 2^64 - 1 bytes or more, and its lines or the reads of it can no longer be counted.
     TooLong,
     NoMemory,
 }
