@@ -7,7 +7,7 @@ _tableau_tools() {
   else
     case ${COMP_WORDS[1]},$before in
       *,--tick | *,--cores | *,--vcpus | *,--from | *,--to | *,--width | *,--first-cpu | *,--window) return ;;
-      export,export) words='csv chrome json rtds deadline' ;;
+      export,export) words='csv chrome json rtds deadline cgroup libvirt' ;;
       chart,--by) words='core vcpu' ;;
       table,--by) words='vcpu vm' ;;
     esac

@@ -10,7 +10,7 @@ complete -c tableau-tools -n __fish_use_subcommand -a chart -d 'Draw a plan, rep
 complete -c tableau-tools -l help -d 'Print the words'
 complete -c tableau-tools -n __fish_use_subcommand -l version -d 'Print the version'
 complete -c tableau-tools -n '__fish_seen_subcommand_from table diff export chart host' -l tick -x -d 'Nanoseconds of a tick'
-complete -c tableau-tools -n '__fish_seen_subcommand_from export; and not __fish_seen_subcommand_from csv chrome json rtds deadline' -a 'csv chrome json rtds deadline'
+complete -c tableau-tools -n '__fish_seen_subcommand_from export; and not __fish_seen_subcommand_from csv chrome json rtds deadline cgroup libvirt' -a 'csv chrome json rtds deadline cgroup libvirt'
 complete -c tableau-tools -n '__fish_seen_subcommand_from export' -l first-cpu -x -d 'The CPU that core 0 is'
 complete -c tableau-tools -n '__fish_seen_subcommand_from export' -l full -d 'All of a core for deadline tasks'
 complete -c tableau-tools -n '__fish_seen_subcommand_from table' -l by -x -a 'vcpu vm' -d 'What has a row'

@@ -1,5 +1,5 @@
 -- What it says of a plan that it has no fault.
-use Rattle.std.proofs.Common.{◌≡◌, ℕ, ◌≤◌, ◌&&◌, Bool, true, false, not, if◌then◌else◌, List, length, Option, Some, None, refl, sym, arith}
+use Rattle.std.proofs.Common.{◌≡◌, ℕ, ◌≤◌, ◌&&◌, ◌||◌, Bool, true, false, not, if◌then◌else◌, List, length, Option, Some, None, refl, sym, arith}
 use Rattle.std.specs.Prelude.{IfNone, nat_le, nat_lt, slice_get}
 use Rattle.std.proofs.lemmas.Bool.{le-leb, leb-true, not-false}
 use Rattle.std.proofs.lemmas.Option.{slice_get_within}
@@ -10,17 +10,17 @@ use Rattle.vcpu_names.specs.Names.{name_at}
 use Rattle.view_doc.specs.declared.view.Stretch.{Stretch}
 use Rattle.view_doc.specs.declared.view.Task.{Task}
 use Rattle.host_lines.specs.declared.scheduler.Scheduler.{Scheduler}
-use Rattle.host_lines.specs.declared.scheduler.Scheduler.TheVariants.{Rtds, Deadline, FullDeadline}
+use Rattle.host_lines.specs.declared.scheduler.Scheduler.TheVariants.{Rtds, Deadline, FullDeadline, Quota}
 use Rattle.host_lines.specs.declared.unkept.Unkept.{Unkept}
 use Rattle.host_lines.specs.declared.unkept.Unkept.TheVariants.{NoGuest, NoTask, OutOfRange, RoundedOut, NotKept, Overbooked}
-use Rattle.host_lines.specs.Budgets.{budget_in, is_taken, is_task, is_within, least_budget, least_period, load_on, parts_of, period_in}
+use Rattle.host_lines.specs.Budgets.{bounds_wait, budget_in, is_taken, is_task, is_within, least_budget, least_period, load_on, parts_of, period_in, unit_of}
 use Rattle.host_lines.specs.Guests.{has_guest}
 use Rattle.host_lines.specs.Reserved.{is_kept, reserved_of}
 use Rattle.host_lines.specs.Supply.{IsKeptThere, IsVcpuKept}
 use Rattle.host_lines.specs.Unkept.{core_fault, kept_fault, split_fault, task_fault, unkept_in, vcpu_fault}
 use Rattle.host_lines.proofs.FaultLemmas.{neither, none_has}
 use Rattle.host_lines.proofs.RoomLemmas.{room}
-use Rattle.host_lines.proofs.SupplyLemmas.{keeps}
+use Rattle.host_lines.proofs.SupplyLemmas.{keeps_share, keeps_wait}
 
 -- a test that found no fault
 passed : (b : Bool) (fault : Unkept) (rest : Option Unkept) → (if b then Some fault else rest) ≡ None
@@ -41,11 +41,18 @@ some_period : (s : Scheduler) → 1 ≤ least_period s
 some_period Rtds = omega arith
 some_period Deadline = omega arith
 some_period FullDeadline = omega arith
+some_period Quota = omega arith
 
 some_budget : (s : Scheduler) → 1 ≤ least_budget s
 some_budget Rtds = omega arith
 some_budget Deadline = omega arith
 some_budget FullDeadline = omega arith
+some_budget Quota = omega arith
+
+-- where waits are bounded, the second is so
+bounded : (b c : Bool) → b ≡ true → (not b || c) ≡ true → c ≡ true
+bounded true c h k = k
+bounded false c h k = absurd cc
 
 -- what a task without a fault has
 record IsSound (s : Scheduler) (tick : ℕ) (host : List Vcpu) (name : List ℕ) (t : Task) : Type 0 where
@@ -101,8 +108,9 @@ kept_vcpu s tick host name t is =
     record {
       reservation = is.reservation;
       reserved = is.reserved;
-      keeps = keeps _ (period_in s tick t) (budget_in s tick t) is.reservation is.budget is.within
-          (leb-true _ _ parts.0) (leb-true _ _ parts.1);
+      share = keeps_share (period_in s tick t) (budget_in s tick t) is.reservation (leb-true _ _ parts.0);
+      wait = λ bounds. keeps_wait (unit_of s) (period_in s tick t) (budget_in s tick t) is.reservation is.budget
+          is.within (leb-true _ _ (bounded (bounds_wait s) _ bounds parts.1));
     }
 
 -- a plan without a fault is kept

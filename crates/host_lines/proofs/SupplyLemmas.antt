@@ -5,7 +5,7 @@ use Rattle.tab_core.specs.Sums.{total}
 use Rattle.tab_core.specs.declared.TheConstants.{WHOLE_PPM}
 use Rattle.tab_core.specs.declared.reservation.Reservation.{Reservation}
 use Rattle.run_promises.proofs.Blocks.{Blocks, gap}
-use Rattle.host_lines.specs.Supply.{GivesBudget, IsWait, Keeps, given_in}
+use Rattle.host_lines.specs.Supply.{GivesBudget, IsWait, KeepsShare, KeepsWait, given_in}
 
 -- a unit that is given counts once
 abbrev one : Bool → ℕ
@@ -62,16 +62,17 @@ short_wait given period budget first last least within gives wait =
     (λ x low high. none_given (given x) (wait.ungiven x low (omega arith))) in
     omega arith
 
--- a budget that is the share of its period, and leaves no more of two periods than the latency, keeps both
-pub keeps : (unit period budget : ℕ) (r : Reservation) → 1 ≤ budget → budget ≤ period
-    → r.share_ppm * period ≤ WHOLE_PPM * budget
-    → unit * ((period - budget) + (period - budget)) ≤ r.latency_ns → Keeps unit period budget r
-keeps unit period budget r least within share latency = record {
-  share = λ given gives k.
-      (let enough = gives k in
-      omega arith);
-  wait = λ given gives first last wait.
-      (let short = short_wait given period budget first last least within gives wait in
-      let times = mul-le-mul_left {m = suc last - first} {n = (period - budget) + (period - budget)} unit short in
-      omega arith);
-}
+-- a budget that is the share of its period keeps the share
+pub keeps_share : (period budget : ℕ) (r : Reservation) → r.share_ppm * period ≤ WHOLE_PPM * budget
+    → KeepsShare period budget r
+keeps_share period budget r share given gives k =
+    let enough = gives k in
+    omega arith
+
+-- one that leaves no more of two periods than the latency keeps that
+pub keeps_wait : (unit period budget : ℕ) (r : Reservation) → 1 ≤ budget → budget ≤ period
+    → unit * ((period - budget) + (period - budget)) ≤ r.latency_ns → KeepsWait unit period budget r
+keeps_wait unit period budget r least within latency given gives first last wait =
+    let short = short_wait given period budget first last least within gives wait in
+    let times = mul-le-mul_left {m = suc last - first} {n = (period - budget) + (period - budget)} unit short in
+    omega arith

@@ -1,14 +1,16 @@
 -- Periods and budgets in a scheduler's unit of time, and the parts of a core that they come to.
 -- Source: of Linux, kernel/sched/deadline.c and its page "Deadline Task Scheduling" (a runtime of 1024 ns at least,
 -- sched_deadline_period_min_us and _max_us, sched_rt_runtime_us of sched_rt_period_us); of Xen,
--- xen/common/sched/rt.c (a period and a budget of 10 us at least).
-use Rattle.std.specs.Prelude.{ℕ, ◌+◌, ◌-◌, ◌*◌, ◌/◌, ◌==◌, ◌&&◌, nat_le, Bool, if◌then◌else◌, List}
+-- xen/common/sched/rt.c (a period and a budget of 10 us at least); of quotas, kernel/sched/core.c, tg_set_cfs_bandwidth
+-- (a period and a quota of 1 ms at least, a period of 1 s at most).
+use Rattle.std.specs.Prelude.{ℕ, ◌+◌, ◌-◌, ◌*◌, ◌/◌, ◌==◌, ◌&&◌, nat_le, Bool, true, false, if◌then◌else◌, List}
+use Rattle.std.specs.Int.{div_ceil}
 use Rattle.std.specs.List.{sum_by}
 use Rattle.tab_core.specs.declared.TheConstants.{ROUND}
 use Rattle.view_doc.specs.declared.view.Task.{Task}
 use Rattle.host_lines.specs.declared.TheConstants.{PARTS}
 use Rattle.host_lines.specs.declared.scheduler.Scheduler.{Scheduler}
-use Rattle.host_lines.specs.declared.scheduler.Scheduler.TheVariants.{Rtds, Deadline, FullDeadline}
+use Rattle.host_lines.specs.declared.scheduler.Scheduler.TheVariants.{Rtds, Deadline, FullDeadline, Quota}
 
 -- ---- schedulers
 
@@ -17,37 +19,63 @@ abbrev pub unit_of : Scheduler → ℕ
 unit_of Rtds = 1000
 unit_of Deadline = 1
 unit_of FullDeadline = 1
+unit_of Quota = 1000
 
 -- the least and the greatest period, and the least budget, in that unit
 abbrev pub least_period : Scheduler → ℕ
 least_period Rtds = 10
 least_period Deadline = 100000
 least_period FullDeadline = 100000
+least_period Quota = 1000
 
 abbrev pub most_period : Scheduler → ℕ
 most_period Rtds = 4294967295
 most_period Deadline = 4194304000
 most_period FullDeadline = 4194304000
+most_period Quota = 1000000
 
 abbrev pub least_budget : Scheduler → ℕ
 least_budget Rtds = 10
 least_budget Deadline = 1024
 least_budget FullDeadline = 1024
+least_budget Quota = 1000
 
 -- the parts of a core that are given away: all, or 95 percent
 abbrev pub parts_of : Scheduler → ℕ
 parts_of Rtds = PARTS
 parts_of Deadline = PARTS / 100 * 95
 parts_of FullDeadline = PARTS
+parts_of Quota = PARTS
+
+-- whether it sets out to give each budget in each period, by which no wait is longer than what the budgets leave of two
+abbrev pub bounds_wait : Scheduler → Bool
+bounds_wait Rtds = true
+bounds_wait Deadline = true
+bounds_wait FullDeadline = true
+bounds_wait Quota = false
 
 -- ---- tasks
 
 -- a task of a plan, with a tick of so many nanoseconds: its period is rounded down, and its cost up
+abbrev pub rounded_period : Scheduler → ℕ → Task → ℕ
+rounded_period s tick t = t.period * tick / unit_of s
+
+abbrev pub rounded_cost : Scheduler → ℕ → Task → ℕ
+rounded_cost s tick t = (t.cost * tick + (unit_of s - 1)) / unit_of s
+
+-- how many of its periods are one there: with quotas the fewest whose costs together are the least quota, or more
+abbrev pub periods_of : Scheduler → ℕ → ℕ
+periods_of Rtds cost = 1
+periods_of Deadline cost = 1
+periods_of FullDeadline cost = 1
+periods_of Quota cost = if cost == 0 then 1 else div_ceil 1000 cost
+
+-- its period and its budget there
 abbrev pub period_in : Scheduler → ℕ → Task → ℕ
-period_in s tick t = t.period * tick / unit_of s
+period_in s tick t = periods_of s (rounded_cost s tick t) * rounded_period s tick t
 
 abbrev pub budget_in : Scheduler → ℕ → Task → ℕ
-budget_in s tick t = (t.cost * tick + (unit_of s - 1)) / unit_of s
+budget_in s tick t = periods_of s (rounded_cost s tick t) * rounded_cost s tick t
 
 -- its cost is at least a tick and at most its period, and its period at most a round
 abbrev pub is_task : Task → Bool
@@ -64,6 +92,10 @@ fits_period s period budget = is_within s period budget && nat_le budget period
 -- the task has a period and a budget there
 abbrev pub is_taken : Scheduler → ℕ → Task → Bool
 is_taken s tick t = is_task t && fits_period s (period_in s tick t) (budget_in s tick t)
+
+-- the task's part of a core in ten-thousandths, rounded up: what a weight is there
+abbrev pub weight_of : Task → ℕ
+weight_of t = if t.period == 0 then 1 else div_ceil (t.cost * 10000) t.period
 
 -- ---- cores
 

@@ -1,6 +1,9 @@
 pub mod Budgets
 pub mod Guests
+pub mod LibvirtLines
 pub mod Lines
+pub mod QuotaLines
 pub mod Reserved
 pub mod Supply
 pub mod Unkept
+pub mod Unlike

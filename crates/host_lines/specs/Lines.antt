@@ -7,9 +7,9 @@ use Rattle.tab_words.specs.Texts.{texts_below}
 use Rattle.vcpu_names.specs.Names.{name_at}
 use Rattle.view_doc.specs.declared.view.Task.{Task}
 use Rattle.view_doc.specs.declared.view.View.{View}
-use Rattle.host_lines.specs.declared.heads.TheConstants.{ADMITTED, ADMIT_ALL, DEADLINE_HEAD, PARTITIONS, RTDS_HEAD}
+use Rattle.host_lines.specs.declared.heads.TheConstants.{ADMITTED, ADMIT_ALL, DEADLINE_HEAD, PARTITIONS, RTDS_HEAD, SHELL_HEAD}
 use Rattle.host_lines.specs.declared.scheduler.Scheduler.{Scheduler}
-use Rattle.host_lines.specs.declared.scheduler.Scheduler.TheVariants.{Rtds, Deadline, FullDeadline}
+use Rattle.host_lines.specs.declared.scheduler.Scheduler.TheVariants.{Rtds, Deadline, FullDeadline, Quota}
 use Rattle.host_lines.specs.Budgets.{budget_in, period_in}
 use Rattle.host_lines.specs.Guests.{guest_of, number_of}
 use Rattle.host_lines.specs.Reserved.{is_capped}
@@ -64,6 +64,12 @@ abbrev pub rtds_text : ℕ → ℕ → List Vcpu → View → List ℕ
 rtds_text first tick host view =
     rtds_text_of first tick host view.cores view.names.items view.tasks.items
 
+-- ---- Linux
+
+-- the comments of a text that speaks of threads, and what finds these
+abbrev pub shell_head : List ℕ → List ℕ
+shell_head head = head ++ SHELL_HEAD.now
+
 -- ---- Linux's deadline tasks
 
 -- the vCPU's thread goes into the partition of a CPU
@@ -93,10 +99,11 @@ abbrev pub admitted : Scheduler → List ℕ
 admitted Rtds = ADMITTED.now
 admitted Deadline = ADMITTED.now
 admitted FullDeadline = ADMIT_ALL.now
+admitted Quota = ADMITTED.now
 
 -- the text for deadline tasks, of a plan of these vCPUs, and of a view
 abbrev pub deadline_text_of : Scheduler → ℕ → ℕ → ℕ → List (List ℕ) → List Task → List ℕ
-deadline_text_of s first tick cores names tasks = DEADLINE_HEAD.now
+deadline_text_of s first tick cores names tasks = shell_head DEADLINE_HEAD.now
     ++ (made_line cores (length tasks) tick first ++ (admitted s ++ (cpus_line first cores ++ (PARTITIONS.now
     ++ texts_below (vcpu_text (deadline_of s first tick) names tasks) (length tasks)))))
 

@@ -1,12 +1,12 @@
 -- What the host beside a plan says of a vCPU of some name.
 -- Source: the rules of this project.
-use Rattle.std.specs.Prelude.{ℕ, ◌+◌, ◌-◌, ◌*◌, ◌&&◌, nat_le, Bool, false, if◌then◌else◌, List, [], ◌∷◌, Option, None}
+use Rattle.std.specs.Prelude.{ℕ, ◌+◌, ◌-◌, ◌*◌, ◌&&◌, ◌||◌, nat_le, not, Bool, false, if◌then◌else◌, List, [], ◌∷◌, Option, None}
 use Rattle.std.specs.Str.{bytes_eq}
 use Rattle.tab_core.specs.declared.TheConstants.{WHOLE_PPM}
 use Rattle.tab_core.specs.declared.reservation.Reservation.{Reservation}
 use Rattle.tab_core.specs.declared.vcpu.Vcpu.{Vcpu}
 use Rattle.host_lines.specs.declared.scheduler.Scheduler.{Scheduler}
-use Rattle.host_lines.specs.Budgets.{unit_of}
+use Rattle.host_lines.specs.Budgets.{bounds_wait, unit_of}
 
 -- what it has reserved, if one of this name is admitted
 abbrev pub reserved_of : List Vcpu → List ℕ → Option Reservation
@@ -19,7 +19,11 @@ is_capped [] name = false
 is_capped (vcpu ∷ vcpus) name = if bytes_eq vcpu.name name then vcpu.capped else is_capped vcpus name
 
 -- a budget in each period keeps a reservation: it is the share of the period, and what it leaves of two periods
--- is within the latency
+-- is within the latency, where the scheduler bounds waits
+abbrev pub is_wait_kept : Scheduler → ℕ → ℕ → ℕ → Bool
+is_wait_kept s period budget latency = not (bounds_wait s)
+    || nat_le (unit_of s * ((period - budget) + (period - budget))) latency
+
 abbrev pub is_kept : Scheduler → ℕ → ℕ → Reservation → Bool
 is_kept s period budget r = nat_le (r.share_ppm * period) (WHOLE_PPM * budget)
-    && nat_le (unit_of s * ((period - budget) + (period - budget))) r.latency_ns
+    && is_wait_kept s period budget r.latency_ns

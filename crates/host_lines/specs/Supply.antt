@@ -3,7 +3,7 @@
 -- Source: the periodic resource of I. Shin, I. Lee, "Periodic resource model for compositional real-time guarantees",
 -- RTSS 2003, whose longest wait is twice what the budget leaves of a period; and C. L. Liu, J. W. Layland, "Scheduling
 -- algorithms for multiprogramming in a hard-real-time environment", Journal of the ACM 20(1), 1973.
-use Rattle.std.specs.Prelude.{◌≡◌, ℕ, zero, suc, ◌+◌, ◌-◌, ◌*◌, ◌/◌, ◌<◌, ◌≤◌, ◌==◌, Bool, false, if◌then◌else◌, List, Some, slice_get}
+use Rattle.std.specs.Prelude.{◌≡◌, ℕ, zero, suc, ◌+◌, ◌-◌, ◌*◌, ◌/◌, ◌<◌, ◌≤◌, ◌==◌, Bool, true, false, if◌then◌else◌, List, Some, slice_get}
 use Rattle.std.specs.List.{sum_by}
 use Rattle.tab_core.specs.declared.TheConstants.{MAX_CORES, WHOLE_PPM}
 use Rattle.tab_core.specs.declared.reservation.Reservation.{Reservation}
@@ -12,7 +12,7 @@ use Rattle.vcpu_names.specs.Names.{name_at}
 use Rattle.view_doc.specs.declared.view.Task.{Task}
 use Rattle.host_lines.specs.declared.TheConstants.{PARTS}
 use Rattle.host_lines.specs.declared.scheduler.Scheduler.{Scheduler}
-use Rattle.host_lines.specs.Budgets.{budget_in, parts_of, period_in, unit_of}
+use Rattle.host_lines.specs.Budgets.{bounds_wait, budget_in, parts_of, period_in, unit_of}
 use Rattle.host_lines.specs.Reserved.{reserved_of}
 
 -- ---- one vCPU
@@ -31,21 +31,24 @@ pub record IsWait (given : ℕ → Bool) (first last : ℕ) : Type 0 where
   pub order : first ≤ last
   pub ungiven : (x : ℕ) → first ≤ x → x ≤ last → given x ≡ false
 
--- whoever gives the budget in each period keeps the reservation: its share in each period, and no longer wait than
--- its latency
-pub record Keeps (unit period budget : ℕ) (r : Reservation) : Type 0 where
-  pub share : (given : ℕ → Bool) → GivesBudget given period budget
-      → (k : ℕ) → r.share_ppm * period ≤ WHOLE_PPM * given_in given (k * period) period
-  pub wait : (given : ℕ → Bool) → GivesBudget given period budget
-      → (first last : ℕ) → IsWait given first last → unit * (suc last - first) ≤ r.latency_ns
+-- whoever gives the budget in each period gives the reserved share of each
+abbrev pub KeepsShare : ℕ → ℕ → Reservation → Type 0
+KeepsShare period budget r = (given : ℕ → Bool) → GivesBudget given period budget
+    → (k : ℕ) → r.share_ppm * period ≤ WHOLE_PPM * given_in given (k * period) period
+
+-- and lets the vCPU wait no longer than its latency, with a unit of so many nanoseconds
+abbrev pub KeepsWait : ℕ → ℕ → ℕ → Reservation → Type 0
+KeepsWait unit period budget r = (given : ℕ → Bool) → GivesBudget given period budget
+    → (first last : ℕ) → IsWait given first last → unit * (suc last - first) ≤ r.latency_ns
 
 -- ---- a plan
 
--- the host has admitted a vCPU of this name, whose reservation is kept
+-- the host has admitted a vCPU of this name, whose share is kept, and, where the scheduler bounds waits, its latency
 pub record IsVcpuKept (s : Scheduler) (tick : ℕ) (host : List Vcpu) (name : List ℕ) (t : Task) : Type 0 where
   pub reservation : Reservation
   pub reserved : reserved_of host name ≡ Some reservation
-  pub keeps : Keeps (unit_of s) (period_in s tick t) (budget_in s tick t) reservation
+  pub share : KeepsShare (period_in s tick t) (budget_in s tick t) reservation
+  pub wait : bounds_wait s ≡ true → KeepsWait (unit_of s) (period_in s tick t) (budget_in s tick t) reservation
 
 -- what a task at home on the core is given of a time that is so many of its periods
 abbrev pub given_on : Scheduler → ℕ → ℕ → ℕ → Task → ℕ

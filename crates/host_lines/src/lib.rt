@@ -2,21 +2,28 @@
 //! scheduler's unit of time, why some plan isn't put there, and the lines that do it.
 //!
 //! `specs/Budgets.antt` has the arithmetic, `specs/Unkept.antt` the refusals and `specs/Supply.antt` what a scheduler
-//! keeps that gives each vCPU its budget in each of its periods. The texts are those of `specs/Lines.antt`.
+//! keeps that gives each vCPU its budget in each of its periods. The texts are those of `specs/Lines.antt`,
+//! `specs/QuotaLines.antt` and `specs/LibvirtLines.antt`.
 #![tactic(auto)]
 
 mod budget;
 mod guest;
 mod heads;
+mod libvirt;
 mod lines;
 mod loads;
+mod quotas;
 mod reserved;
 mod scheduler;
 mod unkept;
+mod unlike;
 
+pub use libvirt::write_libvirt;
 pub use lines::{write_deadline, write_rtds};
+pub use quotas::write_cgroup;
 pub use scheduler::Scheduler;
 pub use unkept::{Unkept, unkept_of};
+pub use unlike::unlike_of;
 
 /// Parts of a core's time, by which budgets of different periods are added. Where periods divide a round of
 /// 102,600 ticks and a tick is a whole number of the scheduler's units, each budget is a whole number of them.

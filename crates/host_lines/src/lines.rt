@@ -1,11 +1,11 @@
 ghost use Rattle.std.specs.Prelude.{◌≡◌, ◌+◌, ◌<◌, ◌≤◌, ◌++◌, ◌^◌, codes, length};
 ghost use Rattle.tab_io.specs.Sinks.{Writes};
 ghost use Rattle.tab_words.specs.Texts.{texts_below};
-ghost use Rattle.host_lines.specs.Lines.{admitted, chrt_line, cpu_word, cpus_line, deadline_of, deadline_text, deadline_text_of, extra_of, into_line, made_line, pin_line, rtds_line, rtds_of, rtds_text, rtds_text_of, vcpu_text};
+ghost use Rattle.host_lines.specs.Lines.{admitted, chrt_line, cpu_word, cpus_line, deadline_of, deadline_text, deadline_text_of, extra_of, into_line, made_line, pin_line, rtds_line, rtds_of, rtds_text, rtds_text_of, shell_head, vcpu_text};
 
 use crate::budget::{budget_in, period_in};
 use crate::guest::{guest_of, number_of};
-use crate::heads::{ADMIT_ALL, ADMITTED, DEADLINE_HEAD, PARTITIONS, RTDS_HEAD};
+use crate::heads::{ADMIT_ALL, ADMITTED, DEADLINE_HEAD, PARTITIONS, RTDS_HEAD, SHELL_HEAD};
 use crate::reserved::is_capped;
 use crate::scheduler::Scheduler;
 use crate::unkept::name_at;
@@ -94,12 +94,20 @@ fn put_deadline_text<K: Sink>(
     ensures { Writes (K.state sink.old) (K.state sink.new)
         (deadline_text_of scheduler first_cpu tick_ns cores names.now tasks.now) result }
 {
-    write_all(sink, DEADLINE_HEAD)?;
+    put_head(sink, DEADLINE_HEAD)?;
     put_made(sink, cores, tasks, tick_ns, first_cpu)?;
     put_admitted(sink, scheduler)?;
     put_cpus_line(sink, first_cpu, cores)?;
     write_all(sink, PARTITIONS)?;
     put_deadline_vcpus(sink, scheduler, first_cpu, tick_ns, names, tasks)
+}
+
+// Writes the comments of a text that speaks of threads, and what finds these.
+pub(crate) fn put_head<K: Sink>(sink: &mut K, head: &'static [u8]) -> Result<(), WriteFault>
+    ensures { Writes (K.state sink.old) (K.state sink.new) (shell_head head.now) result }
+{
+    write_all(sink, head)?;
+    write_all(sink, SHELL_HEAD)
 }
 
 // Writes how much of a CPU the kernel admits.
@@ -113,14 +121,14 @@ fn admitted(scheduler: Scheduler) -> &'static [u8]
     ensures { result.now ≡ admitted scheduler }
 {
     match scheduler {
-        Scheduler::Rtds | Scheduler::Deadline => ADMITTED,
+        Scheduler::Rtds | Scheduler::Deadline | Scheduler::Quota => ADMITTED,
         Scheduler::FullDeadline => ADMIT_ALL,
     }
 }
 
 // Writes what the text is made from.
 #[tactic(auto, unfolding(crate::specs::Lines::made_line))]
-fn put_made<K: Sink>(
+pub(crate) fn put_made<K: Sink>(
     sink: &mut K,
     cores: u32,
     tasks: &[Task],
@@ -245,7 +253,7 @@ fn put_rtds_lines<'a, K: Sink>(
 }
 
 // The CPU of a task's home.
-fn cpu_of(first_cpu: u32, task: &Task) -> u64
+pub(crate) fn cpu_of(first_cpu: u32, task: &Task) -> u64
     ensures { result ≡ first_cpu + task.now.home }
 {
     u64::from(first_cpu) + u64::from(task.home.0)

@@ -1,5 +1,5 @@
 ghost use Rattle.std.specs.Prelude.{◌≡◌, ◌<◌, ◌≤◌, ◌^◌};
-ghost use Rattle.host_lines.specs.Reserved.{is_capped, is_kept, reserved_of};
+ghost use Rattle.host_lines.specs.Reserved.{is_capped, is_kept, is_wait_kept, reserved_of};
 
 use crate::scheduler::Scheduler;
 use tab_core::{Reservation, Vcpu, WHOLE_PPM};
@@ -34,7 +34,16 @@ pub(crate) fn is_kept(scheduler: Scheduler, period: u64, budget: u64, r: &Reserv
     requires within { budget ≤ period }
     ensures { result ≡ is_kept scheduler period budget r.now }
 {
-    let rest = period - budget;
     u64::from(r.share_ppm) * period <= u64::from(WHOLE_PPM) * budget
-        && scheduler.unit_ns() * (rest + rest) <= r.latency_ns
+        && is_wait_kept(scheduler, period, budget, r.latency_ns)
+}
+
+// Whether what the budget leaves of two periods is within the latency, where the scheduler bounds waits.
+fn is_wait_kept(scheduler: Scheduler, period: u64, budget: u64, latency_ns: u64) -> bool
+    requires small { period < 2 ^ 32 }
+    requires within { budget ≤ period }
+    ensures { result ≡ is_wait_kept scheduler period budget latency_ns }
+{
+    let rest = period - budget;
+    !scheduler.bounds_wait() || scheduler.unit_ns() * (rest + rest) <= latency_ns
 }

@@ -1,5 +1,5 @@
 ghost use Rattle.std.specs.Prelude.{◌≡◌, ◌<◌, ◌≤◌, ◌^◌};
-ghost use Rattle.host_lines.specs.Budgets.{least_budget, least_period, most_period, parts_of, unit_of};
+ghost use Rattle.host_lines.specs.Budgets.{bounds_wait, least_budget, least_period, most_period, parts_of, unit_of};
 ghost use Rattle.host_lines.specs.declared.TheConstants.{PARTS};
 
 use crate::PARTS;
@@ -13,6 +13,8 @@ pub enum Scheduler {
     Deadline,
     /// The same where the kernel was told to admit a whole core.
     FullDeadline,
+    /// Linux's fair scheduler with quotas of cgroups v2, in microseconds. It bounds no wait.
+    Quota,
 }
 
 impl Scheduler {
@@ -23,7 +25,7 @@ impl Scheduler {
         ensures small { result ≤ 1000 }
     {
         match self {
-            Scheduler::Rtds => 1000,
+            Scheduler::Rtds | Scheduler::Quota => 1000,
             Scheduler::Deadline | Scheduler::FullDeadline => 1,
         }
     }
@@ -36,6 +38,7 @@ impl Scheduler {
         match self {
             Scheduler::Rtds => 10,
             Scheduler::Deadline | Scheduler::FullDeadline => 100_000,
+            Scheduler::Quota => 1000,
         }
     }
 
@@ -47,6 +50,7 @@ impl Scheduler {
         match self {
             Scheduler::Rtds => 4_294_967_295,
             Scheduler::Deadline | Scheduler::FullDeadline => 4_194_304_000,
+            Scheduler::Quota => 1_000_000,
         }
     }
 
@@ -57,6 +61,7 @@ impl Scheduler {
         match self {
             Scheduler::Rtds => 10,
             Scheduler::Deadline | Scheduler::FullDeadline => 1024,
+            Scheduler::Quota => 1000,
         }
     }
 
@@ -65,8 +70,18 @@ impl Scheduler {
         ensures { result ≡ parts_of self }
     {
         match self {
-            Scheduler::Rtds | Scheduler::FullDeadline => PARTS,
+            Scheduler::Rtds | Scheduler::FullDeadline | Scheduler::Quota => PARTS,
             Scheduler::Deadline => PARTS / 100 * 95,
+        }
+    }
+
+    // Whether it sets out to give each budget in each period, and so bounds waits.
+    pub(crate) fn bounds_wait(self) -> bool
+        ensures { result ≡ bounds_wait self }
+    {
+        match self {
+            Scheduler::Rtds | Scheduler::Deadline | Scheduler::FullDeadline => true,
+            Scheduler::Quota => false,
         }
     }
 }

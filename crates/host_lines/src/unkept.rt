@@ -9,7 +9,6 @@ use crate::guest::has_guest;
 use crate::loads::load_on;
 use crate::reserved::{is_kept, reserved_of};
 use crate::scheduler::Scheduler;
-use std::fmt;
 use tab_core::{CoreNo, MAX_CORES, MAX_VCPUS, Name, Reservation, Vcpu, VcpuNo};
 use view_doc::{Stretch, Task, Use, View};
 
@@ -32,45 +31,8 @@ pub enum Unkept {
     Split(VcpuNo),
     /// The core's budgets, rounded up, are together more than what the scheduler gives away of it.
     Overbooked(CoreNo),
-}
-
-impl fmt::Display for Unkept {
-    fn fmt<W: fmt::Write>(&self, f: &mut fmt::Formatter<W>) -> fmt::Result {
-        match self {
-            Unkept::NoGuest(v) => write!(
-                f,
-                "the name of vcpu {} isn't GUEST.NUMBER, as web.0 is",
-                v.0
-            ),
-            Unkept::NoTask(v) => write!(f, "vcpu {} has a period and a cost of no plan", v.0),
-            Unkept::OutOfRange(v) => write!(
-                f,
-                "the scheduler takes no such period or budget as vcpu {} has",
-                v.0
-            ),
-            Unkept::RoundedOut(v) => write!(
-                f,
-                "vcpu {} needs more than its period in whole microseconds; take a host with format = 2 and tick_ns = 1000",
-                v.0
-            ),
-            Unkept::Stranger(v) => write!(f, "the host admits no vCPU of the name of vcpu {}", v.0),
-            Unkept::NotKept(v) => write!(
-                f,
-                "the plan doesn't keep what the host has for vcpu {}; is it this host's?",
-                v.0
-            ),
-            Unkept::Split(v) => write!(
-                f,
-                "vcpu {} is split, and each has to stay on one core there",
-                v.0
-            ),
-            Unkept::Overbooked(c) => write!(
-                f,
-                "the budgets of core {} are more than the scheduler gives away of it; for rtds take a host with format = 2 and tick_ns = 1000, for deadline --full or a host with less on it",
-                c.0
-            ),
-        }
-    }
+    /// Its guest has one period and one quota for all vCPUs, and one before it has others.
+    Unlike(VcpuNo),
 }
 
 /// Why a plan, beside the vCPUs of its host, isn't put on a scheduler: the first fault of a vCPU, else the first slot

@@ -135,9 +135,12 @@ fn export_command<'a>(alloc: Global) -> Result<Command<'a>, AllocError> {
 fn format_arg<'a>(alloc: Global) -> Arg<'a> {
     Arg::new(alloc, "FORMAT")
         .required(true)
-        .value_parser(["csv", "chrome", "json", "rtds", "deadline"].as_slice())
+        .value_parser([
+            "csv", "chrome", "json", "rtds", "deadline", "cgroup", "libvirt",
+        ]
+        .as_slice())
         .help(
-            "The text to write: comma-separated values, trace events, JSON; lines for Xen's RTDS or Linux's deadline tasks",
+            "The text to write: comma-separated values, trace events, JSON; lines for Xen's RTDS, for Linux's deadline tasks or cgroups, or for libvirt",
         )
 }
 
@@ -147,7 +150,7 @@ fn first_cpu_arg<'a>(alloc: Global) -> Arg<'a> {
         .long("first-cpu")
         .value_name("N")
         .value_parser(value_parser!(u32).range(0..=MAX_CPU))
-        .help("With rtds and deadline, the CPU that core 0 is; without it, 0")
+        .help("In lines for a scheduler, the CPU that core 0 is; without it, 0")
 }
 
 // Whether the kernel is told to admit whole cores.

@@ -1,10 +1,9 @@
 use crate::fault::Fault;
 use crate::input::input_of;
-use crate::lines::export_lines;
+use crate::lines::{Form, export_lines};
 use crate::output::{finish, output_of};
 use crate::plan::view_of;
 use clap::ArgMatches;
-use host_lines::Scheduler;
 use tab_core::{MAX_TICK_NS, TICK_NS};
 use tab_io::{Sink, WriteFault};
 use view_doc::View;
@@ -13,11 +12,13 @@ use view_export::{write_chrome, write_csv, write_json};
 /// Does `export`: it reads a text and writes it in the format that the words name.
 pub(crate) fn export(rt: &HostRuntime, matches: &ArgMatches<'_>) -> Result<(), Fault> {
     match matches.get_str("FORMAT") {
-        Some("rtds") => export_lines(rt, matches, Scheduler::Rtds),
+        Some("rtds") => export_lines(rt, matches, Form::Rtds),
         Some("deadline") if matches.get_flag("full") => {
-            export_lines(rt, matches, Scheduler::FullDeadline)
+            export_lines(rt, matches, Form::FullDeadline)
         }
-        Some("deadline") => export_lines(rt, matches, Scheduler::Deadline),
+        Some("deadline") => export_lines(rt, matches, Form::Deadline),
+        Some("cgroup") => export_lines(rt, matches, Form::Cgroup),
+        Some("libvirt") => export_lines(rt, matches, Form::Libvirt),
         format => export_view(rt, matches, format),
     }
 }

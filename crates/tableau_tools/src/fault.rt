@@ -1,5 +1,5 @@
+use crate::unkept::Refusal;
 use host_doc::HostFault;
-use host_lines::Unkept;
 use sizes_doc::SizesFault;
 use std::alloc::{AllocError, AllocFailed};
 use std::io;
@@ -71,7 +71,7 @@ pub(crate) enum Fault {
     #[error("{place}{fault}")]
     Unkept {
         place: String,
-        fault: Unkept,
+        fault: Refusal,
     },
     #[error("{place}line {line} is %%, which parts sections")]
     HasSeparator {

@@ -1,16 +1,53 @@
+ghost use Rattle.std.specs.Prelude.{◌≤◌, length};
+ghost use Rattle.tab_core.specs.declared.TheConstants.{MAX_VCPUS};
+
 use crate::fault::Fault;
 use crate::input::{Input, input_of};
 use crate::output::{finish, output_of};
 use crate::plan::{host_of, plan_of};
+use crate::unkept::Refusal;
 use clap::ArgMatches;
-use host_lines::{Scheduler, unkept_of, write_deadline, write_rtds};
+use host_lines::{
+    Scheduler, Unkept, unkept_of, unlike_of, write_cgroup, write_deadline, write_libvirt,
+    write_rtds,
+};
+use tab_core::Host;
+use tab_io::{Sink, WriteFault};
 use tab_words::cut_sections;
+use view_doc::View;
+
+/// What the lines are for.
+#[derive(Clone, Copy)]
+pub(crate) enum Form {
+    /// Xen's RTDS.
+    Rtds,
+    /// Linux's deadline tasks.
+    Deadline,
+    /// Linux's deadline tasks, which are given whole cores.
+    FullDeadline,
+    /// Linux's cgroups.
+    Cgroup,
+    /// libvirt.
+    Libvirt,
+}
+
+impl Form {
+    // The scheduler that carries the lines out.
+    fn scheduler(self) -> Scheduler {
+        match self {
+            Form::Rtds => Scheduler::Rtds,
+            Form::Deadline => Scheduler::Deadline,
+            Form::FullDeadline => Scheduler::FullDeadline,
+            Form::Cgroup | Form::Libvirt => Scheduler::Quota,
+        }
+    }
+}
 
 /// Does `export` for a scheduler: it reads a host and its plan, and writes the lines that put the plan's vCPUs there.
 pub(crate) fn export_lines(
     rt: &HostRuntime,
     matches: &ArgMatches<'_>,
-    scheduler: Scheduler,
+    form: Form,
 ) -> Result<(), Fault> {
     let Input { place, bytes } = input_of(rt, matches.get_str("FILE"))?;
     let sections = cut_sections(&bytes);
@@ -22,15 +59,44 @@ pub(crate) fn export_lines(
     }
     let host = host_of(rt.alloc(), &place, sections.part(0))?;
     let view = plan_of(rt.alloc(), &place, sections.part(1))?;
-    let vcpus = host.vcpus.items();
-    if let Some(fault) = unkept_of(scheduler, host.tick_ns, vcpus, &view) {
+    if let Some(fault) = refused(form, &host, &view) {
+        let fault = Refusal::of(rt.alloc(), fault, &view)?;
         return Err(Fault::Unkept { place, fault });
     }
     let first_cpu = matches.get_one::<u32>("first-cpu").unwrap_or(0);
     let mut sink = output_of(rt)?;
-    match scheduler {
-        Scheduler::Rtds => write_rtds(&mut sink, first_cpu, host.tick_ns, vcpus, &view)?,
-        _ => write_deadline(&mut sink, scheduler, first_cpu, host.tick_ns, &view)?,
-    }
+    put_lines(&mut sink, form, first_cpu, &host, &view)?;
     finish(&mut sink)
+}
+
+// Why the plan isn't put there, if it isn't.
+fn refused(form: Form, host: &Host, view: &View) -> Option<Unkept>
+    requires { length view.now.tasks.items ≤ MAX_VCPUS }
+{
+    if let Some(fault) = unkept_of(form.scheduler(), host.tick_ns, host.vcpus.items(), view) {
+        return Some(fault);
+    }
+    match form {
+        Form::Libvirt => unlike_of(host.tick_ns, view),
+        Form::Rtds | Form::Deadline | Form::FullDeadline | Form::Cgroup => None,
+    }
+}
+
+// Writes the lines.
+fn put_lines<K: Sink>(
+    sink: &mut K,
+    form: Form,
+    first_cpu: u32,
+    host: &Host,
+    view: &View,
+) -> Result<(), WriteFault> {
+    let tick_ns = host.tick_ns;
+    match form {
+        Form::Rtds => write_rtds(sink, first_cpu, tick_ns, host.vcpus.items(), view),
+        Form::Deadline | Form::FullDeadline => {
+            write_deadline(sink, form.scheduler(), first_cpu, tick_ns, view)
+        }
+        Form::Cgroup => write_cgroup(sink, first_cpu, tick_ns, view),
+        Form::Libvirt => write_libvirt(sink, first_cpu, tick_ns, view),
+    }
 }

@@ -20,6 +20,7 @@ mod plan;
 mod sections;
 mod shown;
 mod table;
+mod unkept;
 
 use clap::error::ErrorKind;
 use clap::{ArgMatches, Error};

@@ -1,0 +1,79 @@
+-- The text for libvirt: for each vCPU its CPU, and for each guest one period and one quota, as commands of virsh, and in
+-- a comment as the part of the guest's XML that says the same.
+-- Source: of libvirt, the manual page virsh(1), vcpupin and schedinfo, and formatdomain, "CPU Tuning".
+use Rattle.std.specs.Prelude.{ℕ, zero, suc, ◌+◌, ◌++◌, ◌||◌, Bool, false, if◌then◌else◌, List, [], codes, decimal, length}
+use Rattle.std.specs.Str.{bytes_eq}
+use Rattle.tab_words.specs.Texts.{texts_below}
+use Rattle.vcpu_names.specs.Names.{name_at}
+use Rattle.view_doc.specs.declared.view.Task.{Task}
+use Rattle.view_doc.specs.declared.view.View.{View}
+use Rattle.host_lines.specs.declared.heads.TheConstants.{LIBVIRT_HEAD}
+use Rattle.host_lines.specs.declared.scheduler.Scheduler.TheVariants.{Quota}
+use Rattle.host_lines.specs.Budgets.{budget_in, period_in}
+use Rattle.host_lines.specs.Guests.{guest_of, number_of}
+use Rattle.host_lines.specs.Lines.{made_line, vcpu_text}
+
+-- ---- guests
+
+-- one of the vCPUs below n is the guest's
+unfoldable pub has_one_below : List (List ℕ) → List ℕ → ℕ → Bool
+has_one_below names guest zero = false
+has_one_below names guest (suc n) = bytes_eq (guest_of (name_at names n)) guest || has_one_below names guest n
+
+-- ---- commands
+
+-- the vCPU of this number of a guest runs on this CPU alone
+unfoldable pub virsh_line : List ℕ → List ℕ → ℕ → List ℕ
+virsh_line guest number cpu = codes "virsh vcpupin " ++ (guest ++ (codes " " ++ (number ++ (codes " "
+    ++ (decimal cpu ++ codes "\n")))))
+
+abbrev pub virsh_of : ℕ → List ℕ → Task → List ℕ
+virsh_of first name t = virsh_line (guest_of name) (number_of name) (first + t.home)
+
+-- each vCPU of the guest gets no more than this budget in each period, in microseconds
+unfoldable pub schedinfo_line : List ℕ → ℕ → ℕ → List ℕ
+schedinfo_line guest period budget = codes "virsh schedinfo " ++ (guest ++ (codes " --set vcpu_period="
+    ++ (decimal period ++ (codes " vcpu_quota=" ++ (decimal budget ++ codes "\n")))))
+
+-- ---- XML
+
+-- the vCPU's CPU, if it is this guest's
+unfoldable pub pin_part : List ℕ → ℕ → List ℕ
+pin_part number cpu = codes "<vcpupin vcpu='" ++ (number ++ (codes "' cpuset='" ++ (decimal cpu ++ codes "'/>")))
+
+abbrev pub pin_part_of : ℕ → List ℕ → List ℕ → Task → List ℕ
+pin_part_of first guest name t =
+    if bytes_eq (guest_of name) guest then pin_part (number_of name) (first + t.home) else []
+
+-- the period and the quota
+unfoldable pub quota_part : ℕ → ℕ → List ℕ
+quota_part period budget = codes "<period>" ++ (decimal period ++ (codes "</period><quota>"
+    ++ (decimal budget ++ codes "</quota></cputune>\n")))
+
+-- the comment with a guest's part of its XML
+abbrev pub cputune_line : ℕ → List (List ℕ) → List Task → List ℕ → ℕ → ℕ → List ℕ
+cputune_line first names tasks guest period budget = codes "# <cputune>"
+    ++ (texts_below (vcpu_text (pin_part_of first guest) names tasks) (length tasks) ++ quota_part period budget)
+
+-- ---- all
+
+-- what is said of the guest of a vCPU, by that vCPU
+abbrev pub guest_lines : ℕ → ℕ → List (List ℕ) → List Task → List ℕ → Task → List ℕ
+guest_lines first tick names tasks name t =
+    schedinfo_line (guest_of name) (period_in Quota tick t) (budget_in Quota tick t)
+    ++ cputune_line first names tasks (guest_of name) (period_in Quota tick t) (budget_in Quota tick t)
+
+-- the lines of a vCPU; with the first of a guest are those of the guest
+abbrev pub libvirt_at : ℕ → ℕ → List (List ℕ) → List Task → ℕ → List ℕ
+libvirt_at first tick names tasks v = vcpu_text (virsh_of first) names tasks v
+    ++ (if has_one_below names (guest_of (name_at names v)) v then []
+    else vcpu_text (guest_lines first tick names tasks) names tasks v)
+
+-- the text of a plan of these vCPUs, and of a view
+abbrev pub libvirt_text_of : ℕ → ℕ → ℕ → List (List ℕ) → List Task → List ℕ
+libvirt_text_of first tick cores names tasks = LIBVIRT_HEAD.now
+    ++ (made_line cores (length tasks) tick first
+    ++ texts_below (libvirt_at first tick names tasks) (length tasks))
+
+abbrev pub libvirt_text : ℕ → ℕ → View → List ℕ
+libvirt_text first tick view = libvirt_text_of first tick view.cores view.names.items view.tasks.items

@@ -1,0 +1,35 @@
+-- The text for quotas of cgroups: a group for each vCPU's thread, with its CPU, its quota and its weight.
+-- Source: of Linux, Documentation/admin-guide/cgroup-v2.rst, "CPU", "Cpuset" and "Threads".
+use Rattle.std.specs.Prelude.{ℕ, ◌+◌, ◌++◌, List, codes, decimal, length}
+use Rattle.tab_words.specs.Texts.{texts_below}
+use Rattle.view_doc.specs.declared.view.Task.{Task}
+use Rattle.view_doc.specs.declared.view.View.{View}
+use Rattle.host_lines.specs.declared.heads.TheConstants.{CGROUP_HEAD, GROUPS}
+use Rattle.host_lines.specs.declared.scheduler.Scheduler.TheVariants.{Quota}
+use Rattle.host_lines.specs.Budgets.{budget_in, period_in, weight_of}
+use Rattle.host_lines.specs.Guests.{guest_of, number_of}
+use Rattle.host_lines.specs.Lines.{made_line, shell_head, vcpu_text}
+
+-- the vCPU's thread goes into a group of its own, which has this CPU alone
+unfoldable pub own_lines : List ℕ → List ℕ → ℕ → List ℕ
+own_lines guest number cpu = codes "vcpu " ++ (guest ++ (codes " " ++ (number ++ (codes "\necho "
+    ++ (decimal cpu ++ codes " > \"$own/cpuset.cpus\"\n")))))
+
+-- it gets no more than this budget in each period, in microseconds, and weighs so much beside others
+unfoldable pub max_lines : ℕ → ℕ → ℕ → List ℕ
+max_lines period budget weight = codes "echo " ++ (decimal budget ++ (codes " " ++ (decimal period
+    ++ (codes " > \"$own/cpu.max\"\necho " ++ (decimal weight ++ codes " > \"$own/cpu.weight\"\n")))))
+
+-- the lines of a vCPU, with a tick of so many nanoseconds, where core 0 is the first CPU
+abbrev pub quota_of : ℕ → ℕ → List ℕ → Task → List ℕ
+quota_of first tick name t = own_lines (guest_of name) (number_of name) (first + t.home)
+    ++ max_lines (period_in Quota tick t) (budget_in Quota tick t) (weight_of t)
+
+-- the text of a plan of these vCPUs, and of a view
+abbrev pub cgroup_text_of : ℕ → ℕ → ℕ → List (List ℕ) → List Task → List ℕ
+cgroup_text_of first tick cores names tasks = shell_head CGROUP_HEAD.now
+    ++ (made_line cores (length tasks) tick first ++ (GROUPS.now
+    ++ texts_below (vcpu_text (quota_of first tick) names tasks) (length tasks)))
+
+abbrev pub cgroup_text : ℕ → ℕ → View → List ℕ
+cgroup_text first tick view = cgroup_text_of first tick view.cores view.names.items view.tasks.items
