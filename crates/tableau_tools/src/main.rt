@@ -72,11 +72,7 @@ fn refusal(rt: &HostRuntime, fault: &Fault) -> u8 {
 }
 
 // Does what the words say. The planner takes the handle of threads, and starts none. The status is 0 or the command's, or that of words that are no command: 1, or 2 for `diff` and `judge`.
-fn run<T: Threads + Sync>(
-    rt: &HostRuntime,
-    threads: &T,
-    words: &[String],
-) -> Result<u8, Fault> {
+fn run<T: Threads + Sync>(rt: &HostRuntime, threads: &T, words: &[String]) -> Result<u8, Fault> {
     let Ok(command) = command::command(rt.alloc()) else {
         return Err(Fault::NoMemory);
     };
@@ -113,7 +109,11 @@ fn dispatch<T: Threads + Sync>(
         Some(("table", matches)) => table::table(rt, matches)?,
         Some(("sections", matches)) => sections::sections(rt, matches)?,
         Some(("host", matches)) => host::host(rt, matches)?,
-        Some(("fit", matches)) => return Ok(if fit::fit(rt, threads, matches)? { 0 } else { NO_PLAN }),
+        Some(("fit", matches)) => return Ok(if fit::fit(rt, threads, matches)? {
+            0
+        } else {
+            NO_PLAN
+        }),
         Some(("diff", matches)) => return Ok(u8::from(diff::diff(rt, matches)?)),
         Some(("judge", matches)) => return Ok(u8::from(!judge::judge(rt, matches)?)),
         _ => {}
