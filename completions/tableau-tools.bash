@@ -3,7 +3,7 @@ _tableau_tools() {
   local word=${COMP_WORDS[COMP_CWORD]} before=${COMP_WORDS[COMP_CWORD - 1]} words=''
   COMPREPLY=()
   if [ "$COMP_CWORD" -eq 1 ]; then
-    words='table diff sections export host judge chart --help --version'
+    words='table diff sections export host fit judge chart --help --version'
   else
     case ${COMP_WORDS[1]},$before in
       *,--tick | *,--cores | *,--vcpus | *,--from | *,--to | *,--width | *,--first-cpu | *,--window) return ;;
@@ -15,7 +15,7 @@ _tableau_tools() {
       table,-*) words='--by --tick --help' ;;
       diff,-*) words='--tick --help' ;;
       export,-*) words='--tick --first-cpu --full --help' ;;
-      host,-*) words='--cores --tick --help' ;;
+      host,-* | fit,-*) words='--cores --tick --help' ;;
       judge,-*) words='--window --json --help' ;;
       chart,-*) words='--text --by --cores --vcpus --from --to --width --tick --help' ;;
       sections,-*) words='--help' ;;
@@ -23,7 +23,7 @@ _tableau_tools() {
   fi
   if [ -n "$words" ]; then
     mapfile -t COMPREPLY < <(compgen -W "$words" -- "$word")
-  elif [ "${COMP_WORDS[1]}" != host ]; then
+  elif [ "${COMP_WORDS[1]}" != host ] && [ "${COMP_WORDS[1]}" != fit ]; then
     mapfile -t COMPREPLY < <(compgen -f -- "$word")
   fi
 }

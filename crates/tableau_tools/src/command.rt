@@ -21,7 +21,8 @@ pub(crate) fn command<'a>(alloc: Global) -> Result<Command<'a>, AllocError> {
     let command = with_command(command, export_command(alloc))?;
     let command = with_command(command, judge_command(alloc))?;
     let command = with_command(command, sections_command(alloc))?;
-    with_command(command, host_command(alloc))
+    let command = with_command(command, host_command(alloc))?;
+    with_command(command, fit_command(alloc))
 }
 
 // The command with another below it. (One alone is held where memory is wanting: to let go of several takes minutes
@@ -253,6 +254,17 @@ fn sections_command<'a>(alloc: Global) -> Result<Command<'a>, AllocError> {
 fn host_command<'a>(alloc: Global) -> Result<Command<'a>, AllocError> {
     Command::new(alloc, "host")
         .about("Writes the host document of sizes of VMs")
+        .arg(cores_arg(alloc))?
+        .arg(tick_arg(alloc))?
+        .arg(sizes_arg(alloc))
+}
+
+// The words of `fit`.
+fn fit_command<'a>(alloc: Global) -> Result<Command<'a>, AllocError> {
+    Command::new(alloc, "fit")
+        .about(
+            "Writes how VMs of sizes fit a host, and how many more of each would; ends with 3 where they don't fit",
+        )
         .arg(cores_arg(alloc))?
         .arg(tick_arg(alloc))?
         .arg(sizes_arg(alloc))

@@ -29,8 +29,8 @@ pub(crate) fn host(rt: &HostRuntime, matches: &ArgMatches<'_>) -> Result<(), Fau
     put_host(rt, &host)
 }
 
-// The sizes as lines: those of the words, or of standard input where there are none.
-fn text_of(rt: &HostRuntime, matches: &ArgMatches<'_>) -> Result<Vec<u8>, Fault>
+/// The sizes as lines: those of the words, or of standard input where there are none.
+pub(crate) fn text_of(rt: &HostRuntime, matches: &ArgMatches<'_>) -> Result<Vec<u8>, Fault>
     ensures { IfOk result (λ text. length text.items < 2 ^ 32) }
 {
     let Some(words) = matches.get_strs("SIZE") else {

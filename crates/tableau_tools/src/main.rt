@@ -10,6 +10,7 @@ mod command;
 mod diff;
 mod export;
 mod fault;
+mod fit;
 mod host;
 mod input;
 mod judge;
@@ -27,9 +28,13 @@ use clap::{ArgMatches, Error};
 use fault::Fault;
 use std::io;
 use std::process::ExitCode;
+use std::thread::Threads;
 
 // The status of `diff` and of `judge` for a fault, since their 1 says that the plans differ, or that a promise was broken.
 const NO_ANSWER: u8 = 2;
+
+// The status of `fit` where the host has no plan, as of `tableau plan`.
+const NO_PLAN: u8 = 3;
 
 fn main(rt: HostRuntime) -> ExitCode {
     let words = match program_words::words(&rt, rt.alloc()) {
@@ -39,7 +44,7 @@ fn main(rt: HostRuntime) -> ExitCode {
         }
         Err(_) => return ExitCode::from(refusal(&rt, &Fault::NoText)),
     };
-    match run(&rt, words.as_slice()) {
+    match run(&rt, &rt, words.as_slice()) {
         Ok(status) => ExitCode::from(status),
         Err(fault) => {
             let status = refusal(&rt, &fault);
@@ -67,13 +72,14 @@ fn refusal(rt: &HostRuntime, fault: &Fault) -> u8 {
     fault.status()
 }
 
-// Does what the words say. The status is 0 or the command's, or that of words that are no command: 1, or 2 for `diff` and `judge`.
-fn run(rt: &HostRuntime, words: &[String]) -> Result<u8, Fault> {
+// Does what the words say. The planner takes the handle of threads, and starts none. The status is 0 or the command's, or
+// that of words that are no command: 1, or 2 for `diff` and `judge`.
+fn run<T: Threads + Sync>(rt: &HostRuntime, threads: &T, words: &[String]) -> Result<u8, Fault> {
     let Ok(command) = command::command(rt.alloc()) else {
         return Err(Fault::NoMemory);
     };
     match command.try_get_matches_from(words) {
-        Ok(matches) => dispatch(rt, &matches),
+        Ok(matches) => dispatch(rt, threads, &matches),
         Err(error) => told(rt, &error, if answers(words) { NO_ANSWER } else { 1 }),
     }
 }
@@ -94,13 +100,22 @@ fn told(rt: &HostRuntime, error: &Error, status: u8) -> Result<u8, Fault> {
 }
 
 // Does the command that was met, and gives its status.
-fn dispatch(rt: &HostRuntime, matches: &ArgMatches<'_>) -> Result<u8, Fault> {
+fn dispatch<T: Threads + Sync>(
+    rt: &HostRuntime,
+    threads: &T,
+    matches: &ArgMatches<'_>,
+) -> Result<u8, Fault> {
     match matches.subcommand() {
         Some(("chart", matches)) => chart::chart(rt, matches)?,
         Some(("export", matches)) => export::export(rt, matches)?,
         Some(("table", matches)) => table::table(rt, matches)?,
         Some(("sections", matches)) => sections::sections(rt, matches)?,
         Some(("host", matches)) => host::host(rt, matches)?,
+        Some(("fit", matches)) => return Ok(if fit::fit(rt, threads, matches)? {
+            0
+        } else {
+            NO_PLAN
+        }),
         Some(("diff", matches)) => return Ok(u8::from(diff::diff(rt, matches)?)),
         Some(("judge", matches)) => return Ok(u8::from(!judge::judge(rt, matches)?)),
         _ => {}

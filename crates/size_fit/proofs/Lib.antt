@@ -1,0 +1,3 @@
+mod LoadLemmas
+mod MoreLemmas
+mod NameLemmas

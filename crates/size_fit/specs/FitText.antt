@@ -1,0 +1,69 @@
+-- What is written of how VMs fit a host.
+use Rattle.std.specs.Prelude.{ℕ, ◌-◌, ◌*◌, ◌/◌, ◌++◌, List, [], codes, decimal, flat_map, length, slice_index}
+use Rattle.std.specs.List.{sum_by}
+use Rattle.tab_core.specs.declared.TheConstants.{ROUND, WHOLE_PPM}
+use Rattle.tab_core.specs.declared.host.Host.{Host}
+use Rattle.tab_core.specs.declared.vcpu.Vcpu.{Vcpu}
+use Rattle.tab_words.specs.Texts.{texts_below}
+use Rattle.table_cells.specs.Cells.{count_cell, percent_cell}
+use Rattle.vcpu_names.specs.Names.{name_at, names_of}
+use Rattle.plan_make.specs.Refusal.{no_period_line, no_room_line}
+use Rattle.plan_make.specs.declared.fault.PlanFault.{PlanFault}
+use Rattle.plan_make.specs.declared.fault.PlanFault.TheVariants as plan
+use Rattle.size_fit.specs.declared.fit.Room.{Room}
+
+-- ---- the head
+
+unfoldable pub head_line : ℕ → ℕ → List ℕ
+head_line vcpus cores = codes "fits: vCPUs " ++ (decimal vcpus ++ (codes ", cores " ++ (decimal cores ++ codes "\n")))
+
+-- ---- loads
+
+abbrev pub load_head : List ℕ
+load_head = codes "\ncore    load %  headroom %\n"
+
+-- a part of a whole, in parts per million, rounded down
+abbrev pub ppm_of : ℕ → ℕ → ℕ
+ppm_of part whole = part * WHOLE_PPM / whole
+
+-- a load and what is left, of so many ticks
+unfoldable pub load_cells : ℕ → ℕ → List ℕ
+load_cells load ticks = percent_cell 5 (ppm_of load ticks)
+    ++ (percent_cell 7 (ppm_of (ticks - load) ticks) ++ codes "\n")
+
+abbrev pub core_row : List ℕ → ℕ → List ℕ
+core_row loads core = count_cell 4 core ++ load_cells (slice_index loads core) ROUND
+
+-- the load of all cores together
+abbrev pub total_of : List ℕ → ℕ
+total_of loads = sum_by (λ load. load) loads
+
+abbrev pub host_row : List ℕ → List ℕ
+host_row loads = codes "host" ++ load_cells (total_of loads) (length loads * ROUND)
+
+-- ---- sizes
+
+abbrev pub size_head : List ℕ
+size_head = codes "\n VMs  more  size\n"
+
+-- how many VMs of a size there are, and how many more fit
+unfoldable pub size_row : Room → List ℕ
+size_row room = count_cell 4 room.size.machines
+    ++ (count_cell 6 room.more ++ (codes "  " ++ (room.size.name.now ++ codes "\n")))
+
+-- ---- the whole
+
+abbrev pub loads_text : List ℕ → List ℕ
+loads_text loads = load_head ++ (texts_below (core_row loads) (length loads) ++ host_row loads)
+
+abbrev pub rooms_text : List Room → List ℕ
+rooms_text rooms = size_head ++ flat_map size_row rooms
+
+abbrev pub fit_text : ℕ → ℕ → List ℕ → List Room → List ℕ
+fit_text vcpus cores loads rooms = head_line vcpus cores ++ (loads_text loads ++ rooms_text rooms)
+
+-- what is written where they don't fit: the line of the planner's refusal
+abbrev pub refusal_line : List Vcpu → PlanFault → List ℕ
+refusal_line vcpus (plan.NoPeriod vcpu) = no_period_line (name_at (names_of vcpus) vcpu)
+refusal_line vcpus (plan.NoRoom vcpu rest over) = no_room_line (name_at (names_of vcpus) vcpu) rest over
+refusal_line vcpus plan.NoMemory = []

@@ -1,0 +1,5 @@
+pub mod FitText
+pub mod Fits
+pub mod Inside
+pub mod Loads
+pub mod MoreVms

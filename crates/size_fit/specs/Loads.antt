@@ -1,0 +1,11 @@
+-- How full a plan makes the cores.
+use Rattle.std.specs.Prelude.{ℕ, List, count_by, is_some, map}
+use Rattle.table_form.specs.Tables.Rows.{Row}
+
+-- the load of a core: the ticks of a round in which it has an owner
+abbrev pub load_of : Row → ℕ
+load_of row = count_by is_some row
+
+-- that of each core
+abbrev pub loads_of : List Row → List ℕ
+loads_of rows = map load_of rows
