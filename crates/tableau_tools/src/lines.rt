@@ -60,7 +60,7 @@ pub(crate) fn export_lines(
     let host = host_of(rt.alloc(), &place, sections.part(0))?;
     let view = plan_of(rt.alloc(), &place, sections.part(1))?;
     if let Some(fault) = refused(form, &host, &view) {
-        let fault = Refusal::of(rt.alloc(), fault, &view)?;
+        let fault = Refusal::of(rt.alloc(), &fault, &view)?;
         return Err(Fault::Unkept { place, fault });
     }
     let first_cpu = matches.get_one::<u32>("first-cpu").unwrap_or(0);

@@ -14,15 +14,20 @@ pub(crate) struct Refusal {
 
 impl Refusal {
     /// This fault of the plan that the view shows.
-    pub(crate) fn of(alloc: Global, fault: Unkept, view: &View) -> Result<Refusal, AllocError> {
-        let name = name_of(alloc, fault, view)?;
-        Ok(Refusal { fault, name })
+    pub(crate) fn of(alloc: Global, fault: &Unkept, view: &View) -> Result<Refusal, AllocError> {
+        match name_of(alloc, fault, view) {
+            Ok(name) => Ok(Refusal {
+                fault: *fault,
+                name,
+            }),
+            Err(fault) => Err(fault),
+        }
     }
 }
 
 // The vCPU whose fault it is.
-fn vcpu_of(fault: Unkept) -> Option<VcpuNo> {
-    match fault {
+fn vcpu_of(fault: &Unkept) -> Option<VcpuNo> {
+    match *fault {
         Unkept::NoGuest(vcpu)
         | Unkept::NoTask(vcpu)
         | Unkept::OutOfRange(vcpu)
@@ -36,7 +41,7 @@ fn vcpu_of(fault: Unkept) -> Option<VcpuNo> {
 }
 
 // The vCPU's name; nothing where the fault is none of a vCPU's.
-fn name_of(alloc: Global, fault: Unkept, view: &View) -> Result<String, AllocError> {
+fn name_of(alloc: Global, fault: &Unkept, view: &View) -> Result<String, AllocError> {
     let Some(vcpu) = vcpu_of(fault) else {
         return Ok(String::new(alloc));
     };
