@@ -10,8 +10,9 @@ use Rattle.tab_core.specs.declared.entry.Entry.{Entry}
 use Rattle.tab_core.specs.declared.stint.Stint.{Stint}
 use Rattle.tab_core.proofs.Lists.{element_at, same}
 use Rattle.table_form.specs.Running.Courses.{CourseView, tick_at}
-use Rattle.table_form.specs.Running.Invariant.{CoreInvariant, IsFresh, SightInvariant, StateInvariant, StintInvariant}
-use Rattle.table_form.specs.Running.OneTable.{HasOneTable, HasOneWinner}
+use Rattle.table_form.specs.Running.Invariant.{CoreInvariant, SightInvariant, StateInvariant, StintInvariant}
+use Rattle.table_form.specs.Promises.Fresh.{IsFresh}
+use Rattle.table_form.specs.Promises.OneTable.{HasOneTable, HasOneWinner}
 use Rattle.table_form.specs.Running.State.{CoreState, IsCore}
 use Rattle.round_words.specs.declared.view.Part.{Part}
 use Rattle.round_words.specs.declared.view.View.{View}

@@ -6,7 +6,7 @@ use Rattle.std.proofs.lemmas.List.{get_or-drop, length-drop}
 use Rattle.std.proofs.lemmas.List.Elements.{All-from_get_or, All-head, All-tail}
 use Rattle.std.proofs.lemmas.List.Sums.{AllPass-from_list_all, list_all-from_AllPass}
 use Rattle.table_form.specs.Running.Courses.{CourseView, tick_at}
-use Rattle.table_form.specs.Running.Waiting.{HasUpTo}
+use Rattle.table_form.specs.Promises.Fresh.{HasUpTo}
 use Rattle.round_words.specs.Views.{last_of}
 use Rattle.board_state.specs.Readings.{has_up_to, seen_by}
 

@@ -1,8 +1,9 @@
 ghost use Rattle.std.specs.Prelude.{◌≡◌, ◌<◌, ◌↔◌, ℕ, List, Some, length, true};
 ghost use Rattle.table_form.specs.Running.Courses.{CourseView, IsCourse};
-ghost use Rattle.table_form.specs.Running.Invariant.{IsComplete, StateInvariant};
-ghost use Rattle.table_form.specs.Running.Promises.{KeepsPromises};
-ghost use Rattle.table_form.specs.Running.Waiting.{HasUpTo};
+ghost use Rattle.table_form.specs.Running.Complete.{IsComplete};
+ghost use Rattle.table_form.specs.Running.Invariant.{StateInvariant};
+ghost use Rattle.table_form.specs.Promises.Run.{KeepsPromises};
+ghost use Rattle.table_form.specs.Promises.Fresh.{HasUpTo};
 ghost use Rattle.round_words.specs.Views.{last_of, part};
 ghost use Rattle.round_words.specs.declared.view.View.{View};
 ghost use Rattle.dispatch_core.specs.Parts.{used_counts};

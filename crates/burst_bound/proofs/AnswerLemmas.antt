@@ -1,7 +1,8 @@
 -- A burst that has a bound is done by it.
 use Rattle.std.proofs.Common.{◌≡◌, ℕ, Option, None, Some, refl, arith}
 use Rattle.table_form.specs.Running.Courses.{CourseView, IsCourse}
-use Rattle.table_form.specs.Running.Invariant.{IsComplete, StateInvariant}
+use Rattle.table_form.specs.Running.Complete.{IsComplete}
+use Rattle.table_form.specs.Running.Invariant.{StateInvariant}
 use Rattle.table_form.specs.Running.State.{State}
 use Rattle.burst_bound.specs.Answers.{IsDoneBy, IsOneIfAny, IsOneSince}
 use Rattle.burst_bound.specs.Bursts.{IsBurstBound, IsDoneAt, IsSeenAt}

@@ -9,10 +9,11 @@ use Rattle.tab_core.specs.declared.TheConstants.{ROUND}
 use Rattle.tab_core.specs.declared.periodic.Periodic.{Periodic}
 use Rattle.tab_core.specs.VcpuSets.{has_vcpu}
 use Rattle.tab_core.proofs.Periods.{period_facts}
-use Rattle.table_form.specs.Running.Capped.{ticks_run}
+use Rattle.table_form.specs.Promises.Capped.{ticks_run}
 use Rattle.table_form.specs.Running.Courses.{CourseView, IsCourse, runnable_after}
-use Rattle.table_form.specs.Running.Invariant.{IsComplete, StateInvariant}
-use Rattle.table_form.specs.Running.Offered.{offers}
+use Rattle.table_form.specs.Running.Complete.{IsComplete}
+use Rattle.table_form.specs.Running.Invariant.{StateInvariant}
+use Rattle.table_form.specs.Promises.Offered.{offers}
 use Rattle.table_form.specs.Running.State.{State}
 use Rattle.run_promises.proofs.ServedLemmas.{served, period_fits}
 use Rattle.burst_bound.specs.Bursts.{IsSeenAt, IsSeenFrom, IsDoneAt, HasBudget, IsBurstBound}

@@ -12,7 +12,7 @@ use Rattle.tab_core.specs.Timelines.{AreContiguous}
 use Rattle.tab_core.specs.declared.stint.Stint.{Stint}
 use Rattle.tab_core.proofs.TimelineLemmas.{later_from}
 use Rattle.table_form.proofs.OfferedLemmas.{cell_is}
-use Rattle.table_form.specs.Running.Capped.{runs_at, runs_in, ticks_run}
+use Rattle.table_form.specs.Promises.Capped.{runs_at, runs_in, ticks_run}
 use Rattle.table_form.specs.Running.Courses.{CourseView, IsCourse}
 use Rattle.table_form.specs.Running.Invariant.{StateInvariant}
 use Rattle.table_form.specs.Running.State.{State, CoreState, IsCore}

@@ -2,7 +2,7 @@
 use Rattle.std.proofs.Common.{◌≡◌, ℕ, ◌+◌, ◌-◌, ◌*◌, ◌<◌, ◌≤◌, inl, inr, ap, arith}
 use Rattle.std.proofs.lemmas.Bool.{cases_lt}
 use Rattle.tab_core.specs.declared.TheConstants.{ROUND}
-use Rattle.table_form.specs.Running.Capped.{ticks_run}
+use Rattle.table_form.specs.Promises.Capped.{ticks_run}
 use Rattle.table_form.specs.Running.State.{State}
 use Rattle.burst_bound.specs.Bursts.{IsDoneAt}
 use Rattle.burst_bound.proofs.PeriodLemmas.{run_split}

@@ -7,7 +7,7 @@ use Rattle.std.proofs.lemmas.Option.{slice_get-get_or}
 use Rattle.tab_core.specs.declared.TheConstants.{ROUND}
 use Rattle.tab_core.specs.declared.periodic.Periodic.{Periodic}
 use Rattle.table_form.specs.Running.Courses.{CourseView, no_plan, plan_number_after}
-use Rattle.table_form.specs.Running.Offered.{task_by, task_in}
+use Rattle.table_form.specs.Promises.Offered.{task_by, task_in}
 use Rattle.burst_bound.specs.Bursts.{HasBudget, IsBudget, IsBurstBound, end_of_periods}
 use Rattle.table_form.specs.Tables.Serves.{flat}
 use Rattle.burst_bound.specs.Inside.Bounding.{AreSince, IsReadyFrom, KeepsBudget, LosesBudget, StaysReady, StopsReady}

@@ -14,9 +14,10 @@ use Rattle.stint_limit.specs.StintBounds.{stints_in}
 use Rattle.tab_core.specs.Timelines.{AreContiguous}
 use Rattle.tab_core.specs.declared.TheConstants.{MAX_ROUNDS, ROUND}
 use Rattle.tab_core.specs.declared.stint.Stint.{Stint}
-use Rattle.table_form.specs.Running.Capped.{runs_in, ticks_run}
+use Rattle.table_form.specs.Promises.Capped.{runs_in, ticks_run}
 use Rattle.table_form.specs.Running.Courses.{CourseView, IsCourse}
-use Rattle.table_form.specs.Running.Invariant.{IsComplete, StateInvariant}
+use Rattle.table_form.specs.Running.Complete.{IsComplete}
+use Rattle.table_form.specs.Running.Invariant.{StateInvariant}
 use Rattle.table_form.specs.Running.State.{State, CoreState, IsCore}
 use Rattle.table_form.specs.Tables.Serves.{is_cell_of}
 use Rattle.burst_bound.specs.Inside.Runs.{AreInPlace, AreRanBefore, IsBegun, TellRuns, covers_for, piece_of, piece_with, pieces_of, pieces_on}

@@ -4,9 +4,9 @@ use Rattle.std.proofs.Math.Nat.{add-mul, mul_assoc, mul_comm, mod-lt}
 use Rattle.std.proofs.lemmas.Nat.{div-add-mod'}
 use Rattle.tab_core.specs.declared.TheConstants.{ROUND}
 use Rattle.table_form.specs.Running.Courses.{CourseView}
-use Rattle.table_form.specs.Running.Offered.{is_offered, offers}
+use Rattle.table_form.specs.Promises.Offered.{is_offered, offers}
 use Rattle.table_form.specs.Running.State.{State}
-use Rattle.table_form.specs.Running.Capped.{runs_at, ticks_run}
+use Rattle.table_form.specs.Promises.Capped.{runs_at, ticks_run}
 
 -- the begin of a period by its number in the run: in round k / m, the period k % m of the round
 pub begin_of : (t m k : ℕ) → 1 ≤ m → t * m ≡ ROUND → k * t ≡ k / m * ROUND + k % m * t

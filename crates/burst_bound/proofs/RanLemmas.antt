@@ -9,7 +9,7 @@ use Rattle.std.proofs.lemmas.List.Sums.{get_or-le-sum_by, sum_by-cons}
 use Rattle.std.proofs.lemmas.Option.{get_or_from_slice_get, slice_get-get_or, slice_get_within}
 use Rattle.tab_core.specs.declared.TheConstants.{MAX_ROUNDS, ROUND}
 use Rattle.tab_core.proofs.Lists.{element_at}
-use Rattle.table_form.specs.Running.Capped.{runs_at, ticks_run}
+use Rattle.table_form.specs.Promises.Capped.{runs_at, ticks_run}
 use Rattle.table_form.specs.Running.State.{State}
 use Rattle.burst_bound.specs.Answers.{IsOneIfAny}
 use Rattle.burst_bound.specs.Bursts.{IsDoneAt}

@@ -11,16 +11,17 @@ use Rattle.tab_core.specs.VcpuSets.{has_vcpu}
 use Rattle.tab_core.proofs.Lists.{element_at, same}
 use Rattle.table_form.specs.Running.Choice.{owner_runs}
 use Rattle.table_form.specs.Running.Courses.{CourseView, IsCourse, plan_after, plan_number_after, runnable_after, no_plan}
-use Rattle.table_form.specs.Running.Invariant.{IsComplete, StateInvariant}
-use Rattle.table_form.specs.Running.Offered.{is_offered, offers_by}
+use Rattle.table_form.specs.Running.Complete.{IsComplete}
+use Rattle.table_form.specs.Running.Invariant.{StateInvariant}
+use Rattle.table_form.specs.Promises.Offered.{is_offered, offers_by}
 use Rattle.table_form.specs.Tables.Serves.{owner_at, is_cell_of}
 use Rattle.table_form.specs.Running.State.{State, CoreState, IsCore}
-use Rattle.table_form.specs.Running.Together.{Covers}
+use Rattle.table_form.specs.Promises.Together.{Covers}
 use Rattle.table_form.proofs.OfferedLemmas.{has_row}
 use Rattle.table_form.proofs.SpotLemmas.{owner_within}
 use Rattle.run_promises.proofs.BusyLemmas.{is_busy}
 use Rattle.run_promises.proofs.Lists.{either}
-use Rattle.table_form.specs.Running.Capped.{runs_in, runs_at}
+use Rattle.table_form.specs.Promises.Capped.{runs_in, runs_at}
 use Rattle.burst_bound.specs.Bursts.{IsSeenFrom}
 
 -- an offered tick is one of a row of its round's plan

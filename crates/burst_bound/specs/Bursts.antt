@@ -8,11 +8,11 @@ use Rattle.tab_core.specs.VcpuSets.{has_vcpu}
 use Rattle.tab_core.specs.declared.TheConstants.{ROUND}
 use Rattle.tab_core.specs.declared.periodic.Periodic.{Periodic}
 use Rattle.tab_core.specs.declared.stint.Stint.{Stint}
-use Rattle.table_form.specs.Running.Capped.{ticks_run}
+use Rattle.table_form.specs.Promises.Capped.{ticks_run}
 use Rattle.table_form.specs.Running.Courses.{CourseView, runnable_after}
-use Rattle.table_form.specs.Running.Offered.{task_in}
+use Rattle.table_form.specs.Promises.Offered.{task_in}
 use Rattle.table_form.specs.Running.State.{State, CoreState, IsCore}
-use Rattle.table_form.specs.Running.Together.{Covers}
+use Rattle.table_form.specs.Promises.Together.{Covers}
 
 -- from the tick on each core's stint has seen the event, of which the number is given
 abbrev pub IsSeenFrom : State → ℕ → ℕ → Type 0

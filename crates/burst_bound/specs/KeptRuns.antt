@@ -1,7 +1,8 @@
 -- The whole run of a course as a crew keeps it.
 use Rattle.std.specs.Prelude.{◌≡◌, ℕ, Some}
 use Rattle.table_form.specs.Running.Courses.{CourseView}
-use Rattle.table_form.specs.Running.Invariant.{IsComplete, StateInvariant}
+use Rattle.table_form.specs.Running.Complete.{IsComplete}
+use Rattle.table_form.specs.Running.Invariant.{StateInvariant}
 use Rattle.table_form.specs.Running.State.{State, CoreState, IsCore}
 use Rattle.dispatch_core.specs.States.{StateView}
 use Rattle.core_workers.specs.Views.{CrewView, actor_of}

@@ -1,6 +1,6 @@
 ghost use Rattle.std.specs.Prelude.{◌≡◌, ◌*◌, ◌<◌, ◌≤◌, ℕ, MatchOption, false, length, slice_get, true};
 ghost use Rattle.tab_core.specs.declared.TheConstants.{MAX_ROUNDS, ROUND};
-ghost use Rattle.table_form.specs.Running.Offered.{task_by};
+ghost use Rattle.table_form.specs.Promises.Offered.{task_by};
 ghost use Rattle.burst_bound.specs.Answers.{IsOneIfAny};
 ghost use Rattle.burst_bound.specs.Bursts.{IsBudget, IsBurstBound, end_of_periods};
 ghost use Rattle.burst_bound.specs.Inside.Bounding.{IsEndSince, KeepsBudget, LosesBudget, StaysReady, StopsReady};

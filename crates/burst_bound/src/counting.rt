@@ -1,6 +1,6 @@
 ghost use Rattle.std.specs.Prelude.{◌≡◌, ◌*◌, ◌-◌, ◌<◌, ◌≤◌, ◌^◌};
 ghost use Rattle.tab_core.specs.declared.TheConstants.{MAX_ROUNDS, ROUND};
-ghost use Rattle.table_form.specs.Running.Capped.{ticks_run};
+ghost use Rattle.table_form.specs.Promises.Capped.{ticks_run};
 ghost use Rattle.table_form.specs.Running.State.{State as StateValue};
 ghost use Rattle.burst_bound.specs.Answers.{IsOneIfAny};
 ghost use Rattle.burst_bound.specs.Bursts.{IsDoneAt};

@@ -1,7 +1,8 @@
 ghost use Rattle.std.specs.Prelude.{ℕ, ◌+◌, ◌*◌, ◌<◌, ◌≤◌, length};
 ghost use Rattle.tab_core.specs.declared.TheConstants.{ROUND};
 ghost use Rattle.table_form.specs.Running.Courses.{CourseView, IsCourse, tick_at};
-ghost use Rattle.table_form.specs.Running.Invariant.{IsComplete, StateInvariant};
+ghost use Rattle.table_form.specs.Running.Complete.{IsComplete};
+ghost use Rattle.table_form.specs.Running.Invariant.{StateInvariant};
 ghost use Rattle.table_form.specs.Running.State.{State};
 ghost use Rattle.burst_bound.specs.Bursts.{IsBurstBound, IsDoneAt, IsSeenAt};
 

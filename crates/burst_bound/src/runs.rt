@@ -3,7 +3,7 @@ ghost use Rattle.stint_limit.specs.StintBounds.{stints_in};
 ghost use Rattle.table_form.specs.Running.State.{State as StateValue};
 ghost use Rattle.burst_bound.specs.Inside.Runs.{AreInPlace, AreRanBefore, AreRuns, TellRuns, pieces_of};
 ghost use Rattle.burst_bound.specs.declared.ran.RanPiece.{RanPiece as RanPieceValue};
-ghost use Rattle.table_form.specs.Running.Capped.{ticks_run};
+ghost use Rattle.table_form.specs.Promises.Capped.{ticks_run};
 ghost use Rattle.burst_bound.specs.KeptRuns.{IsKeptRun};
 ghost use Rattle.tab_core.specs.declared.TheConstants.{MAX_ROUNDS};
 

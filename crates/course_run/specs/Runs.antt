@@ -6,8 +6,8 @@ use Rattle.tab_core.specs.declared.stint.Stint.{Stint}
 use Rattle.tab_words.specs.declared.command.RunMode.{RunMode}
 use Rattle.tab_words.specs.declared.command.RunMode.TheVariants.{Report, Trace, Burst, Live}
 use Rattle.table_form.specs.Running.Courses.{CourseView, IsCourse, outline_of}
-use Rattle.table_form.specs.Running.Invariant.{IsComplete}
-use Rattle.table_form.specs.Running.Promises.{KeepsPromises}
+use Rattle.table_form.specs.Running.Complete.{IsComplete}
+use Rattle.table_form.specs.Promises.Run.{KeepsPromises}
 use Rattle.table_form.specs.Running.State.{CoreState, State}
 use Rattle.stint_limit.specs.StintBounds.{IsStintBound}
 use Rattle.dispatch_core.specs.Accounts.{IsAccountOf}

@@ -7,7 +7,7 @@ use Rattle.tab_core.specs.declared.stint.Stint.{Stint}
 use Rattle.table_form.specs.Running.Choice.{IsDispatch}
 use Rattle.table_form.specs.Running.Courses.{CourseView, outline_of, with_plans}
 use Rattle.table_form.specs.Running.Outlines.{OutlineView}
-use Rattle.table_form.specs.Running.Waiting.{HasUpTo}
+use Rattle.table_form.specs.Promises.Fresh.{HasUpTo}
 use Rattle.round_words.specs.declared.view.Part.{Part}
 use Rattle.round_words.specs.declared.view.View.{View}
 use Rattle.round_words.specs.Views.{IsStarted}

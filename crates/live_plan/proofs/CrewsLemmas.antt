@@ -6,8 +6,9 @@ use Rattle.std.proofs.lemmas.Option.{slice_get_within}
 use Rattle.tab_core.proofs.Lists.{push_split, element_at}
 use Rattle.table_form.specs.Running.Courses.{CourseView, FitsRounds, IsCourse, outline_of}
 use Rattle.table_form.specs.Running.Outlines.{OutlineView}
-use Rattle.table_form.specs.Running.Invariant.{IsComplete, StateInvariant}
-use Rattle.table_form.specs.Running.Promises.{KeepsPromises}
+use Rattle.table_form.specs.Running.Complete.{IsComplete}
+use Rattle.table_form.specs.Running.Invariant.{StateInvariant}
+use Rattle.table_form.specs.Promises.Run.{KeepsPromises}
 use Rattle.run_promises.proofs.PromiseLemmas.{promised}
 use Rattle.round_words.specs.declared.view.View.{View}
 use Rattle.round_words.specs.Shown.{HoldsCore, ViewInvariant}

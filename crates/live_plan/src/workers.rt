@@ -1,8 +1,9 @@
 ghost use Rattle.std.specs.Prelude.{◌≡◌, ◌≤◌, ◌+◌, ◌++◌, ℕ, [], IfNone, Some, length, vec_capacity};
 ghost use denote.Param.Send.{IsSync};
 ghost use Rattle.table_form.specs.Running.Courses.{CourseView, IsCourse};
-ghost use Rattle.table_form.specs.Running.Invariant.{IsComplete, StateInvariant};
-ghost use Rattle.table_form.specs.Running.Promises.{KeepsPromises};
+ghost use Rattle.table_form.specs.Running.Complete.{IsComplete};
+ghost use Rattle.table_form.specs.Running.Invariant.{StateInvariant};
+ghost use Rattle.table_form.specs.Promises.Run.{KeepsPromises};
 ghost use Rattle.round_words.specs.Seats.{view_of, IsSeatOf};
 ghost use Rattle.board_state.specs.Readings.{state_of};
 ghost use Rattle.crew_turns.specs.Going.{SameActors};

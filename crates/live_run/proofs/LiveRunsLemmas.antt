@@ -11,8 +11,9 @@ use Rattle.script_doc.specs.Script.{AreInRun}
 use Rattle.script_doc.specs.declared.event.Event.{Event}
 use Rattle.table_form.specs.Running.Courses.{CourseView, FitsRounds, IsCourse}
 use Rattle.table_form.specs.Running.Outlines.{OutlineView}
-use Rattle.table_form.specs.Running.Invariant.{IsComplete, StateInvariant}
-use Rattle.table_form.specs.Running.Promises.{KeepsPromises}
+use Rattle.table_form.specs.Running.Complete.{IsComplete}
+use Rattle.table_form.specs.Running.Invariant.{StateInvariant}
+use Rattle.table_form.specs.Promises.Run.{KeepsPromises}
 use Rattle.plan_book.proofs.CourseOfBook.{fits_rounds}
 use Rattle.round_words.specs.declared.view.View.{View}
 use Rattle.round_words.specs.Shown.{ViewInvariant}

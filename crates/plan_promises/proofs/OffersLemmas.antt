@@ -8,7 +8,7 @@ use Rattle.tab_core.specs.declared.periodic.Periodic.{Periodic}
 use Rattle.tab_core.proofs.Periods.{period_at_least, period_facts}
 use Rattle.tab_core.specs.Sums.{total}
 use Rattle.table_form.specs.Running.Courses.{CourseView}
-use Rattle.table_form.specs.Running.Offered.{is_offered, offers}
+use Rattle.table_form.specs.Promises.Offered.{is_offered, offers}
 use Rattle.table_form.specs.Tables.Plans.{PlanView}
 use Rattle.table_form.specs.Tables.Serves.{Apart, Serves, supply}
 use Rattle.run_promises.proofs.Blocks.{Blocks, gap}

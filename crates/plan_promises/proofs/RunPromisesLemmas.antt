@@ -4,10 +4,11 @@ use Rattle.tab_core.specs.declared.TheConstants.{ROUND}
 use Rattle.tab_core.specs.declared.host.Host.{Host}
 use Rattle.tab_core.specs.declared.stint.Stint.{Stint}
 use Rattle.table_form.specs.Running.Courses.{CourseView, IsCourse}
-use Rattle.table_form.specs.Running.Invariant.{IsComplete, StateInvariant}
-use Rattle.table_form.specs.Running.Promises.{KeepsPromises}
+use Rattle.table_form.specs.Running.Complete.{IsComplete}
+use Rattle.table_form.specs.Running.Invariant.{StateInvariant}
+use Rattle.table_form.specs.Promises.Run.{KeepsPromises}
 use Rattle.table_form.specs.Running.State.{CoreState, IsCore, State}
-use Rattle.table_form.specs.Running.Together.{Covers}
+use Rattle.table_form.specs.Promises.Together.{Covers}
 use Rattle.script_doc.specs.declared.event.Event.{Event}
 use Rattle.plan_book.specs.Courses.{IsCourseOf}
 use Rattle.run_promises.proofs.ChoiceLemmas.{stint_within}

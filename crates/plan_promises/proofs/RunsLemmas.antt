@@ -11,9 +11,9 @@ use Rattle.period_choice.specs.Choice.{IsChosen}
 use Rattle.period_choice.specs.Tasks.{AreTasksOf, IsTaskOf}
 use Rattle.period_choice.proofs.Waits.{within_latency}
 use Rattle.table_form.specs.Running.Courses.{CourseView, plan_after}
-use Rattle.table_form.specs.Running.Gaps.{task_at}
-use Rattle.table_form.specs.Running.Offered.{offers, task_in}
-use Rattle.table_form.specs.Running.Promises.{KeepsPromises}
+use Rattle.table_form.specs.Promises.Gaps.{task_at}
+use Rattle.table_form.specs.Promises.Offered.{offers, task_in}
+use Rattle.table_form.specs.Promises.Run.{KeepsPromises}
 use Rattle.table_form.specs.Running.State.{State}
 use Rattle.table_form.specs.Tables.Plans.{PlanView}
 use Rattle.table_form.specs.Tables.Serves.{flat}

@@ -9,7 +9,7 @@ use Rattle.tab_core.specs.declared.host.Host.{Host}
 use Rattle.tab_core.specs.declared.periodic.Periodic.{Periodic}
 use Rattle.tab_core.specs.declared.reservation.Reservation.{Reservation}
 use Rattle.tab_core.specs.declared.vcpu.Vcpu.{Vcpu}
-use Rattle.table_form.specs.Running.Offered.{some_row_has}
+use Rattle.table_form.specs.Promises.Offered.{some_row_has}
 use Rattle.table_form.specs.Tables.Plans.{PlanView}
 
 -- the plan offers the tick to the vCPU: some row has it at the tick's place of the round

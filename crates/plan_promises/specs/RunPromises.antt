@@ -4,12 +4,12 @@ use Rattle.std.specs.Prelude.{◌≡◌, ℕ, suc, ◌*◌, ◌/◌, ◌≤◌, 
 use Rattle.tab_core.specs.declared.TheConstants.{ROUND}
 use Rattle.tab_core.specs.declared.host.Host.{Host}
 use Rattle.tab_core.specs.declared.stint.Stint.{Stint}
-use Rattle.table_form.specs.Running.Busy.{IsBusy}
-use Rattle.table_form.specs.Running.Capped.{KeepsCaps}
+use Rattle.table_form.specs.Promises.Busy.{IsBusy}
+use Rattle.table_form.specs.Promises.Capped.{KeepsCaps}
 use Rattle.table_form.specs.Running.Courses.{CourseView}
-use Rattle.table_form.specs.Running.Invariant.{IsFresh}
+use Rattle.table_form.specs.Promises.Fresh.{IsFresh}
 use Rattle.table_form.specs.Running.State.{State, CoreState, IsCore}
-use Rattle.table_form.specs.Running.Together.{Covers, RunsOnOneCore}
+use Rattle.table_form.specs.Promises.Together.{Covers, RunsOnOneCore}
 use Rattle.script_doc.specs.declared.event.Event.{Event}
 use Rattle.plan_promises.specs.Histories.{IsHistory}
 use Rattle.plan_promises.specs.Runs.{SharesKept, WaitsWithinLatency}

@@ -10,8 +10,8 @@ use Rattle.tab_core.specs.declared.reservation.Reservation.{Reservation}
 use Rattle.reservation.specs.Cost.{cost}
 use Rattle.script_doc.specs.declared.event.Event.{Event}
 use Rattle.table_form.specs.Running.Courses.{CourseView}
-use Rattle.table_form.specs.Running.Gaps.{IsGap}
-use Rattle.table_form.specs.Running.Offered.{offers, task_in}
+use Rattle.table_form.specs.Promises.Gaps.{IsGap}
+use Rattle.table_form.specs.Promises.Offered.{offers, task_in}
 use Rattle.table_form.specs.Running.State.{State}
 use Rattle.plan_promises.specs.Histories.{AreHostsOf}
 use Rattle.plan_promises.specs.Reservations.{IsReserved}

@@ -1,8 +1,8 @@
 ghost use Rattle.std.specs.Prelude.{List, ℕ};
 ghost use Rattle.tab_core.specs.declared.host.Host.{Host};
 ghost use Rattle.table_form.specs.Running.Courses.{CourseView, IsCourse};
-ghost use Rattle.table_form.specs.Running.Invariant.{IsComplete};
-ghost use Rattle.table_form.specs.Running.Promises.{KeepsPromises};
+ghost use Rattle.table_form.specs.Running.Complete.{IsComplete};
+ghost use Rattle.table_form.specs.Promises.Run.{KeepsPromises};
 ghost use Rattle.table_form.specs.Running.State.{State};
 ghost use Rattle.table_form.specs.Tables.Plans.{IsPlan, PlanView};
 ghost use Rattle.table_form.specs.Tables.Serves.{Apart, Serves};

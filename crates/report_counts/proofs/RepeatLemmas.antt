@@ -2,7 +2,7 @@
 use Rattle.std.proofs.Common.{◌≡◌, ℕ, zero, suc, ◌+◌, ◌*◌, ◌<◌, ◌≤◌, Bool, true, max, refl, ap, sym, ◌∙◌, arith}
 use Rattle.std.proofs.Math.Nat.{mul-suc}
 use Rattle.std.proofs.lemmas.Bool.Decides.{nat_tests}
-use Rattle.table_form.specs.Running.Offered.{some_row_has}
+use Rattle.table_form.specs.Promises.Offered.{some_row_has}
 use Rattle.table_form.specs.Tables.Plans.{PlanView}
 use Rattle.report_counts.specs.declared.stretch.Stretch.{Stretch}
 use Rattle.report_counts.specs.Inside.Repeats.{IsSound, repeated}

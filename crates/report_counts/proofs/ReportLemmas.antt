@@ -6,8 +6,8 @@ use Rattle.std.specs.Cmp.Derive.{both_true}
 use Rattle.std.proofs.lemmas.Option.{slice_get_within}
 use Rattle.tab_core.specs.declared.TheConstants.{ROUND}
 use Rattle.table_form.specs.Running.Courses.{CourseView}
-use Rattle.table_form.specs.Running.Gaps.{IsGap, task_at}
-use Rattle.table_form.specs.Running.Offered.{is_offered, offers, task_in}
+use Rattle.table_form.specs.Promises.Gaps.{IsGap, task_at}
+use Rattle.table_form.specs.Promises.Offered.{is_offered, offers, task_in}
 use Rattle.report_counts.specs.Inside.Tells.{Tells, passing, waits_at}
 use Rattle.report_counts.specs.Reports.{IsReported}
 use Rattle.report_counts.specs.declared.stretch.Stretch.{Stretch}

@@ -3,7 +3,7 @@ use Rattle.std.proofs.Common.{◌≡◌, ℕ, zero, suc, ◌+◌, ◌*◌, ◌/�
 use Rattle.std.specs.Prelude.{slice_get, slice_index_or}
 use Rattle.tab_core.specs.declared.TheConstants.{ROUND}
 use Rattle.table_form.specs.Running.Courses.{CourseView, no_plan, plan_after}
-use Rattle.table_form.specs.Running.Offered.{is_offered, some_row_has}
+use Rattle.table_form.specs.Promises.Offered.{is_offered, some_row_has}
 use Rattle.table_form.specs.Tables.Plans.{PlanView}
 use Rattle.report_counts.specs.declared.stretch.Stretch.{Stretch}
 use Rattle.report_counts.specs.Inside.Repeats.{HasSamePlan, repeated}

@@ -5,7 +5,7 @@ use Rattle.std.proofs.Math.Bool.{false-or, or-false, or_assoc}
 use Rattle.std.proofs.lemmas.Bool.{and_left, and_right, cases_eq, cases_lt, eq-eqb, not_from_true, or_right}
 use Rattle.tab_core.specs.declared.TheConstants.{ROUND}
 use Rattle.tab_core.specs.declared.periodic.Periodic.{Periodic}
-use Rattle.table_form.specs.Running.Offered.{some_row_has}
+use Rattle.table_form.specs.Promises.Offered.{some_row_has}
 use Rattle.table_form.specs.Tables.Plans.{PlanView}
 use Rattle.table_form.specs.Tables.Rows.{Row}
 use Rattle.table_form.specs.Tables.Serves.{Apart, OwnersHaveTasks, flat, has_task, is_cell_of, owner_at}

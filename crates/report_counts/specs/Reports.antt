@@ -3,8 +3,8 @@
 use Rattle.std.specs.Prelude.{◌≡◌, ◌⊎◌, ℕ, suc, ◌-◌, ◌*◌, ◌≤◌, List, length}
 use Rattle.tab_core.specs.declared.TheConstants.{ROUND}
 use Rattle.table_form.specs.Running.Courses.{CourseView}
-use Rattle.table_form.specs.Running.Gaps.{IsGap}
-use Rattle.table_form.specs.Running.Offered.{offers}
+use Rattle.table_form.specs.Promises.Gaps.{IsGap}
+use Rattle.table_form.specs.Promises.Offered.{offers}
 
 -- no gap of the vCPU has more ticks, and where this isn't 0 some gap has as many
 pub record IsGreatestGap (course : CourseView) (decided : List ℕ) (v gap : ℕ) : Type 0 where

@@ -4,7 +4,7 @@ use Rattle.std.specs.Prelude.{MatchOption}
 use Rattle.tab_core.proofs.TimelineLemmas.{covering, one_stint}
 use Rattle.tab_core.specs.declared.TheConstants.{ROUND}
 use Rattle.tab_core.specs.declared.stint.Stint.{Stint}
-use Rattle.table_form.specs.Running.Busy.{IsBusyAt, IsBusy}
+use Rattle.table_form.specs.Promises.Busy.{IsBusyAt, IsBusy}
 use Rattle.table_form.specs.Running.Choice.{IsDispatch, IsEligible, IsPick, last_shared}
 use Rattle.table_form.specs.Running.Courses.{CourseView, IsCourse, plan_after, runnable_after}
 use Rattle.table_form.specs.Running.Invariant.{StateInvariant}

@@ -10,12 +10,12 @@ use Rattle.tab_core.specs.declared.stint.Stint.{Stint}
 use Rattle.tab_core.specs.VcpuSets.{has_vcpu}
 use Rattle.tab_core.proofs.Periods.{period_facts}
 use Rattle.tab_core.proofs.Lists.{same}
-use Rattle.table_form.specs.Running.Capped.{KeepsCaps, capped_by, runs_at, runs_in, ticks_run}
+use Rattle.table_form.specs.Promises.Capped.{KeepsCaps, capped_by, runs_at, runs_in, ticks_run}
 use Rattle.table_form.specs.Running.Courses.{CourseView, IsCourse, plan_after}
 use Rattle.table_form.specs.Running.Invariant.{StateInvariant}
-use Rattle.table_form.specs.Running.Offered.{some_row_has}
+use Rattle.table_form.specs.Promises.Offered.{some_row_has}
 use Rattle.table_form.specs.Running.State.{State, CoreState, IsCore}
-use Rattle.table_form.specs.Running.Together.{Covers}
+use Rattle.table_form.specs.Promises.Together.{Covers}
 use Rattle.table_form.specs.Tables.Plans.{PlanView}
 use Rattle.table_form.specs.Tables.Rows.{Row}
 use Rattle.table_form.specs.Tables.Serves.{is_cell_of, owner_at, supply}

@@ -8,8 +8,8 @@ use Rattle.tab_core.specs.declared.periodic.Periodic.{Periodic}
 use Rattle.tab_core.proofs.Periods.{period_facts}
 use Rattle.tab_core.specs.Sums.{total}
 use Rattle.table_form.specs.Running.Courses.{CourseView, IsCourse}
-use Rattle.table_form.specs.Running.Offered.{is_offered}
-use Rattle.table_form.specs.Running.Gaps.{IsGap, HasShortGaps, task_at}
+use Rattle.table_form.specs.Promises.Offered.{is_offered}
+use Rattle.table_form.specs.Promises.Gaps.{IsGap, HasShortGaps, task_at}
 use Rattle.table_form.specs.Running.State.{State}
 use Rattle.run_promises.proofs.Blocks.{Blocks, gap}
 use Rattle.run_promises.proofs.ServedLemmas.{served, period_fits}

@@ -8,7 +8,7 @@ use Rattle.tab_core.specs.declared.TheConstants.{ROUND}
 use Rattle.tab_core.proofs.Lists.{get-drop}
 use Rattle.tab_core.specs.Sums.{total}
 use Rattle.table_form.specs.Running.Courses.{CourseView, plan_after}
-use Rattle.table_form.specs.Running.Offered.{some_row_has, is_offered, offers}
+use Rattle.table_form.specs.Promises.Offered.{some_row_has, is_offered, offers}
 use Rattle.table_form.specs.Tables.Rows.{Row}
 use Rattle.table_form.specs.Tables.Serves.{Apart, cells_within, supply, owner_at, flat, is_cell_of}
 use Rattle.table_form.proofs.OfferedLemmas.{cell_is}

@@ -6,8 +6,9 @@ use Rattle.std.proofs.lemmas.Bool.{cases_lt}
 use Rattle.std.proofs.lemmas.Option.{slice_get_within}
 use Rattle.tab_core.proofs.Lists.{element_at}
 use Rattle.table_form.specs.Running.Courses.{CourseView, IsCourse}
-use Rattle.table_form.specs.Running.Invariant.{StateInvariant, IsComplete}
-use Rattle.table_form.specs.Running.OneTable.{UsesCounts}
+use Rattle.table_form.specs.Running.Invariant.{StateInvariant}
+use Rattle.table_form.specs.Running.Complete.{IsComplete}
+use Rattle.table_form.specs.Promises.OneTable.{UsesCounts}
 use Rattle.table_form.specs.Running.State.{State, CoreState}
 
 -- a core that uses the rounds' counts has entered only rounds that have one

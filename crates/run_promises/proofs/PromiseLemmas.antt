@@ -2,7 +2,7 @@
 use Rattle.std.proofs.Common.{ℕ}
 use Rattle.table_form.specs.Running.Courses.{CourseView, IsCourse}
 use Rattle.table_form.specs.Running.Invariant.{StateInvariant}
-use Rattle.table_form.specs.Running.Promises.{KeepsPromises}
+use Rattle.table_form.specs.Promises.Run.{KeepsPromises}
 use Rattle.table_form.specs.Running.State.{State}
 use Rattle.run_promises.proofs.BusyLemmas.{is_busy}
 use Rattle.run_promises.proofs.CappedLemmas.{keeps_caps}

@@ -6,7 +6,7 @@ use Rattle.tab_core.specs.declared.TheConstants.{ROUND}
 use Rattle.tab_core.specs.declared.periodic.Periodic.{Periodic}
 use Rattle.tab_core.proofs.Periods.{period_facts}
 use Rattle.table_form.specs.Running.Courses.{CourseView, IsCourse, plan_after}
-use Rattle.table_form.specs.Running.Offered.{task_by, IsServed}
+use Rattle.table_form.specs.Promises.Offered.{task_by, IsServed}
 use Rattle.table_form.specs.Running.State.{State}
 use Rattle.table_form.specs.Tables.Serves.{supply}
 use Rattle.table_form.proofs.SpotLemmas.{flat_some}

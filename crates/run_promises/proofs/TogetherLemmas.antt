@@ -9,7 +9,7 @@ use Rattle.table_form.specs.Running.Choice.{IsDispatch, IsEligible, IsPick, owne
 use Rattle.table_form.specs.Running.Courses.{CourseView, IsCourse, plan_after, runnable_after}
 use Rattle.table_form.specs.Running.Invariant.{StateInvariant}
 use Rattle.table_form.specs.Running.State.{State}
-use Rattle.table_form.specs.Running.Together.{RunsOnOneCore}
+use Rattle.table_form.specs.Promises.Together.{RunsOnOneCore}
 use Rattle.table_form.specs.Tables.Plans.{PlanView}
 use Rattle.table_form.specs.Tables.Serves.{owner_at, Apart}
 use Rattle.table_form.specs.Tables.Spans.{IsSharer}

@@ -1,7 +1,8 @@
 ghost use Rattle.std.specs.Prelude.{◌≡◌, ◌<◌, ℕ, Some, length, slice_get};
 ghost use Rattle.table_form.specs.Running.Courses.{CourseView, IsCourse};
-ghost use Rattle.table_form.specs.Running.Invariant.{IsComplete, StateInvariant};
-ghost use Rattle.table_form.specs.Running.Promises.{KeepsPromises};
+ghost use Rattle.table_form.specs.Running.Complete.{IsComplete};
+ghost use Rattle.table_form.specs.Running.Invariant.{StateInvariant};
+ghost use Rattle.table_form.specs.Promises.Run.{KeepsPromises};
 ghost use Rattle.table_form.specs.Running.State.{State};
 
 /// A state that keeps the invariant keeps all promises, however it came about.

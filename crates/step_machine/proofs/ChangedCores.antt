@@ -5,7 +5,7 @@ use Rattle.std.proofs.lemmas.Bool.{cases_eq}
 use Rattle.tab_core.specs.declared.entry.Entry.{Entry}
 use Rattle.tab_core.proofs.Lists.{set_other, same}
 use Rattle.table_form.specs.Running.State.{CoreState}
-use Rattle.table_form.specs.Running.OneTable.{HasOneWinner}
+use Rattle.table_form.specs.Promises.OneTable.{HasOneWinner}
 use Rattle.step_machine.proofs.Lists.{set_split, set_here}
 
 -- what holds of each core after one of them has changed

@@ -13,15 +13,14 @@ use Rattle.table_form.specs.Running.Courses.{CourseView, IsCourse, tick_at}
 use Rattle.table_form.specs.Running.State.{State, CoreState, IsCore}
 use Rattle.script_doc.specs.declared.step.Step.{Step}
 use Rattle.step_machine.specs.Answers.{Moves}
-use Rattle.table_form.specs.Running.Phases.{phase_of, round_of}
+use Rattle.table_form.specs.Running.Phases.{phase_of, round_of, to_decide}
 use Rattle.table_form.specs.Running.Posting.{Posts, Sees}
 use Rattle.table_form.specs.Running.Entering.{EntersFirst, EntersAfter, enters}
 use Rattle.table_form.specs.Running.Stints.{Runs, IsNextStint, runs}
-use Rattle.table_form.specs.Running.Waiting.{HasUpTo}
+use Rattle.table_form.specs.Promises.Fresh.{HasUpTo}
 use Rattle.table_form.specs.Running.Invariant.{StintInvariant, SightInvariant, CoreInvariant, StateInvariant}
-use Rattle.table_form.specs.Running.OneTable.{HasOneTable, UsesCounts}
+use Rattle.table_form.specs.Promises.OneTable.{HasOneTable, UsesCounts}
 use Rattle.script_doc.specs.declared.step.Step.TheVariants as steps
-use Rattle.table_form.specs.Running.Phases.{to_decide}
 use Rattle.step_machine.proofs.Lists.{set_split, set_here}
 use Rattle.step_machine.proofs.PhaseLemmas.{deciding, running, entered_below}
 use Rattle.run_promises.proofs.ChoiceLemmas.{stint_bounds}

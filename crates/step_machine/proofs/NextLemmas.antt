@@ -8,15 +8,15 @@ use Rattle.tab_core.specs.declared.entry.Entry.{Entry}
 use Rattle.tab_core.proofs.Lists.{element_at, same, there}
 use Rattle.table_form.specs.Running.Courses.{FitsRounds, CourseView, IsCourse, no_plan, plan_after, plan_number_after, tick_at}
 use Rattle.table_form.specs.Running.State.{State, CoreState, IsCore}
-use Rattle.table_form.specs.Running.Phases.{phase_of, phase_unfinished, has_entered, round_of}
-use Rattle.table_form.specs.Running.Waiting.{HasUpTo}
+use Rattle.table_form.specs.Running.Phases.{phase_of, phase_unfinished, has_entered, round_of, to_see, to_decide, to_run, at_end}
+use Rattle.table_form.specs.Promises.Fresh.{HasUpTo}
 use Rattle.table_form.specs.Running.Stints.{IsNextStint, runs}
 use Rattle.table_form.specs.Running.Entering.{enters, EntersRound}
-use Rattle.table_form.specs.Running.Invariant.{StateInvariant, IsComplete}
+use Rattle.table_form.specs.Running.Invariant.{StateInvariant}
+use Rattle.table_form.specs.Running.Complete.{IsComplete}
 use Rattle.table_form.specs.Running.Next.{IsLeastClock}
 use Rattle.step_machine.specs.Next.{IsNextStep}
 use Rattle.script_doc.specs.declared.step.Step.TheVariants as steps
-use Rattle.table_form.specs.Running.Phases.{to_see, to_decide, to_run, at_end}
 use Rattle.table_form.specs.Tables.Serves.{owner_at}
 use Rattle.table_form.proofs.TaskLemmas.{task_within}
 use Rattle.second_level.proofs.NextStintLemmas.{some_stint}

@@ -7,10 +7,8 @@ use Rattle.std.proofs.lemmas.Bool.Decides.{nat_tests}
 use Rattle.tab_core.specs.declared.TheConstants.{ROUND}
 use Rattle.tab_core.specs.declared.entry.Entry.{Entry}
 use Rattle.tab_core.proofs.Lists.{element_at}
-use Rattle.table_form.specs.Running.Phases.{CorePhase}
+use Rattle.table_form.specs.Running.Phases.{CorePhase, phase_of, phase_unfinished, phase_once_seen, has_entered, round_of, to_decide, to_run, at_end}
 use Rattle.table_form.specs.Running.State.{CoreState}
-use Rattle.table_form.specs.Running.Phases.{phase_of, phase_unfinished, phase_once_seen, has_entered, round_of}
-use Rattle.table_form.specs.Running.Phases.{to_decide, to_run, at_end}
 
 -- what holds of a core that is to enter a round
 pub record Deciding (rounds : ℕ) (core : CoreState) : Type 0 where

@@ -9,7 +9,7 @@ use Rattle.step_machine.specs.declared.answer.Answer.{Answer}
 use Rattle.table_form.specs.Running.State.{State, CoreState, opening, opening_core}
 use Rattle.step_machine.specs.Answers.{Moves, Answers}
 use Rattle.table_form.specs.Running.Invariant.{CoreInvariant, StateInvariant}
-use Rattle.table_form.specs.Running.OneTable.{UsesCounts}
+use Rattle.table_form.specs.Promises.OneTable.{UsesCounts}
 use Rattle.table_form.specs.Running.Choice.{last_shared}
 use Rattle.step_machine.specs.declared.answer.Answer.TheVariants.{Done, Behind, NotNow}
 use Rattle.step_machine.specs.declared.core_log.CoreLog.{CoreLog}

@@ -10,7 +10,8 @@ use Rattle.tab_core.specs.declared.actor.Actor.TheVariants.{Core, Controller}
 use Rattle.table_form.specs.Running.Courses.{CourseView, tick_at}
 use Rattle.table_form.specs.Running.State.{State, CoreState, IsCore}
 use Rattle.table_form.specs.Running.Phases.{CorePhase, to_see, to_decide, to_run, at_end, phase_of}
-use Rattle.table_form.specs.Running.Waiting.{HasUpTo, IsFirstBehind}
+use Rattle.table_form.specs.Promises.Fresh.{HasUpTo}
+use Rattle.table_form.specs.Running.Waiting.{IsFirstBehind}
 use Rattle.table_form.specs.Running.Posting.{Posts, Sees}
 use Rattle.table_form.specs.Running.Entering.{Decides}
 use Rattle.table_form.specs.Running.Stints.{Runs, IsNextStint}

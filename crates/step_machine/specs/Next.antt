@@ -7,7 +7,7 @@ use Rattle.table_form.specs.Running.Courses.{CourseView}
 use Rattle.table_form.specs.Running.Next.{IsLeastClock}
 use Rattle.table_form.specs.Running.State.{State, CoreState}
 use Rattle.table_form.specs.Running.Phases.{to_see, to_decide, to_run, at_end, phase_of}
-use Rattle.table_form.specs.Running.Waiting.{HasUpTo}
+use Rattle.table_form.specs.Promises.Fresh.{HasUpTo}
 use Rattle.step_machine.specs.Answers.{Moves}
 
 -- for the lowest core of least clock: Post where all have finished, or where this core must see and

@@ -3,7 +3,7 @@ ghost use Rattle.tab_core.specs.declared.stint.Stint.{Stint as StintValue};
 ghost use Rattle.script_doc.specs.declared.step.Step.{Step};
 ghost use Rattle.table_form.specs.Running.Courses.{CourseView, IsCourse};
 ghost use Rattle.table_form.specs.Running.Invariant.{StateInvariant};
-ghost use Rattle.table_form.specs.Running.Promises.{KeepsPromises};
+ghost use Rattle.table_form.specs.Promises.Run.{KeepsPromises};
 ghost use Rattle.table_form.specs.Running.State.{State, CoreState, opening};
 ghost use Rattle.table_form.specs.Running.Stints.{IsNextStint};
 ghost use Rattle.step_machine.specs.declared.answer.Answer.{Answer};

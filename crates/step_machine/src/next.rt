@@ -1,6 +1,7 @@
 ghost use Rattle.std.specs.Prelude.{◌+◌, ◌<◌, ◌≤◌, IfSome, IfNone, length};
 ghost use Rattle.table_form.specs.Running.Courses.{FitsRounds};
-ghost use Rattle.table_form.specs.Running.Invariant.{StateInvariant, IsComplete};
+ghost use Rattle.table_form.specs.Running.Invariant.{StateInvariant};
+ghost use Rattle.table_form.specs.Running.Complete.{IsComplete};
 ghost use Rattle.step_machine.specs.Inside.Logs.{IsLowestOf};
 ghost use Rattle.step_machine.specs.Next.{IsNextStep};
 ghost use Rattle.step_machine.specs.Inside.MachineStates.{state_of};

@@ -2,7 +2,8 @@ ghost use Rattle.std.specs.Prelude.{◌≡◌, ◌+◌, ◌<◌, ◌≤◌, ℕ,
 ghost use Rattle.tab_core.specs.declared.TheConstants.{MAX_ROUNDS};
 ghost use Rattle.script_doc.specs.declared.step.Step.{Step};
 ghost use Rattle.table_form.specs.Running.Courses.{FitsRounds, IsCourse};
-ghost use Rattle.table_form.specs.Running.Invariant.{StateInvariant, IsComplete};
+ghost use Rattle.table_form.specs.Running.Invariant.{StateInvariant};
+ghost use Rattle.table_form.specs.Running.Complete.{IsComplete};
 ghost use Rattle.table_form.specs.Running.State.{CoreState, opening};
 ghost use Rattle.step_machine.specs.Answers.{Answers, NamesCore};
 ghost use Rattle.step_machine.specs.Inside.Logs.{cores_of, AreFew, KnowLast, IsNew, AreNew};

@@ -1,4 +1,5 @@
 pub mod Inside
 pub mod Planning
+pub mod Promises
 pub mod Running
 pub mod Tables

@@ -1,20 +1,14 @@
--- Cores that run on their tables: courses, the state of a run, its steps, what they keep, and what it promises.
-pub mod Busy
-pub mod Capped
+-- The model of cores that run on their tables: courses, the state of a run, its steps, and the invariant that they keep.
 pub mod Choice
+pub mod Complete
 pub mod CourseViews
 pub mod Courses
 pub mod Entering
-pub mod Gaps
 pub mod Invariant
 pub mod Next
-pub mod Offered
-pub mod OneTable
+pub mod Outlines
 pub mod Phases
 pub mod Posting
-pub mod Promises
-pub mod Outlines
 pub mod State
 pub mod Stints
-pub mod Together
 pub mod Waiting

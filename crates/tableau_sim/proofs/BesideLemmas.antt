@@ -5,7 +5,7 @@ use Rattle.tab_core.specs.declared.host.Host.{Host}
 use Rattle.tab_io.specs.Views.{SinkView}
 use Rattle.tab_words.specs.declared.command.RunMode.TheVariants.{Live}
 use Rattle.script_doc.specs.declared.event.Event.{Event}
-use Rattle.table_form.specs.Running.Promises.{KeepsPromises}
+use Rattle.table_form.specs.Promises.Run.{KeepsPromises}
 use Rattle.plan_book.specs.declared.outcome.Outcome.{Outcome as PlanOutcome}
 use Rattle.plan_promises.proofs.RunsLemmas.{run_keeps}
 use Rattle.round_words.specs.declared.view.View.{View}

@@ -17,7 +17,7 @@ use Rattle.period_choice.specs.Tasks.{IsFirstWithoutPeriod}
 use Rattle.plan_make.specs.Planned.{IsFirstWithoutRoom}
 use Rattle.table_form.specs.Running.Courses.{CourseView, IsCourse}
 use Rattle.table_form.specs.Running.State.{State, opening}
-use Rattle.table_form.specs.Running.Promises.{KeepsPromises}
+use Rattle.table_form.specs.Promises.Run.{KeepsPromises}
 use Rattle.step_machine.specs.Refusals.{IsRefused}
 use Rattle.step_machine.specs.Runs.{Leads}
 use Rattle.step_machine.specs.declared.answer.Answer.{Answer}

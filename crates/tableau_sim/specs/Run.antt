@@ -18,8 +18,8 @@ use Rattle.plan_book.specs.Books.{BookView, IsBookOf}
 use Rattle.plan_book.specs.Courses.{IsCourseOf}
 use Rattle.plan_promises.specs.Runs.{RunKeepsReservations}
 use Rattle.table_form.specs.Running.Courses.{CourseView, IsCourse, outline_of}
-use Rattle.table_form.specs.Running.Invariant.{IsComplete}
-use Rattle.table_form.specs.Running.Promises.{KeepsPromises}
+use Rattle.table_form.specs.Running.Complete.{IsComplete}
+use Rattle.table_form.specs.Promises.Run.{KeepsPromises}
 use Rattle.dispatch_core.specs.Parts.{IsOfOutline}
 use Rattle.round_words.specs.declared.view.View.{View}
 use Rattle.board_state.specs.Readings.{state_of}

@@ -4,8 +4,8 @@ use Rattle.tab_core.specs.declared.TheConstants.{MAX_EVENTS, MAX_ROUNDS}
 use Rattle.tab_core.specs.declared.host.Host.{Host}
 use Rattle.tab_core.specs.declared.stint.Stint.{Stint}
 use Rattle.table_form.specs.Running.Courses.{CourseView}
-use Rattle.table_form.specs.Running.Invariant.{IsComplete}
-use Rattle.table_form.specs.Running.Promises.{KeepsPromises}
+use Rattle.table_form.specs.Running.Complete.{IsComplete}
+use Rattle.table_form.specs.Promises.Run.{KeepsPromises}
 use Rattle.table_form.specs.Running.State.{State}
 use Rattle.report_counts.specs.declared.round_plan.RoundPlan.{RoundPlan}
 use Rattle.plan_book.specs.Books.{NamesVcpuBelow}

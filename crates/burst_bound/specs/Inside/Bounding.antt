@@ -4,7 +4,7 @@ use Rattle.tab_core.specs.VcpuSets.{has_vcpu}
 use Rattle.tab_core.specs.declared.TheConstants.{MAX_VCPUS, ROUND}
 use Rattle.tab_core.specs.declared.periodic.Periodic.{Periodic}
 use Rattle.table_form.specs.Running.Courses.{CourseView, plan_number_after, runnable_after}
-use Rattle.table_form.specs.Running.Offered.{task_in}
+use Rattle.table_form.specs.Promises.Offered.{task_in}
 use Rattle.burst_bound.specs.Bursts.{HasBudget, end_of_periods}
 use Rattle.burst_bound.specs.declared.bounding.BudgetEnd.{BudgetEnd}
 

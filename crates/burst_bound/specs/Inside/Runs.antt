@@ -3,7 +3,7 @@ use Rattle.std.specs.Prelude.{◌≡◌, ℕ, ◌+◌, ◌*◌, ◌-◌, ◌<◌
 use Rattle.std.specs.List.Sorted.{IsNonDecreasingBy}
 use Rattle.tab_core.specs.declared.TheConstants.{ROUND}
 use Rattle.tab_core.specs.declared.stint.Stint.{Stint}
-use Rattle.table_form.specs.Running.Capped.{runs_at, ticks_run}
+use Rattle.table_form.specs.Promises.Capped.{runs_at, ticks_run}
 use Rattle.table_form.specs.Running.State.{State, CoreState}
 use Rattle.burst_bound.specs.declared.ran.RanPiece.{RanPiece}
 

@@ -3,8 +3,9 @@ use Rattle.std.specs.Prelude.{◌≡◌, ℕ, IfNone, List, Option, Some, length
 use Rattle.tab_core.specs.declared.host.Host.{Host}
 use Rattle.script_doc.specs.declared.event.Event.{Event}
 use Rattle.table_form.specs.Running.Courses.{CourseView, IsCourse}
-use Rattle.table_form.specs.Running.Invariant.{IsComplete, StateInvariant}
-use Rattle.table_form.specs.Running.Promises.{KeepsPromises}
+use Rattle.table_form.specs.Running.Complete.{IsComplete}
+use Rattle.table_form.specs.Running.Invariant.{StateInvariant}
+use Rattle.table_form.specs.Promises.Run.{KeepsPromises}
 use Rattle.plan_book.specs.Books.{BookView, IsBookOf}
 use Rattle.plan_book.specs.declared.outcome.Outcome.{Outcome}
 use Rattle.round_words.specs.declared.view.View.{View}

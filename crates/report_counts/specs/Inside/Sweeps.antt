@@ -1,7 +1,7 @@
 -- The stretch of a vCPU as a round's rows are gone over.
 use Rattle.std.specs.Prelude.{◌≡◌, ℕ, ◌-◌, ◌<◌, ◌≤◌, Bool, false, if◌then◌else◌, List}
 use Rattle.tab_core.specs.declared.TheConstants.{ROUND}
-use Rattle.table_form.specs.Running.Offered.{some_row_has}
+use Rattle.table_form.specs.Promises.Offered.{some_row_has}
 use Rattle.table_form.specs.Tables.Plans.{PlanView}
 use Rattle.table_form.specs.Tables.Rows.{Row}
 use Rattle.report_counts.specs.declared.stretch.Stretch.{Stretch}

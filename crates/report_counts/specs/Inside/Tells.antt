@@ -2,8 +2,8 @@
 use Rattle.std.specs.Prelude.{◌≡◌, ℕ, zero, suc, ◌+◌, ◌<◌, ◌≤◌, ◌&&◌, Bool, true, false, is_some, not, List, if◌then◌else◌, slice_get}
 use Rattle.tab_core.specs.declared.TheConstants.{ROUND}
 use Rattle.table_form.specs.Running.Courses.{CourseView}
-use Rattle.table_form.specs.Running.Gaps.{task_at}
-use Rattle.table_form.specs.Running.Offered.{is_offered, some_row_has}
+use Rattle.table_form.specs.Promises.Gaps.{task_at}
+use Rattle.table_form.specs.Promises.Offered.{is_offered, some_row_has}
 use Rattle.table_form.specs.Tables.Plans.{PlanView}
 use Rattle.table_form.specs.Tables.Serves.{flat}
 use Rattle.report_counts.specs.declared.stretch.Stretch.{Stretch}

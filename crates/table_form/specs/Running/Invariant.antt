@@ -7,15 +7,9 @@ use Rattle.tab_core.specs.declared.entry.Entry.{Entry}
 use Rattle.tab_core.specs.declared.stint.Stint.{Stint}
 use Rattle.table_form.specs.Running.Choice.{IsDispatch}
 use Rattle.table_form.specs.Running.Courses.{CourseView, tick_at}
-use Rattle.table_form.specs.Running.OneTable.{HasOneTable}
+use Rattle.table_form.specs.Promises.OneTable.{HasOneTable}
 use Rattle.table_form.specs.Running.State.{State, CoreState, IsCore}
-use Rattle.table_form.specs.Running.Waiting.{HasUpTo}
-
--- the count is fresh at x: it has every event of tick at most x less the lag, and none of tick
--- above x and the lag
-pub record IsFresh (course : CourseView) (count x : ℕ) : Type 0 where
-  pub has : HasUpTo course count x
-  pub none_later : (i : ℕ) → i < count → tick_at course i ≤ x + course.lag
+use Rattle.table_form.specs.Promises.Fresh.{IsFresh}
 
 -- a clock is within the run, and no posted event is more than the lag later
 pub record ClockInvariant (course : CourseView) (rounds posted clock : ℕ) : Type 0 where
@@ -70,8 +64,3 @@ pub record StateInvariant (course : CourseView) (rounds : ℕ) (s : State) : Typ
   pub posted_most : s.posted ≤ length course.ticks
   pub near : (c d : ℕ) (core other : CoreState) → IsCore s c core → IsCore s d other
       → core.clock ≤ other.clock + course.lag
-
--- the run is complete: every clock is at its end, and all events are posted
-pub record IsComplete (course : CourseView) (rounds : ℕ) (s : State) : Type 0 where
-  pub clocks : (c : ℕ) (core : CoreState) → IsCore s c core → core.clock ≡ rounds * ROUND
-  pub posted : s.posted ≡ length course.ticks

@@ -4,7 +4,8 @@ use Rattle.std.specs.Prelude.{◌≡◌, ◌≢◌, ℕ, ◌+◌, ◌<◌, Some,
 use Rattle.table_form.specs.Running.Courses.{CourseView, tick_at}
 use Rattle.table_form.specs.Running.Phases.{at_end, phase_of}
 use Rattle.table_form.specs.Running.State.{State, CoreState, IsCore}
-use Rattle.table_form.specs.Running.Waiting.{AreWithinLag, HasUpTo}
+use Rattle.table_form.specs.Running.Waiting.{AreWithinLag}
+use Rattle.table_form.specs.Promises.Fresh.{HasUpTo}
 
 -- Post: the next event is posted, if its tick is at most every clock plus the lag
 pub record Posts (course : CourseView) (old new : State) : Type 0 where

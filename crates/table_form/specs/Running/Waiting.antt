@@ -1,12 +1,7 @@
 -- What steps wait for: events that are posted, and clocks that are not too far behind.
 -- Source: the rules of this project.
-use Rattle.std.specs.Prelude.{◌≡◌, ◌≢◌, ℕ, ◌+◌, ◌<◌, ◌≤◌, List, Option, Some, length, slice_get}
-use Rattle.table_form.specs.Running.Courses.{CourseView, tick_at}
+use Rattle.std.specs.Prelude.{◌≡◌, ◌≢◌, ℕ, ◌+◌, ◌<◌, ◌≤◌, List, Option, Some, slice_get}
 use Rattle.table_form.specs.Running.State.{CoreState}
-
--- the count has each event of tick at most x less the lag
-abbrev pub HasUpTo : CourseView → ℕ → ℕ → Type 0
-HasUpTo course count x = (i : ℕ) → i < length course.ticks → tick_at course i + course.lag ≤ x → i < count
 
 -- each clock but that of the core that is skipped is at least the tick less the lag
 abbrev pub AreWithinLag : ℕ → List CoreState → Option ℕ → ℕ → Type 0

@@ -1,6 +1,6 @@
 use Rattle.std.proofs.Common.{◌≡◌, ◌+◌, ◌≤◌, subst, arith}
 use Rattle.burst_bound.specs.Inside.Runs.{IsReached}
-use Rattle.table_form.specs.Running.Capped.{ticks_run}
+use Rattle.table_form.specs.Promises.Capped.{ticks_run}
 use Rattle.burst_bound.proofs.RanLemmas.{beyond, done_if_reached}
 use Rattle.burst_bound.proofs.ran.done_in.Goals as goal
 

@@ -8,7 +8,7 @@ use Rattle.tab_core.specs.declared.TheConstants.{ROUND}
 use Rattle.tab_core.specs.declared.periodic.Periodic.{Periodic}
 use Rattle.tab_core.specs.declared.stint.Stint.{Stint}
 use Rattle.table_form.specs.Running.Courses.{CourseView, plan_after}
-use Rattle.table_form.specs.Running.Offered.{task_in}
+use Rattle.table_form.specs.Promises.Offered.{task_in}
 use Rattle.table_form.specs.Running.State.{State, CoreState}
 use Rattle.table_form.specs.Tables.Serves.{is_cell_of}
 

@@ -1,15 +1,15 @@
 -- What a run promises, of the rounds that were entered and the ticks that stints cover.
 -- Source: the rules of this project.
 use Rattle.std.specs.Prelude.{ℕ}
-use Rattle.table_form.specs.Running.Busy.{IsBusy}
-use Rattle.table_form.specs.Running.Capped.{KeepsCaps}
+use Rattle.table_form.specs.Promises.Busy.{IsBusy}
+use Rattle.table_form.specs.Promises.Capped.{KeepsCaps}
 use Rattle.table_form.specs.Running.Courses.{CourseView}
 use Rattle.table_form.specs.Running.Invariant.{StateInvariant}
-use Rattle.table_form.specs.Running.Gaps.{HasShortGaps}
-use Rattle.table_form.specs.Running.Offered.{IsServed}
-use Rattle.table_form.specs.Running.OneTable.{HasOneTable}
+use Rattle.table_form.specs.Promises.Gaps.{HasShortGaps}
+use Rattle.table_form.specs.Promises.Offered.{IsServed}
+use Rattle.table_form.specs.Promises.OneTable.{HasOneTable}
 use Rattle.table_form.specs.Running.State.{State}
-use Rattle.table_form.specs.Running.Together.{RunsOnOneCore}
+use Rattle.table_form.specs.Promises.Together.{RunsOnOneCore}
 
 -- all cores use one plan in a round; no vCPU runs on two cores at one tick; each vCPU in a round's
 -- plan is offered its cost in every period there, and waits no longer between offers than its

@@ -7,7 +7,7 @@ use Rattle.table_form.specs.Running.Courses.{CourseView, plan_after, runnable_af
 use Rattle.table_form.specs.Tables.Plans.{PlanView}
 use Rattle.table_form.specs.Tables.Serves.{owner_at}
 use Rattle.table_form.specs.Running.State.{State, CoreState, IsCore}
-use Rattle.table_form.specs.Running.Together.{Covers}
+use Rattle.table_form.specs.Promises.Together.{Covers}
 
 -- the slot's owner runs if it is runnable; else somebody eligible runs, and the core idles only
 -- where nobody is

@@ -7,7 +7,7 @@ use Rattle.tab_core.specs.Budgets.{slack_of}
 use Rattle.tab_core.specs.declared.TheConstants.{ROUND}
 use Rattle.tab_core.specs.declared.periodic.Periodic.{Periodic}
 use Rattle.table_form.specs.Running.Courses.{CourseView}
-use Rattle.table_form.specs.Running.Offered.{is_offered, task_in}
+use Rattle.table_form.specs.Promises.Offered.{is_offered, task_in}
 use Rattle.table_form.specs.Running.State.{State}
 
 -- the vCPU's task at a tick: that in the plan of the tick's round, if it has one
