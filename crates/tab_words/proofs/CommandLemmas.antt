@@ -1,5 +1,5 @@
 -- Commands and faults exclude each other, and each list of words has one of them.
-use Rattle.std.proofs.Common.{arith, ◌+◌, ◌*◌, ◌-◌, ◌^◌, ◌≡◌, ◌≢◌, ℕ, ◌<◌, ◌≤◌, ◌⊎◌, min, lit<, lit≤, inl, inr, List, [], ◌∷◌, ◌++◌, length, take, drop, codes, decimal, ap, subst, sym, ◌∙◌, refl, false, append_assoc, String, string_bytes, Result, Ok, Err, MatchResult}
+use Rattle.std.proofs.Common.{arith, ◌+◌, ◌*◌, ◌-◌, ◌^◌, ◌≡◌, ◌≢◌, ℕ, ◌<◌, ◌≤◌, min, lit<, lit≤, inl, inr, List, [], ◌∷◌, ◌++◌, length, take, drop, codes, decimal, ap, subst, sym, ◌∙◌, refl, false, append_assoc, String, string_bytes, Result, Ok, Err, MatchResult}
 use Rattle.std.specs.Str.{bytes_eq}
 use Rattle.std.proofs.lemmas.Slice.Eq.{bytes_eq-Decides}
 use Rattle.std.proofs.lemmas.List.{take-append-drop, take-take, take_all, length-append, append-nil}
@@ -11,7 +11,7 @@ use Rattle.tab_words.specs.Commands.{IsBegun, IsCommand, IsFaultAt, IsGenerable,
 use Rattle.tab_words.specs.Inside.Readings.{BeginsWithNumber, IsReading}
 use Rattle.tab_words.specs.Numbers.{Spells}
 use Rattle.tab_words.specs.declared.command.Command.{Command}
-use Rattle.tab_words.specs.declared.command.Command.TheVariants.{Plan, PlanWhole, Check, Replay, Run, Gen, Selftest, Help, Version}
+use Rattle.tab_words.specs.declared.command.Command.TheVariants.{Plan, PlanWhole, PlanStay, Check, Replay, Run, Gen, Selftest, Help, Version}
 use Rattle.tab_words.specs.declared.command.RunMode.{RunMode}
 use Rattle.tab_words.specs.declared.command.RunMode.TheVariants.{Report, Trace, Burst, Live}
 use Rattle.tab_words.specs.declared.command.Usage.{Usage}
@@ -173,6 +173,7 @@ reading_end front command (word ∷ rest) (Err usage) is none reads =
 abbrev name_of : Command → List ℕ
 name_of Plan = codes "plan"
 name_of PlanWhole = codes "plan"
+name_of PlanStay = codes "plan"
 name_of Check = codes "check"
 name_of (Replay rounds) = codes "replay"
 name_of (Run rounds mode) = codes "run"
@@ -185,6 +186,7 @@ name_of Version = codes "--version"
 abbrev arguments_of : Command → List (List ℕ)
 arguments_of Plan = []
 arguments_of PlanWhole = codes "whole" ∷ []
+arguments_of PlanStay = codes "stay" ∷ []
 arguments_of Check = []
 arguments_of (Replay rounds) = decimal rounds ∷ []
 arguments_of (Run rounds mode) = decimal rounds ∷ mode_words mode
@@ -198,6 +200,7 @@ named : (words : List (List ℕ)) (command : Command) → IsCommand words comman
     → words ≡ name_of command ∷ arguments_of command
 named words Plan is = is
 named words PlanWhole is = is
+named words PlanStay is = is
 named words Check is = is
 named words (Replay rounds) is = is.0
 named words (Run rounds mode) is = is.0
@@ -235,12 +238,23 @@ same_mode Burst Live same = absurd (other_word [] [] refl same)
 same_mode Live Trace same = absurd (other_word [] [] refl same)
 same_mode Live Burst same = absurd (other_word [] [] refl same)
 
+-- `plan whole` isn't `plan stay`
+other_kind : codes "plan" ∷ codes "whole" ∷ [] ≡ codes "plan" ∷ codes "stay" ∷ [] → ⊥
+other_kind same =
+    let kinds : codes "whole" ∷ [] ≡ codes "stay" ∷ [] = cc same in
+    other_word [] [] refl kinds
+
 -- words are one command at most
 pub same_command : (words : List (List ℕ)) (a b : Command) → IsCommand words a → IsCommand words b → a ≡ b
 same_command words Plan Plan p q = refl
 same_command words Plan PlanWhole p q = absurd (omega (arith, ap length (sym p ∙ q)))
 same_command words PlanWhole Plan p q = absurd (omega (arith, ap length (sym p ∙ q)))
 same_command words PlanWhole PlanWhole p q = refl
+same_command words Plan PlanStay p q = absurd (omega (arith, ap length (sym p ∙ q)))
+same_command words PlanStay Plan p q = absurd (omega (arith, ap length (sym p ∙ q)))
+same_command words PlanStay PlanStay p q = refl
+same_command words PlanWhole PlanStay p q = absurd (other_kind (sym p ∙ q))
+same_command words PlanStay PlanWhole p q = absurd (other_kind (sym q ∙ p))
 same_command words Check Check p q = refl
 same_command words (Replay m) (Replay n) p q =
     let spelling : decimal m ≡ decimal n = cc (p.0, q.0) in
@@ -306,6 +320,7 @@ pub record IsUnknown (name : List ℕ) : Type 0 where
 unknown : (name : List ℕ) (rest : List (List ℕ)) → IsUnknown name → IsNoCommand (name ∷ rest)
 unknown name rest other Plan is = absurd (other.no_plan cc)
 unknown name rest other PlanWhole is = absurd (other.no_plan cc)
+unknown name rest other PlanStay is = absurd (other.no_plan cc)
 unknown name rest other Check is = absurd (other.no_check cc)
 unknown name rest other (Replay rounds) is = absurd (other.no_replay (cc is.0))
 unknown name rest other (Run rounds mode) is = absurd (other.no_run (cc is.0))
@@ -350,34 +365,47 @@ reading_version rest r reads = reading_end (codes "--version" ∷ []) Version re
   after word Version more is = omega (arith, ap length is)
   after word command more is = other_word (word ∷ more) (arguments_of command) refl (named _ command is)
 
--- ---- `plan` and `plan whole`
+-- ---- `plan`, `plan whole` and `plan stay`
 
--- a plan of any kind has these words behind its name
-only_plan : (rest : List (List ℕ)) (command : Command) → IsCommand (codes "plan" ∷ rest) command
-    → (rest ≡ []) ⊎ (rest ≡ codes "whole" ∷ [])
-only_plan rest Plan is = inl cc
-only_plan rest PlanWhole is = inr cc
-only_plan rest command is = absurd (other_word rest (arguments_of command) refl (named _ command is))
+-- a plan of any kind has one word at most behind its name
+plan_is_short : (rest : List (List ℕ)) (command : Command) → IsCommand (codes "plan" ∷ rest) command
+    → length rest ≤ 1
+plan_is_short rest Plan is = omega (arith, ap length is)
+plan_is_short rest PlanWhole is = omega (arith, ap length is)
+plan_is_short rest PlanStay is = omega (arith, ap length is)
+plan_is_short rest command is = absurd (other_word rest (arguments_of command) refl (named _ command is))
+
+-- and that is its kind
+no_other_kind : (word : List ℕ) (more : List (List ℕ)) → word ≢ codes "whole" → word ≢ codes "stay"
+    → (command : Command) → IsCommand (codes "plan" ∷ word ∷ more) command → ⊥
+no_other_kind word more no_whole no_stay Plan is = omega (arith, ap length is)
+no_other_kind word more no_whole no_stay PlanWhole is = no_whole cc
+no_other_kind word more no_whole no_stay PlanStay is = no_stay cc
+no_other_kind word more no_whole no_stay command is =
+    other_word (word ∷ more) (arguments_of command) refl (named _ command is)
 
 -- another word behind `plan`
-pub fault_of_plan : (word : List ℕ) (rest : List (List ℕ)) → word ≢ codes "whole"
+pub fault_of_plan : (word : List ℕ) (rest : List (List ℕ)) → word ≢ codes "whole" → word ≢ codes "stay"
     → IsFaultAt (codes "plan" ∷ word ∷ rest) 1
-fault_of_plan word rest other =
+fault_of_plan word rest no_whole no_stay =
     fault_at_word (codes "plan" ∷ []) word rest (record { command = Plan; rest = []; whole = refl })
-    (λ command more is. elim (only_plan (word ∷ more) command is) [
-      | inl ends ↦ omega (arith, ap length ends)
-      | inr whole ↦ other cc
-    ])
+    (λ command more is. no_other_kind word more no_whole no_stay command is)
+
+-- nothing may follow the kind
+kind_ends : (kind word : List ℕ) → GoesNotOn (codes "plan" ∷ kind ∷ []) word
+kind_ends kind word command more is = omega (arith, plan_is_short (kind ∷ word ∷ more) command is)
 
 -- the reader of `plan whole` answers by the grammar
 pub reading_whole : (rest : List (String Global)) (r : Result Command Usage) → ReadsEnd PlanWhole 2 rest r
     → IsReading (codes "plan" ∷ codes "whole" ∷ texts rest) r
 reading_whole rest r reads =
-    reading_end (codes "plan" ∷ codes "whole" ∷ []) PlanWhole rest r refl
-    (λ word command more is. elim (only_plan (codes "whole" ∷ word ∷ more) command is) [
-      | inl ends ↦ omega (arith, ap length ends)
-      | inr whole ↦ omega (arith, ap length whole)
-    ]) reads
+    reading_end (codes "plan" ∷ codes "whole" ∷ []) PlanWhole rest r refl (kind_ends (codes "whole")) reads
+
+-- so does that of `plan stay`
+pub reading_stay : (rest : List (String Global)) (r : Result Command Usage) → ReadsEnd PlanStay 2 rest r
+    → IsReading (codes "plan" ∷ codes "stay" ∷ texts rest) r
+reading_stay rest r reads =
+    reading_end (codes "plan" ∷ codes "stay" ∷ []) PlanStay rest r refl (kind_ends (codes "stay")) reads
 
 -- ---- `replay` and its count of rounds
 

@@ -3,7 +3,7 @@ use Rattle.std.specs.Prelude.{◌≡◌, ℕ, ◌+◌, ◌*◌, ◌^◌, ◌<◌
 use Rattle.std.specs.declared.alloc.Global.{Global}
 use Rattle.tab_core.specs.declared.TheConstants.{MAX_CORES, MAX_ROUNDS, MAX_VCPUS}
 use Rattle.tab_words.specs.declared.command.Command.{Command}
-use Rattle.tab_words.specs.declared.command.Command.TheVariants.{Plan, PlanWhole, Check, Replay, Run, Gen, Selftest, Help, Version}
+use Rattle.tab_words.specs.declared.command.Command.TheVariants.{Plan, PlanWhole, PlanStay, Check, Replay, Run, Gen, Selftest, Help, Version}
 use Rattle.tab_words.specs.declared.command.RunMode.{RunMode}
 use Rattle.tab_words.specs.declared.command.RunMode.TheVariants.{Report, Trace, Burst, Live}
 
@@ -34,6 +34,7 @@ mode_words Live = codes "live" ∷ []
 abbrev pub IsCommand : List (List ℕ) → Command → Type 0
 IsCommand words Plan = words ≡ codes "plan" ∷ []
 IsCommand words PlanWhole = words ≡ codes "plan" ∷ codes "whole" ∷ []
+IsCommand words PlanStay = words ≡ codes "plan" ∷ codes "stay" ∷ []
 IsCommand words Check = words ≡ codes "check" ∷ []
 IsCommand words (Replay rounds) = (words ≡ codes "replay" ∷ decimal rounds ∷ []) × IsRoundCount rounds
 IsCommand words (Run rounds mode) = (words ≡ codes "run" ∷ decimal rounds ∷ mode_words mode)

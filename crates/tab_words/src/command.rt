@@ -27,6 +27,8 @@ pub enum Command {
     Plan,
     /// `plan whole`
     PlanWhole,
+    /// `plan stay`
+    PlanStay,
     /// `check`
     Check,
     /// `replay ROUNDS`, from 1 to `MAX_ROUNDS` rounds
@@ -127,7 +129,7 @@ fn read_first(words: &[String], least: u64, most: u64) -> Option<(u64, &[String]
     }
 }
 
-// What stands behind `plan`: nothing or `whole`.
+// What stands behind `plan`: nothing, `whole` or `stay`.
 fn read_plan(rest: &[String]) -> Result<Command, Usage>
     ensures { IsReading (codes "plan" ∷ texts rest.now) result }
 {
@@ -136,6 +138,7 @@ fn read_plan(rest: &[String]) -> Result<Command, Usage>
     };
     match word.as_str() {
         "whole" => read_end(Command::PlanWhole, more, 2),
+        "stay" => read_end(Command::PlanStay, more, 2),
         _ => Err(Usage { place: 1 }),
     }
 }
