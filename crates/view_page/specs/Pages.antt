@@ -5,8 +5,7 @@ use Rattle.std.specs.Prelude.{ℕ, ◌++◌, ◌==◌, ◌||◌, Bool, true, fal
 use Rattle.tab_core.specs.declared.vcpu.Vcpu.{Vcpu}
 use Rattle.tab_words.specs.Texts.{texts_below}
 use Rattle.view_doc.specs.declared.view.View.{View}
-use Rattle.view_table.specs.Groups.{vm_table_text}
-use Rattle.view_table.specs.Table.{table_text}
+use Rattle.view_table.specs.TableTexts.{table_text, vm_table_text}
 use Rattle.view_table.specs.declared.figures.Figures.{Figures}
 use Rattle.view_lanes.specs.Shown.{cores_in, shows_nothing}
 use Rattle.view_lanes.specs.declared.frame.ChartOptions.{ChartOptions}
