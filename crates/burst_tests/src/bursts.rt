@@ -107,6 +107,8 @@ fn try_run<R: Threads + Sync + Abort, G: Gate>(
     met: &mut Met,
 ) -> Result<(), Fail> {
     let shown = run_scene(rt, alloc, scene, gate)?;
+    let first = shown.alone.len().min(shown.answers.len());
+    assert!(rt; shown.alone[..] == shown.answers[..first], "alone {case:?}");
     match judge(alloc, setting, scene.script.events(), &shown) {
         Err(broken) => {
             assert!(rt; false, "{broken:?} in {case:?}");

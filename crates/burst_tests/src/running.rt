@@ -1,26 +1,65 @@
 //! Runs of a scene by threads, and what they show.
+ghost use Rattle.std.specs.Prelude.{◌≡◌, ◌≤◌, length};
+ghost use Rattle.tab_core.specs.declared.TheConstants.{MAX_ROUNDS};
+ghost use Rattle.table_form.specs.Running.State.{State};
+ghost use Rattle.burst_bound.specs.KeptRuns.{IsKeptRun};
 
 use crate::hosts::Scene;
-use burst_bound::{BurstAnswer, BurstReport};
+use burst_bound::{BurstAnswer, BurstReport, bound_of};
 use core_workers::{Crew, Gate};
 use course_run::{TRACE_LIMIT, run_course};
 use round_words::RoundBoard;
+use script_doc::{Act, Script};
 use std::alloc::Global;
 use std::test::Fail;
 use std::thread::{Threads, yield_now};
 use stint_limit::stint_bound;
 use tab_core::{CoreNo, NoMemory, Stint};
 use tab_words::RunMode;
+use table_form::Course;
 
-// What a run shows: the used count of each round, the stints of each core, and what is told of each burst.
+// How many bursts of a run are asked about by themselves.
+const ALONE: usize = 6;
+
+// What a run shows: the used count of each round, the stints of each core, what is reported of each burst, and
+// what is answered of the first ones by themselves.
 #[derive(Drop)]
 pub(crate) struct Shown {
     pub(crate) used: Vec<u32>,
     pub(crate) stints: Vec<Vec<Stint>>,
     pub(crate) answers: Vec<BurstAnswer>,
+    pub(crate) alone: Vec<BurstAnswer>,
 }
 
-fn shown_of(alloc: Global, crew: &Crew<'_>, answers: &[BurstAnswer]) -> Result<Shown, NoMemory> {
+// What `bound_of` answers of the first bursts of the script.
+fn answers_alone(
+    alloc: Global,
+    course: &Course,
+    rounds: u32,
+    script: &Script,
+    crew: &Crew<'_>,
+) -> Result<Vec<BurstAnswer>, NoMemory>
+    requires few { rounds ≤ MAX_ROUNDS }
+    requires events { length script.now ≡ length course.now.ticks }
+    requires kept { (s : State) × IsKeptRun course.now rounds crew.now s }
+{
+    let mut answers = Vec::new(alloc);
+    for (number, event) in script.events().iter().enumerate() {
+        if let Act::Burst { vcpu, work } = &event.act {
+            if *work >= 1 && answers.len() < ALONE {
+                answers.push(bound_of(course, rounds, number as u32, *vcpu, *work, crew))?;
+            }
+        }
+    }
+    Ok(answers)
+}
+
+fn shown_of(
+    alloc: Global,
+    crew: &Crew<'_>,
+    answers: &[BurstAnswer],
+    alone: Vec<BurstAnswer>,
+) -> Result<Shown, NoMemory> {
     let mut stints = Vec::new(alloc);
     let mut used = Vec::new(alloc);
     for core in 0..crew.course().cores() {
@@ -32,6 +71,7 @@ fn shown_of(alloc: Global, crew: &Crew<'_>, answers: &[BurstAnswer]) -> Result<S
         used,
         stints,
         answers: Vec::from_slice(alloc, answers)?,
+        alone,
     })
 }
 
@@ -52,7 +92,8 @@ pub(crate) fn run_scene<R: Threads + Sync, G: Gate>(
     match run_course(rt, alloc, course, rounds, mode, &board, seat, gate) {
         Ok((_, ran)) => {
             report.fill(course, rounds, &scene.script, ran.crew());
-            Ok(shown_of(alloc, ran.crew(), report.answers())?)
+            let alone = answers_alone(alloc, course, rounds, &scene.script, ran.crew())?;
+            Ok(shown_of(alloc, ran.crew(), report.answers(), alone)?)
         }
         Err(_) => Err(Fail::from("no run")),
     }

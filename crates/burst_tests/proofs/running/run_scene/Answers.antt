@@ -34,3 +34,14 @@ fill-requires-clause-kept g c =
         events_fit = omega (arith, ap length c.events-events.ensures.same, c.in_ok-report.ensures.room);
       },
     )
+
+pub answers_alone-requires-clause-kept : goal.answers_alone-requires-clause-kept
+answers_alone-requires-clause-kept g c =
+    let course : CourseView = c.course-course.result.now in
+    let rounds = c.args.scene.now.rounds in
+    let view = c.in-Ok.field-0-0.view in
+    let ran : IsRunOf course rounds Burst view c.in-Ok.ran = c.in-Ok.ensures.ran in (
+      state_of course view,
+      subst (λ (w : CrewView). IsKeptRun course rounds w (state_of course view)) (sym c.crew-in-Ok.ensures)
+          (kept_run course rounds view c.in-Ok.ran ran),
+    )
