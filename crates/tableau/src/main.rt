@@ -6,7 +6,7 @@ mod progress;
 mod told;
 
 use advice::KeptSource;
-use progress::ProgressGate;
+use progress::{ClearedSink, ProgressGate};
 use round_words::RoundBoard;
 use std::io::{self, BufWriter, ErrorKind, IsTerminal};
 use std::process::ExitCode;
@@ -34,8 +34,11 @@ fn main(rt: HostRuntime) -> ExitCode {
         return ExitCode::from(Status::NoMemory.exit());
     };
     let mut input = KeptSource::of(rt.alloc(), StdSource::of(rt.reader()));
-    let mut output = StdSink::of(writer);
     let gate = ProgressGate::new(rt, rt.stderr(), rt.stderr().is_terminal());
+    let mut output = ClearedSink {
+        inner: StdSink::of(writer),
+        gate: &gate,
+    };
     if rt.stdin().is_terminal() {
         prompt(&rt.stderr(), rt.alloc(), words);
     }
@@ -49,6 +52,7 @@ fn main(rt: HostRuntime) -> ExitCode {
         seat,
         &gate,
     );
+    gate.clear();
     tell(&rt.stderr(), rt.alloc(), words, input.kept(), &done.status);
     ExitCode::from(done.status.exit())
 }
