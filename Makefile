@@ -42,7 +42,7 @@ install: all
 	install -m 644 completions/tableau.fish "$(to)/share/fish/vendor_completions.d/tableau.fish"
 	install -m 644 completions/tableau-tools.fish "$(to)/share/fish/vendor_completions.d/tableau-tools.fish"
 	docs/copy "$(to)/share/doc/tableau"
-	.ci/record $(program) > "$(to)/share/doc/tableau/BUILD"
+	.ci/record $(program) $(tools) > "$(to)/share/doc/tableau/BUILD"
 	chmod 644 "$(to)/share/doc/tableau/BUILD"
 
 uninstall:

@@ -6,23 +6,25 @@ _tableau_tools() {
   # how many arguments are before the word
   for ((at = 2; at < COMP_CWORD; at++)); do
     case $command,${COMP_WORDS[at]} in
-      table,--by | table,--tick | chart,--by | chart,--cores | chart,--vcpus | chart,--from | chart,--to | chart,--width | chart,--tick | diff,--tick | export,--tick | export,--first-cpu | judge,--window | host,--cores | host,--tick | fit,--cores | fit,--tick) ((at++)) ;;
+      table,--by | table,--tick | chart,--by | chart,--cores | chart,--vcpus | chart,--from | chart,--to | chart,--width | chart,--tick | diff,--tick | report,--old | export,--tick | export,--first-cpu | judge,--window | host,--cores | host,--tick | fit,--cores | fit,--tick) ((at++)) ;;
       *,-?*) ;;
       *) ((place++)) ;;
     esac
   done
   if [ "$COMP_CWORD" -eq 1 ]; then
-    words='table chart diff export judge sections host fit --help --version'
+    words='table chart diff report export judge sections host fit --help --version'
   else
     case $command,$before in
       table,--by) words='vcpu vm' ;;
       chart,--by) words='core vcpu' ;;
+      report,--old) files=yes ;;
       table,--tick | chart,--cores | chart,--vcpus | chart,--from | chart,--to | chart,--width | chart,--tick | diff,--tick | export,--tick | export,--first-cpu | judge,--window | host,--cores | host,--tick | fit,--cores | fit,--tick) ;;
       *)
         case $command,$word in
           table,-*) words='--by --tick --help' ;;
           chart,-*) words='--text --by --cores --vcpus --from --to --width --tick --help' ;;
           diff,-*) words='--tick --help' ;;
+          report,-*) words='--old --help' ;;
           export,-*) words='--tick --first-cpu --full --help' ;;
           judge,-*) words='--window --json --help' ;;
           sections,-*) words='--help' ;;
@@ -34,6 +36,7 @@ _tableau_tools() {
               chart,0) files=yes ;;
               diff,0) files=yes ;;
               diff,1) files=yes ;;
+              report,0) files=yes ;;
               export,0) words='csv chrome json rtds deadline cgroup libvirt' ;;
               export,1) files=yes ;;
               judge,0) files=yes ;;

@@ -4,9 +4,9 @@ ghost use Rattle.tab_core.specs.declared.TheConstants.{MAX_CORES, MAX_VCPUS};
 use crate::fault::Fault;
 use crate::input::input_of;
 use crate::output::{finish, output_of};
-use crate::plan::view_of;
+use crate::plan::{drawable, view_of};
 use clap::ArgMatches;
-use tab_core::{MAX_CORES, MAX_TICK_NS, MAX_VCPUS, TICK_NS};
+use tab_core::{MAX_TICK_NS, MAX_VCPUS, TICK_NS};
 use view_chart::write_chart;
 use view_doc::View;
 use view_lanes::ChartOptions;
@@ -48,12 +48,7 @@ fn drawn_view_of(rt: &HostRuntime, matches: &ArgMatches<'_>) -> Result<View, Fau
     ensures tasks { IfOk result (λ view. length view.tasks.items ≤ MAX_VCPUS) }
 {
     let input = input_of(rt, matches.get_str("FILE"))?;
-    let view = view_of(rt.alloc(), input)?;
-    let most = MAX_VCPUS as usize;
-    if view.cores > MAX_CORES || view.names.len() > most || view.tasks.len() > most {
-        return Err(Fault::TooMany);
-    }
-    Ok(view)
+    drawable(view_of(rt.alloc(), input)?)
 }
 
 // What the words ask for of a picture.

@@ -2,6 +2,10 @@ use clap::{Arg, ArgAction, Command, value_parser};
 use std::alloc::{AllocError, Global};
 use tab_core::{MAX_CORES, MAX_TICK_NS, MIN_TICK_NS};
 
+// What `--version` says. A program that knew its revision would be another with each of them, so the installation has it.
+const VERSION: &str =
+    "0.1.0\nits revision and checksum are in share/doc/tableau/BUILD of the installation";
+
 // The greatest number of a CPU.
 const MAX_CPU: i64 = 8191;
 
@@ -11,13 +15,14 @@ const MAX_WINDOW_MS: u32 = 3_600_000;
 /// The words of the program.
 pub(crate) fn command<'a>(alloc: Global) -> Result<Command<'a>, AllocError> {
     let command = Command::new(alloc, "tableau-tools")
-        .version("0.1.0")
+        .version(VERSION)
         .about("Shows what tableau wrote, and writes what it reads")
         .subcommand_required(true)
         .arg_required_else_help(true);
     let command = with_command(command, table_command(alloc))?;
     let command = with_command(command, chart_command(alloc))?;
     let command = with_command(command, diff_command(alloc))?;
+    let command = with_command(command, report_command(alloc))?;
     let command = with_command(command, export_command(alloc))?;
     let command = with_command(command, judge_command(alloc))?;
     let command = with_command(command, sections_command(alloc))?;
@@ -195,6 +200,31 @@ fn diff_command<'a>(alloc: Global) -> Result<Command<'a>, AllocError> {
 // A file that has to be named.
 fn named_arg<'a>(alloc: Global, name: &'a str, help: &'a str) -> Arg<'a> {
     Arg::new(alloc, name).required(true).help(help)
+}
+
+// The words of `report`.
+fn report_command<'a>(alloc: Global) -> Result<Command<'a>, AllocError> {
+    Command::new(alloc, "report")
+        .about(
+            "Writes one page of HTML with the tables and pictures of a plan, or the pictures of a run",
+        )
+        .arg(sections_arg(alloc))?
+        .arg(old_arg(alloc))
+}
+
+// The sections to read.
+fn sections_arg<'a>(alloc: Global) -> Arg<'a> {
+    Arg::new(alloc, "FILE").help(
+        "A host and its plan, or a host, a script and the trace of its run, with a line %% between each two; without it, standard input",
+    )
+}
+
+// An older plan.
+fn old_arg<'a>(alloc: Global) -> Arg<'a> {
+    Arg::new(alloc, "old")
+        .long("old")
+        .value_name("FILE")
+        .help("An older plan text, with which the plan is compared")
 }
 
 // The words of `judge`.

@@ -6,6 +6,7 @@ use crate::input::input_of;
 use crate::output::{finish, output_of};
 use crate::plan::plan_of;
 use clap::ArgMatches;
+use std::alloc::Global;
 use tab_core::TICK_NS;
 use tab_io::{MemSink, write_all};
 use view_doc::View;
@@ -29,14 +30,28 @@ fn put_differences(rt: &HostRuntime, old: &View, new: &View, tick_ns: u32) -> Re
     requires old { length old.now.tasks.items ≤ MAX_VCPUS }
     requires new { length new.now.tasks.items ≤ MAX_VCPUS }
 {
-    let old_figures = figures_of(rt.alloc(), old)?;
-    let new_figures = figures_of(rt.alloc(), new)?;
-    let Ok(mut text) = MemSink::with_room(rt.alloc(), ROOM) else {
+    let text = differences_of(rt.alloc(), old, new, tick_ns)?;
+    put_text(rt, text.bytes())?;
+    Ok(!text.bytes().is_empty())
+}
+
+/// What differs between two plans.
+pub(crate) fn differences_of(
+    alloc: Global,
+    old: &View,
+    new: &View,
+    tick_ns: u32,
+) -> Result<MemSink, Fault>
+    requires old { length old.now.tasks.items ≤ MAX_VCPUS }
+    requires new { length new.now.tasks.items ≤ MAX_VCPUS }
+{
+    let old_figures = figures_of(alloc, old)?;
+    let new_figures = figures_of(alloc, new)?;
+    let Ok(mut text) = MemSink::with_room(alloc, ROOM) else {
         return Err(Fault::NoMemory);
     };
     write_diff(&mut text, old, &old_figures, new, &new_figures, tick_ns)?;
-    put_text(rt, text.bytes())?;
-    Ok(!text.bytes().is_empty())
+    Ok(text)
 }
 
 // Writes a text to standard output.

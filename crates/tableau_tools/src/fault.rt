@@ -68,6 +68,13 @@ pub(crate) enum Fault {
         place: String,
         count: u32,
     },
+    #[error("{place}{count} sections, and not a host and its plan, or a host, a script and the trace of its run, with a line %% between each two")]
+    NoReport {
+        place: String,
+        count: u32,
+    },
+    #[error("--old compares a plan with an older one, and a run is given")]
+    OldOfRun,
     #[error("{place}{fault}")]
     Unkept {
         place: String,
@@ -119,7 +126,8 @@ impl Fault {
             | Fault::BadLanes
             | Fault::OtherLanes
             | Fault::TextByVcpu
-            | Fault::TooNarrow => 1,
+            | Fault::TooNarrow
+            | Fault::OldOfRun => 1,
             Fault::Unread { .. } | Fault::ReadFault { .. } => 4,
             Fault::WriteFault => 5,
             Fault::NoMemory => 6,

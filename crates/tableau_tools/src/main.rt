@@ -1,8 +1,8 @@
 //! The program `tableau-tools`: it shows what `tableau` wrote.
 //!
 //! Each command has a file. What it reads is a text, and what it writes is a definition's text of the
-//! view that was read: `view_doc` has the reader, `view_table`, `view_chart`, `view_text` and `view_export` the texts. Of
-//! a trace of another host `trace_judge` has the reader, and `view_judge` the texts.
+//! view that was read: `view_doc` has the reader, `view_table`, `view_chart`, `view_text`, `view_page` and `view_export` the
+//! texts. Of a trace of another host `trace_judge` has the reader, and `view_judge` the texts.
 #![tactic(auto)]
 
 mod chart;
@@ -18,6 +18,7 @@ mod lines;
 mod mistaken;
 mod output;
 mod plan;
+mod report;
 mod sections;
 mod shown;
 mod table;
@@ -109,6 +110,7 @@ fn dispatch<T: Threads + Sync>(
         Some(("chart", matches)) => chart::chart(rt, matches)?,
         Some(("export", matches)) => export::export(rt, matches)?,
         Some(("table", matches)) => table::table(rt, matches)?,
+        Some(("report", matches)) => report::report(rt, matches)?,
         Some(("sections", matches)) => sections::sections(rt, matches)?,
         Some(("host", matches)) => host::host(rt, matches)?,
         Some(("fit", matches)) => return Ok(if fit::fit(rt, threads, matches)? {

@@ -1,0 +1,89 @@
+ghost use Rattle.std.specs.Prelude.{◌<◌, ◌≤◌, ◌^◌, length};
+ghost use Rattle.tab_core.specs.declared.TheConstants.{MAX_CORES, MAX_VCPUS};
+
+use crate::diff::differences_of;
+use crate::fault::Fault;
+use crate::input::{Input, input_of};
+use crate::output::{finish, output_of};
+use crate::plan::{drawable, host_of, plan_of, view_in};
+use clap::ArgMatches;
+use tab_core::{Host, MAX_TICK_NS};
+use tab_io::MemSink;
+use tab_words::cut_sections;
+use view_doc::View;
+use view_page::write_page;
+use view_table::figures_of;
+
+/// Does `report`: it reads a host and its plan, or a host, a script and the trace of its run, and writes a page of HTML.
+pub(crate) fn report(rt: &HostRuntime, matches: &ArgMatches<'_>) -> Result<(), Fault> {
+    let Input { place, bytes } = input_of(rt, matches.get_str("FILE"))?;
+    let old = matches.get_str("old");
+    let sections = cut_sections(&bytes);
+    match sections.count() {
+        2 => {
+            let host = host_of(rt.alloc(), &place, sections.part(0))?;
+            let view = plan_of(rt.alloc(), &place, sections.part(1))?;
+            put_plan(rt, &host, view, old)
+        }
+        3 => {
+            if old.is_some() {
+                return Err(Fault::OldOfRun);
+            }
+            let host = host_of(rt.alloc(), &place, sections.part(0))?;
+            let view = drawable(view_in(rt.alloc(), &place, sections.part(2))?)?;
+            put_page(rt, &host, &view, Some(sections.part(1)), None)
+        }
+        count => Err(Fault::NoReport { place, count }),
+    }
+}
+
+// Writes the page of a plan, which is compared with the plan of this file, if one is named.
+fn put_plan(rt: &HostRuntime, host: &Host, view: View, old: Option<&str>) -> Result<(), Fault>
+    requires { length view.tasks.items ≤ MAX_VCPUS }
+{
+    let view = drawable(view)?;
+    match old {
+        Some(path) => {
+            let text = since(rt, path, &view, host.tick_ns)?;
+            put_page(rt, host, &view, None, Some(text.bytes()))
+        }
+        None => put_page(rt, host, &view, None, None),
+    }
+}
+
+// What differs from the plan of this file.
+fn since(rt: &HostRuntime, path: &str, view: &View, tick_ns: u32) -> Result<MemSink, Fault>
+    requires { length view.now.tasks.items ≤ MAX_VCPUS }
+{
+    let old = input_of(rt, Some(path))?;
+    let old = plan_of(rt.alloc(), &old.place, &old.bytes)?;
+    differences_of(rt.alloc(), &old, view, tick_ns)
+}
+
+// Writes the page to standard output.
+fn put_page(
+    rt: &HostRuntime,
+    host: &Host,
+    view: &View,
+    script: Option<&[u8]>,
+    differences: Option<&[u8]>,
+) -> Result<(), Fault>
+    requires cores { view.now.cores ≤ MAX_CORES }
+    requires vcpus { length view.now.names.items ≤ MAX_VCPUS }
+    requires tasks { length view.now.tasks.items ≤ MAX_VCPUS }
+{
+    let figures = figures_of(rt.alloc(), view)?;
+    let mut sink = output_of(rt)?;
+    let tick_ns = host.tick_ns.min(MAX_TICK_NS) as u16;
+    write_page(
+        rt.alloc(),
+        &mut sink,
+        Some(host.vcpus.items()),
+        view,
+        &figures,
+        tick_ns,
+        script,
+        differences,
+    )?;
+    finish(&mut sink)
+}
