@@ -1,3 +1,4 @@
+pub mod Data
 pub mod Diff
 pub mod Figures
 pub mod Groups

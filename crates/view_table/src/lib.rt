@@ -4,6 +4,7 @@
 //! each vCPU. Each text is a definition of `specs/`, and what is written is that text.
 #![tactic(auto)]
 
+mod data;
 mod diff;
 mod figures;
 mod groups;
@@ -14,6 +15,7 @@ mod table;
 mod totals;
 mod waits;
 
+pub use data::{write_table_csv, write_table_json};
 pub use diff::write_diff;
 pub use figures::{Figures, figures_of};
 pub use groups::write_vm_table;

@@ -1,0 +1,160 @@
+-- The table of a plan's vCPUs for other programs: as JSON, and as comma-separated values.
+-- Source: RFC 8259 and RFC 4180, but for the line ends. Names need no escape and no quotes.
+use Rattle.std.specs.Prelude.{ℕ, ◌*◌, ◌++◌, ◌==◌, nat_lt, Bool, true, false, if◌then◌else◌, List, [], codes, decimal, length, Option, Some, None, slice_get}
+use Rattle.tab_core.specs.declared.TheConstants.{ROUND}
+use Rattle.tab_core.specs.declared.reservation.Reservation.{Reservation}
+use Rattle.tab_core.specs.declared.vcpu.Vcpu.{Vcpu}
+use Rattle.tab_words.specs.Texts.{texts_below}
+use Rattle.vcpu_names.specs.Names.{name_at}
+use Rattle.view_doc.specs.declared.view.Stretch.{Stretch}
+use Rattle.view_doc.specs.declared.view.Task.{Task}
+use Rattle.view_doc.specs.declared.view.View.{View}
+use Rattle.table_cells.specs.Cells.{yes_or_no}
+use Rattle.view_table.specs.Groups.{any_below}
+use Rattle.view_table.specs.Loads.{load_of, stands_on}
+use Rattle.view_table.specs.Table.{asked_of, is_kept, of_round, share_of}
+use Rattle.view_table.specs.Waits.{wait_of}
+
+-- ---- what may be missing
+
+-- a number, or this where there is none
+abbrev pub number_or : List ℕ → Option ℕ → List ℕ
+number_or nothing None = nothing
+number_or nothing (Some n) = decimal n
+
+-- what a vCPU has reserved in the host of its plan, if there is one, and it is admitted there
+abbrev pub asked_by : Option (List Vcpu) → List ℕ → Option Reservation
+asked_by None name = None
+asked_by (Some vcpus) name = asked_of vcpus name
+
+-- its share and its latency
+abbrev pub share_or : Option Reservation → Option ℕ
+share_or None = None
+share_or (Some r) = Some r.share_ppm
+
+abbrev pub latency_or : Option Reservation → Option ℕ
+latency_or None = None
+latency_or (Some r) = Some r.latency_ns
+
+-- a wait in nanoseconds, if it has an end
+abbrev pub wait_or : ℕ → ℕ → Option ℕ
+wait_or tick wait = if nat_lt wait (2 * ROUND) then Some (wait * tick) else None
+
+-- whether all that was promised is kept, in JSON and in a column
+abbrev pub truth_text : Bool → List ℕ
+truth_text true = codes "true"
+truth_text false = codes "false"
+
+abbrev pub json_kept : ℕ → Option Reservation → ℕ → ℕ → List ℕ
+json_kept tick None share wait = codes "null"
+json_kept tick (Some r) share wait = truth_text (is_kept tick r share wait)
+
+abbrev pub csv_kept : ℕ → Option Reservation → ℕ → ℕ → List ℕ
+csv_kept tick None share wait = []
+csv_kept tick (Some r) share wait = yes_or_no (is_kept tick r share wait)
+
+-- ---- the cores of a vCPU
+
+-- a core where the vCPU has a slot, with this before it unless it is the first of them
+abbrev pub part_before : List ℕ → Bool → List ℕ
+part_before between true = between
+part_before between false = []
+
+abbrev pub core_data : List ℕ → List Stretch → ℕ → ℕ → List ℕ
+core_data between slots v core = if stands_on slots v core
+    then part_before between (any_below (stands_on slots v) core) ++ decimal core else []
+
+-- ---- JSON
+
+-- a vCPU's name, and its share as asked for and as given
+unfoldable pub json_shares : List ℕ → Option Reservation → Task → List ℕ
+json_shares name asked t = codes "{\"name\":\"" ++ (name
+    ++ (codes "\",\"asked_ppm\":" ++ (number_or (codes "null") (share_or asked)
+    ++ (codes ",\"given_ppm\":" ++ (decimal (share_of t) ++ codes ",")))))
+
+-- its period, its longest wait, and the latency that it was promised
+unfoldable pub json_times : ℕ → Option Reservation → Task → ℕ → List ℕ
+json_times tick asked t wait = codes "\"period_ns\":" ++ (decimal (t.period * tick)
+    ++ (codes ",\"wait_ns\":" ++ (number_or (codes "null") (wait_or tick wait)
+    ++ (codes ",\"promised_ns\":" ++ (number_or (codes "null") (latency_or asked) ++ codes ",")))))
+
+-- whether it has what it was promised, and its home
+unfoldable pub json_home : ℕ → Option Reservation → Task → ℕ → List ℕ
+json_home tick asked t wait = codes "\"kept\":" ++ (json_kept tick asked (share_of t) wait
+    ++ (codes ",\"home\":" ++ (decimal t.home ++ codes ",\"cores\":[")))
+
+-- a vCPU's object up to its cores
+abbrev pub json_facts : ℕ → List ℕ → Option Reservation → Task → ℕ → List ℕ
+json_facts tick name asked t wait = json_shares name asked t
+    ++ (json_times tick asked t wait ++ json_home tick asked t wait)
+
+-- a comma before each but the first
+abbrev pub comma_before : ℕ → List ℕ
+comma_before n = if n == 0 then [] else codes ","
+
+abbrev pub json_of : Option (List Vcpu) → ℕ → List (List ℕ) → List Stretch → ℕ → ℕ → Option Task → List ℕ
+json_of host tick names slots cores v None = []
+json_of host tick names slots cores v (Some t) = comma_before v
+    ++ (json_facts tick (name_at names v) (asked_by host (name_at names v)) t (wait_of slots v)
+    ++ (texts_below (core_data (codes ",") slots v) cores ++ codes "]}"))
+
+abbrev pub json_row : Option (List Vcpu) → ℕ → View → ℕ → List ℕ
+json_row host tick view v = json_of host tick view.names.items view.slots.items view.cores v
+    (slice_get view.tasks.items v)
+
+-- the load of a core
+abbrev pub load_data : List Stretch → ℕ → List ℕ
+load_data slots core = comma_before core ++ decimal (of_round (load_of slots core))
+
+unfoldable pub json_begin : ℕ → List ℕ
+json_begin tick = codes "{\"form\":1,\"tick_ns\":" ++ (decimal tick ++ codes ",\"vcpus\":[")
+
+abbrev pub load_head : List ℕ
+load_head = codes "],\"load_ppm\":["
+
+-- the vCPUs of a plan, and the loads of its cores
+abbrev pub table_json : Option (List Vcpu) → ℕ → View → List ℕ
+table_json host tick view = json_begin tick
+    ++ (texts_below (json_row host tick view) (length view.tasks.items) ++ (load_head
+    ++ (texts_below (load_data view.slots.items) view.cores ++ codes "]}\n")))
+
+-- ---- comma-separated values
+
+-- a vCPU's name, and its share as asked for and as given
+unfoldable pub csv_shares : List ℕ → Option Reservation → Task → List ℕ
+csv_shares name asked t = name ++ (codes "," ++ (number_or [] (share_or asked)
+    ++ (codes "," ++ (decimal (share_of t) ++ codes ","))))
+
+-- its period, its longest wait, and the latency that it was promised
+unfoldable pub csv_times : ℕ → Option Reservation → Task → ℕ → List ℕ
+csv_times tick asked t wait = decimal (t.period * tick) ++ (codes "," ++ (number_or [] (wait_or tick wait)
+    ++ (codes "," ++ (number_or [] (latency_or asked) ++ codes ","))))
+
+-- whether it has what it was promised, and its home
+unfoldable pub csv_home : ℕ → Option Reservation → Task → ℕ → List ℕ
+csv_home tick asked t wait = csv_kept tick asked (share_of t) wait
+    ++ (codes "," ++ (decimal t.home ++ codes ","))
+
+-- a vCPU's row up to its cores
+abbrev pub csv_facts : ℕ → List ℕ → Option Reservation → Task → ℕ → List ℕ
+csv_facts tick name asked t wait = csv_shares name asked t
+    ++ (csv_times tick asked t wait ++ csv_home tick asked t wait)
+
+abbrev pub csv_of : Option (List Vcpu) → ℕ → List (List ℕ) → List Stretch → ℕ → ℕ → Option Task → List ℕ
+csv_of host tick names slots cores v None = []
+csv_of host tick names slots cores v (Some t) =
+    csv_facts tick (name_at names v) (asked_by host (name_at names v)) t (wait_of slots v)
+    ++ (texts_below (core_data (codes " ") slots v) cores ++ codes "\n")
+
+abbrev pub csv_row : Option (List Vcpu) → ℕ → View → ℕ → List ℕ
+csv_row host tick view v = csv_of host tick view.names.items view.slots.items view.cores v
+    (slice_get view.tasks.items v)
+
+-- the names of the columns
+abbrev pub csv_head : List ℕ
+csv_head = codes "vcpu,asked_ppm,given_ppm,period_ns,wait_ns,promised_ns,kept,home,cores\n"
+
+-- the vCPUs of a plan
+abbrev pub table_csv : Option (List Vcpu) → ℕ → View → List ℕ
+table_csv host tick view = csv_head
+    ++ texts_below (csv_row host tick view) (length view.tasks.items)
