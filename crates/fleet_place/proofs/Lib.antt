@@ -1,0 +1,5 @@
+mod AcceptLemmas
+mod DealLemmas
+mod FullestLemmas
+mod HeldLemmas
+mod StayLemmas
