@@ -35,7 +35,7 @@ sizes_push vms vm = map-append (λ (v : Vm). v.size) vms (vm ∷ [])
 
 -- ---- the VMs before a place, and the next
 
-take_more : (vms : List Vm) (i : ℕ) (vm : Vm) → i < length vms → vm ≡ get_or vms i vm
+pub take_more : (vms : List Vm) (i : ℕ) (vm : Vm) → i < length vms → vm ≡ get_or vms i vm
     → take (i + 1) vms ≡ take i vms ++ vm ∷ []
 take_more vms i vm low at =
     let count : i + 1 ≡ suc i = omega arith in
