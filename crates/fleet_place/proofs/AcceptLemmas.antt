@@ -56,11 +56,11 @@ like_own tick cores sizes host is = record {
 
 -- ---- sizes that ask for the same reservations
 
-reservation_of : Vcpu → Option Reservation
+abbrev reservation_of : Vcpu → Option Reservation
 reservation_of v = v.reservation
 
 -- what so many vCPUs of a reservation ask for
-asked : Reservation → ℕ → List (Option Reservation)
+abbrev asked : Reservation → ℕ → List (Option Reservation)
 asked r count = map (λ k. Some r) (range_with_len 0 count)
 
 asked_each : (size : Size) (machine : ℕ) (ks : List ℕ)
@@ -79,7 +79,7 @@ asked_machines size (m ∷ ms) =
     ∙ sym (flat_map-cons (λ m. asked size.reservation size.vcpus) m ms))))
 
 -- what a size asks for
-asked_by : Size → List (Option Reservation)
+abbrev asked_by : Size → List (Option Reservation)
 asked_by size = flat_map (λ m. asked size.reservation size.vcpus) (range_with_len 0 size.machines)
 
 asked_alike : (one other : Size) → IsAlike one other → asked_by one ≡ asked_by other

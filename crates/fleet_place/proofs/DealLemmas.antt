@@ -52,7 +52,7 @@ deal_keeps tick start _ _ _ (Joined order left hosts vm number held before is) =
     (IsPermutation-trans _ _ _ moved
     (IsPermutation-append (all_held hosts ++ vm ∷ []) (all_held (set hosts number (with_vm held vm))) left left
     (held_more hosts number held vm is.at) (IsPermutation-refl left))))
-deal_keeps tick start _ hosts _ (LeftOver order left hosts vm before none) =
+deal_keeps tick start _ _ _ (LeftOver order left hosts vm before none) =
     let rec = deal_keeps tick start order hosts left before in
     rw (sym (append_assoc (all_held start) order (vm ∷ [])), sym (append_assoc (all_held hosts) left (vm ∷ [])))
     (IsPermutation-append (all_held start ++ order) (all_held hosts ++ left) (vm ∷ []) (vm ∷ []) rec (IsPermutation-refl (vm ∷ [])))
@@ -72,7 +72,7 @@ deal_fits tick start [] _ [] NoVm all = all
 deal_fits tick start _ _ _ (Joined order left hosts vm number held before is) all =
     all_set (FitsItself tick) hosts number (with_vm held vm) (deal_fits tick start order hosts left before all)
     (λ some. is.fits)
-deal_fits tick start _ hosts _ (LeftOver order left hosts vm before none) all =
+deal_fits tick start _ _ _ (LeftOver order left hosts vm before none) all =
     deal_fits tick start order hosts left before all
 
 -- the cores of hosts
@@ -89,5 +89,5 @@ pub deal_cores : (tick : ℕ) (start : List Held) (order : List Vm) (hosts : Lis
 deal_cores tick start [] _ [] NoVm = refl
 deal_cores tick start _ _ _ (Joined order left hosts vm number held before is) =
     cores_set hosts number held vm is.at ∙ deal_cores tick start order hosts left before
-deal_cores tick start _ hosts _ (LeftOver order left hosts vm before none) =
+deal_cores tick start _ _ _ (LeftOver order left hosts vm before none) =
     deal_cores tick start order hosts left before
