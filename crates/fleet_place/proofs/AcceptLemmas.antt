@@ -1,5 +1,6 @@
 -- Whether the planner accepts a host, and that its answer depends on no name.
-use Rattle.std.proofs.Common.{◌≡◌, ℕ, List, [], ◌∷◌, ◌++◌, map, append-nil, Option, Some, refl, sym, ap, subst, ◌∙◌}
+use Rattle.std.proofs.Common.{◌≡◌, ◌==◌, ℕ, Bool, true, arith, length, List, [], ◌∷◌, ◌++◌, map, append-nil, Option, Some, refl, sym, ap, subst, ◌∙◌}
+use Rattle.std.proofs.lemmas.Bool.{eqb-true}
 use Rattle.std.proofs.lemmas.List.Concat.{flat_map-cons}
 use Rattle.std.specs.List.{flat_map, range_with_len}
 use Rattle.std.proofs.lemmas.Grind.{flat_map-append}
@@ -9,7 +10,7 @@ use Rattle.tab_core.specs.declared.over.Over.{Over}
 use Rattle.tab_core.specs.declared.periodic.Periodic.{Periodic}
 use Rattle.tab_core.specs.declared.reservation.Reservation.{Reservation}
 use Rattle.tab_core.specs.declared.vcpu.Vcpu.{Vcpu}
-use Rattle.period_choice.specs.Tasks.{AreTasksOf, IsFirstWithoutPeriod}
+use Rattle.period_choice.specs.Tasks.{AreTasksOf}
 use Rattle.period_choice.proofs.TasksLemmas.{none_without_period}
 use Rattle.period_choice.proofs.Unique.{tasks_unique}
 use Rattle.worst_fit.specs.Placement.{IsPlacement}
@@ -27,6 +28,13 @@ never : (xs : List ℕ) (x : ℕ) (ys : List ℕ) → [] ≡ xs ++ x ∷ ys → 
 never [] x ys same = absurd cc
 never (y ∷ xs) x ys same = absurd cc
 
+-- a list that is found empty
+pub none_there : (xs left : List ℕ) (empty : Bool) → empty ≡ (length xs == 0) → empty ≡ true → xs ≡ left → left ≡ []
+none_there [] left empty is found equal = sym equal
+none_there (x ∷ xs) left empty is found equal =
+    let none : length (x ∷ xs) ≡ 0 = eqb-true (length (x ∷ xs)) 0 (sym is ∙ found) in
+    absurd (omega (arith, none))
+
 -- where worst fit leaves no vCPU over, planning isn't refused
 pub accepted_whole : (host : Host) (tasks : List (Option Periodic)) (placed : Placed) → AreTasksOf host tasks
     → IsPlacement tasks host.cores placed → placed.left ≡ [] → HasNoPlan host → ⊥
@@ -35,7 +43,7 @@ accepted_whole host tasks placed are placement none (NoRoom vcpu rest over stuck
     let same = tasks_unique host stuck.tasks tasks stuck.is_start.tasks_are are in
     let moved : IsPlacement tasks host.cores stuck.placed =
     subst (λ ts. IsPlacement ts host.cores stuck.placed) same stuck.is_start.placement in
-    let one = placement_unique tasks host.cores stuck.placed placed moved placement in
+    let one = placement_unique [] tasks host.cores stuck.placed placed moved placement in
     never stuck.stuck.before vcpu stuck.stuck.after
     (sym none ∙ sym (ap (λ (p : Placed). p.left) one) ∙ stuck.stuck.left_is)
 

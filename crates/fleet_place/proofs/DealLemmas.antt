@@ -1,12 +1,11 @@
 -- What dealing VMs to hosts keeps.
-use Rattle.std.proofs.Common.{◌≡◌, ℕ, zero, suc, ◌≤◌, List, [], ◌∷◌, ◌++◌, length, map, set, Some, refl, sym, ap, subst, ◌∙◌, append-nil, arith}
+use Rattle.std.proofs.Common.{◌≡◌, ℕ, zero, suc, List, [], ◌∷◌, ◌++◌, map, set, Some, refl, sym, ap, ◌∙◌}
 use Rattle.std.specs.Prelude.{All, IsPermutation, slice_get}
-use Rattle.std.specs.List.{flat_map}
 use Rattle.std.proofs.lemmas.List.{append_assoc}
 use Rattle.std.proofs.lemmas.List.Concat.{flat_map-cons}
 use Rattle.std.proofs.lemmas.List.Elements.{All-cons, All-head, All-tail}
 use Rattle.std.proofs.lemmas.List.Sorted.{IsPermutation-append, IsPermutation-append_comm, IsPermutation-refl, IsPermutation-trans}
-use Rattle.fleet_place.specs.Deals.{Deal, IsFullest, Joined, LeftOver, NoVm, with_vm}
+use Rattle.fleet_place.specs.Deals.{Deal, Joined, LeftOver, NoVm, with_vm}
 use Rattle.fleet_place.specs.Held.{Held, all_held}
 use Rattle.fleet_place.specs.declared.vm.Vm.{Vm}
 use Rattle.fleet_place.proofs.StayLemmas.{FitsItself, held_cores, held_vms}

@@ -1,8 +1,9 @@
 -- What VMs take together, one more and some of them.
-use Rattle.std.proofs.Common.{◌≡◌, ℕ, suc, ◌+◌, ◌*◌, ◌<◌, ◌≤◌, List, [], ◌∷◌, ◌++◌, get_or, length, map, take, drop, sym, ap, ◌∙◌, arith}
+use Rattle.std.proofs.Common.{◌≡◌, ℕ, suc, ◌+◌, ◌*◌, ◌<◌, ◌≤◌, List, [], ◌∷◌, ◌++◌, get_or, length, take, drop, sym, ap, ◌∙◌, arith}
+use Rattle.std.proofs.Math.Nat.{mul-le-mul_left}
 use Rattle.std.proofs.Math.Seq.{take-suc}
 use Rattle.std.proofs.lemmas.List.{map-append, take-append-drop}
-use Rattle.std.proofs.lemmas.List.Sums.{sum_by-append}
+use Rattle.std.proofs.lemmas.List.Sums.{sum_by-append, sum_by-cons}
 use Rattle.sizes_doc.specs.declared.size.Size.{Size}
 use Rattle.fleet_place.specs.Held.{count_of, load_of, sizes_in}
 use Rattle.fleet_place.specs.declared.vm.Vm.{Vm}
@@ -14,6 +15,17 @@ load_push vms vm = omega (arith, sum_by-append (λ (v : Vm). v.demand) vms (vm �
 pub count_push : (vms : List Vm) (vm : Vm)
     → count_of (vms ++ vm ∷ []) ≡ count_of vms + vm.size.machines * vm.size.vcpus
 count_push vms vm = omega (arith, sum_by-append (λ (v : Vm). v.size.machines * v.size.vcpus) vms (vm ∷ []))
+
+-- each VM has a vCPU
+pub length_count : (vms : List Vm) → length vms ≤ count_of vms
+length_count [] = omega arith
+length_count (vm ∷ vms) = omega (
+  arith,
+  length_count vms,
+  sum_by-cons (λ (v : Vm). v.size.machines * v.size.vcpus) vm vms,
+  mul-le-mul_left vm.size.machines vm.size.some_vcpus,
+  vm.size.some_machines,
+)
 
 -- some of them take no more than all
 pub load_take : (k : ℕ) (vms : List Vm) → load_of (take k vms) ≤ load_of vms

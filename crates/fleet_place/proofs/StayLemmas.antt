@@ -1,5 +1,5 @@
 -- What stays and what moves.
-use Rattle.std.proofs.Common.{◌≡◌, ℕ, ◌≤◌, List, [], ◌∷◌, ◌++◌, length, map, refl, sym, ap, subst, ◌∙◌, append-nil}
+use Rattle.std.proofs.Common.{◌≡◌, ℕ, ◌≤◌, List, [], ◌∷◌, ◌++◌, length, map, refl, sym, ap, ◌∙◌, append-nil}
 use Rattle.std.specs.Prelude.{All, IsPermutation}
 use Rattle.std.specs.List.{flat_map}
 use Rattle.std.proofs.lemmas.Grind.{flat_map-append}
@@ -9,7 +9,7 @@ use Rattle.std.proofs.lemmas.List.Elements.{All-nil, All-push}
 use Rattle.std.proofs.lemmas.List.Sorted.{IsPermutation-append, IsPermutation-append_comm, IsPermutation-refl, IsPermutation-trans}
 use Rattle.fleet_place.specs.Fits.{Fits}
 use Rattle.fleet_place.specs.Held.{Held, all_held}
-use Rattle.fleet_place.specs.Stays.{IsStay, NextHost, NoHost, Stay}
+use Rattle.fleet_place.specs.Stays.{NextHost, NoHost, Stay}
 use Rattle.fleet_place.specs.declared.group.Group.{Group}
 use Rattle.fleet_place.specs.declared.vm.Vm.{Vm}
 

@@ -1,6 +1,6 @@
 -- Whether VMs fit a host together. The planner answers, and no formula beside it.
 -- Source: the limits are those of a host document, and the plans and refusals those of `plan_make`.
-use Rattle.std.specs.Prelude.{◌≡◌, ℕ, ◌+◌, ◌*◌, ◌<◌, ◌≤◌, List, [], ◌∷◌, ◌++◌, map}
+use Rattle.std.specs.Prelude.{◌≡◌, ℕ, ◌*◌, ◌<◌, ◌≤◌, List, map}
 use Rattle.tab_core.specs.declared.TheConstants.{MAX_VCPUS, ROUND}
 use Rattle.tab_core.specs.declared.host.Host.{Host}
 use Rattle.sizes_doc.specs.SizedHost.{IsHostOf, sizes_vcpus}

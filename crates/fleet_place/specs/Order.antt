@@ -1,5 +1,5 @@
 -- The order in which VMs are dealt to hosts: by falling demand, and at ties by number.
-use Rattle.std.specs.Prelude.{◌≡◌, ℕ, ◌+◌, ◌<◌, ◌≤◌, List, IsPermutation, length, Some, slice_get}
+use Rattle.std.specs.Prelude.{◌≡◌, ℕ, ◌+◌, ◌≤◌, List, IsPermutation, Some, slice_get}
 use Rattle.fleet_place.specs.declared.vm.Vm.{Vm}
 
 -- the VM comes no later than the other: it takes more, or as much and has no higher number

@@ -1,8 +1,8 @@
-ghost use Rattle.std.specs.Prelude.{◌≡◌, ◌+◌, ◌*◌, ◌<◌, ◌≤◌, None, IfNone, IfOk, IfSome, IsSomeAnd, OnOk, Some, false, true, length, slice_get, slice_set};
+ghost use Rattle.std.specs.Prelude.{◌≡◌, ◌+◌, ◌*◌, ◌<◌, ◌≤◌, None, IfNone, IfOk, IfSome, IsSomeAnd, OnOk, Some, false, true, length, replicate, slice_get, slice_set};
 ghost use Rattle.tab_core.specs.declared.TheConstants.{MAX_TICK_NS, MAX_VCPUS, MIN_TICK_NS, ROUND};
 ghost use Rattle.fleet_place.specs.Deals.{Deal, IsFullest, Joins, JoinsNone, JoinsNot, with_vm};
 ghost use Rattle.fleet_place.specs.Held.{Held, count_of, load_of, room_of};
-ghost use Rattle.fleet_place.specs.Inside.Memory.{IsAlike, IsRefusedBeside, KnowsRefusals};
+ghost use Rattle.fleet_place.specs.Inside.Memory.{IsAlike, IsRefusedBeside, IsTurn, KnowsRefusals};
 
 use crate::ask::{is_accepted, sizes_with};
 use crate::fault::PlaceFault;
@@ -25,15 +25,60 @@ pub(crate) fn deal<'a, R: Threads + Sync>(
     requires most_tick { tick_ns ≤ MAX_TICK_NS }
     ensures { IfOk result (λ left. Deal tick_ns hosts.old order.now hosts.new left.items) }
 {
-    let mut refused = vec![in alloc; None; hosts.len()]?;
+    let mut refused = nothing_refused(alloc, hosts.len())?;
+    deal_all(rt, alloc, tick_ns, hosts, &mut refused, order)
+}
+
+// No size was refused at any host yet.
+fn nothing_refused<'a>(alloc: Global, hosts: usize) -> Result<Vec<Option<Size<'a>>>, NoMemory>
+    ensures { IfOk result (λ refused. refused.items ≡ replicate hosts None) }
+{
+    Ok(vec![in alloc; None; hosts]?)
+}
+
+// Deals the VMs, where these sizes were refused at the hosts.
+fn deal_all<'a, R: Threads + Sync>(
+    rt: &R,
+    alloc: Global,
+    tick_ns: u32,
+    hosts: &mut [FleetHost<'a>],
+    refused: &mut [Option<Size<'a>>],
+    order: &[Vm<'a>],
+) -> Result<Vec<Vm<'a>>, PlaceFault>
+    requires least_tick { MIN_TICK_NS ≤ tick_ns }
+    requires most_tick { tick_ns ≤ MAX_TICK_NS }
+    requires sizes { length refused.old ≡ length hosts.old }
+    requires known { KnowsRefusals tick_ns hosts.old refused.old }
+    ensures { IfOk result (λ left. Deal tick_ns hosts.old order.now hosts.new left.items) }
+{
     let mut left = Vec::new(alloc);
     for vm in order {
-        match fullest(rt, alloc, tick_ns, hosts, &mut refused, vm)? {
-            Some(number) => push_to(hosts, &mut refused, number, vm)?,
-            None => left.push(*vm)?,
-        }
+        deal_next(rt, alloc, tick_ns, hosts, refused, &mut left, vm)?;
     }
     Ok(left)
+}
+
+// Deals one VM: to the fullest host that it fits, or else to those that are left over.
+fn deal_next<'a, R: Threads + Sync>(
+    rt: &R,
+    alloc: Global,
+    tick_ns: u32,
+    hosts: &mut [FleetHost<'a>],
+    refused: &mut [Option<Size<'a>>],
+    left: &mut Vec<Vm<'a>>,
+    vm: &Vm<'a>,
+) -> Result<(), PlaceFault>
+    requires least_tick { MIN_TICK_NS ≤ tick_ns }
+    requires most_tick { tick_ns ≤ MAX_TICK_NS }
+    requires sizes { length refused.old ≡ length hosts.old }
+    requires known { KnowsRefusals tick_ns hosts.old refused.old }
+    ensures { OnOk result (IsTurn tick_ns vm.now hosts.old left.old.items hosts.new left.new.items refused.new) }
+{
+    match fullest(rt, alloc, tick_ns, hosts, refused, vm)? {
+        Some(number) => push_to(hosts, refused, number, vm)?,
+        None => left.push(*vm)?,
+    }
+    Ok(())
 }
 
 // Adds a VM to the host of a number, and forgets what was refused there.

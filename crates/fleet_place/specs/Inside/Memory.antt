@@ -1,8 +1,10 @@
 -- The sizes that the planner refused beside the VMs of a host.
-use Rattle.std.specs.Prelude.{◌≡◌, ℕ, ◌++◌, [], ◌∷◌, List, Option, Some, slice_get}
+use Rattle.std.specs.Prelude.{◌≡◌, ℕ, ◌++◌, [], ◌∷◌, List, Option, Some, length, slice_get}
 use Rattle.sizes_doc.specs.declared.size.Size.{Size}
+use Rattle.fleet_place.specs.Deals.{Deal}
 use Rattle.fleet_place.specs.Fits.{IsRefused}
 use Rattle.fleet_place.specs.Held.{Held, sizes_in}
+use Rattle.fleet_place.specs.declared.vm.Vm.{Vm}
 
 -- sizes that ask for the same reservations
 pub record IsAlike (one other : Size) : Type 0 where
@@ -18,3 +20,11 @@ IsRefusedBeside tick held size = IsRefused tick held.cores (sizes_in held.vms ++
 abbrev pub KnowsRefusals : ℕ → List Held → List (Option Size) → Type 0
 KnowsRefusals tick hosts refused = (k : ℕ) (held : Held) (size : Size) → slice_get hosts k ≡ Some held
     → slice_get refused k ≡ Some (Some size) → IsRefusedBeside tick held size
+
+-- one VM is dealt, which leads from these hosts and left-over VMs to those, and what is known of refusals holds still
+pub record IsTurn (tick : ℕ) (vm : Vm) (hosts : List Held) (left : List Vm) (hosts' : List Held) (left' : List Vm)
+    (refused : List (Option Size)) : Type 0 where
+  pub many : length refused ≡ length hosts'
+  pub knows : KnowsRefusals tick hosts' refused
+  pub dealt : (start : List Held) (order : List Vm) → Deal tick start order hosts left
+      → Deal tick start (order ++ vm ∷ []) hosts' left'

@@ -1,7 +1,4 @@
-use Rattle.std.proofs.Common.{◌≡◌, ℕ, ◌<◌, ◌≤◌, ◌⊎◌, Some, length}
-use Rattle.std.specs.Prelude.{IfNone, IfSome, slice_get}
-use Rattle.fleet_place.specs.Deals.{Joins, JoinsNot}
-use Rattle.fleet_place.specs.Held.{Held, room_of}
+use Rattle.std.proofs.Common.{◌≡◌, length}
 use Rattle.fleet_place.specs.Inside.Memory.{KnowsRefusals}
 use Rattle.fleet_place.proofs.FullestLemmas.{BestSoFar}
 use Rattle.fleet_place.proofs.deal.fullest.Given as goal

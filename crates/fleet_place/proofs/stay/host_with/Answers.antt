@@ -1,4 +1,4 @@
-use Rattle.std.proofs.Common.{◌≡◌, ◌+◌, List, ap, sym, ◌∙◌, arith}
+use Rattle.std.proofs.Common.{◌+◌, List, ap, sym, ◌∙◌, arith}
 use Rattle.std.proofs.lemmas.List.{take_all}
 use Rattle.fleet_place.specs.Deals.{with_vm}
 use Rattle.fleet_place.specs.Held.{Held}

@@ -1,5 +1,4 @@
 use Rattle.std.proofs.Common.{◌≡◌, take}
-use Rattle.fleet_place.specs.Held.{Held}
 use Rattle.fleet_place.proofs.stay.host_with.Given as goal
 
 -- the VMs so far are on the host
