@@ -47,7 +47,7 @@ accepted_whole host tasks placed are placement none (NoRoom vcpu rest over stuck
     never stuck.stuck.before vcpu stuck.stuck.after
     (sym none ∙ sym (ap (λ (p : Placed). p.left) one) ∙ stuck.stuck.left_is)
 
--- nor is it where planning finds neither a first vCPU without room nor one without period
+-- planning is not refused either where it finds neither a first vCPU without room nor one without period
 pub accepted_by : (host : Host) (tasks : List (Option Periodic)) → AreTasksOf host tasks
     → ((vcpu rest : ℕ) (over : List Over) → IsFirstWithoutRoom host vcpu rest over → ⊥) → HasNoPlan host → ⊥
 accepted_by host tasks are room (NoPeriod vcpu first) = none_without_period host tasks vcpu are first

@@ -25,7 +25,7 @@ one_more : {X : Type 0} (f : X → List Vm) (xs : List X) (x : X) → flat_map f
 one_more f xs x = flat_map-append f xs (x ∷ [])
     ∙ ap (λ ys. flat_map f xs ++ ys) (flat_map-cons f x [] ∙ append-nil (f x))
 
--- what goes behind one part may go behind the next
+-- what comes after one part may come after the next
 shuffle : (a b c d : List Vm) → IsPermutation ((a ++ b) ++ (c ++ d)) ((a ++ c) ++ (b ++ d))
 shuffle a b c d =
     let left : (a ++ b) ++ (c ++ d) ≡ a ++ ((b ++ c) ++ d) =

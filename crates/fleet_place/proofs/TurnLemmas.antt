@@ -91,7 +91,7 @@ stay_more tick groups n group hosts moved held mine low at before is =
     ∙ ap (λ (x : Group). take n groups ++ x ∷ []) (sym at)) in
     rw more (NextHost (take n groups) hosts moved group held mine before is)
 
--- the VMs before a place, and the first of those behind it
+-- the VMs before a place, and the first of those after it
 take_parts : {X : Type 0} (xs front more rest : List X) → xs ≡ front ++ (more ++ rest)
     → take (length front + length more) xs ≡ front ++ more
 take_parts xs front more rest is =

@@ -9,7 +9,7 @@ use Rattle.size_fit.specs.Fits.{HasNoPlan}
 use Rattle.fleet_place.specs.Held.{count_of, load_of, sizes_in}
 use Rattle.fleet_place.specs.declared.vm.Vm.{Vm}
 
--- the sizes make a host of so many cores, and planning it is refused neither for want of a period nor of room
+-- the sizes make a host of so many cores, and planning it is not refused: each vCPU has a period, and there is room
 pub record IsAccepted (tick cores : ℕ) (sizes : List Size) : Type 0 where
   pub host : Host
   pub is : IsHostOf cores tick sizes host
