@@ -1,0 +1,32 @@
+-- The VMs on a host of a fleet, and what they take together.
+-- Source: the words are this project's own.
+use Rattle.std.specs.Prelude.{ℕ, ◌-◌, ◌*◌, List, map}
+use Rattle.std.specs.List.{flat_map, sum_by}
+use Rattle.tab_core.specs.declared.TheConstants.{ROUND}
+use Rattle.sizes_doc.specs.declared.size.Size.{Size}
+use Rattle.fleet_place.specs.declared.vm.Vm.{Vm}
+
+-- a host of so many cores, with its VMs in the order of its document
+pub record Held : Type 0 where
+  pub cores : ℕ
+  pub vms : List Vm
+
+-- the sizes of VMs
+abbrev pub sizes_in : List Vm → List Size
+sizes_in vms = map (λ vm. vm.size) vms
+
+-- the ticks of a round that VMs take
+abbrev pub load_of : List Vm → ℕ
+load_of vms = sum_by (λ vm. vm.demand) vms
+
+-- their vCPUs
+abbrev pub count_of : List Vm → ℕ
+count_of vms = sum_by (λ vm. vm.size.machines * vm.size.vcpus) vms
+
+-- the ticks of a round that a host's VMs leave
+abbrev pub room_of : Held → ℕ
+room_of held = held.cores * ROUND - load_of held.vms
+
+-- the VMs of all hosts, host by host
+abbrev pub all_held : List Held → List Vm
+all_held hosts = flat_map (λ held. held.vms) hosts

@@ -1,0 +1,89 @@
+ghost use Rattle.std.specs.Prelude.{◌≡◌, ℕ, ◌≤◌, ◌++◌, ◌⊎◌, false, true, [], ◌∷◌, IfErr, IfOk, List};
+ghost use Rattle.tab_core.specs.declared.TheConstants.{MAX_CORES, MAX_TICK_NS, MIN_TICK_NS};
+ghost use Rattle.sizes_doc.specs.SizedHost.{HasFault};
+ghost use Rattle.sizes_doc.specs.declared.fault.SizesFault.{SizesFault as SizesFaultValue};
+ghost use Rattle.sizes_doc.specs.declared.size.Size.{Size as SizeValue};
+ghost use Rattle.size_fit.specs.Fits.{HasNoPlan};
+ghost use Rattle.fleet_place.specs.Fits.{IsAccepted, IsRefused};
+ghost use Rattle.fleet_place.specs.Held.{sizes_in};
+ghost use Rattle.fleet_place.specs.declared.fault.PlaceFault.TheVariants.{NoHost, NoMemory};
+
+use crate::fault::PlaceFault;
+use crate::vm::Vm;
+use period_choice::{TaskFault, tasks_of};
+use plan_make::{PlanFault, plan_with};
+use sizes_doc::{Size, SizesFault, host_of_sizes};
+use std::alloc::{AllocError, Global};
+use std::thread::Threads;
+use tab_core::{Host, NoMemory};
+use worst_fit::place as place_on_cores;
+
+// Whether the sizes make a host that is planned. Where worst fit leaves no vCPU over, it is; otherwise the planner says.
+pub(crate) fn is_accepted<R: Threads + Sync>(
+    rt: &R,
+    alloc: Global,
+    tick_ns: u32,
+    cores: u32,
+    sizes: &[Size<'_>],
+) -> Result<bool, PlaceFault>
+    requires some_core { 1 ≤ cores }
+    requires few_cores { cores ≤ MAX_CORES }
+    requires least_tick { MIN_TICK_NS ≤ tick_ns }
+    requires most_tick { tick_ns ≤ MAX_TICK_NS }
+    ensures accepted { IfOk result (λ is. is ≡ true → IsAccepted tick_ns cores sizes.now) }
+    ensures refused { IfOk result (λ is. is ≡ false → IsRefused tick_ns cores sizes.now) }
+    ensures fault { IfErr result (λ fault. (fault ≡ NoMemory)
+        ⊎ ((why : SizesFaultValue) × (fault ≡ NoHost why) × HasFault sizes.now why)) }
+{
+    match host_of_sizes(alloc, cores, tick_ns, sizes) {
+        Ok(host) => Ok(has_plan(rt, alloc, &host)?),
+        Err(SizesFault::NoMemory) => Err(PlaceFault::NoMemory),
+        Err(fault) => Err(PlaceFault::NoHost(fault)),
+    }
+}
+
+// Whether the host has a plan.
+fn has_plan<R: Threads + Sync>(rt: &R, alloc: Global, host: &Host) -> Result<bool, NoMemory>
+    ensures planned { IfOk result (λ has. has ≡ true → HasNoPlan host.now → ⊥) }
+    ensures refused { IfOk result (λ has. has ≡ false → HasNoPlan host.now) }
+{
+    let tasks = match tasks_of(alloc, host) {
+        Ok(tasks) => tasks,
+        Err(TaskFault::NoPeriod { .. }) => return Ok(false),
+        Err(TaskFault::NoMemory) => return Err(AllocError),
+    };
+    let placed = place_on_cores(alloc, &tasks, host.cores)?;
+    if placed.left.items().is_empty() {
+        return Ok(true);
+    }
+    match plan_with(rt, alloc, host, tasks) {
+        Ok(_) => Ok(true),
+        Err(PlanFault::NoRoom { .. }) => Ok(false),
+        Err(PlanFault::NoPeriod { .. }) => Ok(false),
+        Err(PlanFault::NoMemory) => Err(AllocError),
+    }
+}
+
+// The sizes of VMs.
+pub(crate) fn sizes_of<'a>(alloc: Global, vms: &[Vm<'a>]) -> Result<Vec<Size<'a>>, NoMemory>
+    ensures { IfOk result (λ sizes. sizes.items ≡ sizes_in vms.now) }
+{
+    let mut sizes = Vec::with_capacity(alloc, vms.len())?;
+    for vm in vms {
+        sizes.push(vm.size)?;
+    }
+    Ok(sizes)
+}
+
+// The sizes of VMs, and that of one more after them.
+pub(crate) fn sizes_with<'a>(
+    alloc: Global,
+    vms: &[Vm<'a>],
+    vm: &Vm<'a>,
+) -> Result<Vec<Size<'a>>, NoMemory>
+    ensures { IfOk result (λ sizes. sizes.items ≡ sizes_in (vms.now ++ vm.now ∷ [])) }
+{
+    let mut sizes = sizes_of(alloc, vms)?;
+    sizes.push(vm.size)?;
+    Ok(sizes)
+}
