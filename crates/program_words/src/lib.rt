@@ -1,9 +1,10 @@
-//! The words that a program is called with: its own path, which stands before them, need not be text.
+//! The words that a program is called with: its own path, which is before them, need not be text. Besides, whether the
+//! pipe that a program writes to was closed at its other end.
 #![tactic(auto)]
 
 use std::alloc::Global;
 use std::env::{self, Env, FillError};
-use std::io;
+use std::io::{self, ErrorKind, Write};
 
 // The environment of a program whose own name is empty.
 #[derive(Clone, Copy)]
@@ -34,4 +35,14 @@ impl<R: Env> Env for Nameless<'_, R> {
 pub fn words<R: Env>(given: &R, alloc: Global) -> io::Result<Vec<String>> {
     let all = env::args(&(Nameless { given }, alloc))?;
     Ok(all.collect(alloc)?)
+}
+
+/// Whether the output, of which a write has failed, is a pipe that was closed at its other end, as by `head`.
+///
+/// The output's error was let go of by then, so one more line feed is written, of which a closed pipe takes nothing.
+pub fn is_closed_pipe<W: Write>(output: &mut W) -> bool {
+    match output.write(b"\n") {
+        Ok(_) => false,
+        Err(fault) => fault.kind() == ErrorKind::BrokenPipe,
+    }
 }

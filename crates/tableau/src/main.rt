@@ -1,11 +1,13 @@
 //! The program `tableau`: it answers its words by one call, over standard input and output, and
-//! tells on standard error what it reads from a terminal, and what to do about a refusal.
+//! tells on standard error what it reads from a terminal, and what to do about a refusal. Where the pipe that it
+//! writes to was closed, it tells nothing.
 #![tactic(auto)]
 
 mod progress;
 mod told;
 
 use advice::KeptSource;
+use program_words::is_closed_pipe;
 use progress::ProgressGate;
 use round_words::RoundBoard;
 use std::io::{self, BufWriter, ErrorKind, IsTerminal};
@@ -49,6 +51,9 @@ fn main(rt: HostRuntime) -> ExitCode {
         seat,
         &gate,
     );
-    tell(&rt.stderr(), rt.alloc(), words, input.kept(), &done.status);
+    let is_over = matches!(done.status, Status::WriteFault) && is_closed_pipe(&mut io::writer(&rt));
+    if !is_over {
+        tell(&rt.stderr(), rt.alloc(), words, input.kept(), &done.status);
+    }
     ExitCode::from(done.status.exit())
 }

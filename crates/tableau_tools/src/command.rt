@@ -129,7 +129,8 @@ fn export_command<'a>(alloc: Global) -> Result<Command<'a>, AllocError> {
         .arg(file_arg(alloc))?
         .arg(tick_arg(alloc))?
         .arg(first_cpu_arg(alloc))?
-        .arg(full_arg(alloc))
+        .arg(full_arg(alloc))?
+        .arg(map_arg(alloc))
 }
 
 // The form of an export.
@@ -162,11 +163,20 @@ fn full_arg<'a>(alloc: Global) -> Arg<'a> {
         .help("With deadline, all of a core, and not 95 percent: the lines tell the kernel so")
 }
 
+// Which vCPU of which guest each vCPU is.
+fn map_arg<'a>(alloc: Global) -> Arg<'a> {
+    Arg::new(alloc, "map").long("map").value_name("MAP").help(
+        "In lines for a scheduler, a file of lines NAME GUEST N for vCPUs whose names aren't GUEST.N",
+    )
+}
+
 // The words of `table`.
 fn table_command<'a>(alloc: Global) -> Result<Command<'a>, AllocError> {
     Command::new(alloc, "table")
         .about("Writes the shares, waits and loads of a plan, beside what its host asks for")
         .arg(rows_arg(alloc))?
+        .arg(json_arg(alloc))?
+        .arg(csv_arg(alloc))?
         .arg(file_arg(alloc))?
         .arg(tick_arg(alloc))
 }
@@ -219,6 +229,14 @@ fn json_arg<'a>(alloc: Global) -> Arg<'a> {
         .long("json")
         .action(ArgAction::SetTrue)
         .help("One JSON object in place of tables")
+}
+
+// Whether comma-separated values are written.
+fn csv_arg<'a>(alloc: Global) -> Arg<'a> {
+    Arg::new(alloc, "csv")
+        .long("csv")
+        .action(ArgAction::SetTrue)
+        .help("A line of comma-separated values for each vCPU, in place of tables")
 }
 
 // The trace to judge.
@@ -301,6 +319,5 @@ fn tick_arg<'a>(alloc: Global) -> Arg<'a> {
         .long("tick")
         .value_name("NS")
         .value_parser(value_parser!(u32).range(i64::from(MIN_TICK_NS)..=i64::from(MAX_TICK_NS)))
-        .default_value("1001")
-        .help("Nanoseconds of a tick")
+        .help("Nanoseconds of a tick; without it, 1001")
 }

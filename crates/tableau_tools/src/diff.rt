@@ -2,26 +2,34 @@ ghost use Rattle.std.specs.Prelude.{◌≤◌, length};
 ghost use Rattle.tab_core.specs.declared.TheConstants.{MAX_VCPUS};
 
 use crate::fault::Fault;
-use crate::input::input_of;
 use crate::output::{finish, output_of};
-use crate::plan::plan_of;
+use crate::planned::{planned_of, tick_of};
 use clap::ArgMatches;
-use tab_core::TICK_NS;
+use std::alloc::Global;
 use tab_io::{MemSink, write_all};
 use view_doc::View;
-use view_table::{figures_of, write_diff};
+use view_table::{figures_of, write_diff, write_sums};
 
 // More bytes than what differs between two plans takes.
 const ROOM: usize = 1_048_576;
 
-/// Does `diff`: it writes what differs between two plans, and says whether anything does.
+/// Does `diff`: it reads two plans, each alone or beside its host, writes what differs between them, and says whether
+/// anything does.
 pub(crate) fn diff(rt: &HostRuntime, matches: &ArgMatches<'_>) -> Result<bool, Fault> {
-    let old = input_of(rt, matches.get_str("OLD"))?;
-    let old = plan_of(rt.alloc(), &old.place, &old.bytes)?;
-    let new = input_of(rt, matches.get_str("NEW"))?;
-    let new = plan_of(rt.alloc(), &new.place, &new.bytes)?;
-    let tick_ns = matches.get_one::<u32>("tick").unwrap_or(TICK_NS);
-    put_differences(rt, &old, &new, tick_ns)
+    let old = planned_of(rt, matches.get_str("OLD"))?;
+    let new = planned_of(rt, matches.get_str("NEW"))?;
+    let host_tick = shared_tick(old.tick_ns(), new.tick_ns())?;
+    let tick_ns = tick_of(rt, matches, host_tick);
+    put_differences(rt, &old.view, &new.view, tick_ns)
+}
+
+// Nanoseconds of a tick of the hosts, if there is one, which is the same of both.
+fn shared_tick(old: Option<u32>, new: Option<u32>) -> Result<Option<u32>, Fault> {
+    match (old, new) {
+        (Some(old), Some(new)) if old != new => Err(Fault::OtherTick { old, new }),
+        (Some(tick_ns), _) | (None, Some(tick_ns)) => Ok(Some(tick_ns)),
+        (None, None) => Ok(None),
+    }
 }
 
 // Writes what differs, and says whether anything does.
@@ -29,14 +37,31 @@ fn put_differences(rt: &HostRuntime, old: &View, new: &View, tick_ns: u32) -> Re
     requires old { length old.now.tasks.items ≤ MAX_VCPUS }
     requires new { length new.now.tasks.items ≤ MAX_VCPUS }
 {
-    let old_figures = figures_of(rt.alloc(), old)?;
-    let new_figures = figures_of(rt.alloc(), new)?;
-    let Ok(mut text) = MemSink::with_room(rt.alloc(), ROOM) else {
+    let text = differences_of(rt.alloc(), old, new, tick_ns)?;
+    put_text(rt, text.bytes())?;
+    Ok(!text.bytes().is_empty())
+}
+
+/// What differs between two plans, and after it the sums, if anything does.
+pub(crate) fn differences_of(
+    alloc: Global,
+    old: &View,
+    new: &View,
+    tick_ns: u32,
+) -> Result<MemSink, Fault>
+    requires old { length old.now.tasks.items ≤ MAX_VCPUS }
+    requires new { length new.now.tasks.items ≤ MAX_VCPUS }
+{
+    let old_figures = figures_of(alloc, old)?;
+    let new_figures = figures_of(alloc, new)?;
+    let Ok(mut text) = MemSink::with_room(alloc, ROOM) else {
         return Err(Fault::NoMemory);
     };
     write_diff(&mut text, old, &old_figures, new, &new_figures, tick_ns)?;
-    put_text(rt, text.bytes())?;
-    Ok(!text.bytes().is_empty())
+    if !text.bytes().is_empty() {
+        write_sums(&mut text, old, &old_figures, new, &new_figures)?;
+    }
+    Ok(text)
 }
 
 // Writes a text to standard output.

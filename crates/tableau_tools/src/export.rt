@@ -1,8 +1,7 @@
 use crate::fault::Fault;
-use crate::input::input_of;
 use crate::lines::{Form, export_lines};
 use crate::output::{finish, output_of};
-use crate::plan::view_of;
+use crate::planned::{shown_of, tick_of};
 use clap::ArgMatches;
 use tab_core::{MAX_TICK_NS, TICK_NS};
 use tab_io::{Sink, WriteFault};
@@ -29,10 +28,12 @@ fn export_view(
     matches: &ArgMatches<'_>,
     format: Option<&str>,
 ) -> Result<(), Fault> {
-    let input = input_of(rt, matches.get_str("FILE"))?;
-    let view = view_of(rt.alloc(), input)?;
+    let (view, host_tick) = shown_of(rt, matches.get_str("FILE"))?;
+    let tick_ns = match format {
+        Some("csv") => TICK_NS,
+        _ => tick_of(rt, matches, host_tick),
+    };
     let mut sink = output_of(rt)?;
-    let tick_ns = matches.get_one::<u32>("tick").unwrap_or(TICK_NS);
     put_view(&mut sink, format, &view, tick_ns)?;
     finish(&mut sink)
 }

@@ -73,6 +73,16 @@ pub(crate) enum Fault {
         place: String,
         fault: Refusal,
     },
+    #[error("{place}line {line} of the map isn't NAME GUEST NUMBER, as: mail web 0, or names a vCPU again: '{text}'")]
+    BadMapLine {
+        place: String,
+        line: u32,
+        text: String,
+    },
+    #[error("by the map two vCPUs are {name}; give each its own number of its guest")]
+    SameGuest {
+        name: String,
+    },
     #[error("{place}line {line} is %%, which parts sections")]
     HasSeparator {
         place: String,
@@ -91,12 +101,19 @@ pub(crate) enum Fault {
     ReadFault {
         place: String,
     },
+    #[error("the hosts have ticks of {old} and {new} ns, so their times can't be compared; give the plans without them")]
+    OtherTick {
+        old: u32,
+        new: u32,
+    },
     #[error("a word of the command isn't text")]
     NoText,
     #[error("the cores or vCPUs aren't of the form FIRST-LAST")]
     BadLanes,
     #[error("--cores chooses lanes of cores, and --vcpus those of --by vcpu")]
     OtherLanes,
+    #[error("--json, --csv and --by vm are three forms of a table: name one")]
+    OtherForms,
     #[error("a text has lines of cores: --text doesn't go with --by vcpu")]
     TextByVcpu,
     #[error("a picture is 200 to 8000 pixels wide")]
@@ -118,6 +135,7 @@ impl Fault {
             Fault::NoText
             | Fault::BadLanes
             | Fault::OtherLanes
+            | Fault::OtherForms
             | Fault::TextByVcpu
             | Fault::TooNarrow => 1,
             Fault::Unread { .. } | Fault::ReadFault { .. } => 4,

@@ -3,6 +3,7 @@ ghost use Rattle.tab_core.specs.declared.TheConstants.{MAX_VCPUS};
 
 use crate::fault::Fault;
 use crate::input::{Input, input_of};
+use crate::map::{rename, renamed, renamings_of};
 use crate::output::{finish, output_of};
 use crate::plan::{host_of, plan_of};
 use crate::unkept::Refusal;
@@ -11,7 +12,7 @@ use host_lines::{
     Scheduler, Unkept, unkept_of, unlike_of, write_cgroup, write_deadline, write_libvirt,
     write_rtds,
 };
-use tab_core::Host;
+use tab_core::Vcpu;
 use tab_io::{Sink, WriteFault};
 use tab_words::cut_sections;
 use view_doc::View;
@@ -43,7 +44,8 @@ impl Form {
     }
 }
 
-/// Does `export` for a scheduler: it reads a host and its plan, and writes the lines that put the plan's vCPUs there.
+/// Does `export` for a scheduler: it reads a host and its plan, and writes the lines that put the plan's vCPUs there, by
+/// the names that a map gives them where one is named.
 pub(crate) fn export_lines(
     rt: &HostRuntime,
     matches: &ArgMatches<'_>,
@@ -58,26 +60,29 @@ pub(crate) fn export_lines(
         });
     }
     let host = host_of(rt.alloc(), &place, sections.part(0))?;
-    let view = plan_of(rt.alloc(), &place, sections.part(1))?;
-    if let Some(fault) = refused(form, &host, &view) {
+    let mut view = plan_of(rt.alloc(), &place, sections.part(1))?;
+    let renamings = renamings_of(rt, matches.get_str("map"))?;
+    rename(rt.alloc(), &renamings, &mut view.names)?;
+    let vcpus = renamed(rt.alloc(), &renamings, host.vcpus.items())?;
+    if let Some(fault) = refused(form, host.tick_ns, &vcpus, &view) {
         let fault = Refusal::of(rt.alloc(), &fault, &view)?;
         return Err(Fault::Unkept { place, fault });
     }
     let first_cpu = matches.get_one::<u32>("first-cpu").unwrap_or(0);
     let mut sink = output_of(rt)?;
-    put_lines(&mut sink, form, first_cpu, &host, &view)?;
+    put_lines(&mut sink, form, first_cpu, host.tick_ns, &vcpus, &view)?;
     finish(&mut sink)
 }
 
 // Why the plan isn't put there, if it isn't.
-fn refused(form: Form, host: &Host, view: &View) -> Option<Unkept>
+fn refused(form: Form, tick_ns: u32, vcpus: &[Vcpu], view: &View) -> Option<Unkept>
     requires { length view.now.tasks.items ≤ MAX_VCPUS }
 {
-    if let Some(fault) = unkept_of(form.scheduler(), host.tick_ns, host.vcpus.items(), view) {
+    if let Some(fault) = unkept_of(form.scheduler(), tick_ns, vcpus, view) {
         return Some(fault);
     }
     match form {
-        Form::Libvirt => unlike_of(host.tick_ns, view),
+        Form::Libvirt => unlike_of(tick_ns, view),
         Form::Rtds | Form::Deadline | Form::FullDeadline | Form::Cgroup => None,
     }
 }
@@ -87,12 +92,12 @@ fn put_lines<K: Sink>(
     sink: &mut K,
     form: Form,
     first_cpu: u32,
-    host: &Host,
+    tick_ns: u32,
+    vcpus: &[Vcpu],
     view: &View,
 ) -> Result<(), WriteFault> {
-    let tick_ns = host.tick_ns;
     match form {
-        Form::Rtds => write_rtds(sink, first_cpu, tick_ns, host.vcpus.items(), view),
+        Form::Rtds => write_rtds(sink, first_cpu, tick_ns, vcpus, view),
         Form::Deadline | Form::FullDeadline => {
             write_deadline(sink, form.scheduler(), first_cpu, tick_ns, view)
         }

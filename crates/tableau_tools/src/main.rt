@@ -15,9 +15,11 @@ mod host;
 mod input;
 mod judge;
 mod lines;
+mod map;
 mod mistaken;
 mod output;
 mod plan;
+mod planned;
 mod sections;
 mod shown;
 mod table;
@@ -26,6 +28,7 @@ mod unkept;
 use clap::error::ErrorKind;
 use clap::{ArgMatches, Error};
 use fault::Fault;
+use program_words::is_closed_pipe;
 use std::io;
 use std::process::ExitCode;
 use std::thread::Threads;
@@ -65,10 +68,13 @@ fn answers(words: &[String]) -> bool {
     }
 }
 
-// Says why a command doesn't end well, and gives the status.
+// Says why a command doesn't end well, and gives the status. Where the pipe that it writes to was closed, nothing is said.
 fn refusal(rt: &HostRuntime, fault: &Fault) -> u8 {
-    // (where the line can't be written, the status says it)
-    let _ = eprintln!(rt; "tableau-tools: {fault}");
+    let is_over = matches!(fault, Fault::WriteFault) && is_closed_pipe(&mut io::writer(rt));
+    if !is_over {
+        // (where the line can't be written, the status says it)
+        let _ = eprintln!(rt; "tableau-tools: {fault}");
+    }
     fault.status()
 }
 

@@ -11,15 +11,16 @@ use view_doc::{ReadView, View, read_view};
 
 /// What a text shows: a plan, a replay or a trace, or a plan and one of these.
 pub(crate) fn view_of(alloc: Global, input: Input) -> Result<View, Fault> {
-    match read_view(alloc, &input.bytes) {
+    view_in(alloc, &input.place, &input.bytes)
+}
+
+/// The same of bytes. The place is that of a fault.
+pub(crate) fn view_in(alloc: Global, place: &str, bytes: &[u8]) -> Result<View, Fault>
+    requires { length bytes.now < 2 ^ 31 }
+{
+    match read_view(alloc, bytes) {
         Ok(view) => Ok(view),
-        Err(ReadView::BadLine { line }) => Err(bad_line(
-            alloc,
-            &input.place,
-            &input.bytes,
-            line,
-            Wanted::View,
-        )),
+        Err(ReadView::BadLine { line }) => Err(bad_line(alloc, place, bytes, line, Wanted::View)),
         Err(ReadView::NoMemory) => Err(Fault::NoMemory),
     }
 }

@@ -2,40 +2,59 @@ ghost use Rattle.std.specs.Prelude.{◌≤◌, length};
 ghost use Rattle.tab_core.specs.declared.TheConstants.{MAX_CORES, MAX_VCPUS};
 
 use crate::fault::Fault;
-use crate::input::{Input, input_of};
 use crate::output::{finish, output_of};
-use crate::plan::{host_of, plan_of};
+use crate::planned::{Planned, planned_of, tick_of};
+use crate::shown::shown;
 use clap::ArgMatches;
-use tab_core::{TICK_NS, Vcpu};
-use tab_words::cut_sections;
-use view_doc::View;
-use view_table::{figures_of, write_table, write_vm_table};
+use std::alloc::AllocError;
+use std::io::IsTerminal;
+use tab_core::{Vcpu, WHOLE_PPM};
+use view_doc::{Task, View};
+use view_table::{figures_of, write_table, write_table_csv, write_table_json, write_vm_table};
+
+// A share below this, in parts per million, is rarely what was meant.
+const SMALL_PPM: u64 = 1000;
+
+// What is written of a plan.
+#[derive(Clone, Copy)]
+enum Form {
+    // Tables, with a row for each vCPU.
+    ByVcpu,
+    // Tables, with a row for each VM.
+    ByVm,
+    // JSON.
+    Json,
+    // Comma-separated values.
+    Csv,
+}
 
 /// Does `table`: it reads a plan, or a host and its plan, and writes their tables.
 pub(crate) fn table(rt: &HostRuntime, matches: &ArgMatches<'_>) -> Result<(), Fault> {
-    let by = matches.get_str("by");
-    let Input { place, bytes } = input_of(rt, matches.get_str("FILE"))?;
-    let sections = cut_sections(&bytes);
-    if sections.count() == 2 {
-        let host = host_of(rt.alloc(), &place, sections.part(0))?;
-        let view = plan_of(rt.alloc(), &place, sections.part(1))?;
-        return put_tables(rt, by, Some(host.vcpus.items()), &view, host.tick_ns);
+    let form = form_of(matches)?;
+    let Planned { host, view } = planned_of(rt, matches.get_str("FILE"))?;
+    match host {
+        Some(host) => put_tables(rt, form, Some(host.vcpus.items()), &view, host.tick_ns)?,
+        None => put_tables(rt, form, None, &view, tick_of(rt, matches, None))?,
     }
-    if sections.count() != 1 {
-        return Err(Fault::BadSections {
-            place,
-            count: sections.count(),
-        });
-    }
-    let view = plan_of(rt.alloc(), &place, sections.part(0))?;
-    let tick_ns = matches.get_one::<u32>("tick").unwrap_or(TICK_NS);
-    put_tables(rt, by, None, &view, tick_ns)
+    Ok(tell_small(rt, &view)?)
 }
 
-// Writes the tables to standard output, with a row for each vCPU or for each VM.
+// What the words ask for.
+fn form_of(matches: &ArgMatches<'_>) -> Result<Form, Fault> {
+    let by_vm = matches.get_str("by") == Some("vm");
+    match (by_vm, matches.get_flag("json"), matches.get_flag("csv")) {
+        (false, false, false) => Ok(Form::ByVcpu),
+        (true, false, false) => Ok(Form::ByVm),
+        (false, true, false) => Ok(Form::Json),
+        (false, false, true) => Ok(Form::Csv),
+        _ => Err(Fault::OtherForms),
+    }
+}
+
+// Writes the tables to standard output.
 fn put_tables(
     rt: &HostRuntime,
-    by: Option<&str>,
+    form: Form,
     host: Option<&[Vcpu]>,
     view: &View,
     tick_ns: u32,
@@ -45,9 +64,35 @@ fn put_tables(
 {
     let figures = figures_of(rt.alloc(), view)?;
     let mut sink = output_of(rt)?;
-    match by {
-        Some("vm") => write_vm_table(&mut sink, host, view, &figures, tick_ns)?,
-        _ => write_table(&mut sink, host, view, &figures, tick_ns)?,
+    match form {
+        Form::ByVcpu => write_table(&mut sink, host, view, &figures, tick_ns)?,
+        Form::ByVm => write_vm_table(&mut sink, host, view, &figures, tick_ns)?,
+        Form::Json => write_table_json(&mut sink, host, view, &figures, tick_ns)?,
+        Form::Csv => write_table_csv(&mut sink, host, view, &figures, tick_ns)?,
     }
     finish(&mut sink)
+}
+
+// Tells a terminal the first vCPU whose share is so small that another unit may have been meant.
+fn tell_small(rt: &HostRuntime, view: &View) -> Result<(), AllocError> {
+    if !rt.stderr().is_terminal() {
+        return Ok(());
+    }
+    for (task, name) in view.tasks.iter().zip(&view.names) {
+        if is_small(task) {
+            let name = shown(rt.alloc(), name.bytes())?;
+            // (a line that can't be written is left out)
+            let _ = eprintln!(rt;
+                "tableau-tools: vcpu {name} has less than 0.1 percent of a core; share_ppm = 250000 is 25 percent"
+            );
+            return Ok(());
+        }
+    }
+    Ok(())
+}
+
+// Whether the share is below 0.1 percent of a core.
+fn is_small(task: &Task) -> bool {
+    task.period != 0
+        && u64::from(task.cost) * u64::from(WHOLE_PPM) / u64::from(task.period) < SMALL_PPM
 }

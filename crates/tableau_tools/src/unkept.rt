@@ -57,7 +57,7 @@ impl fmt::Display for Refusal {
         match self.fault {
             Unkept::NoGuest(v) => write!(
                 f,
-                "the name of vcpu {} ({name}) isn't GUEST.NUMBER, as web.0 is",
+                "the name of vcpu {} ({name}) isn't GUEST.NUMBER, as web.0 is; --map names its guest",
                 v.0
             ),
             Unkept::NoTask(v) => write!(

@@ -1,7 +1,7 @@
 use Rattle.std.proofs.Common.{◌≡◌, [], slice_index_or, arith}
 use Rattle.tab_words.specs.Sections.{sections_of}
 use Rattle.tab_words.proofs.SectionSizeLemmas.{section_size}
-use Rattle.tableau_tools.proofs.table.table.Goals as goal
+use Rattle.tableau_tools.proofs.planned.planned_of.Goals as goal
 
 pub plan_of-requires : goal.plan_of-requires
 plan_of-requires c =
