@@ -58,7 +58,7 @@ pub(crate) fn planned_of(rt: &HostRuntime, path: Option<&str>) -> Result<Planned
 pub(crate) fn shown_of(rt: &HostRuntime, path: Option<&str>) -> Result<(View, Option<u32>), Fault> {
     let Input { place, bytes } = input_of(rt, path)?;
     let sections = cut_sections(&bytes);
-    if sections.count() == 1 || sections.part(0).starts_with(b"plan ") {
+    if sections.count() < 2 || sections.part(0).starts_with(b"plan ") {
         return Ok((view_in(rt.alloc(), &place, &bytes)?, None));
     }
     let document = sections.part(0);

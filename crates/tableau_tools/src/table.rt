@@ -93,5 +93,6 @@ fn tell_small(rt: &HostRuntime, view: &View) -> Result<(), AllocError> {
 
 // Whether the share is below 0.1 percent of a core.
 fn is_small(task: &Task) -> bool {
-    u64::from(task.cost) * u64::from(WHOLE_PPM) < u64::from(task.period) * SMALL_PPM
+    task.period != 0
+        && u64::from(task.cost) * u64::from(WHOLE_PPM) / u64::from(task.period) < SMALL_PPM
 }
