@@ -24,7 +24,7 @@ complete -c tableau-tools -n '__tableau_tools_at chart' -l cores -x -d 'The core
 complete -c tableau-tools -n '__tableau_tools_at chart' -l vcpus -x -d 'With --by vcpu, the vCPUs to draw, by number from 0'
 complete -c tableau-tools -n '__tableau_tools_at chart' -l from -x -d 'The first tick to draw'
 complete -c tableau-tools -n '__tableau_tools_at chart' -l to -x -d 'The tick that ends what is drawn'
-complete -c tableau-tools -n '__tableau_tools_at chart' -l width -x -d 'Pixels of a picture\'s width, 200 to 8000, and 1160 without it, or columns of a text, 76 without it'
+complete -c tableau-tools -n '__tableau_tools_at chart' -l width -x -d 'Pixels of a picture\'s width, 200 to 8000, and 1500 without it, or columns of a text, 76 without it'
 complete -c tableau-tools -n '__tableau_tools_at chart' -l tick -x -d 'Nanoseconds of a tick'
 complete -c tableau-tools -n '__tableau_tools_at chart' -l help -d 'Print help'
 complete -c tableau-tools -n '__tableau_tools_at diff' -l tick -x -d 'Nanoseconds of a tick'

@@ -1,6 +1,6 @@
 -- A lane: a path of boxes for each key, which is a vCPU on a core's lane and a core on a vCPU's, and each way of
--- running, and the names that fit; on a vCPU's lane of a plan also its longest wait.
-use Rattle.std.specs.Prelude.{ℕ, ◌+◌, ◌-◌, ◌*◌, ◌/◌, ◌%◌, ◌==◌, ◌&&◌, ◌++◌, nat_le, nat_lt, Bool, true, false, not, List, [], codes, decimal, flat_map, if◌then◌else◌, length, max, min, slice_index, Option, Some, None, slice_get}
+-- running, and the names that fit; on a vCPU's lane of a plan also its longest wait and the one that was promised.
+use Rattle.std.specs.Prelude.{ℕ, ◌+◌, ◌-◌, ◌*◌, ◌/◌, ◌%◌, ◌==◌, ◌&&◌, ◌++◌, nat_le, nat_lt, Bool, true, false, not, List, [], codes, decimal, flat_map, if◌then◌else◌, length, max, min, slice_index, slice_index_or, Option, Some, None, slice_get}
 use Rattle.std.specs.List.{list_any}
 use Rattle.tab_core.specs.declared.TheConstants.{ROUND}
 use Rattle.tab_words.specs.Texts.{texts_below}
@@ -8,7 +8,7 @@ use Rattle.vcpu_names.specs.Names.{name_at}
 use Rattle.view_doc.specs.declared.view.Task.{Task}
 use Rattle.view_table.specs.declared.figures.Figures.{Figures}
 use Rattle.lane_svg.specs.Frames.{letters_of, right_end, x_at}
-use Rattle.lane_svg.specs.Marks.{box_path, short_dots, short_front}
+use Rattle.lane_svg.specs.Marks.{box_path, short_back, short_dots, short_front}
 use Rattle.view_lanes.specs.Amounts.{tenths_ms}
 use Rattle.view_lanes.specs.declared.frame.Bar.{Bar}
 use Rattle.view_lanes.specs.declared.frame.Frame.{Frame}
@@ -111,7 +111,7 @@ bar_name f y high names bar =
 
 -- where the names of a lane begin
 unfoldable pub names_begin : ℕ → List ℕ
-names_begin letters = codes "\"/>\n<g class=\"name\" text-anchor=\"middle\" font-size=\"" ++ (decimal letters
+names_begin letters = codes "\"/>\n<g class=\"name on\" text-anchor=\"middle\" font-size=\"" ++ (decimal letters
     ++ codes "\">\n")
 
 -- the bars of a lane, each of its own
@@ -126,10 +126,10 @@ abbrev pub ground_box : ℕ → ℕ → ℕ → List ℕ
 ground_box high pitch i = box_path 9400 (9800 + i * pitch) right_end (9800 + i * pitch + high)
 
 -- a core's number left of its lane, and how much of the lane is somebody's, in tenths of a percent
-unfoldable pub core_label : ℕ → ℕ → ℕ → List ℕ
-core_label core y letters = codes "<g><title>core " ++ (decimal core
-    ++ (codes "</title>\n<text x=\"8700\" y=\"" ++ (decimal y ++ (codes "\" font-size=\"" ++ (decimal letters
-    ++ (codes "\" class=\"label\" text-anchor=\"end\">core " ++ (decimal core ++ codes "</text>\n")))))))
+unfoldable pub core_label : ℕ → ℕ → ℕ → ℕ → List ℕ
+core_label x core y letters = codes "<g><title>core " ++ (decimal core
+    ++ (codes "</title>\n<text x=\"" ++ (decimal x ++ (codes "\" y=\"" ++ (decimal y ++ (codes "\" font-size=\"" ++ (decimal letters
+    ++ (codes "\" class=\"label\" text-anchor=\"end\">core " ++ (decimal core ++ codes "</text>\n")))))))))
 
 unfoldable pub share_label : ℕ → ℕ → List ℕ
 share_label y share = codes "<text x=\"8700\" y=\"" ++ (decimal y
@@ -139,16 +139,16 @@ share_label y share = codes "<text x=\"8700\" y=\"" ++ (decimal y
 abbrev pub core_text : ℕ → ℕ → ℕ → ℕ → List ℕ
 core_text core y high share =
     if nat_le 2800 high
-    then core_label core (y + high / 2 - 100) 1100 ++ share_label (y + high / 2 + 1200) share
-    else core_label core (line_in y high (letters_of high)) (letters_of high)
+    then core_label 8700 core (y + high / 2 - 100) 1100 ++ share_label (y + high / 2 + 1200) share
+    else core_label 4600 core (line_in y high 900) 900 ++ share_label (line_in y high 900) share
 
 -- a vCPU's name left of its lane
-unfoldable pub vcpu_label : List ℕ → ℕ → List ℕ → List ℕ → List ℕ
-vcpu_label name y front dots = codes "<g><title>" ++ (name ++ (codes "</title>\n<text x=\"8700\" y=\"" ++ (decimal y
-    ++ (codes "\" font-size=\"900\" class=\"name\" text-anchor=\"end\">" ++ (front ++ (dots ++ codes "</text>\n"))))))
+unfoldable pub vcpu_label : List ℕ → ℕ → List ℕ → List ℕ → List ℕ → List ℕ
+vcpu_label name y front dots back = codes "<g><title>" ++ (name ++ (codes "</title>\n<text x=\"8700\" y=\"" ++ (decimal y
+    ++ (codes "\" font-size=\"900\" class=\"name\" text-anchor=\"end\">" ++ (front ++ (dots ++ (back ++ codes "</text>\n")))))))
 
 abbrev pub vcpu_text : List ℕ → ℕ → ℕ → List ℕ
-vcpu_text name y high = vcpu_label name (line_in y high 900) (short_front name) (short_dots name)
+vcpu_text name y high = vcpu_label name (line_in y high 900) (short_front name) (short_dots name) (short_back name)
 
 -- what stands left of the lane of a core or a vCPU
 abbrev pub label_text : Bool → List (List ℕ) → ℕ → ℕ → ℕ → ℕ → List ℕ
@@ -167,33 +167,61 @@ wait_part f y first last =
     then wait_line (x_at f (max first f.from)) y (x_at f (min last f.to))
     else []
 
--- how long it is, in tenths of a millisecond, right of the lane
-unfoldable pub wait_label : ℕ → ℕ → List ℕ
-wait_label y wait = codes "\"/>\n<text x=\"112400\" y=\"" ++ (decimal y ++ (codes "\" font-size=\"800\" class=\"dim\">"
-    ++ (decimal (wait / 10) ++ (codes "." ++ (decimal (wait % 10) ++ codes " ms</text>\n")))))
+-- the wait is longer than was promised; a wait of two rounds is without an end
+abbrev pub is_late : ℕ → ℕ → Option ℕ → Bool
+is_late tick wait None = false
+is_late tick wait (Some latency) = not (nat_lt wait (2 * ROUND) && nat_le (wait * tick) latency)
+
+-- how its length is written
+abbrev pub wait_class : Bool → List ℕ
+wait_class false = codes "dim"
+wait_class true = codes "late"
+
+-- what ends it: the promise, where there is one
+unfoldable pub promise_end : ℕ → List ℕ
+promise_end latency = codes "of " ++ (decimal (latency / 10) ++ (codes "." ++ (decimal (latency % 10)
+    ++ codes " ms</text>\n")))
+
+unfoldable pub plain_end : List ℕ
+plain_end = codes "ms</text>\n"
+
+abbrev pub wait_end : Option ℕ → List ℕ
+wait_end None = plain_end
+wait_end (Some latency) = promise_end (latency / 100000)
+
+-- how long it is and how long it may be, in tenths of a millisecond, right of the lane
+unfoldable pub wait_label : ℕ → List ℕ → ℕ → List ℕ
+wait_label y class wait = codes "\"/>\n<text x=\"112400\" y=\"" ++ (decimal y
+    ++ (codes "\" font-size=\"800\" class=\"" ++ (class ++ (codes "\">" ++ (decimal (wait / 10) ++ (codes "."
+    ++ (decimal (wait % 10) ++ codes " ")))))))
+
+abbrev pub wait_note : ℕ → ℕ → ℕ → Option ℕ → List ℕ
+wait_note tick y wait promise =
+    wait_label y (wait_class (is_late tick wait promise)) (tenths_ms tick wait) ++ wait_end promise
 
 -- from one tick of two rounds to another: the part in the first round, and that in the second, each where its round
 -- stands
-unfoldable pub wait_at : Frame → ℕ → ℕ → ℕ → ℕ → ℕ → List ℕ
-wait_at f y begin mark line length = codes "<path class=\"wait\" d=\"" ++ (wait_part f y begin (min mark ROUND)
-    ++ (wait_part f y (begin - ROUND) (mark - ROUND) ++ wait_label line length))
+unfoldable pub wait_at : Frame → ℕ → ℕ → ℕ → ℕ → ℕ → Option ℕ → List ℕ
+wait_at f y begin mark line wait promise = codes "<path class=\"wait\" d=\"" ++ (wait_part f y begin (min mark ROUND)
+    ++ (wait_part f y (begin - ROUND) (mark - ROUND) ++ wait_note f.tick line wait promise))
 
 -- a wait of so many ticks that ends at a tick
-abbrev pub wait_text : Frame → ℕ → ℕ → ℕ → ℕ → List ℕ
-wait_text f y high wait mark =
-    wait_at f (y + high / 2) (mark - wait) mark (line_in y high 800) (tenths_ms f.tick wait)
+abbrev pub wait_text : Frame → ℕ → ℕ → ℕ → ℕ → Option ℕ → List ℕ
+wait_text f y high wait mark promise =
+    wait_at f (y + high / 2) (mark - wait) mark (line_in y high 800) wait promise
 
 -- the lane of a vCPU of a plan has its longest wait
-abbrev pub ending_text : Frame → ℕ → ℕ → ℕ → Option ℕ → List ℕ
-ending_text f y high wait None = []
-ending_text f y high wait (Some mark) = wait_text f y high wait mark
+abbrev pub ending_text : Frame → ℕ → ℕ → ℕ → Option ℕ → Option ℕ → List ℕ
+ending_text f y high wait None promise = []
+ending_text f y high wait (Some mark) promise = wait_text f y high wait mark promise
 
-abbrev pub marked_text : Frame → ℕ → ℕ → Option ℕ → Option ℕ → List ℕ
-marked_text f y high None mark = []
-marked_text f y high (Some wait) mark = ending_text f y high wait mark
+abbrev pub marked_text : Frame → ℕ → ℕ → Option ℕ → Option ℕ → Option ℕ → List ℕ
+marked_text f y high None mark promise = []
+marked_text f y high (Some wait) mark promise = ending_text f y high wait mark promise
 
-abbrev pub waits_text : Frame → ℕ → ℕ → Figures → ℕ → List ℕ
-waits_text f y high figures v =
+abbrev pub waits_text : Frame → ℕ → ℕ → Figures → List (Option ℕ) → ℕ → List ℕ
+waits_text f y high figures promises v =
     if f.by_vcpu && not f.is_run
     then marked_text f y high (slice_get figures.waits.items v) (slice_get figures.marks.items v)
+    (slice_index_or promises v None)
     else []

@@ -1,14 +1,17 @@
 -- The texts of boxes, and names that are cut.
-use Rattle.std.specs.Prelude.{ℕ, ◌++◌, nat_le, List, [], codes, decimal, if◌then◌else◌, length, take}
+use Rattle.std.specs.Prelude.{ℕ, ◌-◌, ◌++◌, nat_le, List, [], codes, decimal, drop, if◌then◌else◌, length, take}
 
 -- a path round a box
 unfoldable pub box_path : ℕ → ℕ → ℕ → ℕ → List ℕ
 box_path x0 y0 x1 y1 = codes "M" ++ (decimal x0 ++ (codes " " ++ (decimal y0 ++ (codes "H" ++ (decimal x1
     ++ (codes "V" ++ (decimal y1 ++ (codes "H" ++ (decimal x0 ++ codes "z")))))))))
 
--- at most 15 letters of a name: all of them, or the first and two dots
+-- at most 15 letters of a name: all of them, or the first seven, two dots and the last six
 abbrev pub short_front : List ℕ → List ℕ
-short_front name = if nat_le (length name) 15 then name else take 13 name
+short_front name = if nat_le (length name) 15 then name else take 7 name
 
 abbrev pub short_dots : List ℕ → List ℕ
 short_dots name = if nat_le (length name) 15 then [] else codes ".."
+
+abbrev pub short_back : List ℕ → List ℕ
+short_back name = if nat_le (length name) 15 then [] else drop (length name - 6) name

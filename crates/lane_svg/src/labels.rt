@@ -3,8 +3,7 @@ ghost use Rattle.tab_io.specs.Sinks.{Writes};
 ghost use Rattle.lane_svg.specs.Lanes.{core_label, core_text, label_text, share_label, vcpu_label, vcpu_text};
 
 use crate::lane::line_in;
-use crate::marks::{short_dots, short_front};
-use crate::places::letters_of;
+use crate::marks::{short_back, short_dots, short_front};
 use tab_core::Name;
 use tab_io::{Sink, WriteFault};
 use tab_words::{TextPiece, put_pieces};
@@ -44,6 +43,7 @@ fn put_vcpu<K: Sink>(sink: &mut K, name: &[u8], y: u32, high: u32) -> Result<(),
         line_in(y, high, 900),
         short_front(name),
         short_dots(name),
+        short_back(name),
     )
 }
 
@@ -54,9 +54,10 @@ fn put_vcpu_label<'a, K: Sink>(
     y: u32,
     front: &'a [u8],
     dots: &'a [u8],
+    back: &'a [u8],
 ) -> Result<(), WriteFault>
     ensures { Writes (K.state sink.old) (K.state sink.new)
-        (vcpu_label name.now y front.now dots.now) result }
+        (vcpu_label name.now y front.now dots.now back.now) result }
 {
     put_pieces(
         sink,
@@ -68,6 +69,7 @@ fn put_vcpu_label<'a, K: Sink>(
             TextPiece::Text(b"\" font-size=\"900\" class=\"name\" text-anchor=\"end\">"),
             TextPiece::Text(front),
             TextPiece::Text(dots),
+            TextPiece::Text(back),
             TextPiece::Text(b"</text>\n"),
         ],
     )
@@ -88,8 +90,7 @@ fn put_core_text<K: Sink>(
     if high >= 2800 {
         put_two_lines(sink, core, y, high, share)
     } else {
-        let letters = letters_of(high);
-        put_core(sink, core, line_in(y, high, letters), letters)
+        put_one_line(sink, core, line_in(y, high, 900), share)
     }
 }
 
@@ -104,22 +105,37 @@ fn put_two_lines<K: Sink>(
     requires least { 2800 ≤ high }
     requires high { high ≤ 4000 }
     ensures { Writes (K.state sink.old) (K.state sink.new)
-        (core_label core (y + high / 2 - 100) 1100 ++ share_label (y + high / 2 + 1200) share) result }
+        (core_label 8700 core (y + high / 2 - 100) 1100 ++ share_label (y + high / 2 + 1200) share) result }
 {
-    put_core(sink, core, y + high / 2 - 100, 1100)?;
+    put_core(sink, 8700, core, y + high / 2 - 100, 1100)?;
     put_share(sink, y + high / 2 + 1200, share)
 }
 
+fn put_one_line<K: Sink>(sink: &mut K, core: u64, y: u32, share: u64) -> Result<(), WriteFault>
+    ensures { Writes (K.state sink.old) (K.state sink.new) (core_label 4600 core y 900 ++ share_label y share) result }
+{
+    put_core(sink, 4600, core, y, 900)?;
+    put_share(sink, y, share)
+}
+
 #[tactic(auto, unfolding(crate::specs::Lanes::core_label))]
-fn put_core<K: Sink>(sink: &mut K, core: u64, y: u32, letters: u32) -> Result<(), WriteFault>
-    ensures { Writes (K.state sink.old) (K.state sink.new) (core_label core y letters) result }
+fn put_core<K: Sink>(
+    sink: &mut K,
+    x: u32,
+    core: u64,
+    y: u32,
+    letters: u32,
+) -> Result<(), WriteFault>
+    ensures { Writes (K.state sink.old) (K.state sink.new) (core_label x core y letters) result }
 {
     put_pieces(
         sink,
         &[
             TextPiece::Text(b"<g><title>core "),
             TextPiece::Wide(core),
-            TextPiece::Text(b"</title>\n<text x=\"8700\" y=\""),
+            TextPiece::Text(b"</title>\n<text x=\""),
+            TextPiece::Number(x),
+            TextPiece::Text(b"\" y=\""),
             TextPiece::Number(y),
             TextPiece::Text(b"\" font-size=\""),
             TextPiece::Number(letters),

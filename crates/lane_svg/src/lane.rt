@@ -347,7 +347,7 @@ fn put_names_of<K: Sink>(sink: &mut K, letters: u32) -> Result<(), WriteFault>
     put_pieces(
         sink,
         &[
-            TextPiece::Text(b"\"/>\n<g class=\"name\" text-anchor=\"middle\" font-size=\""),
+            TextPiece::Text(b"\"/>\n<g class=\"name on\" text-anchor=\"middle\" font-size=\""),
             TextPiece::Number(letters),
             TextPiece::Text(b"\">\n"),
         ],

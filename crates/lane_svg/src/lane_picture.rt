@@ -4,13 +4,14 @@ ghost use Rattle.tab_io.specs.Sinks.{Writes};
 ghost use Rattle.lane_svg.specs.LanePictures.{lane_body, lane_of, lane_text};
 
 use crate::columns::put_columns;
+use crate::keys::put_keys;
 use crate::labels::put_label;
 use crate::lane::put_bars;
 use crate::waits::put_waits;
 use tab_core::Name;
 use tab_io::{Sink, WriteFault, write_all};
 use view_doc::Task;
-use view_lanes::{Bar, Frame, held_in, per_mille, span_of};
+use view_lanes::{Bar, Frame, held_in, is_dense, per_mille, span_of};
 use view_table::Figures;
 
 /// Writes the lane of a core or vCPU.
@@ -19,6 +20,7 @@ pub fn put_lane<K: Sink>(
     frame: &Frame,
     labels: &[Name],
     figures: &Figures,
+    promises: &[Option<u64>],
     row: u64,
     y: u32,
     high: u32,
@@ -32,11 +34,11 @@ pub fn put_lane<K: Sink>(
     requires low { y < 2 ^ 31 }
     requires high { high ≤ 4000 }
     ensures { Writes (K.state sink.old) (K.state sink.new)
-        (lane_text frame.now labels.now figures.now row y high names.now tasks.now colours.now bars.now) result }
+        (lane_text frame.now labels.now figures.now promises.now row y high names.now tasks.now colours.now bars.now) result }
 {
     let share = per_mille(held_in(frame, bars), u64::from(span_of(frame)));
     put_lane_of(
-        sink, frame, labels, figures, row, y, high, share, names, tasks, colours, bars,
+        sink, frame, labels, figures, promises, row, y, high, share, names, tasks, colours, bars,
     )
 }
 
@@ -45,6 +47,7 @@ fn put_lane_of<K: Sink>(
     frame: &Frame,
     labels: &[Name],
     figures: &Figures,
+    promises: &[Option<u64>],
     row: u64,
     y: u32,
     high: u32,
@@ -59,11 +62,12 @@ fn put_lane_of<K: Sink>(
     requires low { y < 2 ^ 31 }
     requires high { high ≤ 4000 }
     ensures { Writes (K.state sink.old) (K.state sink.new)
-        (lane_of frame.now labels.now figures.now row y high share names.now tasks.now colours.now bars.now) result }
+        (lane_of frame.now labels.now figures.now promises.now row y high share names.now tasks.now colours.now bars.now) result }
 {
     put_label(sink, frame.by_vcpu, labels, row, y, high, share)?;
     put_body(sink, frame, y, high, names, tasks, colours, bars)?;
-    put_waits(sink, frame, y, high, figures, row)?;
+    put_waits(sink, frame, y, high, figures, promises, row)?;
+    put_keys(sink, frame, y, high, names, colours, bars)?;
     write_all(sink, b"</g>\n")
 }
 
@@ -86,7 +90,7 @@ fn put_body<K: Sink>(
     ensures { Writes (K.state sink.old) (K.state sink.new)
         (lane_body frame.now y high names.now tasks.now colours.now bars.now) result }
 {
-    if bars.len() > 342 {
+    if is_dense(bars) {
         put_columns(sink, frame, y, high, names, tasks, colours, bars)
     } else {
         put_bars(sink, frame, y, high, names, tasks, colours, bars)

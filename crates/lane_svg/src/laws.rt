@@ -1,9 +1,10 @@
-ghost use Rattle.std.specs.Prelude.{◌≡◌, ℕ, ◌+◌, ◌-◌, ◌<◌, ◌≤◌, ◌++◌, true, false, List, ◌∷◌, max, min};
+ghost use Rattle.std.specs.Prelude.{◌≡◌, ◌≢◌, ℕ, ◌+◌, ◌-◌, ◌*◌, ◌/◌, ◌<◌, ◌≤◌, ◌++◌, Bool, true, false, List, ◌∷◌, max, min};
 ghost use Rattle.tab_core.specs.declared.TheConstants.{ROUND};
 ghost use Rattle.view_doc.specs.declared.view.Stretch.{Stretch};
 ghost use Rattle.view_doc.specs.declared.view.Use.TheVariants.{Slot};
 ghost use Rattle.lane_svg.specs.Columns.{level_of};
-ghost use Rattle.lane_svg.specs.Frames.{x_at};
+ghost use Rattle.lane_svg.specs.Frames.{right_end, x_at};
+ghost use Rattle.lane_svg.specs.Keys.{key_room, key_top, key_width, key_x};
 ghost use Rattle.view_lanes.specs.Shown.{is_on, key_of, lane_bars};
 ghost use Rattle.view_lanes.specs.declared.frame.Bar.{Bar};
 ghost use Rattle.view_lanes.specs.declared.frame.Frame.{Frame};
@@ -29,4 +30,17 @@ pub fn a_column_stays_in_its_lane()
     ensures stacked { (f : Frame) (high : ℕ) (bars : List Bar) (v j : ℕ)
         → level_of f high bars v j ≤ level_of f high bars (v + 1) j }
     ensures within { (f : Frame) (high : ℕ) (bars : List Bar) (v j : ℕ) → level_of f high bars v j ≤ high }
+{}
+
+/// The places of a lane's key are right of the lane and of the wait's words, in the picture, and no lower than the gap
+/// below the lane. Each is right of the one before it in its row, or its row is lower.
+pub fn a_key_has_its_place()
+    ensures right { (by_vcpu : Bool) (k : ℕ) → right_end + 1000 ≤ key_x by_vcpu k }
+    ensures within { (by_vcpu : Bool) (k : ℕ) → key_x by_vcpu k + key_width by_vcpu ≤ 150000 }
+    ensures high { (by_vcpu : Bool) (y high k : ℕ) → 1000 ≤ high → k < key_room by_vcpu high
+        → (y ≤ key_top by_vcpu y k) × (key_top by_vcpu y k + 800 ≤ y + high + high / 5) }
+    ensures beside { (by_vcpu : Bool) (y k m : ℕ) → k < m → key_top by_vcpu y k ≡ key_top by_vcpu y m
+        → key_x by_vcpu k + key_width by_vcpu ≤ key_x by_vcpu m }
+    ensures below { (by_vcpu : Bool) (y k m : ℕ) → k < m → key_top by_vcpu y k ≢ key_top by_vcpu y m
+        → key_top by_vcpu y k + 1000 ≤ key_top by_vcpu y m }
 {}

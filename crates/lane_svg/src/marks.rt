@@ -1,28 +1,40 @@
 ghost use Rattle.std.specs.Prelude.{◌≡◌};
 ghost use Rattle.tab_io.specs.Sinks.{Writes};
-ghost use Rattle.lane_svg.specs.Marks.{box_path, short_dots, short_front};
+ghost use Rattle.lane_svg.specs.Marks.{box_path, short_back, short_dots, short_front};
 
 use crate::gather::put_at_once;
 use tab_io::{Sink, WriteFault};
 use tab_words::TextPiece;
 
-/// The letters of a name that fit into a list.
+/// The first letters of a name that fit into a list: all, or seven where there are more than 15.
 pub fn short_front(name: &[u8]) -> &[u8]
     ensures { result.now ≡ short_front name.now }
 {
     if name.len() <= 15 {
         name
     } else {
-        let (front, _) = name.split_at(13);
+        let (front, _) = name.split_at(7);
         front
     }
 }
 
-/// What stands for the others.
+/// What stands for those in the middle.
 pub fn short_dots(name: &[u8]) -> &'static [u8]
     ensures { result.now ≡ short_dots name.now }
 {
     if name.len() <= 15 { b"" } else { b".." }
+}
+
+/// The last six letters, where not all fit.
+pub fn short_back(name: &[u8]) -> &[u8]
+    ensures { result.now ≡ short_back name.now }
+{
+    if name.len() <= 15 {
+        &[]
+    } else {
+        let (_, back) = name.split_at(name.len() - 6);
+        back
+    }
 }
 
 /// Writes a path round a box.

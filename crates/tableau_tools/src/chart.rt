@@ -1,12 +1,15 @@
-ghost use Rattle.std.specs.Prelude.{◌<◌, ◌≤◌, IfOk, length};
+ghost use Rattle.std.specs.Prelude.{◌<◌, ◌≤◌, ◌^◌, IfOk, length};
 ghost use Rattle.tab_core.specs.declared.TheConstants.{MAX_CORES, MAX_VCPUS};
 
 use crate::fault::Fault;
 use crate::input::input_of;
 use crate::output::{finish, output_of};
-use crate::plan::{drawable, view_of};
+use crate::plan::{host_of, plan_of, view_of};
 use clap::ArgMatches;
-use tab_core::{MAX_TICK_NS, MAX_VCPUS, TICK_NS};
+use std::alloc::Global;
+use tab_core::{MAX_CORES, MAX_TICK_NS, MAX_VCPUS, Name, TICK_NS, Vcpu, VcpuNo};
+use tab_words::cut_sections;
+use vcpu_names::Names;
 use view_chart::write_chart;
 use view_doc::View;
 use view_lanes::ChartOptions;
@@ -24,31 +27,99 @@ pub(crate) fn chart(rt: &HostRuntime, matches: &ArgMatches<'_>) -> Result<(), Fa
 
 // Draws it as a text.
 fn put_text(rt: &HostRuntime, matches: &ArgMatches<'_>) -> Result<(), Fault> {
-    let options = text_options_of(matches)?;
-    let view = drawn_view_of(rt, matches)?;
+    let mut options = text_options_of(matches)?;
+    let drawn = drawn_of(rt, matches)?;
+    options.tick_ns = drawn.tick_ns;
     let mut sink = output_of(rt)?;
-    write_text_chart(rt.alloc(), &mut sink, &view, &options)?;
+    write_text_chart(rt.alloc(), &mut sink, &drawn.view, &options)?;
     finish(&mut sink)
 }
 
 // Draws it as a picture.
 fn put_picture(rt: &HostRuntime, matches: &ArgMatches<'_>) -> Result<(), Fault> {
-    let options = options_of(matches)?;
-    let view = drawn_view_of(rt, matches)?;
-    let figures = figures_of(rt.alloc(), &view)?;
+    let mut options = options_of(matches)?;
+    let drawn = drawn_of(rt, matches)?;
+    options.tick_ns = drawn.tick_ns;
+    let figures = figures_of(rt.alloc(), &drawn.view)?;
     let mut sink = output_of(rt)?;
-    write_chart(rt.alloc(), &mut sink, &view, &figures, &options)?;
+    write_chart(
+        rt.alloc(),
+        &mut sink,
+        &drawn.view,
+        &figures,
+        &drawn.promises,
+        &options,
+    )?;
     finish(&mut sink)
 }
 
-// What the text shows, if it isn't too much to be drawn.
-fn drawn_view_of(rt: &HostRuntime, matches: &ArgMatches<'_>) -> Result<View, Fault>
-    ensures cores { IfOk result (λ view. view.cores ≤ MAX_CORES) }
-    ensures vcpus { IfOk result (λ view. length view.names.items ≤ MAX_VCPUS) }
-    ensures tasks { IfOk result (λ view. length view.tasks.items ≤ MAX_VCPUS) }
-{
+// What is drawn: a plan or a run, the waits that its host promises, if it has one, and nanoseconds of a tick.
+#[derive(Drop)]
+struct Drawn {
+    view: View,
+    promises: Vec<Option<u64>>,
+    tick_ns: u16,
+    ghost cores: { view.cores ≤ MAX_CORES },
+    ghost vcpus: { length view.names.items ≤ MAX_VCPUS },
+    ghost tasks: { length view.tasks.items ≤ MAX_VCPUS },
+}
+
+// What the text shows, which may be a host and its plan.
+fn drawn_of(rt: &HostRuntime, matches: &ArgMatches<'_>) -> Result<Drawn, Fault> {
     let input = input_of(rt, matches.get_str("FILE"))?;
-    drawable(view_of(rt.alloc(), input)?)
+    let sections = cut_sections(&input.bytes);
+    if sections.count() == 2 && !sections.part(0).starts_with(b"plan ") {
+        return drawn_plan_of(rt, &input.place, sections.part(0), sections.part(1));
+    }
+    let view = view_of(rt.alloc(), input)?;
+    let tick_ns = matches.get_one::<u32>("tick").unwrap_or(TICK_NS);
+    checked(view, Vec::new(rt.alloc()), tick_ns)
+}
+
+// A plan beside its host, whose ticks and promises are its own.
+fn drawn_plan_of(
+    rt: &HostRuntime,
+    place: &str,
+    document: &[u8],
+    plan: &[u8],
+) -> Result<Drawn, Fault>
+    requires { length plan.now < 2 ^ 31 }
+{
+    let host = host_of(rt.alloc(), place, document)?;
+    let view = plan_of(rt.alloc(), place, plan)?;
+    let promises = promises_of(rt.alloc(), host.vcpus.items(), &view.names)?;
+    checked(view, promises, host.tick_ns)
+}
+
+// The latencies that a host promises the vCPUs of these names; none where it has no vCPU of a name, or no reservation.
+fn promises_of(alloc: Global, vcpus: &[Vcpu], names: &[Name]) -> Result<Vec<Option<u64>>, Fault>
+    requires { length vcpus.now ≤ MAX_VCPUS }
+{
+    let known = Names::of(alloc, vcpus)?;
+    let mut promises = Vec::new(alloc);
+    for name in names {
+        promises.push(promise_of(vcpus, known.number_of(name.bytes())))?;
+    }
+    Ok(promises)
+}
+
+// The latency that a host promises its vCPU of a number.
+fn promise_of(vcpus: &[Vcpu], number: Option<VcpuNo>) -> Option<u64> {
+    let vcpu = vcpus.get(number?.index())?;
+    Some(vcpu.reservation?.latency_ns)
+}
+
+// The view, if it isn't too much to be drawn.
+fn checked(view: View, promises: Vec<Option<u64>>, tick_ns: u32) -> Result<Drawn, Fault> {
+    let most = MAX_VCPUS as usize;
+    if view.cores > MAX_CORES || view.names.len() > most || view.tasks.len() > most {
+        return Err(Fault::TooMany);
+    }
+    Ok(Drawn {
+        view,
+        promises,
+        tick_ns: tick_ns.min(MAX_TICK_NS) as u16,
+    })
 }
 
 // What the words ask for of a picture.
@@ -61,8 +132,9 @@ fn options_of(matches: &ArgMatches<'_>) -> Result<ChartOptions, Fault> {
         last,
         from: matches.get_one::<u32>("from").unwrap_or(0),
         to: matches.get_one::<u32>("to"),
-        width: width_of(matches, 1160, 200)?,
-        tick_ns: tick_of(matches),
+        width: width_of(matches, 1500, 200)?,
+        tick_ns: TICK_NS as u16,
+        picture: 0,
     })
 }
 
@@ -81,16 +153,8 @@ fn text_options_of(matches: &ArgMatches<'_>) -> Result<TextOptions, Fault>
         from: matches.get_one::<u32>("from").unwrap_or(0),
         to: matches.get_one::<u32>("to"),
         columns: width_of(matches, 76, 1)?,
-        tick_ns: tick_of(matches),
+        tick_ns: TICK_NS as u16,
     })
-}
-
-// Nanoseconds of a tick.
-fn tick_of(matches: &ArgMatches<'_>) -> u16 {
-    matches
-        .get_one::<u32>("tick")
-        .unwrap_or(TICK_NS)
-        .min(MAX_TICK_NS) as u16
 }
 
 // The width, which is this where the words say none, and so much at least.

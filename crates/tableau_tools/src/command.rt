@@ -121,7 +121,7 @@ fn width_arg<'a>(alloc: Global) -> Arg<'a> {
         .value_name("COUNT")
         .value_parser(value_parser!(u32).range(1..=8000))
         .help(
-            "Pixels of a picture's width, 200 to 8000, and 1160 without it, or columns of a text, 76 without it",
+            "Pixels of a picture's width, 200 to 8000, and 1500 without it, or columns of a text, 76 without it",
         )
 }
 

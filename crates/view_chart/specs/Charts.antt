@@ -1,6 +1,6 @@
 -- A view as a picture, in SVG: a lane for each core or vCPU, a box for each slot or stint.
 -- Source: Scalable Vector Graphics (SVG) 1.1, W3C Recommendation.
-use Rattle.std.specs.Prelude.{ℕ, ◌+◌, ◌++◌, List, [], codes, if◌then◌else◌, length, slice_index_or}
+use Rattle.std.specs.Prelude.{ℕ, ◌+◌, ◌++◌, List, [], Option, codes, if◌then◌else◌, length, slice_index_or}
 use Rattle.tab_words.specs.Texts.{texts_below}
 use Rattle.view_doc.specs.declared.view.Stretch.{Stretch}
 use Rattle.view_doc.specs.declared.view.Task.{Task}
@@ -11,7 +11,7 @@ use Rattle.lane_svg.specs.LanePictures.{lane_text}
 use Rattle.lane_svg.specs.Lanes.{ground_box}
 use Rattle.view_chart.specs.Axes.{axis_text}
 use Rattle.view_chart.specs.Heads.{head_text}
-use Rattle.view_chart.specs.Legends.{end_of, legend_text}
+use Rattle.view_chart.specs.Legends.{end_of, legend_text, listed_in}
 use Rattle.view_chart.specs.Rounds.{rounds_text}
 use Rattle.view_lanes.specs.Colours.{core_names, core_tones, vcpu_tones}
 use Rattle.view_lanes.specs.Shown.{chart_lanes, cores_in, frame_of, shown_in}
@@ -23,9 +23,9 @@ use Rattle.view_lanes.specs.declared.frame.Frame.{Frame}
 -- ---- lanes
 
 -- the lane of a number, of which the first is this core's or vCPU's
-abbrev pub lane_at : Frame → ℕ → List (List ℕ) → Figures → List (List ℕ) → List Task → List ℕ → List (List Bar) → ℕ
+abbrev pub lane_at : Frame → ℕ → List (List ℕ) → Figures → List (Option ℕ) → List (List ℕ) → List Task → List ℕ → List (List Bar) → ℕ
     → List ℕ
-lane_at f first labels figures names tasks colours lanes i = lane_text f labels figures (first + i)
+lane_at f first labels figures promises names tasks colours lanes i = lane_text f labels figures promises (first + i)
     (top_of (length lanes) i) (height_of (length lanes)) names tasks colours (slice_index_or lanes i [])
 
 -- the grounds of the lanes
@@ -35,33 +35,34 @@ grounds_text n = codes "<path class=\"lane\" d=\""
 
 -- ---- the picture
 
--- how tall a picture of so many lanes and vCPUs is
+-- how tall a picture of so many lanes and listed keys is
 abbrev pub tall_of : ℕ → ℕ → ℕ
 tall_of lanes vcpus = end_of (foot_of lanes) vcpus + 1000
 
--- the picture of these lanes of these stretches: the vCPUs have these names and figures, and the keys of the bars
+-- the picture of these lanes of these stretches: the vCPUs have these names, figures and promises, and the keys of the bars
 -- those names, tasks and tones
-unfoldable pub chart_of : Frame → List Stretch → ℕ → ℕ → ℕ → List (List ℕ) → Figures → List (List ℕ) → List Task
+unfoldable pub chart_of : Frame → List Stretch → ℕ → ℕ → ℕ → List (List ℕ) → Figures → List (Option ℕ) → List (List ℕ) → List Task
     → List ℕ → List (List Bar) → List ℕ
-chart_of f stretches width first cores labels figures names tasks colours lanes =
-    head_text width (tall_of (length lanes) (length names)) (head_of f stretches cores (length labels) lanes)
+chart_of f stretches width first cores labels figures promises names tasks colours lanes =
+    head_text width (tall_of (length lanes) (listed_in lanes names)) (head_of f stretches cores (length labels) lanes)
     ++ (grounds_text (length lanes)
     ++ (axis_text f (foot_of (length lanes))
-    ++ (texts_below (lane_at f first labels figures names tasks colours lanes) (length lanes)
+    ++ (texts_below (lane_at f first labels figures promises names tasks colours lanes) (length lanes)
     ++ (rounds_text f f.is_run stretches (foot_of (length lanes))
-    ++ (legend_text f (foot_of (length lanes)) names tasks colours ++ codes "</svg>\n")))))
+    ++ (legend_text f (foot_of (length lanes)) names tasks colours lanes ++ codes "</svg>\n")))))
 
 -- the picture of a view: with lanes of cores, or of vCPUs
-abbrev pub cores_chart : ChartOptions → View → Figures → List ℕ
-cores_chart options view figures = chart_of (frame_of view options) (shown_in view) options.width options.first
-    (cores_in view) view.names.items figures view.names.items view.tasks.items (vcpu_tones view figures)
+abbrev pub cores_chart : ChartOptions → View → Figures → List (Option ℕ) → List ℕ
+cores_chart options view figures promises = chart_of (frame_of view options) (shown_in view) options.width options.first
+    (cores_in view) view.names.items figures promises view.names.items view.tasks.items (vcpu_tones view figures)
     (chart_lanes view options)
 
-abbrev pub vcpus_chart : ChartOptions → View → Figures → List ℕ
-vcpus_chart options view figures = chart_of (frame_of view options) (shown_in view) options.width options.first
-    (cores_in view) view.names.items figures (core_names (cores_in view)) [] (core_tones (cores_in view))
+abbrev pub vcpus_chart : ChartOptions → View → Figures → List (Option ℕ) → List ℕ
+vcpus_chart options view figures promises = chart_of (frame_of view options) (shown_in view) options.width options.first
+    (cores_in view) view.names.items figures promises (core_names (cores_in view)) [] (core_tones (cores_in view))
     (chart_lanes view options)
 
-abbrev pub chart_text : ChartOptions → View → Figures → List ℕ
-chart_text options view figures =
-    if options.by_vcpu then vcpus_chart options view figures else cores_chart options view figures
+abbrev pub chart_text : ChartOptions → View → Figures → List (Option ℕ) → List ℕ
+chart_text options view figures promises =
+    if options.by_vcpu then vcpus_chart options view figures promises
+    else cores_chart options view figures promises

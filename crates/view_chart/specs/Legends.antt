@@ -1,18 +1,21 @@
--- The list of the vCPUs, or of the cores by whose numbers lanes of vCPUs are drawn, below the lanes: four in a row.
+-- The list of the vCPUs that have a box, or of the cores by whose numbers lanes of vCPUs are drawn, below the lanes: four
+-- in a row, by number.
 use Rattle.std.specs.Prelude.{ℕ, ◌+◌, ◌-◌, ◌*◌, ◌/◌, ◌%◌, ◌++◌, Bool, true, false, List, [], codes, decimal, length, slice_index, slice_get, Option, Some, None, min}
 use Rattle.tab_words.specs.Texts.{texts_below}
 use Rattle.vcpu_names.specs.Names.{name_at}
 use Rattle.view_doc.specs.declared.view.Task.{Task}
-use Rattle.lane_svg.specs.Marks.{short_dots, short_front}
+use Rattle.lane_svg.specs.Keys.{count_below, has_lane}
+use Rattle.lane_svg.specs.Marks.{short_back, short_dots, short_front}
 use Rattle.view_lanes.specs.Amounts.{per_mille, tenths_ms}
+use Rattle.view_lanes.specs.declared.frame.Bar.{Bar}
 use Rattle.view_lanes.specs.declared.frame.Frame.{Frame}
 
--- where the column of a vCPU begins, and its row's line
+-- where the column of a place begins, and its row's line
 abbrev pub column_of : ℕ → ℕ
-column_of v = 4000 + v % 4 * 27000
+column_of k = 4000 + k % 4 * 36000
 
 abbrev pub row_of : ℕ → ℕ → ℕ
-row_of foot v = foot + 5500 + v / 4 * 1400
+row_of foot k = foot + 5500 + k / 4 * 1400
 
 -- the first row: what is listed, and what is told of it where there are reservations
 abbrev pub listed_word : Bool → List ℕ
@@ -36,16 +39,16 @@ abbrev pub head_from : Bool → ℕ → ℕ → Option Task → List ℕ
 head_from by_vcpu x y task = legend_head x y (listed_word by_vcpu) ++ task_heads x y task
 
 abbrev pub head_at : Frame → ℕ → List Task → ℕ → List ℕ
-head_at f foot tasks v = head_from f.by_vcpu (column_of v) (foot + 3800) (slice_get tasks v)
+head_at f foot tasks k = head_from f.by_vcpu (column_of k) (foot + 3800) (slice_get tasks k)
 
 -- a vCPU's colour and name
 unfoldable pub swatch : ℕ → ℕ → ℕ → List ℕ
 swatch colour x y = codes "<path class=\"c" ++ (decimal colour ++ (codes "\" d=\"M" ++ (decimal x ++ (codes " " ++ (decimal y
     ++ codes "h1000v900h-1000z\"/>")))))
 
-unfoldable pub legend_name : ℕ → ℕ → List ℕ → List ℕ → List ℕ
-legend_name x y front dots = codes "<text x=\"" ++ (decimal x ++ (codes "\" y=\"" ++ (decimal y
-    ++ (codes "\" font-size=\"900\" class=\"name\">" ++ (front ++ (dots ++ codes "</text>\n"))))))
+unfoldable pub legend_name : ℕ → ℕ → List ℕ → List ℕ → List ℕ → List ℕ
+legend_name x y front dots back = codes "<text x=\"" ++ (decimal x ++ (codes "\" y=\"" ++ (decimal y
+    ++ (codes "\" font-size=\"900\" class=\"name\">" ++ (front ++ (dots ++ (back ++ codes "</text>\n")))))))
 
 -- what it has, in tenths of a percent and of a millisecond
 unfoldable pub legend_task : ℕ → ℕ → ℕ → ℕ → ℕ → List ℕ
@@ -64,15 +67,25 @@ task_entry tick x y (Some t) = task_cells tick x y t
 
 abbrev pub entry_at : ℕ → ℕ → ℕ → ℕ → List ℕ → Option Task → List ℕ
 entry_at tick x y colour name task = swatch colour x (y - 850)
-    ++ (legend_name (x + 1300) y (short_front name) (short_dots name) ++ task_entry tick x y task)
+    ++ (legend_name (x + 1300) y (short_front name) (short_dots name) (short_back name) ++ task_entry tick x y task)
 
-abbrev pub legend_entry : ℕ → ℕ → List (List ℕ) → List Task → List ℕ → ℕ → List ℕ
-legend_entry tick foot names tasks colours v = entry_at tick (column_of v) (row_of foot v) (slice_index colours v)
-    (name_at names v) (slice_get tasks v)
+-- the key of a number is in the place of a number, if it has a box
+abbrev pub legend_entry : ℕ → ℕ → List (List ℕ) → List Task → List ℕ → Bool → ℕ → ℕ → List ℕ
+legend_entry tick foot names tasks colours false k v = []
+legend_entry tick foot names tasks colours true k v = entry_at tick (column_of k) (row_of foot k)
+    (slice_index colours v) (name_at names v) (slice_get tasks v)
 
-abbrev pub legend_text : Frame → ℕ → List (List ℕ) → List Task → List ℕ → List ℕ
-legend_text f foot names tasks colours = texts_below (head_at f foot tasks) (min (length names) 4)
-    ++ texts_below (legend_entry f.tick foot names tasks colours) (length names)
+abbrev pub listed_at : ℕ → ℕ → List (List ℕ) → List Task → List ℕ → List (List Bar) → ℕ → List ℕ
+listed_at tick foot names tasks colours lanes v = legend_entry tick foot names tasks colours (has_lane lanes v)
+    (count_below (has_lane lanes) v) v
+
+-- how many have a box on one of the lanes
+abbrev pub listed_in : List (List Bar) → List (List ℕ) → ℕ
+listed_in lanes names = count_below (has_lane lanes) (length names)
+
+abbrev pub legend_text : Frame → ℕ → List (List ℕ) → List Task → List ℕ → List (List Bar) → List ℕ
+legend_text f foot names tasks colours lanes = texts_below (head_at f foot tasks) (min (listed_in lanes names) 4)
+    ++ texts_below (listed_at f.tick foot names tasks colours lanes) (length names)
 
 -- where it ends: below its last row
 abbrev pub end_of : ℕ → ℕ → ℕ

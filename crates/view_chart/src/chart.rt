@@ -20,7 +20,8 @@ use view_table::Figures;
 /// Draws a view of at most 32 cores and 256 vCPUs as a picture, in SVG.
 ///
 /// Each core or vCPU that the options name has a lane, with a box for each slot of a plan or stint of a run of
-/// the ticks that are shown. On a vCPU's lane of a plan a line marks its longest wait, which the figures have.
+/// the ticks that are shown, and right of the lane a key. On a vCPU's lane of a plan a line marks its longest wait,
+/// which the figures have; right of it are how long it is and the promise, in nanoseconds, if there is one.
 /// A fault of writing leaves a front of the text in the sink; nothing is written where there is no memory, or
 /// where no tick or no lane is shown. Nothing is settled.
 pub fn write_chart<K: Sink>(
@@ -28,15 +29,16 @@ pub fn write_chart<K: Sink>(
     sink: &mut K,
     view: &View,
     figures: &Figures,
+    promises: &[Option<u64>],
     options: &ChartOptions,
 ) -> Result<(), ChartFault>
     requires cores { view.now.cores ≤ MAX_CORES }
     requires vcpus { length view.now.names.items ≤ MAX_VCPUS }
     requires figures { AreFigures view.now figures.now }
     ensures ok { IfOk result (λ u. Writes (K.state sink.old) (K.state sink.new)
-        (chart_text options.now view.now figures.now) (Ok u)) }
+        (chart_text options.now view.now figures.now promises.now) (Ok u)) }
     ensures broken { IsErrOf result fault.Write → Writes {U = Unit {0}} (K.state sink.old) (K.state sink.new)
-        (chart_text options.now view.now figures.now) (Err (record {})) }
+        (chart_text options.now view.now figures.now promises.now) (Err (record {})) }
     ensures nothing { IsErrOf result fault.Nothing → shows_nothing options.now view.now ≡ true }
     ensures nothing_due { shows_nothing options.now view.now ≡ true → IsErrOf result fault.Nothing }
     ensures unwritten { IsErrOf result fault.NoMemory → sink.new ≡ sink.old }
@@ -51,9 +53,13 @@ pub fn write_chart<K: Sink>(
         return Err(ChartFault::NoMemory);
     };
     if options.by_vcpu {
-        draw_vcpus(alloc, sink, view, figures, options, &frame, &lanes)
+        draw_vcpus(
+            alloc, sink, view, figures, promises, options, &frame, &lanes,
+        )
     } else {
-        draw_cores(alloc, sink, view, figures, options, &frame, &lanes)
+        draw_cores(
+            alloc, sink, view, figures, promises, options, &frame, &lanes,
+        )
     }
 }
 
@@ -63,6 +69,7 @@ fn draw_cores<K: Sink>(
     sink: &mut K,
     view: &View,
     figures: &Figures,
+    promises: &[Option<u64>],
     options: &ChartOptions,
     frame: &Frame,
     lanes: &[Lane],
@@ -72,9 +79,9 @@ fn draw_cores<K: Sink>(
     requires lanes { lanes.now ≡ chart_lanes view.now options.now }
     requires few { length lanes.now ≤ MAX_VCPUS }
     ensures ok { IfOk result (λ u. Writes (K.state sink.old) (K.state sink.new)
-        (cores_chart options.now view.now figures.now) (Ok u)) }
+        (cores_chart options.now view.now figures.now promises.now) (Ok u)) }
     ensures broken { IsErrOf result fault.Write → Writes {U = Unit {0}} (K.state sink.old) (K.state sink.new)
-        (cores_chart options.now view.now figures.now) (Err (record {})) }
+        (cores_chart options.now view.now figures.now promises.now) (Err (record {})) }
     ensures some { IsErrOf result fault.Nothing → ⊥ }
     ensures unwritten { IsErrOf result fault.NoMemory → sink.new ≡ sink.old }
 {
@@ -90,6 +97,7 @@ fn draw_cores<K: Sink>(
         cores_in(view),
         &view.names,
         figures,
+        promises,
         &view.names,
         &view.tasks,
         &tones,
@@ -103,6 +111,7 @@ fn draw_vcpus<K: Sink>(
     sink: &mut K,
     view: &View,
     figures: &Figures,
+    promises: &[Option<u64>],
     options: &ChartOptions,
     frame: &Frame,
     lanes: &[Lane],
@@ -112,9 +121,9 @@ fn draw_vcpus<K: Sink>(
     requires lanes { lanes.now ≡ chart_lanes view.now options.now }
     requires few { length lanes.now ≤ MAX_VCPUS }
     ensures ok { IfOk result (λ u. Writes (K.state sink.old) (K.state sink.new)
-        (vcpus_chart options.now view.now figures.now) (Ok u)) }
+        (vcpus_chart options.now view.now figures.now promises.now) (Ok u)) }
     ensures broken { IsErrOf result fault.Write → Writes {U = Unit {0}} (K.state sink.old) (K.state sink.new)
-        (vcpus_chart options.now view.now figures.now) (Err (record {})) }
+        (vcpus_chart options.now view.now figures.now promises.now) (Err (record {})) }
     ensures some { IsErrOf result fault.Nothing → ⊥ }
     ensures unwritten { IsErrOf result fault.NoMemory → sink.new ≡ sink.old }
 {
@@ -134,6 +143,7 @@ fn draw_vcpus<K: Sink>(
         cores,
         &view.names,
         figures,
+        promises,
         &names,
         &[],
         &tones,

@@ -3,32 +3,34 @@ ghost use Rattle.tab_core.specs.declared.TheConstants.{MAX_VCPUS};
 ghost use Rattle.tab_io.specs.Sinks.{Writes};
 ghost use Rattle.tab_words.specs.Texts.{texts_below};
 ghost use Rattle.lane_svg.specs.Frames.{foot_of};
-ghost use Rattle.lane_svg.specs.Marks.{short_dots, short_front};
-ghost use Rattle.view_chart.specs.Legends.{column_of, entry_at, head_at, head_from, legend_entry, legend_head, legend_name, legend_task, legend_text, listed_word, row_of, swatch, task_cells, task_entry, task_head, task_heads};
+ghost use Rattle.lane_svg.specs.Keys.{count_below, has_lane};
+ghost use Rattle.lane_svg.specs.Marks.{short_back, short_dots, short_front};
+ghost use Rattle.view_chart.specs.Legends.{column_of, entry_at, head_at, head_from, legend_entry, legend_head, legend_name, legend_task, legend_text, listed_at, listed_in, listed_word, row_of, swatch, task_cells, task_entry, task_head, task_heads};
 
-use lane_svg::{foot_of, short_dots, short_front};
-use tab_core::Name;
+use lane_svg::{count_below, foot_of, holders_in, next_place, short_back, short_dots, short_front};
+use tab_core::{Name, VcpuNo};
 use tab_io::{Sink, WriteFault};
 use tab_words::{TextPiece, put_pieces};
 use view_doc::Task;
-use view_lanes::{Frame, name_at, per_mille, tenths_ms};
+use view_lanes::{Frame, Lane, name_at, per_mille, tenths_ms};
 
-// Writes the list of the keys below so many lanes.
+// Writes the list of the keys that have a box on one of the lanes, below them.
 pub(crate) fn put_legend<K: Sink>(
     sink: &mut K,
     frame: &Frame,
-    lanes: u32,
     names: &[Name],
     tasks: &[Task],
     colours: &[u32],
+    lanes: &[Lane],
 ) -> Result<(), WriteFault>
-    requires lanes { lanes ≤ MAX_VCPUS }
+    requires lanes { length lanes.now ≤ MAX_VCPUS }
     requires few { length names.now ≤ MAX_VCPUS }
     requires coloured { length names.now ≤ length colours.now }
     ensures { Writes (K.state sink.old) (K.state sink.new)
-        (legend_text frame.now (foot_of lanes) names.now tasks.now colours.now) result }
+        (legend_text frame.now (foot_of (length lanes.now)) names.now tasks.now colours.now lanes.now) result }
 {
-    put_legend_at(sink, frame, foot_of(lanes), names, tasks, colours)
+    let foot = foot_of(lanes.len() as u32);
+    put_legend_at(sink, frame, foot, names, tasks, colours, lanes)
 }
 
 fn put_legend_at<K: Sink>(
@@ -38,15 +40,25 @@ fn put_legend_at<K: Sink>(
     names: &[Name],
     tasks: &[Task],
     colours: &[u32],
+    lanes: &[Lane],
 ) -> Result<(), WriteFault>
     requires low { foot < 2 ^ 31 }
     requires few { length names.now ≤ MAX_VCPUS }
     requires coloured { length names.now ≤ length colours.now }
     ensures { Writes (K.state sink.old) (K.state sink.new)
-        (legend_text frame.now foot names.now tasks.now colours.now) result }
+        (legend_text frame.now foot names.now tasks.now colours.now lanes.now) result }
 {
-    put_heads(sink, frame, foot, names, tasks)?;
-    put_entries(sink, frame.tick, foot, names, tasks, colours)
+    put_heads(sink, frame, foot, names, tasks, lanes)?;
+    put_entries(sink, frame.tick, foot, names, tasks, colours, lanes)
+}
+
+// How many of the names have a box on one of the lanes.
+pub(crate) fn listed_in(lanes: &[Lane], names: &[Name]) -> u32
+    requires { length names.now ≤ MAX_VCPUS }
+    ensures value { result ≡ listed_in lanes.now names.now }
+    ensures few { result ≤ MAX_VCPUS }
+{
+    count_below(&holders_in(lanes), names.len())
 }
 
 // Writes the heads of the columns.
@@ -56,12 +68,14 @@ fn put_heads<K: Sink>(
     foot: u32,
     names: &[Name],
     tasks: &[Task],
+    lanes: &[Lane],
 ) -> Result<(), WriteFault>
     requires low { foot < 2 ^ 31 }
+    requires few { length names.now ≤ MAX_VCPUS }
     ensures { Writes (K.state sink.old) (K.state sink.new)
-        (texts_below (head_at frame.now foot tasks.now) (min (length names.now) 4)) result }
+        (texts_below (head_at frame.now foot tasks.now) (min (listed_in lanes.now names.now) 4)) result }
 {
-    put_some_heads(sink, frame, foot, tasks, names.len().min(4))
+    put_some_heads(sink, frame, foot, tasks, listed_in(lanes, names).min(4))
 }
 
 // Writes the heads of so many columns.
@@ -70,14 +84,14 @@ fn put_some_heads<K: Sink>(
     frame: &Frame,
     foot: u32,
     tasks: &[Task],
-    count: usize,
+    count: u32,
 ) -> Result<(), WriteFault>
     requires low { foot < 2 ^ 31 }
     ensures { Writes (K.state sink.old) (K.state sink.new)
         (texts_below (head_at frame.now foot tasks.now) count) result }
 {
-    for v in 0..count {
-        put_head_at(sink, frame, foot, tasks, v)?;
+    for k in 0..count {
+        put_head_at(sink, frame, foot, tasks, k)?;
     }
     Ok(())
 }
@@ -87,12 +101,19 @@ fn put_head_at<K: Sink>(
     frame: &Frame,
     foot: u32,
     tasks: &[Task],
-    v: usize,
+    k: u32,
 ) -> Result<(), WriteFault>
     requires low { foot < 2 ^ 31 }
-    ensures { Writes (K.state sink.old) (K.state sink.new) (head_at frame.now foot tasks.now v) result }
+    ensures { Writes (K.state sink.old) (K.state sink.new) (head_at frame.now foot tasks.now k) result }
 {
-    put_head_from(sink, frame.by_vcpu, column_of(v), foot + 3800, tasks, v)
+    put_head_from(
+        sink,
+        frame.by_vcpu,
+        column_of(k),
+        foot + 3800,
+        tasks,
+        k as usize,
+    )
 }
 
 fn put_head_from<K: Sink>(
@@ -103,7 +124,7 @@ fn put_head_from<K: Sink>(
     tasks: &[Task],
     v: usize,
 ) -> Result<(), WriteFault>
-    requires { x ≤ 85000 }
+    requires { x ≤ 115000 }
     ensures { Writes (K.state sink.old) (K.state sink.new)
         (head_from by_vcpu x y (slice_get tasks.now v)) result }
 {
@@ -151,7 +172,7 @@ fn put_task_heads<K: Sink>(
     tasks: &[Task],
     v: usize,
 ) -> Result<(), WriteFault>
-    requires { x ≤ 85000 }
+    requires { x ≤ 115000 }
     ensures { Writes (K.state sink.old) (K.state sink.new)
         (task_heads x y (slice_get tasks.now v)) result }
 {
@@ -181,22 +202,22 @@ fn put_task_head<K: Sink>(sink: &mut K, share: u32, period: u32, y: u32) -> Resu
     )
 }
 
-// Where the column of a vCPU begins.
-fn column_of(v: usize) -> u32
-    ensures value { result ≡ column_of v }
-    ensures small { result ≤ 85000 }
+// Where the column of a place begins.
+fn column_of(k: u32) -> u32
+    ensures value { result ≡ column_of k }
+    ensures small { result ≤ 115000 }
 {
-    4000 + (v % 4) as u32 * 27_000
+    4000 + k % 4 * 36_000
 }
 
-// The line of a vCPU's row.
-fn row_of(foot: u32, v: usize) -> u32
+// The line of a place's row.
+fn row_of(foot: u32, k: u32) -> u32
     requires low { foot < 2 ^ 31 }
-    requires few { v < MAX_VCPUS }
-    ensures value { result ≡ row_of foot v }
+    requires few { k < MAX_VCPUS }
+    ensures value { result ≡ row_of foot k }
     ensures low { 5500 ≤ result }
 {
-    foot + 5500 + (v / 4) as u32 * 1400
+    foot + 5500 + k / 4 * 1400
 }
 
 // Writes the rows.
@@ -207,20 +228,27 @@ fn put_entries<K: Sink>(
     names: &[Name],
     tasks: &[Task],
     colours: &[u32],
+    lanes: &[Lane],
 ) -> Result<(), WriteFault>
     requires low { foot < 2 ^ 31 }
     requires few { length names.now ≤ MAX_VCPUS }
     requires coloured { length names.now ≤ length colours.now }
     ensures { Writes (K.state sink.old) (K.state sink.new)
-        (texts_below (legend_entry tick foot names.now tasks.now colours.now) (length names.now)) result }
+        (texts_below (listed_at tick foot names.now tasks.now colours.now lanes.now) (length names.now)) result }
 {
+    let holders = holders_in(lanes);
+    let mut place = 0;
     for v in 0..names.len() {
-        put_entry(sink, tick, foot, names, tasks, colours, v)?;
+        let held = holders.has(VcpuNo(v as u32));
+        put_entry(
+            sink, tick, foot, names, tasks, colours, lanes, held, place, v,
+        )?;
+        place = next_place(place, held);
     }
     Ok(())
 }
 
-// Writes what is said of a vCPU.
+// Writes what is said of a vCPU in a place, if it has a box.
 fn put_entry<K: Sink>(
     sink: &mut K,
     tick: u16,
@@ -228,19 +256,27 @@ fn put_entry<K: Sink>(
     names: &[Name],
     tasks: &[Task],
     colours: &[u32],
+    lanes: &[Lane],
+    held: bool,
+    place: u32,
     v: usize,
 ) -> Result<(), WriteFault>
     requires low { foot < 2 ^ 31 }
-    requires few { v < MAX_VCPUS }
+    requires few { place < MAX_VCPUS }
     requires coloured { v < length colours.now }
+    requires held { held ≡ has_lane lanes.now v }
+    requires place { place ≡ count_below (has_lane lanes.now) v }
     ensures { Writes (K.state sink.old) (K.state sink.new)
-        (legend_entry tick foot names.now tasks.now colours.now v) result }
+        (listed_at tick foot names.now tasks.now colours.now lanes.now v) result }
 {
+    if !held {
+        return Ok(());
+    }
     put_entry_at(
         sink,
         tick,
-        column_of(v),
-        row_of(foot, v),
+        column_of(place),
+        row_of(foot, place),
         colours[v],
         name_at(names, v),
         tasks,
@@ -258,7 +294,7 @@ fn put_entry_at<K: Sink>(
     tasks: &[Task],
     v: usize,
 ) -> Result<(), WriteFault>
-    requires x { x ≤ 85000 }
+    requires x { x ≤ 115000 }
     requires y { 5500 ≤ y }
     ensures { Writes (K.state sink.old) (K.state sink.new)
         (entry_at tick x y colour name.now (slice_get tasks.now v)) result }
@@ -288,9 +324,16 @@ fn put_swatch<K: Sink>(sink: &mut K, colour: u32, x: u32, y: u32) -> Result<(), 
 
 fn put_legend_name<K: Sink>(sink: &mut K, x: u32, y: u32, name: &[u8]) -> Result<(), WriteFault>
     ensures { Writes (K.state sink.old) (K.state sink.new)
-        (legend_name x y (short_front name.now) (short_dots name.now)) result }
+        (legend_name x y (short_front name.now) (short_dots name.now) (short_back name.now)) result }
 {
-    put_short_name(sink, x, y, short_front(name), short_dots(name))
+    put_short_name(
+        sink,
+        x,
+        y,
+        short_front(name),
+        short_dots(name),
+        short_back(name),
+    )
 }
 
 #[tactic(auto, unfolding(crate::specs::Legends::legend_name))]
@@ -300,8 +343,10 @@ fn put_short_name<'a, K: Sink>(
     y: u32,
     front: &'a [u8],
     dots: &'a [u8],
+    back: &'a [u8],
 ) -> Result<(), WriteFault>
-    ensures { Writes (K.state sink.old) (K.state sink.new) (legend_name x y front.now dots.now) result }
+    ensures { Writes (K.state sink.old) (K.state sink.new)
+        (legend_name x y front.now dots.now back.now) result }
 {
     put_pieces(
         sink,
@@ -313,6 +358,7 @@ fn put_short_name<'a, K: Sink>(
             TextPiece::Text(b"\" font-size=\"900\" class=\"name\">"),
             TextPiece::Text(front),
             TextPiece::Text(dots),
+            TextPiece::Text(back),
             TextPiece::Text(b"</text>\n"),
         ],
     )
@@ -327,7 +373,7 @@ fn put_task<K: Sink>(
     tasks: &[Task],
     v: usize,
 ) -> Result<(), WriteFault>
-    requires { x ≤ 85000 }
+    requires { x ≤ 115000 }
     ensures { Writes (K.state sink.old) (K.state sink.new)
         (task_entry tick x y (slice_get tasks.now v)) result }
 {
@@ -344,7 +390,7 @@ fn put_task_of<K: Sink>(
     y: u32,
     task: &Task,
 ) -> Result<(), WriteFault>
-    requires { x ≤ 85000 }
+    requires { x ≤ 115000 }
     ensures { Writes (K.state sink.old) (K.state sink.new) (task_cells tick x y task.now) result }
 {
     let part = per_mille(u64::from(task.cost), u64::from(task.period));

@@ -6,11 +6,12 @@ ghost use Rattle.lane_svg.specs.Frames.{height_of, pitch_of};
 ghost use Rattle.lane_svg.specs.Lanes.{ground_box};
 ghost use Rattle.view_chart.specs.Charts.{chart_of, grounds_text, lane_at, tall_of};
 ghost use Rattle.view_chart.specs.Heads.{head_text};
+ghost use Rattle.view_chart.specs.Legends.{listed_in};
 ghost use Rattle.view_lanes.specs.Titles.{head_of};
 
 use crate::axis::put_axis;
 use crate::head::put_head;
-use crate::legend::put_legend;
+use crate::legend::{listed_in, put_legend};
 use crate::rounds::put_rounds;
 use lane_svg::{foot_of, height_of, pitch_of, put_box, put_lane, top_of};
 use tab_core::{Name, ROUND};
@@ -30,6 +31,7 @@ pub(crate) fn put_picture<K: Sink>(
     cores: u32,
     labels: &[Name],
     figures: &Figures,
+    promises: &[Option<u64>],
     names: &[Name],
     tasks: &[Task],
     colours: &[u32],
@@ -39,7 +41,7 @@ pub(crate) fn put_picture<K: Sink>(
     requires few { length names.now ≤ MAX_VCPUS }
     requires coloured { length names.now ≤ length colours.now }
     ensures { Writes (K.state sink.old) (K.state sink.new)
-        (chart_of frame.now stretches.now width first cores labels.now figures.now names.now tasks.now colours.now
+        (chart_of frame.now stretches.now width first cores labels.now figures.now promises.now names.now tasks.now colours.now
         lanes.now) result }
 {
     put_chart_head(
@@ -49,16 +51,16 @@ pub(crate) fn put_picture<K: Sink>(
         width,
         cores,
         labels.len() as u64,
-        names.len(),
+        names,
         lanes,
     )?;
     put_grounds(sink, lanes.len() as u32)?;
     put_axis(sink, frame, lanes.len() as u32)?;
     put_lanes(
-        sink, frame, first, labels, figures, names, tasks, colours, lanes,
+        sink, frame, first, labels, figures, promises, names, tasks, colours, lanes,
     )?;
     put_rounds(sink, frame, stretches, lanes.len() as u32)?;
-    put_legend(sink, frame, lanes.len() as u32, names, tasks, colours)?;
+    put_legend(sink, frame, names, tasks, colours, lanes)?;
     write_all(sink, b"</svg>\n")
 }
 
@@ -70,26 +72,27 @@ fn put_chart_head<K: Sink>(
     width: u32,
     cores: u32,
     vcpus: u64,
-    keys: usize,
+    names: &[Name],
     lanes: &[Lane],
 ) -> Result<(), WriteFault>
     requires lanes { length lanes.now ≤ MAX_VCPUS }
-    requires few { keys ≤ MAX_VCPUS }
+    requires few { length names.now ≤ MAX_VCPUS }
     ensures { Writes (K.state sink.old) (K.state sink.new)
-        (head_text width (tall_of (length lanes.now) keys) (head_of frame.now stretches.now cores vcpus lanes.now))
-        result }
+        (head_text width (tall_of (length lanes.now) (listed_in lanes.now names.now))
+        (head_of frame.now stretches.now cores vcpus lanes.now)) result }
 {
     let head = head_of(frame, stretches, cores, vcpus, lanes);
+    let keys = listed_in(lanes, names);
     put_head(sink, width, tall_of(lanes.len() as u32, keys), &head)
 }
 
 // How tall a picture of so many lanes and keys is.
-fn tall_of(lanes: u32, vcpus: usize) -> u32
+fn tall_of(lanes: u32, keys: u32) -> u32
     requires lanes { lanes ≤ MAX_VCPUS }
-    requires vcpus { vcpus ≤ MAX_VCPUS }
-    ensures { result ≡ tall_of lanes vcpus }
+    requires keys { keys ≤ MAX_VCPUS }
+    ensures { result ≡ tall_of lanes keys }
 {
-    foot_of(lanes) + 5500 + ((vcpus + 3) / 4) as u32 * 1400 + 1000
+    foot_of(lanes) + 5500 + (keys + 3) / 4 * 1400 + 1000
 }
 
 // Writes the grounds of so many lanes.
@@ -146,6 +149,7 @@ fn put_lanes<K: Sink>(
     first: u32,
     labels: &[Name],
     figures: &Figures,
+    promises: &[Option<u64>],
     names: &[Name],
     tasks: &[Task],
     colours: &[u32],
@@ -155,12 +159,12 @@ fn put_lanes<K: Sink>(
     requires few { length names.now ≤ MAX_VCPUS }
     requires coloured { length names.now ≤ length colours.now }
     ensures { Writes (K.state sink.old) (K.state sink.new)
-        (texts_below (lane_at frame.now first labels.now figures.now names.now tasks.now colours.now lanes.now) (length lanes.now))
+        (texts_below (lane_at frame.now first labels.now figures.now promises.now names.now tasks.now colours.now lanes.now) (length lanes.now))
         result }
 {
     for i in 0..lanes.len() {
         put_lane_at(
-            sink, frame, first, labels, figures, names, tasks, colours, lanes, i,
+            sink, frame, first, labels, figures, promises, names, tasks, colours, lanes, i,
         )?;
     }
     Ok(())
@@ -173,6 +177,7 @@ fn put_lane_at<K: Sink>(
     first: u32,
     labels: &[Name],
     figures: &Figures,
+    promises: &[Option<u64>],
     names: &[Name],
     tasks: &[Task],
     colours: &[u32],
@@ -184,7 +189,7 @@ fn put_lane_at<K: Sink>(
     requires few { length names.now ≤ MAX_VCPUS }
     requires coloured { length names.now ≤ length colours.now }
     ensures { Writes (K.state sink.old) (K.state sink.new)
-        (lane_at frame.now first labels.now figures.now names.now tasks.now colours.now lanes.now i) result }
+        (lane_at frame.now first labels.now figures.now promises.now names.now tasks.now colours.now lanes.now i) result }
 {
     let count = lanes.len() as u32;
     let row = u64::from(first) + i as u64;
@@ -194,6 +199,7 @@ fn put_lane_at<K: Sink>(
         frame,
         labels,
         figures,
+        promises,
         row,
         y,
         height_of(count),

@@ -171,10 +171,10 @@ other_colour on vcpus u v less low met few =
           λ is. absurd (omega (arith, is, one, other, less))
       | inr many ↦
           let other : slice_index (colours_below on vcpus vcpus) v
-          ≡ first_free (is_taken on lower v) (v % 12) 0 12 = at_v ∙ rw many refl in
-          elim (free_one (is_taken on lower v) (v % 12) 0 12) [
+          ≡ first_free (is_taken on lower v) (24 + v % 24) 0 12 = at_v ∙ rw many refl in
+          elim (free_one (is_taken on lower v) (24 + v % 24) 0 12) [
             | inl free ↦ λ is.
-                untaken on lower v (first_free (is_taken on lower v) (v % 12) 0 12) v u less met free
+                untaken on lower v (first_free (is_taken on lower v) (24 + v % 24) 0 12) v u less met free
                 (sym at_u ∙ (is ∙ other))
             | inr taken ↦
                 let twelve = all_counted (λ k. taken_below on lower v k v) 12

@@ -1,7 +1,7 @@
 -- The colours of the vCPUs: the number, where there are twelve or fewer; else in rising number the least that
--- no lower vCPU on a shared core has, or the number modulo 12 where all are taken. A tone is a colour, with a dark
+-- no lower vCPU on a shared core has, or one of 24 with stripes, by number, where all are taken. A tone is a colour, with a dark
 -- foot where a vCPU of a plan has slots on several cores: such tones are numbered from 12.
-use Rattle.std.specs.Prelude.{ℕ, zero, suc, ◌+◌, ◌*◌, ◌%◌, ◌==◌, ◌&&◌, ◌||◌, nat_le, Bool, true, false, List, [], ◌∷◌, ◌++◌, decimal, if◌then◌else◌, length, slice_get, slice_index, slice_index_or, Option, Some, None}
+use Rattle.std.specs.Prelude.{ℕ, zero, suc, ◌+◌, ◌*◌, ◌%◌, ◌==◌, ◌&&◌, ◌||◌, nat_le, nat_lt, Bool, true, false, List, [], ◌∷◌, ◌++◌, decimal, if◌then◌else◌, length, slice_get, slice_index, slice_index_or, Option, Some, None}
 use Rattle.std.specs.List.{list_any}
 use Rattle.tab_core.specs.declared.TheConstants.{MAX_CORES}
 use Rattle.view_doc.specs.declared.view.Stretch.{Stretch}
@@ -51,7 +51,7 @@ first_free taken other k (suc n) = if taken k then first_free taken other (suc k
 -- the colour of a vCPU, behind those of the lower ones
 abbrev pub next_colour : (ℕ → ℕ → Bool) → ℕ → List ℕ → ℕ → ℕ
 next_colour on vcpus colours v =
-    if nat_le vcpus 12 then v else first_free (is_taken on colours v) (v % 12) 0 12
+    if nat_le vcpus 12 then v else first_free (is_taken on colours v) (24 + v % 24) 0 12
 
 -- the colours of those below a number, of so many
 abbrev pub colours_below : (ℕ → ℕ → Bool) → ℕ → ℕ → List ℕ
@@ -102,10 +102,14 @@ has_foot true figures v = false
 abbrev pub tones_of : Bool → Figures → List ℕ → ℕ → List ℕ
 tones_of is_run figures colours vcpus = tones_below (has_foot is_run figures) colours vcpus
 
+-- the tone of a core: a colour, and stripes from the thirteenth on
+abbrev pub core_tone : ℕ → ℕ
+core_tone core = if nat_lt core 12 then core else core + 12
+
 -- the tones of so many cores, by number
 abbrev pub core_tones : ℕ → List ℕ
 core_tones zero = []
-core_tones (suc core) = core_tones core ++ core % 12 ∷ []
+core_tones (suc core) = core_tones core ++ core_tone core ∷ []
 
 -- the numbers of so many cores, as they are written
 abbrev pub core_names : ℕ → List (List ℕ)

@@ -1,6 +1,6 @@
 -- What of a view is drawn: its lanes, by core or by vCPU, its stretches, and the ticks up to which it goes.
-use Rattle.std.specs.Prelude.{ℕ, zero, suc, ◌++◌, ◌+◌, ◌-◌, ◌*◌, ◌/◌, ◌^◌, ◌==◌, ◌&&◌, ◌||◌, nat_le, nat_lt, Bool, true, false, List, [], ◌∷◌, if◌then◌else◌, flat_map, length, max, min, Option, Some, None}
-use Rattle.std.specs.List.{sum_by}
+use Rattle.std.specs.Prelude.{ℕ, zero, suc, ◌++◌, ◌+◌, ◌-◌, ◌*◌, ◌/◌, ◌^◌, ◌==◌, ◌&&◌, ◌||◌, nat_le, nat_lt, Bool, true, false, not, List, [], ◌∷◌, if◌then◌else◌, flat_map, length, max, min, Option, Some, None}
+use Rattle.std.specs.List.{list_any, sum_by}
 use Rattle.tab_core.specs.declared.TheConstants.{ROUND}
 use Rattle.view_doc.specs.declared.view.Stretch.{Stretch}
 use Rattle.view_doc.specs.declared.view.Use.{Use}
@@ -50,6 +50,7 @@ frame_of view options = record {
   tick = options.tick_ns;
   by_vcpu = options.by_vcpu;
   is_run = view.is_run;
+  picture = options.picture;
 }
 
 -- how many cores or vCPUs could have a lane, and how many have one: those that were asked for
@@ -104,6 +105,17 @@ lane_bars f stretches row = flat_map (bars_in f row) stretches
 abbrev pub shows_nothing : ChartOptions → View → Bool
 shows_nothing options view =
     nat_le (frame_of view options).to (frame_of view options).from || (lanes_of view options == 0)
+
+-- a lane of more than 342 bars is drawn in columns, another by a box for each bar
+abbrev pub is_dense : List Bar → Bool
+is_dense bars = nat_lt 342 (length bars)
+
+-- one of the lanes is drawn in columns; one is drawn in boxes
+abbrev pub some_dense : List (List Bar) → Bool
+some_dense lanes = list_any is_dense lanes
+
+abbrev pub some_boxes : List (List Bar) → Bool
+some_boxes lanes = list_any (λ bars. not (is_dense bars)) lanes
 
 -- how many ticks of a lane are somebody's: at most all
 abbrev pub held_in : Frame → List Bar → ℕ

@@ -2,7 +2,7 @@
 use Rattle.std.specs.Prelude.{ℕ, ◌==◌, ◌/◌, ◌%◌, ◌++◌, Bool, true, false, List, [], codes, decimal, if◌then◌else◌, ◌-◌, length}
 use Rattle.view_doc.specs.declared.view.Stretch.{Stretch}
 use Rattle.view_lanes.specs.Amounts.{tenths_ms}
-use Rattle.view_lanes.specs.Shown.{rounds_of, share_in}
+use Rattle.view_lanes.specs.Shown.{rounds_of, share_in, some_boxes, some_dense}
 use Rattle.view_lanes.specs.declared.frame.Bar.{Bar}
 use Rattle.view_lanes.specs.declared.frame.Frame.{Frame}
 use Rattle.view_lanes.specs.declared.titles.Head.{Head}
@@ -20,6 +20,9 @@ head_of f stretches cores vcpus lanes = record {
   to = f.to;
   lasting = tenths_ms f.tick (f.to - f.from);
   share = share_in f lanes;
+  boxes = some_boxes lanes;
+  columns = some_dense lanes;
+  picture = f.picture;
 }
 
 -- more than one
@@ -67,7 +70,7 @@ share_text share = codes ", of which vCPUs have " ++ (decimal (share / 10) ++ (c
 
 -- what stands on the lanes of vCPUs
 abbrev pub lanes_note : Bool → List ℕ
-lanes_note false = codes ". A dark line is the longest wait for a slot; right of it how long that is."
+lanes_note false = codes ". A line is the longest wait for a slot; right of it how long that is."
 lanes_note true = codes ". The lanes are the vCPUs', the boxes the cores'."
 
 abbrev pub sub_end : Head → List ℕ

@@ -119,7 +119,7 @@ fn next_colour(sets: &[VcpuSet], vcpus: usize, colours: &[u32], v: VcpuNo) -> u3
             return k;
         }
     }
-    v.0 % 12
+    24 + v.0 % 24
 }
 
 // Whether a lower one of the vCPUs that a vCPU meets has the colour.

@@ -15,10 +15,12 @@ pub struct ChartOptions {
     pub width: u32,
     /// Nanoseconds of a tick.
     pub tick_ns: u16,
+    /// The picture's number on its page, which its ids end in.
+    pub picture: u32,
 }
 
 /// The ticks that are shown, from the first up to, and without, the last, how many ns one has, whether the lanes
-/// are those of vCPUs, and whether a run is shown.
+/// are those of vCPUs, whether a run is shown, and the picture's number on its page.
 #[derive(Clone, Copy)]
 pub struct Frame {
     pub from: u32,
@@ -26,6 +28,7 @@ pub struct Frame {
     pub tick: u16,
     pub by_vcpu: bool,
     pub is_run: bool,
+    pub picture: u32,
 }
 
 /// The ticks of a lane that a vCPU has, in its slot or in time that nobody used. What tells the bars of a lane

@@ -1,7 +1,7 @@
 ghost use Rattle.std.specs.Prelude.{◌≡◌, ◌<◌, ◌≤◌, ◌+◌, ◌^◌, ◌==◌, ◌++◌, IfOk, OnOk, [], ◌∷◌, if◌then◌else◌, length, max, min, replicate};
 ghost use Rattle.tab_core.specs.declared.TheConstants.{MAX_VCPUS};
 ghost use Rattle.view_lanes.specs.Inside.Filling.{HaveMore, use_of};
-ghost use Rattle.view_lanes.specs.Shown.{bars_in, held_in, key_of, lanes_below, share_in};
+ghost use Rattle.view_lanes.specs.Shown.{bars_in, held_in, is_dense, key_of, lanes_below, share_in, some_boxes, some_dense};
 
 use crate::amounts::per_mille;
 use crate::frame::{Bar, Frame};
@@ -155,6 +155,27 @@ fn key_of(by_vcpu: bool, stretch: &Stretch, vcpu: VcpuNo) -> u8
     } else {
         vcpu.0 as u8
     }
+}
+
+/// Whether a lane is drawn in columns: it has more than 342 bars.
+pub fn is_dense(bars: &[Bar]) -> bool
+    ensures { result ≡ is_dense bars.now }
+{
+    bars.len() > 342
+}
+
+// Whether one of the lanes is drawn in columns.
+pub(crate) fn some_dense(lanes: &[Lane]) -> bool
+    ensures { result ≡ some_dense lanes.now }
+{
+    lanes.iter().any(|lane| is_dense(lane.bars()))
+}
+
+// Whether one of the lanes is drawn in boxes.
+pub(crate) fn some_boxes(lanes: &[Lane]) -> bool
+    ensures { result ≡ some_boxes lanes.now }
+{
+    lanes.iter().any(|lane| !is_dense(lane.bars()))
 }
 
 /// How many ticks of a lane are somebody's.

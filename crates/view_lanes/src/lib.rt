@@ -22,7 +22,7 @@ pub use amounts::{per_mille, tenths_ms};
 pub use cells::{edge_of, overlap, width_at};
 pub use fault::ChartFault;
 pub use frame::{Bar, ChartOptions, Frame};
-pub use lanes::{Lane, held_in, lanes_from};
+pub use lanes::{Lane, held_in, is_dense, lanes_from};
 pub use laws::colours_of_a_lane_differ;
 pub use names::name_at;
 pub use rounds::{first_round, rounds_shown, used_counts};

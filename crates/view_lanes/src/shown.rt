@@ -85,6 +85,7 @@ pub fn frame_of(view: &View, options: &ChartOptions) -> Frame
         tick: options.tick_ns,
         by_vcpu: options.by_vcpu,
         is_run: view.is_run,
+        picture: options.picture,
     }
 }
 

@@ -5,7 +5,7 @@ ghost use Rattle.view_lanes.specs.Titles.{counts_of, counts_text, head_of, kind_
 
 use crate::amounts::tenths_ms;
 use crate::frame::Frame;
-use crate::lanes::{Lane, share_in};
+use crate::lanes::{Lane, share_in, some_boxes, some_dense};
 use crate::shown::{rounds_of, span_of};
 use tab_io::{Sink, WriteFault, write_all};
 use tab_words::{TextPiece, put_pieces};
@@ -27,6 +27,11 @@ pub struct Head {
     pub lasting: u64,
     // Tenths of a percent.
     pub share: u64,
+    // Whether a lane is drawn in boxes, and whether one is in columns.
+    pub boxes: bool,
+    pub columns: bool,
+    // The picture's number on its page.
+    pub picture: u32,
 }
 
 /// What the head says.
@@ -46,6 +51,9 @@ pub fn head_of(frame: &Frame, stretches: &[Stretch], cores: u32, vcpus: u64, lan
         to: frame.to,
         lasting: tenths_ms(frame.tick, span_of(frame)),
         share: share_in(frame, lanes),
+        boxes: some_boxes(lanes),
+        columns: some_dense(lanes),
+        picture: frame.picture,
     }
 }
 
@@ -205,7 +213,7 @@ fn lanes_note(is_run: bool) -> &'static [u8]
     if is_run {
         b". The lanes are the vCPUs', the boxes the cores'."
     } else {
-        b". A dark line is the longest wait for a slot; right of it how long that is."
+        b". A line is the longest wait for a slot; right of it how long that is."
     }
 }
 

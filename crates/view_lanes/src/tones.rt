@@ -1,6 +1,6 @@
-ghost use Rattle.std.specs.Prelude.{◌≡◌, ◌<◌, ◌≤◌, IfOk, decimal, length};
+ghost use Rattle.std.specs.Prelude.{◌≡◌, ◌<◌, ◌≤◌, ◌-◌, ◌^◌, IfOk, decimal, length};
 ghost use Rattle.tab_core.specs.declared.TheConstants.{MAX_CORES, MAX_VCPUS};
-ghost use Rattle.view_lanes.specs.Colours.{core_names, core_tones, has_foot, is_split, stands_at, tone, tones_of, vcpu_tones};
+ghost use Rattle.view_lanes.specs.Colours.{core_names, core_tone, core_tones, has_foot, is_split, stands_at, tone, tones_of, vcpu_tones};
 
 use crate::colours::colours_of;
 use crate::shown::shown_in;
@@ -87,16 +87,25 @@ fn stands_at(figures: &Figures, v: usize, core: usize) -> bool
 
 /// The tones of so many cores.
 pub fn core_tones(alloc: Global, cores: u32) -> Result<Vec<u32>, NoMemory>
+    requires { cores ≤ MAX_CORES }
     ensures tones { IfOk result (λ tones. tones.items ≡ core_tones cores) }
     ensures count { IfOk result (λ tones. length tones.items ≡ cores) }
 {
     let mut tones = Vec::new(alloc);
     for core in 0..cores {
-        if tones.push(core % 12).is_err() {
+        if tones.push(core_tone(core)).is_err() {
             return Err(AllocError);
         }
     }
     Ok(tones)
+}
+
+// The tone of a core: a colour, and stripes from the thirteenth on.
+fn core_tone(core: u32) -> u32
+    requires { core < 2 ^ 32 - 12 }
+    ensures { result ≡ core_tone core }
+{
+    if core < 12 { core } else { core + 12 }
 }
 
 /// The numbers of so many cores, as they are written.

@@ -32,7 +32,7 @@ escaped bytes = texts_below (escaped_at bytes) (length bytes)
 
 -- the head, and how many cores, vCPUs and nanoseconds of a tick there are
 unfoldable pub top_text : ℕ → ℕ → ℕ → List ℕ
-top_text cores vcpus tick = codes "<!DOCTYPE html>\n<html lang=\"en\">\n<head>\n<meta charset=\"utf-8\">\n<meta name=\"viewport\" content=\"width=device-width,initial-scale=1\">\n<title>Cores and vCPUs</title>\n<style>\n:root{color-scheme:light dark;--ground:#ffffff;--words:#1d2433;--dim:#5d6778;--card:#f6f7f9;--line:#d5dae3}\n@media (prefers-color-scheme:dark){:root{--ground:#12161e;--words:#e4e8ef;--dim:#9aa5b5;--card:#1b212c;--line:#343d4c}}\nbody{margin:0 auto;max-width:76rem;padding:1rem;background:var(--ground);color:var(--words);font:1rem/1.5 system-ui,sans-serif}\nh1{font-size:1.5rem}h2{margin:1.5rem 0 .5rem;font-size:1.15rem}\ndl{display:grid;grid-template-columns:max-content 1fr;gap:.25rem 1rem}dt{color:var(--dim)}dd{margin:0}\npre,figure{margin:0;overflow-x:auto;background:var(--card);border:1px solid var(--line);border-radius:.5rem}\npre{padding:.75rem;font:.85rem/1.4 monospace}pre:empty::before{content:'nothing differs'}\nfigure{background:#ffffff}figure svg{display:block;width:100%;min-width:45rem;height:auto}\n</style>\n</head>\n<body>\n<h1>Cores and vCPUs</h1>\n<dl><dt>cores</dt><dd>" ++ (decimal cores
+top_text cores vcpus tick = codes "<!DOCTYPE html>\n<html lang=\"en\">\n<head>\n<meta charset=\"utf-8\">\n<meta name=\"viewport\" content=\"width=device-width,initial-scale=1\">\n<title>Cores and vCPUs</title>\n<style>\n:root{color-scheme:light dark;--ground:#ffffff;--words:#1d2433;--dim:#5d6778;--card:#f6f7f9;--line:#d5dae3}\n@media (prefers-color-scheme:dark){:root{--ground:#12161e;--words:#e4e8ef;--dim:#9aa5b5;--card:#1b212c;--line:#343d4c}}\nbody{margin:0 auto;max-width:96rem;padding:1rem;background:var(--ground);color:var(--words);font:1rem/1.5 system-ui,sans-serif}\nh1{font-size:1.5rem}h2{margin:1.5rem 0 .5rem;font-size:1.15rem}\ndl{display:grid;grid-template-columns:max-content 1fr;gap:.25rem 1rem}dt{color:var(--dim)}dd{margin:0}\npre,figure{margin:0;overflow-x:auto;background:var(--card);border:1px solid var(--line);border-radius:.5rem}\npre{padding:.75rem;font:.85rem/1.4 monospace}pre:empty::before{content:'nothing differs'}\nfigure svg{display:block;width:100%;min-width:60rem;height:auto}\n</style>\n</head>\n<body>\n<h1>Cores and vCPUs</h1>\n<dl><dt>cores</dt><dd>" ++ (decimal cores
     ++ (codes "</dd><dt>vCPUs</dt><dd>" ++ (decimal vcpus ++ (codes "</dd><dt>tick</dt><dd>" ++ (decimal tick
     ++ codes " ns</dd></dl>\n")))))
 
@@ -45,7 +45,7 @@ both_tables host tick view = codes "<h2>By vCPU and by core</h2>\n<pre tabindex=
 abbrev pub tables_part : Option (List Vcpu) → ℕ → View → List ℕ
 tables_part host tick view = if length view.tasks.items == 0 then [] else both_tables host tick view
 
--- all of a view, by core or by vCPU
+-- all of a view, by core or by vCPU: the first picture or the second
 abbrev pub whole_options : Bool → ℕ → ChartOptions
 whole_options by_vcpu tick = record {
   by_vcpu = by_vcpu;
@@ -53,14 +53,15 @@ whole_options by_vcpu tick = record {
   last = 255;
   from = 0;
   to = None;
-  width = 1160;
+  width = 1500;
   tick_ns = tick;
+  picture = if by_vcpu then 2 else 1;
 }
 
--- a picture, if it has a tick and a lane
+-- a picture without promised waits, if it has a tick and a lane
 abbrev pub picture_text : ChartOptions → View → Figures → List ℕ
 picture_text options view figures =
-    if shows_nothing options view then [] else chart_text options view figures
+    if shows_nothing options view then [] else chart_text options view figures []
 
 -- the pictures by core and by vCPU
 abbrev pub pictures_part : ℕ → View → Figures → List ℕ

@@ -44,13 +44,13 @@ pub(crate) fn put_picture<K: Sink>(
         (picture_text (whole_options by_vcpu tick_ns) view.now figures.now) result }
 {
     let options = whole_options(by_vcpu, tick_ns);
-    match write_chart(alloc, sink, view, figures, &options) {
+    match write_chart(alloc, sink, view, figures, &[], &options) {
         Err(ChartFault::Nothing) => Ok(()),
         drawn => drawn,
     }
 }
 
-// What a picture of all of a view shows.
+// What a picture of all of a view shows: by core it is the first of the page, by vCPU the second.
 fn whole_options(by_vcpu: bool, tick_ns: u16) -> ChartOptions
     ensures { result ≡ whole_options by_vcpu tick_ns }
 {
@@ -60,7 +60,8 @@ fn whole_options(by_vcpu: bool, tick_ns: u16) -> ChartOptions
         last: 255,
         from: 0,
         to: None,
-        width: 1160,
+        width: 1500,
         tick_ns,
+        picture: if by_vcpu { 2 } else { 1 },
     }
 }

@@ -115,6 +115,7 @@ by_core options = record {
   to = options.to;
   width = options.columns;
   tick_ns = options.tick_ns;
+  picture = 0;
 }
 
 -- the text of a view

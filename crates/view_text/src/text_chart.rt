@@ -87,6 +87,7 @@ fn by_core(options: &TextOptions) -> ChartOptions
         to: options.to,
         width: options.columns,
         tick_ns: options.tick_ns,
+        picture: 0,
     }
 }
 

@@ -21,9 +21,18 @@ returns-in_err-put_waits g c =
     let at1 = left_behind _ _ _ _ _ _ _ _ _ at0 refl c.put_body.ensures c.in_ok-put_body.was in
     rw p.1 (left_broken _ _ _ _ _ _ _ _ _ at1 refl c.put_waits.ensures c.in_err-put_waits.was)
 
+pub returns-in_err-put_keys : goal.returns-in_err-put_keys
+returns-in_err-put_keys g c =
+    let p = err_from_is_err_and c.from_residual-in_err-put_keys.result c.from_residual-in_err-put_keys.ensures.1 in
+    let at0 = left_behind _ _ _ _ _ _ _ _ _ (all_left _ _) refl c.put_label.ensures c.in_ok-put_label.was in
+    let at1 = left_behind _ _ _ _ _ _ _ _ _ at0 refl c.put_body.ensures c.in_ok-put_body.was in
+    let at2 = left_behind _ _ _ _ _ _ _ _ _ at1 refl c.put_waits.ensures c.in_ok-put_waits.was in
+    rw p.1 (left_broken _ _ _ _ _ _ _ _ _ at2 refl c.put_keys.ensures c.in_err-put_keys.was)
+
 pub returns : goal.returns
 returns g c =
     let at0 = left_behind _ _ _ _ _ _ _ _ _ (all_left _ _) refl c.put_label.ensures c.in_ok-put_label.was in
     let at1 = left_behind _ _ _ _ _ _ _ _ _ at0 refl c.put_body.ensures c.in_ok-put_body.was in
     let at2 = left_behind _ _ _ _ _ _ _ _ _ at1 refl c.put_waits.ensures c.in_ok-put_waits.was in
-    left_last _ _ _ _ _ _ at2 c.write_all.ensures
+    let at3 = left_behind _ _ _ _ _ _ _ _ _ at2 refl c.put_keys.ensures c.in_ok-put_keys.was in
+    left_last _ _ _ _ _ _ at3 c.write_all.ensures

@@ -31,4 +31,4 @@ returns g c =
     let at0 = left_behind _ _ _ _ _ _ _ _ _ (all_left _ _) refl c.write_all.ensures c.in_ok-write_all.was in
     let at1 = left_behind _ _ _ _ _ _ _ _ _ at0 refl c.put_first_part.ensures c.in_ok-put_first_part.was in
     let at2 = left_behind _ _ _ _ _ _ _ _ _ at1 refl c.put_second_part.ensures c.in_ok-put_second_part.was in
-    left_last _ _ _ _ _ _ at2 c.put_length.ensures
+    left_last _ _ _ _ _ _ at2 c.put_note.ensures

@@ -14,19 +14,19 @@ returns-in_err-put_title g c =
     let at0 = left_behind _ _ _ _ _ _ _ _ _ (all_left _ _) refl c.put_size.ensures c.in_ok-put_size.was in
     rw p.1 (left_broken _ _ _ _ _ _ _ _ _ at0 refl c.put_title.ensures c.in_err-put_title.was)
 
-pub returns-in_err-write_all : goal.returns-in_err-write_all
-returns-in_err-write_all g c =
-    let p = err_from_is_err_and c.from_residual-in_err-write_all.result c.from_residual-in_err-write_all.ensures.1 in
+pub returns-in_err-put_desc : goal.returns-in_err-put_desc
+returns-in_err-put_desc g c =
+    let p = err_from_is_err_and c.from_residual-in_err-put_desc.result c.from_residual-in_err-put_desc.ensures.1 in
     let at0 = left_behind _ _ _ _ _ _ _ _ _ (all_left _ _) refl c.put_size.ensures c.in_ok-put_size.was in
     let at1 = left_behind _ _ _ _ _ _ _ _ _ at0 refl c.put_title.ensures c.in_ok-put_title.was in
-    rw p.1 (left_broken _ _ _ _ _ _ _ _ _ at1 refl c.write_all.ensures c.in_err-write_all.was)
+    rw p.1 (left_broken _ _ _ _ _ _ _ _ _ at1 refl c.put_desc.ensures c.in_err-put_desc.was)
 
 pub returns-in_err-put_sub : goal.returns-in_err-put_sub
 returns-in_err-put_sub g c =
     let p = err_from_is_err_and c.from_residual-in_err-put_sub.result c.from_residual-in_err-put_sub.ensures.1 in
     let at0 = left_behind _ _ _ _ _ _ _ _ _ (all_left _ _) refl c.put_size.ensures c.in_ok-put_size.was in
     let at1 = left_behind _ _ _ _ _ _ _ _ _ at0 refl c.put_title.ensures c.in_ok-put_title.was in
-    let at2 = left_behind _ _ _ _ _ _ _ _ _ at1 refl c.write_all.ensures c.in_ok-write_all.was in
+    let at2 = left_behind _ _ _ _ _ _ _ _ _ at1 refl c.put_desc.ensures c.in_ok-put_desc.was in
     rw p.1 (left_broken _ _ _ _ _ _ _ _ _ at2 refl c.put_sub.ensures c.in_err-put_sub.was)
 
 pub returns-in_err-put_style : goal.returns-in_err-put_style
@@ -34,7 +34,7 @@ returns-in_err-put_style g c =
     let p = err_from_is_err_and c.from_residual-in_err-put_style.result c.from_residual-in_err-put_style.ensures.1 in
     let at0 = left_behind _ _ _ _ _ _ _ _ _ (all_left _ _) refl c.put_size.ensures c.in_ok-put_size.was in
     let at1 = left_behind _ _ _ _ _ _ _ _ _ at0 refl c.put_title.ensures c.in_ok-put_title.was in
-    let at2 = left_behind _ _ _ _ _ _ _ _ _ at1 refl c.write_all.ensures c.in_ok-write_all.was in
+    let at2 = left_behind _ _ _ _ _ _ _ _ _ at1 refl c.put_desc.ensures c.in_ok-put_desc.was in
     let at3 = left_behind _ _ _ _ _ _ _ _ _ at2 refl c.put_sub.ensures c.in_ok-put_sub.was in
     rw p.1 (left_broken _ _ _ _ _ _ _ _ _ at3 refl c.put_style.ensures c.in_err-put_style.was)
 
@@ -43,7 +43,7 @@ returns-in_err-put_ground g c =
     let p = err_from_is_err_and c.from_residual-in_err-put_ground.result c.from_residual-in_err-put_ground.ensures.1 in
     let at0 = left_behind _ _ _ _ _ _ _ _ _ (all_left _ _) refl c.put_size.ensures c.in_ok-put_size.was in
     let at1 = left_behind _ _ _ _ _ _ _ _ _ at0 refl c.put_title.ensures c.in_ok-put_title.was in
-    let at2 = left_behind _ _ _ _ _ _ _ _ _ at1 refl c.write_all.ensures c.in_ok-write_all.was in
+    let at2 = left_behind _ _ _ _ _ _ _ _ _ at1 refl c.put_desc.ensures c.in_ok-put_desc.was in
     let at3 = left_behind _ _ _ _ _ _ _ _ _ at2 refl c.put_sub.ensures c.in_ok-put_sub.was in
     let at4 = left_behind _ _ _ _ _ _ _ _ _ at3 refl c.put_style.ensures c.in_ok-put_style.was in
     rw p.1 (left_broken _ _ _ _ _ _ _ _ _ at4 refl c.put_ground.ensures c.in_err-put_ground.was)
@@ -53,46 +53,46 @@ returns-in_err-put_title-2 g c =
     let p = err_from_is_err_and c.from_residual-in_err-put_title-2.result c.from_residual-in_err-put_title-2.ensures.1 in
     let at0 = left_behind _ _ _ _ _ _ _ _ _ (all_left _ _) refl c.put_size.ensures c.in_ok-put_size.was in
     let at1 = left_behind _ _ _ _ _ _ _ _ _ at0 refl c.put_title.ensures c.in_ok-put_title.was in
-    let at2 = left_behind _ _ _ _ _ _ _ _ _ at1 refl c.write_all.ensures c.in_ok-write_all.was in
+    let at2 = left_behind _ _ _ _ _ _ _ _ _ at1 refl c.put_desc.ensures c.in_ok-put_desc.was in
     let at3 = left_behind _ _ _ _ _ _ _ _ _ at2 refl c.put_sub.ensures c.in_ok-put_sub.was in
     let at4 = left_behind _ _ _ _ _ _ _ _ _ at3 refl c.put_style.ensures c.in_ok-put_style.was in
     let at5 = left_behind _ _ _ _ _ _ _ _ _ at4 refl c.put_ground.ensures c.in_ok-put_ground.was in
     rw p.1 (left_broken _ _ _ _ _ _ _ _ _ at5 refl c.put_title-2.ensures c.in_err-put_title-2.was)
 
-pub returns-in_err-write_all-2 : goal.returns-in_err-write_all-2
-returns-in_err-write_all-2 g c =
-    let p = err_from_is_err_and c.from_residual-in_err-write_all-2.result c.from_residual-in_err-write_all-2.ensures.1 in
+pub returns-in_err-write_all : goal.returns-in_err-write_all
+returns-in_err-write_all g c =
+    let p = err_from_is_err_and c.from_residual-in_err-write_all.result c.from_residual-in_err-write_all.ensures.1 in
     let at0 = left_behind _ _ _ _ _ _ _ _ _ (all_left _ _) refl c.put_size.ensures c.in_ok-put_size.was in
     let at1 = left_behind _ _ _ _ _ _ _ _ _ at0 refl c.put_title.ensures c.in_ok-put_title.was in
-    let at2 = left_behind _ _ _ _ _ _ _ _ _ at1 refl c.write_all.ensures c.in_ok-write_all.was in
+    let at2 = left_behind _ _ _ _ _ _ _ _ _ at1 refl c.put_desc.ensures c.in_ok-put_desc.was in
     let at3 = left_behind _ _ _ _ _ _ _ _ _ at2 refl c.put_sub.ensures c.in_ok-put_sub.was in
     let at4 = left_behind _ _ _ _ _ _ _ _ _ at3 refl c.put_style.ensures c.in_ok-put_style.was in
     let at5 = left_behind _ _ _ _ _ _ _ _ _ at4 refl c.put_ground.ensures c.in_ok-put_ground.was in
     let at6 = left_behind _ _ _ _ _ _ _ _ _ at5 refl c.put_title-2.ensures c.in_ok-put_title-2.was in
-    rw p.1 (left_broken _ _ _ _ _ _ _ _ _ at6 refl c.write_all-2.ensures c.in_err-write_all-2.was)
+    rw p.1 (left_broken _ _ _ _ _ _ _ _ _ at6 refl c.write_all.ensures c.in_err-write_all.was)
 
 pub returns-in_err-put_sub-2 : goal.returns-in_err-put_sub-2
 returns-in_err-put_sub-2 g c =
     let p = err_from_is_err_and c.from_residual-in_err-put_sub-2.result c.from_residual-in_err-put_sub-2.ensures.1 in
     let at0 = left_behind _ _ _ _ _ _ _ _ _ (all_left _ _) refl c.put_size.ensures c.in_ok-put_size.was in
     let at1 = left_behind _ _ _ _ _ _ _ _ _ at0 refl c.put_title.ensures c.in_ok-put_title.was in
-    let at2 = left_behind _ _ _ _ _ _ _ _ _ at1 refl c.write_all.ensures c.in_ok-write_all.was in
+    let at2 = left_behind _ _ _ _ _ _ _ _ _ at1 refl c.put_desc.ensures c.in_ok-put_desc.was in
     let at3 = left_behind _ _ _ _ _ _ _ _ _ at2 refl c.put_sub.ensures c.in_ok-put_sub.was in
     let at4 = left_behind _ _ _ _ _ _ _ _ _ at3 refl c.put_style.ensures c.in_ok-put_style.was in
     let at5 = left_behind _ _ _ _ _ _ _ _ _ at4 refl c.put_ground.ensures c.in_ok-put_ground.was in
     let at6 = left_behind _ _ _ _ _ _ _ _ _ at5 refl c.put_title-2.ensures c.in_ok-put_title-2.was in
-    let at7 = left_behind _ _ _ _ _ _ _ _ _ at6 refl c.write_all-2.ensures c.in_ok-write_all-2.was in
+    let at7 = left_behind _ _ _ _ _ _ _ _ _ at6 refl c.write_all.ensures c.in_ok-write_all.was in
     rw p.1 (left_broken _ _ _ _ _ _ _ _ _ at7 refl c.put_sub-2.ensures c.in_err-put_sub-2.was)
 
 pub returns : goal.returns
 returns g c =
     let at0 = left_behind _ _ _ _ _ _ _ _ _ (all_left _ _) refl c.put_size.ensures c.in_ok-put_size.was in
     let at1 = left_behind _ _ _ _ _ _ _ _ _ at0 refl c.put_title.ensures c.in_ok-put_title.was in
-    let at2 = left_behind _ _ _ _ _ _ _ _ _ at1 refl c.write_all.ensures c.in_ok-write_all.was in
+    let at2 = left_behind _ _ _ _ _ _ _ _ _ at1 refl c.put_desc.ensures c.in_ok-put_desc.was in
     let at3 = left_behind _ _ _ _ _ _ _ _ _ at2 refl c.put_sub.ensures c.in_ok-put_sub.was in
     let at4 = left_behind _ _ _ _ _ _ _ _ _ at3 refl c.put_style.ensures c.in_ok-put_style.was in
     let at5 = left_behind _ _ _ _ _ _ _ _ _ at4 refl c.put_ground.ensures c.in_ok-put_ground.was in
     let at6 = left_behind _ _ _ _ _ _ _ _ _ at5 refl c.put_title-2.ensures c.in_ok-put_title-2.was in
-    let at7 = left_behind _ _ _ _ _ _ _ _ _ at6 refl c.write_all-2.ensures c.in_ok-write_all-2.was in
+    let at7 = left_behind _ _ _ _ _ _ _ _ _ at6 refl c.write_all.ensures c.in_ok-write_all.was in
     let at8 = left_behind _ _ _ _ _ _ _ _ _ at7 refl c.put_sub-2.ensures c.in_ok-put_sub-2.was in
     left_last _ _ _ _ _ _ at8 c.put_head_end.ensures

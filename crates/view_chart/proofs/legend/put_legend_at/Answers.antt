@@ -1,11 +1,14 @@
 use Rattle.std.proofs.lemmas.Result.{err_from_is_err_and}
-use Rattle.tab_io.proofs.SinkLemmas.{writes_broken, writes_then}
+use Rattle.std.proofs.Common.{refl}
+use Rattle.tab_io.proofs.SinkLemmas.{all_left, left_behind, left_broken, left_last}
 use Rattle.view_chart.proofs.legend.put_legend_at.Goals as goal
 
 pub returns-in_err-put_heads : goal.returns-in_err-put_heads
 returns-in_err-put_heads g c =
     let p = err_from_is_err_and c.from_residual.result c.from_residual.ensures.1 in
-    rw p.1 (writes_broken _ _ _ _ _ _ c.put_heads.ensures c.in_err-put_heads.was)
+    rw p.1 (left_broken _ _ _ _ _ _ _ _ _ (all_left _ _) refl c.put_heads.ensures c.in_err-put_heads.was)
 
 pub returns : goal.returns
-returns g c = writes_then _ _ _ _ _ _ _ _ c.put_heads.ensures c.in_ok-put_heads.was c.put_entries.ensures
+returns g c =
+    let at0 = left_behind _ _ _ _ _ _ _ _ _ (all_left _ _) refl c.put_heads.ensures c.in_ok-put_heads.was in
+    left_last _ _ _ _ _ _ at0 c.put_entries.ensures

@@ -3,20 +3,20 @@ use Rattle.tab_words.proofs.NumberedTextLemmas.{all_written, next_broken, next_w
 use Rattle.view_chart.specs.Legends.{head_at}
 use Rattle.view_chart.proofs.legend.put_some_heads.Goals as goal
 
-pub loop-v-init : goal.loop-v-init
-loop-v-init g c = none_written _ _ (tt {0})
+pub loop-k-init : goal.loop-k-init
+loop-k-init g c = none_written _ _ (tt {0})
 
 pub returns-in_err-put_head_at : goal.returns-in_err-put_head_at
 returns-in_err-put_head_at g c =
     let p = err_from_is_err_and c.from_residual.result c.from_residual.ensures.1 in
-    rw p.1 (next_broken _ _ _ (head_at c.args.frame.now c.args.foot c.args.tasks.now) c.loop-v.v _ (tt {0}) _
-    c.in_err-put_head_at.field-0.0 c.loop-v-test.true c.loop-v.invariant c.put_head_at.ensures
+    rw p.1 (next_broken _ _ _ (head_at c.args.frame.now c.args.foot c.args.tasks.now) c.loop-k.k _ (tt {0}) _
+    c.in_err-put_head_at.field-0.0 c.loop-k-test.true c.loop-k.invariant c.put_head_at.ensures
     c.in_err-put_head_at.was)
 
-pub loop-v-preserved : goal.loop-v-preserved
-loop-v-preserved g c = next_written _ _ _ (head_at c.args.frame.now c.args.foot c.args.tasks.now) c.loop-v.v
-    (tt {0}) c.in_ok-put_head_at.field-0 _ c.loop-v.invariant c.put_head_at.ensures c.in_ok-put_head_at.was
+pub loop-k-preserved : goal.loop-k-preserved
+loop-k-preserved g c = next_written _ _ _ (head_at c.args.frame.now c.args.foot c.args.tasks.now) c.loop-k.k
+    (tt {0}) c.in_ok-put_head_at.field-0 _ c.loop-k.invariant c.put_head_at.ensures c.in_ok-put_head_at.was
 
 pub returns : goal.returns
-returns g c = all_written _ _ (head_at c.args.frame.now c.args.foot c.args.tasks.now) c.loop-v.v _ (tt {0})
-    c.loop-v.auto.v-end c.loop-v-test.false c.loop-v.invariant
+returns g c = all_written _ _ (head_at c.args.frame.now c.args.foot c.args.tasks.now) c.loop-k.k _ (tt {0})
+    c.loop-k.auto.k-end c.loop-k-test.false c.loop-k.invariant

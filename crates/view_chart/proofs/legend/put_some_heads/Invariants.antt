@@ -5,6 +5,6 @@ use Rattle.view_chart.specs.Legends.{head_at}
 use Rattle.view_chart.proofs.legend.put_some_heads.Given as goal
 
 -- the texts so far came
-abbrev pub invariant-loop-v : goal.invariant-loop-v
-invariant-loop-v g l = Writes {U = Unit {0}} (g.K.Sink.state l.fn.sink) (g.K.Sink.state l.sink)
-    (texts_below (head_at l.frame l.foot l.tasks) l.v) (Ok (tt {0}))
+abbrev pub invariant-loop-k : goal.invariant-loop-k
+invariant-loop-k g l = Writes {U = Unit {0}} (g.K.Sink.state l.fn.sink) (g.K.Sink.state l.sink)
+    (texts_below (head_at l.frame l.foot l.tasks) l.k) (Ok (tt {0}))

@@ -7,4 +7,4 @@ use Rattle.view_chart.proofs.picture.put_lanes.Given as goal
 -- the texts so far came
 abbrev pub invariant-loop-i : goal.invariant-loop-i
 invariant-loop-i g l = Writes {U = Unit {0}} (g.K.Sink.state l.fn.sink) (g.K.Sink.state l.sink)
-    (texts_below (lane_at l.frame l.first l.labels l.figures l.names l.tasks l.colours l.lanes) l.i) (Ok (tt {0}))
+    (texts_below (lane_at l.frame l.first l.labels l.figures l.promises l.names l.tasks l.colours l.lanes) l.i) (Ok (tt {0}))
