@@ -1,7 +1,7 @@
 -- What is told before a command reads a terminal: which texts it reads, in their order, and what to type.
 use Rattle.std.specs.Prelude.{ℕ, List, [], ◌++◌, codes, flat_map}
 use Rattle.tab_words.specs.declared.command.Command.{Command}
-use Rattle.tab_words.specs.declared.command.Command.TheVariants.{Plan, PlanWhole, Check, Replay, Run}
+use Rattle.tab_words.specs.declared.command.Command.TheVariants.{Plan, PlanStay, PlanWhole, Check, Replay, Run}
 use Rattle.advice.specs.Usage.{spaced}
 
 -- these texts are read
@@ -23,6 +23,7 @@ asking_text words input = reading_text input ++ ending_text words
 abbrev pub prompt_text : List (List ℕ) → Command → List ℕ
 prompt_text words Plan = asking_text words (codes "a host document")
 prompt_text words PlanWhole = asking_text words (codes "a host document")
+prompt_text words PlanStay = asking_text words (codes "a host document, a line %% and an earlier plan text")
 prompt_text words Check = asking_text words (codes "a host document, a line %% and a plan text")
 prompt_text words (Replay rounds) =
     asking_text words (codes "a host document, a line %%, a script, a line %% and a list of steps")

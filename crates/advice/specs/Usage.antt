@@ -41,7 +41,7 @@ abbrev pub wanted_text : Wanted → List ℕ
 wanted_text Command =
     codes "the commands are plan, check, run, replay, gen and selftest; for help type: tableau --help"
 wanted_text Nothing = codes "the command takes no more words"
-wanted_text Whole = codes "plan takes no word but whole"
+wanted_text Whole = codes "plan takes no word but whole or stay"
 wanted_text Rounds = codes "type a number from 1 to 10000"
 wanted_text Mode = codes "run takes no more words but trace, burst or live"
 wanted_text Seed = codes "type a number from 0 to 18446744073709551615"

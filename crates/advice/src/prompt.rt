@@ -34,6 +34,11 @@ fn put_prompt<K: Sink>(sink: &mut K, words: &[String], command: Command) -> Resu
     match command {
         Command::Plan => put_asking(sink, words, b"a host document"),
         Command::PlanWhole => put_asking(sink, words, b"a host document"),
+        Command::PlanStay => put_asking(
+            sink,
+            words,
+            b"a host document, a line %% and an earlier plan text",
+        ),
         Command::Check => put_asking(sink, words, b"a host document, a line %% and a plan text"),
         Command::Replay { .. } => put_asking(
             sink,

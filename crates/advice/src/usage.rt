@@ -292,7 +292,7 @@ fn wanted_text(wanted: Wanted) -> &'static [u8]
             b"the commands are plan, check, run, replay, gen and selftest; for help type: tableau --help"
         }
         Wanted::Nothing => b"the command takes no more words",
-        Wanted::Whole => b"plan takes no word but whole",
+        Wanted::Whole => b"plan takes no word but whole or stay",
         Wanted::Rounds => b"type a number from 1 to 10000",
         Wanted::Mode => b"run takes no more words but trace, burst or live",
         Wanted::Seed => b"type a number from 0 to 18446744073709551615",

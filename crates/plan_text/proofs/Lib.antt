@@ -3,6 +3,8 @@ pub mod FirstLineLemmas
 pub mod HomeLemmas
 pub mod LineWordLemmas
 pub mod MeaningLemmas
+pub mod OldHomesLemmas
+pub mod OldReadingLemmas
 pub mod OneMeaning
 pub mod PlainLineLemmas
 pub mod PlanTextLemmas

@@ -2,6 +2,8 @@ pub mod FirstBad
 pub mod Inside
 pub mod Meaning
 pub mod Names
+pub mod OldHomes
+pub mod OldText
 pub mod PlanLines
 pub mod PlanText
 pub mod Refusal

@@ -9,6 +9,7 @@ ghost use Rattle.plan_text.specs.FirstBad.{IsFirstBadFor};
 ghost use Rattle.plan_text.specs.Names.{AreHostNames};
 ghost use Rattle.plan_text.specs.Meaning.{AreFineRows, IsFineSegment, segment_words};
 ghost use Rattle.plan_text.specs.PlanLines.{core_lines, core_words, end_words};
+ghost use Rattle.plan_text.specs.Inside.OldReading.{IsEnd};
 ghost use Rattle.plan_text.specs.Inside.Reading.{AreFromCore, IsNoSegment, IsNoSegmentLine};
 ghost use Rattle.plan_text.specs.declared.read_fault.ReadPlan.{ReadPlan};
 
@@ -110,6 +111,8 @@ pub(crate) fn read_end(left: &mut LinesLeft<'_>) -> Result<(), ReadPlan>
     ensures bad_line { (bad : ℕ) → IsErrOf result (ReadPlan.BadLine bad)
         → (names : List (List ℕ)) (tasks : List (Option Periodic)) (core cores : ℕ) → cores ≤ core
         → IsFirstBadFor (AreFromCore names tasks core (cores - core)) left.old.number left.old.lines bad }
+    ensures no_end { (bad : ℕ) → IsErrOf result (ReadPlan.BadLine bad)
+        → IsFirstBadFor IsEnd left.old.number left.old.lines bad }
 {
     left.take(&[TextPiece::Text(b"end")])?;
     match left.first() {

@@ -15,16 +15,19 @@ use Rattle.host_doc.specs.Document.{IsHostText}
 use Rattle.host_doc.proofs.HostNames.{stated_names}
 use Rattle.period_choice.specs.Tasks.{AreTasksOf, IsFirstWithoutPeriod}
 use Rattle.period_choice.proofs.Unique.{tasks_unique}
-use Rattle.plan_make.specs.Planned.{IsPlanned}
+use Rattle.plan_make.specs.Planned.{IsPlanned, IsStayingPlan}
 use Rattle.plan_make.specs.declared.fault.PlanFault.{PlanFault}
 use Rattle.plan_make.specs.declared.fault.PlanFault.TheVariants as planning
-use Rattle.plan_make.proofs.OnePlan.{planned_unique}
-use Rattle.plan_make.proofs.OneRefusal.{HasPlanFault, one_plan_fault, one_without_period, planned_or_fault}
+use Rattle.plan_make.proofs.OnePlan.{planned_unique, staying_unique}
+use Rattle.plan_make.proofs.OneRefusal.{HasPlanFault, HasStayingFault, one_plan_fault, one_staying_fault, one_without_period, planned_or_fault, staying_or_fault}
 use Rattle.period_choice.proofs.TasksLemmas.{none_without_period}
 use Rattle.plan_text.specs.FirstBad.{IsFirstBadFor}
 use Rattle.plan_text.specs.Meaning.{IsPlanText, IsSomePlan, worded}
+use Rattle.plan_text.specs.OldHomes.{AreOldHomes}
+use Rattle.plan_text.specs.OldText.{IsSomeOldText}
 use Rattle.plan_text.specs.PlanText.{plan_text}
 use Rattle.plan_text.proofs.FirstBadLemmas.{no_text, one_bad}
+use Rattle.plan_text.proofs.OldHomesLemmas.{one_old_homes}
 use Rattle.plan_text.proofs.OneMeaning.{one_meaning}
 use Rattle.plan_text.proofs.ReadingHeadLemmas.{names_of_host}
 use Rattle.table_check.specs.Faults.{AreGood, HasCheckFault}
@@ -56,6 +59,7 @@ use Rattle.tableau_sim.specs.Outcomes.{Outcome}
 use Rattle.tableau_sim.specs.Outcomes.Outcome.{Refuses, Writes}
 use Rattle.tableau_sim.specs.Gen.{Gens}
 use Rattle.tableau_sim.specs.Plan.{Plans}
+use Rattle.tableau_sim.specs.PlanStay.{PlansStaying}
 use Rattle.tableau_sim.specs.PlanWhole.{PlansWhole}
 use Rattle.tableau_sim.specs.Replay.{HasParts, Parts, Replays, script_section, steps_section}
 use Rattle.tableau_sim.specs.Sections.{host_section}
@@ -90,6 +94,50 @@ plan_only s a b of_a of_b = one_host_stage s OfHost a b (λ h is.
       thing = planned_unique h;
       apart = λ f p bad planned. planned_or_fault h p f planned bad;
     })) (plan_stages s a of_a) (plan_stages s b of_b)
+
+-- ---- plan stay
+
+-- what `plan stay` makes of old homes
+abbrev OfOldHomes : Host → List (Option ℕ) → Outcome → Type 0
+OfOldHomes h homes = Ends (HasStayingFault homes h) (plan_refusal h) (IsStayingPlan homes h)
+    (λ p. Writes (plan_text (names_of h.vcpus) p))
+
+-- and of a host
+abbrev OfStayingHost : List (List ℕ) → Host → Outcome → Type 0
+OfStayingHost s h = Staged (IsFirstBadFor IsSomeOldText 1 (worded (plan_section s)))
+    (λ line. Refuses (status.BadPlanLine line) [])
+    (AreOldHomes (names_of h.vcpus) (worded (plan_section s))) (OfOldHomes h)
+
+-- an outcome of `plan stay`, by its stages
+stay_stages : (s : List (List ℕ)) (o : Outcome) → PlansStaying s o → HostStage s (OfStayingHost s) o
+stay_stages s o (PlansStaying.Planned h homes p old has) =
+    inr (h, old.is_host, inr (homes, old.old, inr (p, has.planned, refl)))
+stay_stages s o (PlansStaying.BadHost f bad) = inl (f, bad, refl)
+stay_stages s o (PlansStaying.BadLine h line is bad) = inr (h, is, inl (line, bad, refl))
+stay_stages s o (PlansStaying.NoPeriod h homes vcpu old lacks) =
+    inr (h, old.is_host, inr (homes, old.old, inl (planning.NoPeriod vcpu, lacks, refl)))
+stay_stages s o (PlansStaying.NoRoom h homes vcpu rest over old lacks) =
+    inr (h, old.is_host, inr (homes, old.old, inl (planning.NoRoom vcpu rest over, lacks, refl)))
+
+-- a text gives one list of old homes, or has one first bad line
+one_old : (s : List (List ℕ)) (h : Host)
+    → IsOne (IsFirstBadFor IsSomeOldText 1 (worded (plan_section s)))
+    (AreOldHomes (names_of h.vcpus) (worded (plan_section s)))
+one_old s h = record {
+  cause = one_bad IsSomeOldText 1 _;
+  thing = one_old_homes (names_of h.vcpus) (worded (plan_section s));
+  apart = λ line homes bad old. no_text IsSomeOldText 1 _ line bad (old.vcpus, old.text);
+}
+
+-- `plan stay` makes one outcome of its sections
+stay_only : (s : List (List ℕ)) (a b : Outcome) → PlansStaying s a → PlansStaying s b → a ≡ b
+stay_only s a b of_a of_b = one_host_stage s (OfStayingHost s) a b (λ h is.
+    one_staged _ _ _ (OfOldHomes h) a b (one_old s h) (λ homes old.
+    one_end _ (plan_refusal h) _ (λ p. Writes (plan_text (names_of h.vcpus) p)) a b (record {
+      cause = one_staying_fault homes h;
+      thing = staying_unique homes h;
+      apart = λ f p bad planned. staying_or_fault homes h p f planned bad;
+    }))) (stay_stages s a of_a) (stay_stages s b of_b)
 
 -- ---- check
 
@@ -310,6 +358,8 @@ one_outcome called.Version input one other single = λ p q. p ∙ sym q
 one_outcome called.Plan input one other single =
     one_of_sections 1 Plans input one other (plan_only _ one other)
 one_outcome called.PlanWhole input one other single = absurd (single refl)
+one_outcome called.PlanStay input one other single =
+    one_of_sections 2 PlansStaying input one other (stay_only _ one other)
 one_outcome called.Check input one other single =
     one_of_sections 2 Checks input one other (check_only _ one other)
 one_outcome (called.Replay rounds) input one other single =

@@ -9,7 +9,7 @@ use Rattle.table_form.specs.Tables.Serves.{Apart, Serves}
 use Rattle.table_form.specs.declared.raw_tables.RawTables.{RawTables}
 use Rattle.vcpu_names.specs.Names.{names_of}
 use Rattle.host_doc.proofs.HostNames.{stated_few, stated_names}
-use Rattle.plan_make.proofs.PlannedRounds.{planned_rounds}
+use Rattle.plan_make.proofs.PlannedRounds.{planned_rounds, staying_rounds}
 use Rattle.plan_make.proofs.ListMembers.{all_from_places}
 use Rattle.period_choice.specs.Tasks.{AreTasksOf}
 use Rattle.plan_text.proofs.ReadBack.{read_back}
@@ -27,6 +27,7 @@ use Rattle.tableau_sim.specs.Commands.{Replies}
 use Rattle.tableau_sim.specs.Check.{Checks, HasTasks}
 use Rattle.tableau_sim.specs.Outcomes.Outcome.{Refuses, Writes}
 use Rattle.tableau_sim.specs.Plan.{Plans}
+use Rattle.tableau_sim.specs.PlanStay.{PlansStaying}
 use Rattle.tableau_sim.specs.PlanWhole.{PlansWhole}
 use Rattle.tableau_sim.proofs.OneOutcome.{check_only}
 use Rattle.tableau_sim.proofs.OutcomesLemmas.{no_refusal}
@@ -65,6 +66,20 @@ plan_written section text (Plans.Planned host plan is has) = record {
   plan = plan;
   tasks = has.planned.layout.is_start.tasks_are;
   rounds = planned_rounds host plan has.planned;
+  keeps = has.keeps;
+  is_for = has.is_for;
+  says = refl;
+}
+
+-- and so is what `plan stay` wrote
+stay_written : (section old text : List ℕ) → PlansStaying (section ∷ old ∷ []) (Writes text)
+    → WritesPlan section text
+stay_written section old text (PlansStaying.Planned host homes plan is has) = record {
+  host = host;
+  is_host = is.is_host;
+  plan = plan;
+  tasks = has.planned.layout.is_start.tasks_are;
+  rounds = staying_rounds homes host plan has.planned;
   keeps = has.keeps;
   is_for = has.is_for;
   says = refl;
@@ -122,6 +137,12 @@ written_checks section text input written parts refusal names h =
 pub plan_checks : (section text input : List ℕ) → Plans (section ∷ []) (Writes text)
     → sections_of input ≡ section ∷ text ∷ [] → IsFaultless Replies called.Check input
 plan_checks section text input planned = written_checks section text input (plan_written section text planned)
+
+-- and of `plan stay`
+pub stay_checks : (section old text input : List ℕ) → PlansStaying (section ∷ old ∷ []) (Writes text)
+    → sections_of input ≡ section ∷ text ∷ [] → IsFaultless Replies called.Check input
+stay_checks section old text input planned =
+    written_checks section text input (stay_written section old text planned)
 
 -- and of `plan whole`
 pub whole_checks : (section text input : List ℕ) → PlansWhole (section ∷ []) (Writes text)

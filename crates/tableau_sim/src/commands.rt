@@ -2,6 +2,7 @@
 pub(crate) mod check;
 pub(crate) mod gen_host;
 pub(crate) mod plan;
+pub(crate) mod plan_stay;
 pub(crate) mod plan_whole;
 pub(crate) mod replay;
 pub(crate) mod run;

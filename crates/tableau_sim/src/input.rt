@@ -9,6 +9,7 @@ ghost use Rattle.tableau_sim.specs.declared.input.TheConstants.{INPUT_LIMIT};
 use crate::commands::check::check_reply;
 use crate::commands::gen_host::gen_reply;
 use crate::commands::plan::plan_reply;
+use crate::commands::plan_stay::plan_stay_reply;
 use crate::commands::plan_whole::plan_whole_reply;
 use crate::commands::replay::replay_reply;
 use crate::reply::{Reply, Stop, Text, stopped};
@@ -75,6 +76,7 @@ fn reply_to_input<R: Threads + Sync>(rt: &R, alloc: Global, command: Command, in
     match command {
         Command::Plan => plan_reply(rt, alloc, input),
         Command::PlanWhole => plan_whole_reply(alloc, input),
+        Command::PlanStay => plan_stay_reply(rt, alloc, input),
         Command::Check => check_reply(alloc, input),
         Command::Replay { rounds } => replay_reply(rt, alloc, rounds, input),
         _ => unreachable!(),

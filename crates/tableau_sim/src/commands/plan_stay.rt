@@ -1,0 +1,46 @@
+ghost use Rattle.std.specs.Prelude.{◌≡◌, ◌<◌, ◌≤◌, ◌^◌, ℕ, [], length, slice_index_or};
+ghost use Rattle.tableau_sim.specs.declared.input.TheConstants.{INPUT_LIMIT};
+ghost use Rattle.tableau_sim.specs.Inside.Reply.{Makes};
+ghost use Rattle.tableau_sim.specs.PlanStay.{PlansStaying};
+ghost use Rattle.tableau_sim.specs.Sections.{OfSections};
+
+use crate::input::cut;
+use crate::reply::{Reply, Stop, Text, stopped};
+use crate::status::Status;
+use crate::stops::{host_of, stop_of_plan};
+use plan_make::plan_staying;
+use plan_text::{ReadPlan, read_old_homes};
+use std::alloc::Global;
+use std::thread::Threads;
+use tab_words::Sections;
+
+// The reply of `plan stay` to its input.
+pub(crate) fn plan_stay_reply<R: Threads + Sync>(rt: &R, alloc: Global, input: &[u8]) -> Reply
+    requires { length input.now ≤ INPUT_LIMIT }
+    ensures { Makes (OfSections 2 PlansStaying input.now) result }
+{
+    match cut(input, 2) {
+        Ok(sections) => plan_stay_of(rt, alloc, &sections),
+        Err(stop) => Err(stop),
+    }
+}
+
+fn plan_stay_of<R: Threads + Sync>(rt: &R, alloc: Global, sections: &Sections) -> Reply
+    requires two { length sections.now ≡ 2 }
+    requires short { (i : ℕ) → length (slice_index_or sections.now i []) < 2 ^ 32 }
+    ensures { Makes (PlansStaying sections.now) result }
+{
+    let host = match host_of(alloc, sections.part(0)) {
+        Ok(host) => host,
+        Err(stop) => return Err(stop),
+    };
+    let homes = match read_old_homes(alloc, sections.part(1), &host) {
+        Ok(homes) => homes,
+        Err(ReadPlan::BadLine { line }) => return Err(stopped(Status::BadPlanLine { line })),
+        Err(ReadPlan::NoMemory) => return Err(Stop::NoMemory),
+    };
+    match plan_staying(rt, alloc, &host, &homes) {
+        Ok(plan) => Ok(Text::Plan { host, plan }),
+        Err(fault) => Err(stop_of_plan(fault, host)),
+    }
+}
