@@ -3,7 +3,7 @@ _tableau() {
   local word=${COMP_WORDS[COMP_CWORD]} words=''
   case "$COMP_CWORD,${COMP_WORDS[*]:1:COMP_CWORD-1}" in
     1,) words='plan check run replay gen selftest --help --version' ;;
-    2,plan) words='whole' ;;
+    2,plan) words='whole stay' ;;
     3,run\ *) words='trace burst live' ;;
   esac
   mapfile -t COMPREPLY < <(compgen -W "$words" -- "$word")

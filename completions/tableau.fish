@@ -13,6 +13,7 @@ complete -c tableau -n '__tableau_at 1 ""' -a selftest -d 'reads nothing, and wr
 complete -c tableau -n '__tableau_at 1 ""' -l help -d 'prints the words'
 complete -c tableau -n '__tableau_at 1 ""' -l version -d 'prints the version'
 complete -c tableau -n '__tableau_at 2 "plan"' -a whole -d 'plans all cores together, wherever the demands fit'
+complete -c tableau -n '__tableau_at 2 "plan"' -a stay -d 'reads a host and an earlier plan\'s text, and moves no vCPU from its core there without need'
 complete -c tableau -n '__tableau_at 3 "run *"' -a trace -d 'every stint before the report'
 complete -c tableau -n '__tableau_at 3 "run *"' -a burst -d 'when each burst of work was done, and by when at the latest'
 complete -c tableau -n '__tableau_at 3 "run *"' -a live -d 'the cores start before the changes of the script are planned'
