@@ -12,7 +12,8 @@ use stint_limit::stint_bound;
 use tab_core::{CoreNo, NoMemory, Stint};
 use tab_words::RunMode;
 
-// What a run shows: the used count of each round, the stints of each core, and what is told of each burst.
+// What a run shows: the used count of each round, the stints of each core, and what is reported of each
+// burst.
 #[derive(Drop)]
 pub(crate) struct Shown {
     pub(crate) used: Vec<u32>,
@@ -35,7 +36,7 @@ fn shown_of(alloc: Global, crew: &Crew<'_>, answers: &[BurstAnswer]) -> Result<S
     })
 }
 
-// A run of a scene, whose bursts are told.
+// A run of a scene, whose bursts are reported.
 pub(crate) fn run_scene<R: Threads + Sync, G: Gate>(
     rt: &R,
     alloc: Global,

@@ -36,6 +36,7 @@ pub record IsNewPart (p : Part) : Type 0 where
   pub entries : p.entries ≡ []
   pub stints : p.stints ≡ []
 
+-- the used counts of a core's entries, by round
 abbrev pub used_counts : List Entry → List ℕ
 used_counts entries = map (λ (e : Entry). e.used) entries
 
