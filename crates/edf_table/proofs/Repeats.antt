@@ -99,7 +99,7 @@ abbrev pub IsShifted : List Piece → List ℕ → List ℕ → ℕ → Type 0
 IsShifted ps gs hs s = (i : ℕ) (d : Piece) → i < length ps
     → get_or hs i 0 ≡ s / (get_or ps i d).period * (get_or ps i d).cost + get_or gs i 0
 
--- the same pieces are ready after the shift
+-- after the shift the same pieces are ready
 pub ready_alike : (ps : List Piece) (gs hs : List ℕ) (s x i : ℕ) (d : Piece) → IsCommon ps (length ps) s
     → IsShifted ps gs hs s → i < length ps
     → is_ready (get_or ps i d) (get_or hs i 0) (s + x) ≡ is_ready (get_or ps i d) (get_or gs i 0) x
@@ -107,7 +107,7 @@ ready_alike ps gs hs s x i d common shifted i-in =
     ap (λ g. is_ready (get_or ps i d) g (s + x)) (shifted i d i-in)
     ∙ ready_shift (get_or ps i d) (get_or gs i 0) s x (common i d i-in)
 
--- the same piece is the most urgent after the shift
+-- after the shift the same piece is the most urgent
 pub urgent_alike : (ps : List Piece) (gs hs : List ℕ) (s x i : ℕ) → IsCommon ps (length ps) s
     → IsShifted ps gs hs s → IsMostUrgent ps gs x (length ps) i
     → IsMostUrgent ps hs (s + x) (length ps) i

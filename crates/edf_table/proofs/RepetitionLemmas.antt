@@ -51,7 +51,7 @@ pub left_cells : (ss : List Segment) (i start : ℕ) (s : Segment) → i < lengt
 left_cells ss i start s lt at =
     ap (cells_from start) (drop_next ss i s lt at) ∙ cells-cons start s (drop (i + 1) ss)
 
--- the same vCPU has the shifted tick
+-- a shifted tick goes to the same vCPU
 owner_alike : (ps : List Piece) (s x : ℕ) → DistinctVcpus ps → IsCommon ps (length ps) s
     → MetBefore (jobs_of ps) (x + 1) → s + x < ROUND → Alike ps s x
     → owner_of (cell (jobs_of ps) (s + x)) ≡ owner_of (cell (jobs_of ps) x)

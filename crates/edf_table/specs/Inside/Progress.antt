@@ -102,7 +102,7 @@ pub record IsKept (p : Piece) (bound event next : ℕ) : Type 0 where
   pub begun : next < bound + p.period
   pub ahead : event ≤ next
 
--- so much is kept of each of the first n pieces
+-- what is kept of one piece is kept of each of the first n pieces
 abbrev pub AreKept : List Piece → List ℕ → ℕ → ℕ → ℕ → Type 0
 AreKept ps ns n bound event = (i : ℕ) (d : Piece) → i < n
     → IsKept (slice_index_or ps i d) bound event (slice_index ns i)
