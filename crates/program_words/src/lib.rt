@@ -1,4 +1,4 @@
-//! The words that a program is called with: its own path, which stands before them, need not be text.
+//! The words that a program is called with: its own path, which is before them, need not be text.
 #![tactic(auto)]
 
 use std::alloc::Global;
@@ -28,9 +28,9 @@ impl<R: Env> Env for Nameless<'_, R> {
     }
 }
 
-/// The words of the program, behind an empty one in the place of its name.
+/// The words of the program, after an empty one in the place of its name.
 ///
-/// The error's kind is `OutOfMemory` where memory is wanting; otherwise a word isn't text.
+/// The error's kind is `OutOfMemory` where memory ran out; otherwise a word isn't text.
 pub fn words<R: Env>(given: &R, alloc: Global) -> io::Result<Vec<String>> {
     let all = env::args(&(Nameless { given }, alloc))?;
     Ok(all.collect(alloc)?)
