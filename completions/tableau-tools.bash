@@ -1,29 +1,53 @@
-# Completion of tableau-tools' words in bash.
+# Completion of the words of tableau-tools in bash, made by docs/completions.
 _tableau_tools() {
-  local word=${COMP_WORDS[COMP_CWORD]} before=${COMP_WORDS[COMP_CWORD - 1]} words=''
+  local word=${COMP_WORDS[COMP_CWORD]} before=${COMP_WORDS[COMP_CWORD - 1]} command=${COMP_WORDS[1]}
+  local words='' files='' place=0 at
   COMPREPLY=()
-  if [ "$COMP_CWORD" -eq 1 ]; then
-    words='table diff sections export host fit judge chart --help --version'
-  else
-    case ${COMP_WORDS[1]},$before in
-      *,--tick | *,--cores | *,--vcpus | *,--from | *,--to | *,--width | *,--first-cpu | *,--window) return ;;
-      export,export) words='csv chrome json rtds deadline cgroup libvirt' ;;
-      chart,--by) words='core vcpu' ;;
-      table,--by) words='vcpu vm' ;;
+  # how many arguments are before the word
+  for ((at = 2; at < COMP_CWORD; at++)); do
+    case $command,${COMP_WORDS[at]} in
+      table,--by | table,--tick | chart,--by | chart,--cores | chart,--vcpus | chart,--from | chart,--to | chart,--width | chart,--tick | diff,--tick | export,--tick | export,--first-cpu | judge,--window | host,--cores | host,--tick | fit,--cores | fit,--tick) ((at++)) ;;
+      *,-?*) ;;
+      *) ((place++)) ;;
     esac
-    case ${COMP_WORDS[1]},$word in
-      table,-*) words='--by --tick --help' ;;
-      diff,-*) words='--tick --help' ;;
-      export,-*) words='--tick --first-cpu --full --help' ;;
-      host,-* | fit,-*) words='--cores --tick --help' ;;
-      judge,-*) words='--window --json --help' ;;
-      chart,-*) words='--text --by --cores --vcpus --from --to --width --tick --help' ;;
-      sections,-*) words='--help' ;;
+  done
+  if [ "$COMP_CWORD" -eq 1 ]; then
+    words='table chart diff export judge sections host fit --help --version'
+  else
+    case $command,$before in
+      table,--by) words='vcpu vm' ;;
+      chart,--by) words='core vcpu' ;;
+      table,--tick | chart,--cores | chart,--vcpus | chart,--from | chart,--to | chart,--width | chart,--tick | diff,--tick | export,--tick | export,--first-cpu | judge,--window | host,--cores | host,--tick | fit,--cores | fit,--tick) ;;
+      *)
+        case $command,$word in
+          table,-*) words='--by --tick --help' ;;
+          chart,-*) words='--text --by --cores --vcpus --from --to --width --tick --help' ;;
+          diff,-*) words='--tick --help' ;;
+          export,-*) words='--tick --first-cpu --full --help' ;;
+          judge,-*) words='--window --json --help' ;;
+          sections,-*) words='--help' ;;
+          host,-*) words='--cores --tick --help' ;;
+          fit,-*) words='--cores --tick --help' ;;
+          *)
+            case $command,$place in
+              table,0) files=yes ;;
+              chart,0) files=yes ;;
+              diff,0) files=yes ;;
+              diff,1) files=yes ;;
+              export,0) words='csv chrome json rtds deadline cgroup libvirt' ;;
+              export,1) files=yes ;;
+              judge,0) files=yes ;;
+              judge,1) files=yes ;;
+              sections,*) files=yes ;;
+            esac
+            ;;
+        esac
+        ;;
     esac
   fi
   if [ -n "$words" ]; then
     mapfile -t COMPREPLY < <(compgen -W "$words" -- "$word")
-  elif [ "${COMP_WORDS[1]}" != host ] && [ "${COMP_WORDS[1]}" != fit ]; then
+  elif [ -n "$files" ]; then
     mapfile -t COMPREPLY < <(compgen -f -- "$word")
   fi
 }

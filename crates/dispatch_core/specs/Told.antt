@@ -124,3 +124,37 @@ EndTold course c v (TooEarly d tick) w = FindsLow course c (part v c) (part w c)
 abbrev pub StaysWhereBehind : ℕ → View → Ended → View → Type 0
 StaysWhereBehind c v (RanOn s) w = Unit {0}
 StaysWhereBehind c v (TooEarly d tick) w = SameButHeard (part v c) (part w c)
+
+-- whatever the plan: the core hears all others, of which none has a clock below a stint's end less the lag, and runs that
+-- stint, which takes a tick at least and begins at the core's clock
+pub record RunsSome (o : OutlineView) (c : ℕ) (p q : Part) (s : Stint) : Type 0 where
+  pub begins : BeginsNext p s
+  pub some : s.from < s.end
+  pub heard : Part
+  pub near : HearsCores c o.lag s.end o.cores p heard
+  pub becomes : q ≡ runs heard s
+
+-- whatever the plan: the core hears the others up to core d, whose clock is the tick, which is too low for some end
+pub record HearsLow (o : OutlineView) (c : ℕ) (p q : Part) (d tick : ℕ) : Type 0 where
+  pub end : ℕ
+  pub core : d < o.cores
+  pub other : d ≢ c
+  pub heard : Part
+  pub near : HearsCores c o.lag end d p heard
+  pub low : tick + o.lag < end
+  pub becomes : q ≡ hears heard d tick
+
+-- what the end of a step did, in all that needs no plan
+abbrev pub EndGoes : OutlineView → ℕ → View → Ended → View → Type 0
+EndGoes o c v (RanOn s) w = RunsSome o c (part v c) (part w c) s
+EndGoes o c v (TooEarly d tick) w = HearsLow o c (part v c) (part w c) d tick
+    × (holds v d ≡ true → tick ≡ (part v d).clock)
+
+-- what a core's step did to the view v, of which w came, in all that needs no plan
+abbrev pub CoreGoes : OutlineView → ℕ → ℕ → View → CoreAnswer → View → Type 0
+CoreGoes o rounds c v (Ran s) w = (count : ℕ) × (entered : Part) × BeginsStep o rounds c v count entered
+    × RunsSome o c entered (part w c) s
+CoreGoes o rounds c v (Behind Controller tick) w = ((part v c).clock < rounds * ROUND) × LacksEvent o c v w tick
+CoreGoes o rounds c v (Behind (Core d) tick) w = (count : ℕ) × (entered : Part) × BeginsStep o rounds c v count entered
+    × HearsLow o c entered (part w c) d tick × (holds v d ≡ true → tick ≡ (part v d).clock)
+CoreGoes o rounds c v Finished w = ((part v c).clock ≡ rounds * ROUND) × (w ≡ v)

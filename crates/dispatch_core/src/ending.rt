@@ -11,7 +11,7 @@ ghost use Rattle.round_words.specs.Seats.{view_of, IsSeatOf};
 ghost use Rattle.round_words.specs.Views.{part, runs};
 ghost use Rattle.dispatch_core.specs.Inside.Logs.{IsLog, log_view};
 ghost use Rattle.dispatch_core.specs.States.{FollowsPlans, HasBegun, IsSameCore, Stands};
-ghost use Rattle.dispatch_core.specs.Told.{BeginsNext, EndTold, StaysWhereBehind};
+ghost use Rattle.dispatch_core.specs.Told.{BeginsNext, EndGoes, EndTold, StaysWhereBehind};
 
 use crate::answer::Ended;
 use crate::log::{CoreLog, note, note_counts};
@@ -46,6 +46,7 @@ pub(crate) fn end(
         (λ course. FollowsPlans course (log_view log.old) (part (view_of seat.old) log.old.core)
         → EndTold course log.old.core (view_of seat.old) result (view_of seat.new)) }
     ensures waits { StaysWhereBehind log.old.core (view_of seat.old) result (view_of seat.new) }
+    ensures goes { EndGoes outline.now log.old.core (view_of seat.old) result (view_of seat.new) }
     ensures plans { (plan : PlanView) → IsTableOf plan log.old.core table.now → InEachCourse outline.now used plan
         (λ course. FollowsPlans course (log_view log.old) (part (view_of seat.old) log.old.core)
         → FollowsPlans course (log_view log.new) (part (view_of seat.new) log.old.core)) }
@@ -115,6 +116,7 @@ fn end_otherwise(
         (λ course. FollowsPlans course (log_view log.old) (part (view_of seat.old) log.old.core)
         → EndTold course log.old.core (view_of seat.old) result (view_of seat.new)) }
     ensures waits { StaysWhereBehind log.old.core (view_of seat.old) result (view_of seat.new) }
+    ensures goes { EndGoes outline.now log.old.core (view_of seat.old) result (view_of seat.new) }
     ensures plans { (plan : PlanView) → IsTableOf plan log.old.core table.now → InEachCourse outline.now used plan
         (λ course. FollowsPlans course (log_view log.old) (part (view_of seat.old) log.old.core)
         → FollowsPlans course (log_view log.new) (part (view_of seat.new) log.old.core)) }
@@ -151,6 +153,7 @@ fn end_anew(
         (λ course. FollowsPlans course (log_view log.old) (part (view_of seat.old) log.old.core)
         → EndTold course log.old.core (view_of seat.old) result (view_of seat.new)) }
     ensures waits { StaysWhereBehind log.old.core (view_of seat.old) result (view_of seat.new) }
+    ensures goes { EndGoes outline.now log.old.core (view_of seat.old) result (view_of seat.new) }
     ensures plans { (plan : PlanView) → IsTableOf plan log.old.core table.now → InEachCourse outline.now used plan
         (λ course. FollowsPlans course (log_view log.old) (part (view_of seat.old) log.old.core)
         → FollowsPlans course (log_view log.new) (part (view_of seat.new) log.old.core)) }
@@ -198,6 +201,7 @@ fn run_at(
         FollowsPlans course (log_view log.old) (part (view_of seat.old) log.old.core)
         → EndTold course log.old.core (view_of seat.old) result (view_of seat.new)) }
     ensures waits { StaysWhereBehind log.old.core (view_of seat.old) result (view_of seat.new) }
+    ensures goes { EndGoes outline.now log.old.core (view_of seat.old) result (view_of seat.new) }
     ensures plans { (plan : PlanView) → IsSpan plan log.old.core (log.old.clock % ROUND) span.now.owner
         span.now.sharers.now span.now.end → InEachCourse outline.now used plan (λ course.
         FollowsPlans course (log_view log.old) (part (view_of seat.old) log.old.core)

@@ -148,7 +148,7 @@ pub has_room : (seed cores vcpus : ℕ) (host : Host) (vcpu rest : ℕ) (over : 
 has_room seed cores vcpus host vcpu rest over shared is first =
     let start = first.is_start in
     let bound = within_bound seed cores vcpus host first.tasks shared is start.tasks_are in
-    let none = none_left first.tasks host.cores start.placement.order host.some_core
+    let none = none_left [] first.tasks host.cores start.placement.order host.some_core
     start.placement.falling_order bound in
     has_element first.stuck.before first.stuck.after vcpu
     (sym first.stuck.left_is ∙ start.placement.left ∙ none)

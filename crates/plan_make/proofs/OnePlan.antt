@@ -16,7 +16,7 @@ use Rattle.table_form.specs.Planning.Jobs.{Subtask, jobs_of, subtask_of}
 use Rattle.table_form.specs.Tables.Plans.{PlanView}
 use Rattle.table_form.specs.Tables.Rows.{Row}
 use Rattle.period_choice.proofs.Unique.{tasks_unique}
-use Rattle.worst_fit.specs.Placement.{IsPlacement}
+use Rattle.worst_fit.specs.Placement.{IsStayingPlacement}
 use Rattle.worst_fit.specs.declared.placed.Placed.{Placed}
 use Rattle.worst_fit.proofs.OnePlacement.{placement_unique}
 use Rattle.cd_split.specs.Cores.{pieces_on}
@@ -29,8 +29,8 @@ use Rattle.plan_make.specs.Faults.{fault_of_split}
 use Rattle.coalesce.specs.Joining.{AreJoined}
 use Rattle.coalesce.proofs.Unique.{rows_unique}
 use Rattle.plan_make.specs.Inside.Splits.{IsLayoutFault}
-use Rattle.plan_make.specs.Layout.{IsLayout, IsStart}
-use Rattle.plan_make.specs.Planned.{IsFirstWithoutRoom, IsPlanned, all_pieces}
+use Rattle.plan_make.specs.Layout.{IsStayingLayout, IsStayingStart}
+use Rattle.plan_make.specs.Planned.{IsFirstStayingWithoutRoom, IsFirstWithoutRoom, IsPlanned, IsStayingPlan, all_pieces}
 use Rattle.plan_make.specs.SplitInTurn.{GetsSplit, SplitsEach, home_of, with_pieces}
 use Rattle.plan_make.specs.Unsplit.{StandUnsplit}
 use Rattle.plan_make.specs.declared.fault.PlanFault.TheVariants as plan
@@ -136,14 +136,14 @@ pub record SameStart (tasks tasks' : List (Option Periodic)) (placed placed' : P
   pub start_same : start ≡ start'
 
 -- a host has one choice of tasks, one placement and one start
-pub one_start : (host : Host) (tasks tasks' : List (Option Periodic)) (placed placed' : Placed)
+pub one_start : (old_homes : List (Option ℕ)) (host : Host) (tasks tasks' : List (Option Periodic)) (placed placed' : Placed)
     (start start' : List (List Piece))
-    → IsStart host tasks placed start → IsStart host tasks' placed' start' →
+    → IsStayingStart old_homes host tasks placed start → IsStayingStart old_homes host tasks' placed' start' →
     SameStart tasks tasks' placed placed' start start'
-one_start host tasks tasks' placed placed' start start' a b =
+one_start old_homes host tasks tasks' placed placed' start start' a b =
     let same_tasks = tasks_unique host tasks tasks' a.tasks_are b.tasks_are in
-    let same_placed = placement_unique tasks' host.cores placed placed'
-    (subst (λ ts. IsPlacement ts host.cores placed) same_tasks a.placement) b.placement in
+    let same_placed = placement_unique old_homes tasks' host.cores placed placed'
+    (subst (λ ts. IsStayingPlacement old_homes ts host.cores placed) same_tasks a.placement) b.placement in
     let stand = subst (λ (p : Placed). StandUnsplit tasks' p.core_of host.cores start) same_placed
     (subst (λ ts. StandUnsplit ts placed.core_of host.cores start) same_tasks a.stand) in
     record {
@@ -229,10 +229,11 @@ pub record AreAlike (host : Host) (a b : PlanView) (cores : List (List Piece)) :
       (map (λ pieces. edf_row (jobs_of pieces)) cores) a.rows
 
 -- a host has one plan but for the joining of its rows
-pub planned_alike : (host : Host) (a b : PlanView) (of_a : IsPlanned host a) (of_b : IsPlanned host b)
+pub planned_alike : (old_homes : List (Option ℕ)) (host : Host) (a b : PlanView)
+    (of_a : IsStayingPlan old_homes host a) (of_b : IsStayingPlan old_homes host b)
     → AreAlike host a b of_b.cores
-planned_alike host a b of_a of_b =
-    let same = one_start host a.tasks b.tasks of_a.layout.placed of_b.layout.placed
+planned_alike old_homes host a b of_a of_b =
+    let same = one_start old_homes host a.tasks b.tasks of_a.layout.placed of_b.layout.placed
     of_a.layout.start of_b.layout.start
     of_a.layout.is_start of_b.layout.is_start in
     let moved =
@@ -293,32 +294,39 @@ joined_of host tasks cores homes pieces rows plan made =
     (subst (λ rs. AreJoined pieces plan.capped host.sliver rs plan.rows) made.rows_are made.joined)
 
 -- the plan is that of its layout
-pub layout_is_planned : (host : Host) (tasks : List (Option Periodic)) (cores : List (List Piece))
+pub layout_is_planned : (old_homes : List (Option ℕ)) (host : Host) (tasks : List (Option Periodic)) (cores : List (List Piece))
     (homes : List (Option ℕ))
-    (pieces : List Piece) (rows : List Row) (plan : PlanView) → IsLayout host tasks cores homes
-    → IsMadeOf host tasks cores homes pieces rows plan → IsPlanned host plan
-layout_is_planned host tasks cores homes pieces rows plan layout made = record {
+    (pieces : List Piece) (rows : List Row) (plan : PlanView)
+    → IsStayingLayout old_homes host tasks cores homes
+    → IsMadeOf host tasks cores homes pieces rows plan → IsStayingPlan old_homes host plan
+layout_is_planned old_homes host tasks cores homes pieces rows plan layout made = record {
   cores = cores;
-  layout = subst (λ ts. IsLayout host ts cores plan.homes) (sym made.tasks_are)
-      (subst (IsLayout host tasks cores) (sym made.homes_are) layout);
+  layout = subst (λ ts. IsStayingLayout old_homes host ts cores plan.homes) (sym made.tasks_are)
+      (subst (IsStayingLayout old_homes host tasks cores) (sym made.homes_are) layout);
   capped = made.capped_are;
   joined = joined_of host tasks cores homes pieces rows plan made;
 }
 
--- a host has one plan
-pub planned_unique : (host : Host) (a b : PlanView) → IsPlanned host a → IsPlanned host b → a ≡ b
-planned_unique host a b of_a of_b =
-    let alike = planned_alike host a b of_a of_b in
+-- a host has one plan from the same old homes
+pub staying_unique : (old_homes : List (Option ℕ)) (host : Host) (a b : PlanView)
+    → IsStayingPlan old_homes host a → IsStayingPlan old_homes host b → a ≡ b
+staying_unique old_homes host a b of_a of_b =
+    let alike = planned_alike old_homes host a b of_a of_b in
     let rows = map (λ pieces. edf_row (jobs_of pieces)) of_b.cores in
     same_view a b alike.tasks_same alike.homes_same
     (rows_unique (all_pieces of_b.cores) b.capped host.sliver rows a.rows b.rows alike.joined of_b.joined)
     alike.capped_same
 
+-- so it has one plan
+pub planned_unique : (host : Host) (a b : PlanView) → IsPlanned host a → IsPlanned host b → a ≡ b
+planned_unique = staying_unique []
+
 -- and none where a left-over vCPU can't be split
-pub planned_or_refused : (host : Host) (a : PlanView) (vcpu rest : ℕ) (over : List Over) → IsPlanned host a
-    → IsFirstWithoutRoom host vcpu rest over → ⊥
-planned_or_refused host a vcpu rest over planned first =
-    let same = one_start host a.tasks first.tasks planned.layout.placed first.placed planned.layout.start
+pub staying_or_refused : (old_homes : List (Option ℕ)) (host : Host) (a : PlanView) (vcpu rest : ℕ)
+    (over : List Over) → IsStayingPlan old_homes host a
+    → IsFirstStayingWithoutRoom old_homes host vcpu rest over → ⊥
+staying_or_refused old_homes host a vcpu rest over planned first =
+    let same = one_start old_homes host a.tasks first.tasks planned.layout.placed first.placed planned.layout.start
     first.start planned.layout.is_start first.is_start in
     let moved =
     subst (λ cs. SplitsEach first.tasks cs first.placed.core_of first.placed.left
@@ -334,9 +342,15 @@ planned_or_refused host a vcpu rest over planned first =
     planned.cores first.stuck.cores a.homes first.stuck.homes
     first.stuck.task rest over all first.stuck.split first.stuck.at first.stuck.refuses
 
+-- the same, where no vCPU has an old home
+pub planned_or_refused : (host : Host) (a : PlanView) (vcpu rest : ℕ) (over : List Over) → IsPlanned host a
+    → IsFirstWithoutRoom host vcpu rest over → ⊥
+planned_or_refused = staying_or_refused []
+
 -- so a host that has a plan is laid out but for want of memory
-pub no_memory_for_layout : (host : Host) (a : PlanView) (fault : SplitFault) → IsPlanned host a
-    → IsLayoutFault host fault → fault_of_split fault ≡ plan.NoMemory
-no_memory_for_layout host a (NoRoom vcpu rest over) planned told =
-    absurd (planned_or_refused host a vcpu rest over planned told)
-no_memory_for_layout host a NoMemory planned told = refl
+pub no_memory_for_layout : (old_homes : List (Option ℕ)) (host : Host) (a : PlanView) (fault : SplitFault)
+    → IsStayingPlan old_homes host a → IsLayoutFault old_homes host fault
+    → fault_of_split fault ≡ plan.NoMemory
+no_memory_for_layout old_homes host a (NoRoom vcpu rest over) planned told =
+    absurd (staying_or_refused old_homes host a vcpu rest over planned told)
+no_memory_for_layout old_homes host a NoMemory planned told = refl

@@ -11,11 +11,11 @@ use Rattle.period_choice.specs.Tasks.{IsFirstWithoutPeriod, LacksPeriod}
 use Rattle.worst_fit.specs.declared.placed.Placed.{Placed}
 use Rattle.cd_split.specs.Splitting.{IsSplitRefused}
 use Rattle.cd_split.proofs.Unique.{one_refusal}
-use Rattle.plan_make.specs.Planned.{IsFirstWithoutRoom, IsPlanned}
+use Rattle.plan_make.specs.Planned.{IsFirstStayingWithoutRoom, IsFirstWithoutRoom, IsPlanned, IsStayingPlan}
 use Rattle.plan_make.specs.SplitInTurn.{SplitsEach, home_of, with_pieces}
 use Rattle.plan_make.specs.declared.fault.PlanFault.{PlanFault}
 use Rattle.plan_make.specs.declared.fault.PlanFault.TheVariants as plan
-use Rattle.plan_make.proofs.OnePlan.{each_or_refused, one_start, planned_or_refused, split_unique, went_on}
+use Rattle.plan_make.proofs.OnePlan.{each_or_refused, one_start, split_unique, staying_or_refused, went_on}
 use Rattle.period_choice.proofs.TasksLemmas.{none_without_period}
 
 -- the split of the left-over vCPUs comes to one that can't be split, with this rest and these intervals
@@ -97,10 +97,10 @@ same_stuck tasks cores homes
     (next_sticks tasks cores homes next before' vcpu' rest' over' pieces b' one)
 
 -- a host's first vCPU without room, as the first that gets stuck
-sticks_of : (host : Host) (vcpu rest : ℕ) (over : List Over)
-    (is : IsFirstWithoutRoom host vcpu rest over)
+sticks_of : (old_homes : List (Option ℕ)) (host : Host) (vcpu rest : ℕ) (over : List Over)
+    (is : IsFirstStayingWithoutRoom old_homes host vcpu rest over)
     → Sticks is.tasks is.start is.placed.core_of is.stuck.before vcpu rest over
-sticks_of host vcpu rest over is = record {
+sticks_of old_homes host vcpu rest over is = record {
   end = is.stuck.cores;
   homes' = is.stuck.homes;
   split = is.stuck.split;
@@ -110,20 +110,27 @@ sticks_of host vcpu rest over is = record {
 }
 
 -- one vCPU is the first without room, for one number of ticks, with one list of overloaded intervals
-pub one_without_room : (host : Host) (vcpu vcpu' rest rest' : ℕ) (over over' : List Over)
-    → IsFirstWithoutRoom host vcpu rest over → IsFirstWithoutRoom host vcpu' rest' over'
+pub one_staying_without_room : (old_homes : List (Option ℕ)) (host : Host) (vcpu vcpu' rest rest' : ℕ)
+    (over over' : List Over) → IsFirstStayingWithoutRoom old_homes host vcpu rest over
+    → IsFirstStayingWithoutRoom old_homes host vcpu' rest' over'
     → (vcpu ≡ vcpu') × (rest ≡ rest') × (over ≡ over')
-one_without_room host vcpu vcpu' rest rest' over over' a b =
-    let same = one_start host a.tasks b.tasks a.placed b.placed a.start b.start a.is_start b.is_start in
+one_staying_without_room old_homes host vcpu vcpu' rest rest' over over' a b =
+    let same = one_start old_homes host a.tasks b.tasks a.placed b.placed a.start b.start a.is_start b.is_start in
     let moved = subst (λ cs. Sticks b.tasks cs b.placed.core_of a.stuck.before vcpu rest over) same.start_same
     (subst (λ (p : Placed). Sticks b.tasks a.start p.core_of a.stuck.before vcpu rest over) same.placed_same
     (subst (λ ts. Sticks ts a.start a.placed.core_of a.stuck.before vcpu rest over) same.tasks_same
-    (sticks_of host vcpu rest over a))) in
+    (sticks_of old_homes host vcpu rest over a))) in
     let left : a.stuck.before ++ vcpu ∷ a.stuck.after ≡ b.stuck.before ++ vcpu' ∷ b.stuck.after =
     sym a.stuck.left_is ∙ ap (λ (p : Placed). p.left) same.placed_same ∙ b.stuck.left_is in
     same_stuck b.tasks b.start b.placed.core_of a.stuck.before b.stuck.before vcpu vcpu' rest rest' over over'
     a.stuck.after b.stuck.after left
-    moved (sticks_of host vcpu' rest' over' b)
+    moved (sticks_of old_homes host vcpu' rest' over' b)
+
+-- the same, where no vCPU has an old home
+pub one_without_room : (host : Host) (vcpu vcpu' rest rest' : ℕ) (over over' : List Over)
+    → IsFirstWithoutRoom host vcpu rest over → IsFirstWithoutRoom host vcpu' rest' over'
+    → (vcpu ≡ vcpu') × (rest ≡ rest') × (over ≡ over')
+one_without_room = one_staying_without_room []
 
 -- a reservation has an admissible period or lacks one, not both
 has_or_lacks : (reservation : Option Reservation) (tick : ℕ) → IfSome reservation (λ r. HasPeriod r tick)
@@ -146,46 +153,74 @@ one_without_period host vcpu vcpu' a b =
     omega arith
 
 -- and then the host has no plan
-pub planned_or_without_period : (host : Host) (plan : PlanView) (vcpu : ℕ) → IsPlanned host plan
-    → IsFirstWithoutPeriod host vcpu → ⊥
-planned_or_without_period host plan vcpu planned first =
+pub staying_or_without_period : (old_homes : List (Option ℕ)) (host : Host) (plan : PlanView) (vcpu : ℕ)
+    → IsStayingPlan old_homes host plan → IsFirstWithoutPeriod host vcpu → ⊥
+staying_or_without_period old_homes host plan vcpu planned first =
     none_without_period host plan.tasks vcpu planned.layout.is_start.tasks_are first
 
+-- the same, where no vCPU has an old home
+pub planned_or_without_period : (host : Host) (plan : PlanView) (vcpu : ℕ) → IsPlanned host plan
+    → IsFirstWithoutPeriod host vcpu → ⊥
+planned_or_without_period = staying_or_without_period []
+
 -- nor is one without room; the law's clause `apart`
+pub staying_room_or_without_period : (old_homes : List (Option ℕ)) (host : Host) (vcpu vcpu' rest : ℕ)
+    (over : List Over) → IsFirstStayingWithoutRoom old_homes host vcpu' rest over
+    → IsFirstWithoutPeriod host vcpu → ⊥
+staying_room_or_without_period old_homes host vcpu vcpu' rest over room first =
+    none_without_period host room.tasks vcpu room.is_start.tasks_are first
+
+-- the same, where no vCPU has an old home
 pub room_or_without_period : (host : Host) (vcpu vcpu' rest : ℕ) (over : List Over)
     → IsFirstWithoutRoom host vcpu' rest over → IsFirstWithoutPeriod host vcpu → ⊥
-room_or_without_period host vcpu vcpu' rest over room first =
-    none_without_period host room.tasks vcpu room.is_start.tasks_are first
+room_or_without_period = staying_room_or_without_period []
 
 -- ---- one fault of planning
 
--- why a host has no plan, in the form in which `plan` says it; want of memory is no cause in the host
+-- why a host has no plan from these old homes, in the form in which `plan_staying` says it; want of
+-- memory is no cause in the host
+abbrev pub HasStayingFault : List (Option ℕ) → Host → PlanFault → Type 0
+HasStayingFault old_homes host (plan.NoPeriod vcpu) = IsFirstWithoutPeriod host vcpu
+HasStayingFault old_homes host (plan.NoRoom vcpu rest over) =
+    IsFirstStayingWithoutRoom old_homes host vcpu rest over
+HasStayingFault old_homes host plan.NoMemory = ⊥
+
+-- the same, where no vCPU has an old home
 abbrev pub HasPlanFault : Host → PlanFault → Type 0
-HasPlanFault host (plan.NoPeriod vcpu) = IsFirstWithoutPeriod host vcpu
-HasPlanFault host (plan.NoRoom vcpu rest over) = IsFirstWithoutRoom host vcpu rest over
-HasPlanFault host plan.NoMemory = ⊥
+HasPlanFault = HasStayingFault []
 
 -- a host with a plan has no fault, for the outcomes of commands that plan
+pub staying_or_fault : (old_homes : List (Option ℕ)) (host : Host) (p : PlanView) (fault : PlanFault)
+    → IsStayingPlan old_homes host p → HasStayingFault old_homes host fault → ⊥
+staying_or_fault old_homes host p (plan.NoPeriod vcpu) planned lacks =
+    staying_or_without_period old_homes host p vcpu planned lacks
+staying_or_fault old_homes host p (plan.NoRoom vcpu rest over) planned lacks =
+    staying_or_refused old_homes host p vcpu rest over planned lacks
+staying_or_fault old_homes host p plan.NoMemory planned lacks = lacks
+
+-- the same, where no vCPU has an old home
 pub planned_or_fault : (host : Host) (p : PlanView) (fault : PlanFault) → IsPlanned host p
     → HasPlanFault host fault → ⊥
-planned_or_fault host p (plan.NoPeriod vcpu) planned lacks = planned_or_without_period host p vcpu planned lacks
-planned_or_fault host p (plan.NoRoom vcpu rest over) planned lacks =
-    planned_or_refused host p vcpu rest over planned lacks
-planned_or_fault host p plan.NoMemory planned lacks = lacks
+planned_or_fault = staying_or_fault []
 
 -- and one without has one fault
-pub one_plan_fault : (host : Host) (f g : PlanFault) → HasPlanFault host f → HasPlanFault host g → f ≡ g
-one_plan_fault host plan.NoMemory g of_f of_g = absurd of_f
-one_plan_fault host f plan.NoMemory of_f of_g = absurd of_g
-one_plan_fault host (plan.NoPeriod vcpu) (plan.NoPeriod other) of_f of_g =
+pub one_staying_fault : (old_homes : List (Option ℕ)) (host : Host) (f g : PlanFault)
+    → HasStayingFault old_homes host f → HasStayingFault old_homes host g → f ≡ g
+one_staying_fault old_homes host plan.NoMemory g of_f of_g = absurd of_f
+one_staying_fault old_homes host f plan.NoMemory of_f of_g = absurd of_g
+one_staying_fault old_homes host (plan.NoPeriod vcpu) (plan.NoPeriod other) of_f of_g =
     ap plan.NoPeriod (one_without_period host vcpu other of_f of_g)
-one_plan_fault host (plan.NoPeriod vcpu) (plan.NoRoom other rest over) of_f of_g =
-    absurd (room_or_without_period host vcpu other rest over of_g of_f)
-one_plan_fault host (plan.NoRoom vcpu rest over) (plan.NoPeriod other) of_f of_g =
-    absurd (room_or_without_period host other vcpu rest over of_f of_g)
-one_plan_fault host (plan.NoRoom vcpu rest over) (plan.NoRoom other more others) of_f of_g =
-    let one = one_without_room host vcpu other rest more over others of_f of_g in
+one_staying_fault old_homes host (plan.NoPeriod vcpu) (plan.NoRoom other rest over) of_f of_g =
+    absurd (staying_room_or_without_period old_homes host vcpu other rest over of_g of_f)
+one_staying_fault old_homes host (plan.NoRoom vcpu rest over) (plan.NoPeriod other) of_f of_g =
+    absurd (staying_room_or_without_period old_homes host other vcpu rest over of_f of_g)
+one_staying_fault old_homes host (plan.NoRoom vcpu rest over) (plan.NoRoom other more others) of_f of_g =
+    let one = one_staying_without_room old_homes host vcpu other rest more over others of_f of_g in
     let at = one.0 in
     let left = one.1 in
     let intervals = one.2 in
     cc
+
+-- the same, where no vCPU has an old home
+pub one_plan_fault : (host : Host) (f g : PlanFault) → HasPlanFault host f → HasPlanFault host g → f ≡ g
+one_plan_fault = one_staying_fault []

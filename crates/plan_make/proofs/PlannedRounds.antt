@@ -1,5 +1,5 @@
 -- The rows of a plan are a round long.
-use Rattle.std.proofs.Common.{◌≡◌, All, List, length, map, slice_get, Some, option_map, ap, ◌∙◌, inl, inr, arith}
+use Rattle.std.proofs.Common.{◌≡◌, All, List, [], ℕ, Option, length, map, slice_get, Some, option_map, ap, ◌∙◌, inl, inr, arith}
 use Rattle.std.proofs.lemmas.List.{length-map}
 use Rattle.std.proofs.lemmas.Option.{slice_get-map, slice_get_cases, slice_get_within}
 use Rattle.tab_core.specs.declared.TheConstants.{ROUND}
@@ -11,13 +11,14 @@ use Rattle.table_form.specs.Tables.Plans.{PlanView}
 use Rattle.table_form.specs.Tables.Rows.{Row}
 use Rattle.edf_table.proofs.Inside.{length-edf_row}
 use Rattle.coalesce.proofs.Lengths.{joined_length}
-use Rattle.plan_make.specs.Planned.{IsPlanned}
+use Rattle.plan_make.specs.Planned.{IsPlanned, IsStayingPlan}
 use Rattle.plan_make.proofs.ListMembers.{all_from_places}
 
 -- each row of a planned host is a round long, since joining keeps the length of the row by EDF
-pub planned_rounds : (host : Host) (plan : PlanView) → IsPlanned host plan
+pub staying_rounds : (old_homes : List (Option ℕ)) (host : Host) (plan : PlanView)
+    → IsStayingPlan old_homes host plan
     → All (λ (row : Row). length row ≡ ROUND) plan.rows
-planned_rounds host plan is = all_from_places (λ (row : Row). length row ≡ ROUND) plan.rows (λ core new at.
+staying_rounds old_homes host plan is = all_from_places (λ (row : Row). length row ≡ ROUND) plan.rows (λ core new at.
     elim ((slice_get_cases is.cores core).1) [
       | inl (pieces, within, at_pieces, same) ↦
           let row = edf_row (jobs_of pieces) in
@@ -32,3 +33,8 @@ planned_rounds host plan is = all_from_places (λ (row : Row). length row ≡ RO
           let joined = is.joined.size in
           omega arith)
     ])
+
+-- the same, where no vCPU has an old home
+pub planned_rounds : (host : Host) (plan : PlanView) → IsPlanned host plan
+    → All (λ (row : Row). length row ≡ ROUND) plan.rows
+planned_rounds = staying_rounds []

@@ -13,7 +13,7 @@ use Rattle.tab_core.specs.declared.host.Host.{Host}
 use Rattle.worst_fit.specs.declared.placed.Placed.{Placed}
 use Rattle.plan_make.specs.Inside.Allotted.{AreAllottedTo, AreLaidOut}
 use Rattle.plan_make.specs.Inside.Splits.{IsLayoutFault, IsRefusedNext, IsStuckFault, SplitsNext}
-use Rattle.plan_make.specs.Layout.{IsStart}
+use Rattle.plan_make.specs.Layout.{IsStayingStart}
 use Rattle.plan_make.specs.SplitInTurn.{GetsSplit, SplitsEach, home_of, with_pieces}
 use Rattle.plan_make.proofs.WithPieces.{length-with_pieces}
 use Rattle.plan_make.proofs.AllottedLemmas.{allotted_next}
@@ -173,13 +173,12 @@ first_stuck {tasks = tasks} {left = left} {n = n} {cores = cores} {homes = homes
     }
 
 -- so the host has no plan
-pub layout_fault : (host : Host) (tasks : List (Option Periodic)) (placed : Placed)
-    (start : List (List Piece))
-    (fault : SplitFault) →
-    IsStart host tasks placed start → IsStuckFault tasks start placed.core_of placed.left fault
-    → IsLayoutFault host fault
-layout_fault host tasks placed start NoMemory is_start stuck = tt
-layout_fault host tasks placed start (NoRoom vcpu rest over) is_start stuck = record {
+pub layout_fault : (old_homes : List (Option ℕ)) (host : Host) (tasks : List (Option Periodic))
+    (placed : Placed) (start : List (List Piece))
+    (fault : SplitFault) → IsStayingStart old_homes host tasks placed start
+    → IsStuckFault tasks start placed.core_of placed.left fault → IsLayoutFault old_homes host fault
+layout_fault old_homes host tasks placed start NoMemory is_start stuck = tt
+layout_fault old_homes host tasks placed start (NoRoom vcpu rest over) is_start stuck = record {
   tasks = tasks;
   placed = placed;
   start = start;

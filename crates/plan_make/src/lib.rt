@@ -2,7 +2,8 @@
 //! row is made by earliest deadline first.
 //!
 //! Layers above may rely on `IsPlanned` and `IsFirstWithoutRoom` of `specs/Planned.antt`, which
-//! say what the plan of a host is and when it has none for want of room. That the plan serves each
+//! say what the plan of a host is and when it has none for want of room, and on `IsStayingPlan` and
+//! `IsFirstStayingWithoutRoom`, from given old homes. That the plan serves each
 //! vCPU and keeps it on one core at a time is part of its type, in table_form.
 #![tactic(auto)]
 
@@ -17,6 +18,6 @@ mod splitting;
 mod unsplit;
 
 pub use fault::PlanFault;
-pub use laws::{a_host_has_one_plan, a_host_has_one_refusal};
-pub use planner::{plan, plan_with};
+pub use laws::{a_host_has_one_plan, a_host_has_one_refusal, a_plan_stays};
+pub use planner::{plan, plan_staying, plan_with};
 pub use refusal::{put_no_period, put_no_room};

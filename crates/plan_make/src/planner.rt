@@ -5,7 +5,8 @@ ghost use Rattle.table_form.specs.Tables.Plans.{IsPlanFor, PlanView};
 ghost use Rattle.table_form.specs.Tables.Views.{plan_view};
 ghost use Rattle.period_choice.specs.Tasks.{AreTasksOf, IsFirstWithoutPeriod};
 ghost use Rattle.worst_fit.specs.Bound.{IsWithinBound};
-ghost use Rattle.plan_make.specs.Planned.{IsFirstWithoutRoom, IsPlanned};
+ghost use Rattle.worst_fit.specs.Staying.{LeaveForNeed, StayWhereAllFit};
+ghost use Rattle.plan_make.specs.Planned.{IsFirstStayingWithoutRoom, IsFirstWithoutRoom, IsPlanned, IsStayingPlan};
 
 use crate::draft::draft_of;
 use crate::fault::PlanFault;
@@ -14,7 +15,7 @@ use coalesce::join_slivers;
 use period_choice::tasks_of;
 use std::alloc::Global;
 use std::thread::Threads;
-use tab_core::{Host, Tasks};
+use tab_core::{CoreNo, Host, Tasks};
 use table_form::Plan;
 
 /// The plan of a host: its vCPUs are placed unsplit by worst fit, the left-over ones are split, each
@@ -48,13 +49,12 @@ pub fn plan<R: Threads + Sync>(rt: &R, alloc: Global, host: &Host) -> Result<Pla
     ensures planned { (plan : PlanView) → IsPlanned host.now plan
         → IfErr result (λ fault. fault ≡ PlanFault.NoMemory) }
 {
-    let tasks = tasks_of(alloc, host)?;
-    plan_with(rt, alloc, host, tasks)
+    plan_staying(rt, alloc, host, &[])
 }
 
 /// The same plan, where the budgets of the host's vCPUs are known. So `NoPeriod` never comes.
 pub fn plan_with<R: Threads + Sync>(
-    _rt: &R,
+    rt: &R,
     alloc: Global,
     host: &Host,
     tasks: Tasks,
@@ -76,7 +76,84 @@ pub fn plan_with<R: Threads + Sync>(
     ensures planned { (plan : PlanView) → IsPlanned host.now plan
         → IfErr result (λ fault. fault ≡ PlanFault.NoMemory) }
 {
-    let layout = lay_out(alloc, host, &tasks)?;
+    plan_staying_with(rt, alloc, host, tasks, &[])
+}
+
+/// The plan of a host that moves nobody without need: as `plan` makes it, but that vCPUs stay at their
+/// old homes where they can.
+///
+/// `old_homes` has the old home of each of the host's vCPUs by its number. A vCPU beyond its end has
+/// none, and a home at or beyond the count of cores is none. The admitted vCPUs are taken by falling
+/// demand, ties to the lower number. Each stays whole at its old home if the load there is then at
+/// most a round, and moves otherwise. Those that move and those without an old home are placed next,
+/// by worst fit beside these, and what is left over is split. From no old homes that is `plan`.
+///
+/// `NoPeriod` comes as from `plan`, and `NoRoom` where a left-over vCPU can't be split beside those
+/// that stay: then and only then, but that want of memory may come in place of any answer. Within
+/// the bound of worst fit none is without room, as with `plan`. Beyond it, a host that has a plan
+/// may have none that moves nobody.
+pub fn plan_staying<R: Threads + Sync>(
+    rt: &R,
+    alloc: Global,
+    host: &Host,
+    old_homes: &[Option<CoreNo>],
+) -> Result<Plan, PlanFault>
+    ensures ok { IfOk result (λ plan. IsStayingPlan old_homes.now host.now (plan_view plan)) }
+    ensures only { IfOk result (λ plan. (other : PlanView) → IsStayingPlan old_homes.now host.now other
+        → other ≡ plan_view plan) }
+    ensures fits_host { IfOk result (λ plan. IsPlanFor host.now (plan_view plan)) }
+    ensures chosen { IfOk result (λ plan. AreTasksOf host.now plan.tasks) }
+    ensures stay { IfOk result (λ plan. StayWhereAllFit old_homes.now plan.tasks host.now.cores
+        plan.tables.homes) }
+    ensures need { IfOk result (λ plan. LeaveForNeed old_homes.now plan.tasks host.now.cores
+        plan.tables.homes) }
+    ensures no_period { (vcpu : ℕ) → IsErrOf result (PlanFault.NoPeriod vcpu)
+        → IsFirstWithoutPeriod host.now vcpu }
+    ensures without_period { (vcpu : ℕ) → IsFirstWithoutPeriod host.now vcpu → IsErr result }
+    ensures no_room { (vcpu rest : ℕ) (over : List Over) → IsErrOf result (PlanFault.NoRoom vcpu rest over)
+        → IsFirstStayingWithoutRoom old_homes.now host.now vcpu rest over }
+    ensures without_room { (vcpu rest : ℕ) (over : List Over)
+        → IsFirstStayingWithoutRoom old_homes.now host.now vcpu rest over → IsErr result }
+    ensures bound { (tasks : List (Option Periodic)) → AreTasksOf host.now tasks
+        → IsWithinBound tasks host.now.cores
+        → IfErr result (λ fault. fault ≡ PlanFault.NoMemory) }
+    ensures planned { (plan : PlanView) → IsStayingPlan old_homes.now host.now plan
+        → IfErr result (λ fault. fault ≡ PlanFault.NoMemory) }
+{
+    let tasks = tasks_of(alloc, host)?;
+    plan_staying_with(rt, alloc, host, tasks, old_homes)
+}
+
+// The same plan, where the budgets of the host's vCPUs are known. So `NoPeriod` never comes.
+fn plan_staying_with<R: Threads + Sync>(
+    _rt: &R,
+    alloc: Global,
+    host: &Host,
+    tasks: Tasks,
+    old_homes: &[Option<CoreNo>],
+) -> Result<Plan, PlanFault>
+    requires { AreTasksOf host.now tasks }
+    ensures ok { IfOk result (λ plan. IsStayingPlan old_homes.now host.now (plan_view plan)) }
+    ensures only { IfOk result (λ plan. (other : PlanView) → IsStayingPlan old_homes.now host.now other
+        → other ≡ plan_view plan) }
+    ensures fits_host { IfOk result (λ plan. IsPlanFor host.now (plan_view plan)) }
+    ensures chosen { IfOk result (λ plan. AreTasksOf host.now plan.tasks) }
+    ensures stay { IfOk result (λ plan. StayWhereAllFit old_homes.now plan.tasks host.now.cores
+        plan.tables.homes) }
+    ensures need { IfOk result (λ plan. LeaveForNeed old_homes.now plan.tasks host.now.cores
+        plan.tables.homes) }
+    ensures no_period { (vcpu : ℕ) → IsErrOf result (PlanFault.NoPeriod vcpu) → ⊥ }
+    ensures no_room { (vcpu rest : ℕ) (over : List Over) → IsErrOf result (PlanFault.NoRoom vcpu rest over)
+        → IsFirstStayingWithoutRoom old_homes.now host.now vcpu rest over }
+    ensures without_room { (vcpu rest : ℕ) (over : List Over)
+        → IsFirstStayingWithoutRoom old_homes.now host.now vcpu rest over → IsErr result }
+    ensures bound { (tasks : List (Option Periodic)) → AreTasksOf host.now tasks
+        → IsWithinBound tasks host.now.cores
+        → IfErr result (λ fault. fault ≡ PlanFault.NoMemory) }
+    ensures planned { (plan : PlanView) → IsStayingPlan old_homes.now host.now plan
+        → IfErr result (λ fault. fault ≡ PlanFault.NoMemory) }
+{
+    let layout = lay_out(alloc, host, &tasks, old_homes)?;
     let draft = draft_of(alloc, tasks, layout, host.vcpus.capped())?;
     Ok(join_slivers(alloc, &draft, host.sliver)?)
 }

@@ -84,6 +84,7 @@ plan_on host events course n of ok le =
     record {
       rows = ap (λ (p : _). length p.rows) same_plan
           ∙ (ok.form.in_rows (plan_number_after course n) found.0 found.1 ∙ of.cores);
+      owned = rw same_plan (ok.plans_kept (plan_number_after course n) found.0 found.1).owned;
       housed = rw same_plan (ok.plans_kept (plan_number_after course n) found.0 found.1).housed;
       capped = course_capped host events course n of le;
     }

@@ -15,7 +15,7 @@ use Rattle.run_promises.proofs.ChoiceLemmas.{stint_within}
 use Rattle.run_promises.proofs.OneTableLemmas.{complete_counts}
 use Rattle.plan_promises.specs.RunPromises.{IsPromisedRun}
 use Rattle.plan_promises.proofs.HistoriesLemmas.{history, hosts_of}
-use Rattle.plan_promises.proofs.RunsLemmas.{run_shares, run_waits}
+use Rattle.plan_promises.proofs.RunsLemmas.{run_shares, run_sold, run_waits}
 
 -- at each tick of a stint its count is that of the tick's round
 one_plan : (course : CourseView) (rounds : ℕ) (s : State) → StateInvariant course rounds s
@@ -38,6 +38,7 @@ run_promises rounds host events course s of ok promises complete =
       history = history host events course of ok;
       promises = record {
         whole = complete.clocks;
+        in_time = λ c core at. (promises.invariant.cores c core at).timeline.contiguous;
         entered = complete_counts course rounds s ok promises.invariant complete;
         counts = λ r d at.
             (let posted = promises.invariant.decided_posted r d at in
@@ -48,6 +49,7 @@ run_promises rounds host events course s of ok promises complete =
         one_plan = one_plan course rounds s promises.invariant;
         one_core = promises.one_core;
         shares = run_shares host events course rounds s of promises;
+        sold = run_sold host events course rounds s of promises;
         waits = run_waits host events course rounds s of promises;
         seen = λ c k core st at found.
             (let stint = (promises.invariant.cores c core at).stints.each k st found in

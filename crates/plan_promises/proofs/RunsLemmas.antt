@@ -24,7 +24,7 @@ use Rattle.plan_book.proofs.SameShape.{one_tick}
 use Rattle.run_promises.proofs.GapLemmas.{some_task}
 use Rattle.run_promises.proofs.ServedLemmas.{task_found}
 use Rattle.plan_promises.specs.Reservations.{IsReserved}
-use Rattle.plan_promises.specs.Runs.{GetsItsShareIn, IsReservedIn, RunKeepsReservations, SharesKept, WaitsWithinLatency}
+use Rattle.plan_promises.specs.Runs.{AreTasksSold, GetsItsShareIn, IsReservedIn, RunKeepsReservations, SharesKept, WaitsWithinLatency}
 use Rattle.plan_promises.proofs.HistoriesLemmas.{has_host, hosts_of, known_hosts}
 use Rattle.plan_promises.proofs.ReservationsLemmas.{enough_cost, has_chosen}
 
@@ -132,6 +132,14 @@ pub run_shares : (host : Host) (events : List Event) (course : CourseView) (roun
 run_shares host events course rounds s of promises = λ r v reservation is.
     share_in host events course of s.decided (few_events host events course rounds s of promises) r v reservation is
     (λ q w k task has lt. promises.served q w k task has lt)
+
+-- whoever has a task is reserved, by these hosts
+pub run_sold : (host : Host) (events : List Event) (course : CourseView) (rounds : ℕ) (s : State)
+    → (of : IsCourseOf host events course) → KeepsPromises course rounds s
+    → AreTasksSold (hosts_of host events course of) course s
+run_sold host events course rounds s of promises = λ r v task is.
+    let few = few_events host events course rounds s of promises in
+    let found = in_round host events course of s.decided few r v task is in (found.reservation, found.reserved)
 
 -- latencies are kept, by these hosts
 pub run_waits : (host : Host) (events : List Event) (course : CourseView) (rounds : ℕ) (s : State)

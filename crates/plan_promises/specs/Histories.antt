@@ -8,6 +8,7 @@ use Rattle.tab_core.specs.declared.host.Host.{Host}
 use Rattle.table_form.specs.Running.Courses.{CourseView, plan_after, runnable_after}
 use Rattle.table_form.specs.Tables.Homes.{HaveHomes}
 use Rattle.table_form.specs.Tables.Plans.{PlanView}
+use Rattle.table_form.specs.Tables.Serves.{OwnersHaveTasks}
 use Rattle.script_doc.specs.declared.event.Act.{Act}
 use Rattle.script_doc.specs.declared.event.Act.TheVariants.{Wake, Block, Change, Burst}
 use Rattle.script_doc.specs.declared.event.Event.{Event}
@@ -28,9 +29,11 @@ Follows (Block vcpu) host flags next flags' = (next ≡ host) × (flags' ≡ sli
 Follows (Change edits) host flags next flags' = (IsEdited host edits next ⊎ (next ≡ host)) × (flags' ≡ flags)
 Follows (Burst vcpu work) host flags next flags' = (next ≡ host) × (flags' ≡ flags)
 
--- a plan on such a host: a row for each core, a home for each vCPU with a task, and the host's capped vCPUs
+-- a plan on such a host: a row for each core, in which nobody without a task has a slot; a home for each vCPU with
+-- a task; and the host's capped vCPUs
 pub record IsPlanOn (host : Host) (plan : PlanView) : Type 0 where
   pub rows : length plan.rows ≡ host.cores
+  pub owned : OwnersHaveTasks plan.tasks plan.rows
   pub housed : HaveHomes plan.tasks plan.homes plan.rows
   pub capped : plan.capped ≡ capped_of host.vcpus
 

@@ -37,6 +37,11 @@ abbrev pub SharesKept : (ℕ → Host) → CourseView → State → Type 0
 SharesKept hosts course s = (r v : ℕ) (reservation : Reservation)
     → IsReservedIn hosts s.decided r v reservation → GetsItsShareIn course s.decided r v reservation
 
+-- only who is reserved in the host of a round has a task there
+abbrev pub AreTasksSold : (ℕ → Host) → CourseView → State → Type 0
+AreTasksSold hosts course s = (r v : ℕ) (task : Periodic) → task_in course s.decided r v ≡ Some task
+    → (reservation : Reservation) × IsReservedIn hosts s.decided r v reservation
+
 -- the wait from the first to the last of these ticks is within the greater of the vCPU's latencies in the hosts
 -- of their rounds, in ticks of so many nanoseconds
 pub record IsWithinLatency (hosts : ℕ → Host) (tick_ns : ℕ) (decided : List ℕ) (v first last : ℕ) : Type 0 where
@@ -46,7 +51,7 @@ pub record IsWithinLatency (hosts : ℕ → Host) (tick_ns : ℕ) (decided : Lis
   pub after_is : IsReservedIn hosts decided (last / ROUND) v after
   pub short : tick_ns * (suc last - first) ≤ max before.latency_ns after.latency_ns
 
--- each wait of a vCPU between offers is within its latency
+-- each wait of a vCPU between offers is within the greater of its latencies at the two ends
 abbrev pub WaitsWithinLatency : (ℕ → Host) → ℕ → CourseView → State → Type 0
 WaitsWithinLatency hosts tick_ns course s = (v first last : ℕ) → IsGap course s.decided v first last
     → IsWithinLatency hosts tick_ns s.decided v first last

@@ -36,7 +36,7 @@ no_vcpu_lacks_room host v rest over has first =
     let same = tasks_unique host first.tasks has.tasks first.is_start.tasks_are has.tasks_are in
     let within = subst (λ tasks. IsWithinBound tasks host.cores) (sym same) has.within in
     nobody_is_left first.placed.left first.stuck.before first.stuck.after v
-    (placement_within_bound first.tasks host.cores first.placed host.some_core
+    (placement_within_bound [] first.tasks host.cores first.placed host.some_core
     first.is_start.placement within) first.stuck.left_is
 
 -- so nothing refuses it, neither as a document nor for a period or room

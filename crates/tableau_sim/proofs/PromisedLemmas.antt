@@ -3,17 +3,17 @@ use Rattle.std.proofs.Common.{◌≡◌, ℕ, List, [], Result, Ok, Err, None, r
 use Rattle.std.specs.Prelude.{IfOk}
 use Rattle.std.specs.Result.{result_err}
 use Rattle.std.proofs.lemmas.Option.{slice_get_within}
-use Rattle.toml.specs.Data.{Items}
+use Rattle.toml.specs.Data.{Items, Members}
 use Rattle.tab_core.specs.declared.host.Host.{Host}
 use Rattle.tab_core.specs.declared.vcpu.Vcpu.{Vcpu}
 use Rattle.tab_io.specs.Views.{SourceView}
-use Rattle.host_doc.specs.Document.{IsHostText, members_fault}
-use Rattle.host_doc.specs.KeyTable.{vcpus_of}
+use Rattle.host_doc.specs.Document.{IsHostText, first_fault, members_fault}
+use Rattle.host_doc.specs.KeyTable.{format_of, vcpus_of}
 use Rattle.host_doc.specs.VcpuFaults.{vcpus_fault}
 use Rattle.host_doc.specs.Vcpus.{AreVcpusOf}
 use Rattle.host_doc.specs.declared.fault.HostFault.{HostFault}
 use Rattle.host_doc.proofs.HostNames.{stated_names}
-use Rattle.host_doc.proofs.OneHost.{all_tables, array_faultless}
+use Rattle.host_doc.proofs.OneHost.{all_tables, array_faultless, both_none}
 use Rattle.script_doc.specs.declared.event.Event.{Event}
 use Rattle.table_form.specs.Running.Courses.{CourseView}
 use Rattle.plan_promises.proofs.RunPromisesLemmas.{run_promises}
@@ -37,6 +37,17 @@ array_of (Ok items) vcpus is_ok faultless are =
     record { items = items; is = refl; faultless = faultless; are = are }
 array_of (Err fault) vcpus is_ok faultless are = absurd cc
 
+-- a value without a fault is there
+value_of : {X : Type 0} (found : Result X HostFault) → result_err found ≡ None → (value : X) × (found ≡ Ok value)
+value_of (Ok value) is = (value, refl)
+value_of (Err fault) is = absurd cc
+
+-- the format of a faultless document is one that there is
+format_taken : (members : Members) → first_fault members ≡ None → (number : ℕ) × (format_of members ≡ Ok number)
+unfolding first_fault
+format_taken members faultless =
+    value_of (format_of members) (both_none (result_err (format_of members)) _ faultless).0
+
 -- a document that stands for a host states it
 states : (bytes : List ℕ) (host : Host) → IsHostText bytes host → StatesHost bytes host
 states bytes host is =
@@ -45,6 +56,7 @@ states bytes host is =
     record {
       members = is.0;
       document = is.1;
+      format = format_taken is.0 is.2.faultless;
       tick_ns = is.2.tick_ns;
       cores = is.2.cores;
       lag = is.2.lag;

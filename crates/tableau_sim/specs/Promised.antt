@@ -10,7 +10,7 @@ use Rattle.tab_io.specs.Views.{SourceView}
 use Rattle.tab_words.specs.Sections.{sections_of}
 use Rattle.host_doc.specs.Array.{count_of}
 use Rattle.host_doc.specs.Document.{IsDocument}
-use Rattle.host_doc.specs.KeyTable.{cores_of, lag_of, tick_of, vcpus_of}
+use Rattle.host_doc.specs.KeyTable.{cores_of, format_of, lag_of, tick_of, vcpus_of}
 use Rattle.host_doc.specs.Vcpus.{IsVcpuOf}
 use Rattle.script_doc.specs.Script.{IsScript}
 use Rattle.script_doc.specs.Statements.{statements_of}
@@ -31,11 +31,12 @@ pub record HasMember (items : Items) (number : ℕ) (vcpu : Vcpu) : Type 0 where
   pub at : get_item number items ≡ Some (table members)
   pub is : IsVcpuOf number members vcpu
 
--- the bytes are a document that states the host: its tick, its cores, its lag and its vCPUs by number, of which no
--- two have one name
+-- the bytes are a document of a format that there is, and it states the host: its tick, its cores, its lag and its
+-- vCPUs by number, of which no two have one name
 pub record StatesHost (bytes : List ℕ) (host : Host) : Type 0 where
   pub members : Members
   pub document : IsDocument bytes members
+  pub format : (number : ℕ) × (format_of members ≡ Ok number)
   pub tick_ns : tick_of members ≡ Ok host.tick_ns
   pub cores : cores_of members ≡ Ok host.cores
   pub lag : lag_of members ≡ Ok host.lag
@@ -53,7 +54,7 @@ pub record RanAsPromised (rounds : ℕ) (host : Host) (events : List Event) (vie
   pub course : CourseView
   pub run : IsPromisedRun rounds host events course (state_of course view)
 
--- what `Ok` of `run` promises: the input was read, states a host and a script of it, and was run as promised
+-- what `Ok` of `run` promises: the source gave bytes that state a host and a script of it, which was run as promised
 pub record HasRunAsPromised (rounds : ℕ) (source source' : SourceView) (view : View) : Type 0 where
   pub input : List ℕ
   pub consumed : Consumes source.rest source'.rest input

@@ -58,7 +58,7 @@ kind_text true = codes "run"
 
 -- the text up to the rows of vCPUs
 unfoldable pub json_begin : ℕ → ℕ → List ℕ → List ℕ
-json_begin tick cores kind = codes "{\"kind\":\"" ++ (kind
+json_begin tick cores kind = codes "{\"form\":1,\"kind\":\"" ++ (kind
     ++ (codes "\",\"tick_ns\":" ++ (decimal tick ++ (codes ",\"cores\":" ++ (decimal cores
     ++ codes ",\"vcpus\":[\n[\"name\",\"period\",\"cost\",\"home\"]")))))
 

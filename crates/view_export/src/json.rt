@@ -82,7 +82,7 @@ fn put_kind<K: Sink>(sink: &mut K, tick_ns: u32, cores: u32, kind: &[u8]) -> Res
     put_pieces(
         sink,
         &[
-            TextPiece::Text(b"{\"kind\":\""),
+            TextPiece::Text(b"{\"form\":1,\"kind\":\""),
             TextPiece::Text(kind),
             TextPiece::Text(b"\",\"tick_ns\":"),
             TextPiece::Number(tick_ns),

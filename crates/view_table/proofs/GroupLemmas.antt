@@ -1,7 +1,8 @@
 -- What one more vCPU adds to the figures of a VM.
 use Rattle.std.proofs.Common.{◌≡◌, ℕ, ◌+◌, ◌∙◌, ap, sym, max, ◌==◌, ◌&&◌, ◌||◌, nat_lt, Bool, cond, true, false, List, length, get_or, refl, arith, add-one, Option, None, ◌⊎◌, inl, inr}
 use Rattle.tab_core.specs.declared.vcpu.Vcpu.{Vcpu}
-use Rattle.view_table.specs.Groups.{any_below, asked_at, is_of, least_in, lesser, most_in, sum_in, vm_end}
+use Rattle.view_table.specs.Groups.{any_below, asked_at, is_of, least_in, lesser, most_in, sum_where, vm_end}
+use Rattle.view_table.specs.Totals.{each}
 
 -- ---- before the first
 
@@ -16,9 +17,9 @@ unfolding any_below
 any_below-zero test = refl
 
 -- the sum is 0
-pub sum_in-zero : (f : ℕ → ℕ) (names : List (List ℕ)) (vm : List ℕ) → sum_in f names vm 0 ≡ 0
-unfolding sum_in
-sum_in-zero f names vm = refl
+pub sum_none : (test : ℕ → Bool) (f : ℕ → ℕ) → sum_where test f 0 ≡ 0
+unfolding sum_where
+sum_none test f = refl
 
 -- the greatest is 0
 pub most_in-zero : (f : ℕ → ℕ) (names : List (List ℕ)) (vm : List ℕ) → most_in f names vm 0 ≡ 0
@@ -72,18 +73,23 @@ any_step test v old new before (inr h) =
     or_false false = refl
 
 -- to a sum
-pub sum_step : (f : ℕ → ℕ) (names : List (List ℕ)) (vm : List ℕ) (v old new : ℕ) → old ≡ sum_in f names vm v
-    → ((is_of names vm v ≡ true) × (new ≡ old + f v)) ⊎ ((is_of names vm v ≡ false) × (new ≡ old))
-    → new ≡ sum_in f names vm (v + 1)
-unfolding sum_in
-sum_step f names vm v old new before (inl h) =
-    let now : sum_in f names vm (v + 1) ≡ sum_in f names vm v + f v =
-    ap (sum_in f names vm) (add-one v) ∙ ap (λ b. sum_in f names vm v + cond b (f v) 0) h.0 in
+pub sum_step : (test : ℕ → Bool) (f : ℕ → ℕ) (v old new : ℕ) → old ≡ sum_where test f v
+    → ((test v ≡ true) × (new ≡ old + f v)) ⊎ ((test v ≡ false) × (new ≡ old))
+    → new ≡ sum_where test f (v + 1)
+unfolding sum_where
+sum_step test f v old new before (inl h) =
+    let now : sum_where test f (v + 1) ≡ sum_where test f v + f v =
+    ap (sum_where test f) (add-one v) ∙ ap (λ b. sum_where test f v + cond b (f v) 0) h.0 in
     omega (arith, before, h.1, now)
-sum_step f names vm v old new before (inr h) =
-    let now : sum_in f names vm (v + 1) ≡ sum_in f names vm v + 0 =
-    ap (sum_in f names vm) (add-one v) ∙ ap (λ b. sum_in f names vm v + cond b (f v) 0) h.0 in
+sum_step test f v old new before (inr h) =
+    let now : sum_where test f (v + 1) ≡ sum_where test f v + 0 =
+    ap (sum_where test f) (add-one v) ∙ ap (λ b. sum_where test f v + cond b (f v) 0) h.0 in
     omega (arith, before, h.1, now)
+
+-- to a sum of all
+pub sum_more : (f : ℕ → ℕ) (v : ℕ) → sum_where each f (v + 1) ≡ sum_where each f v + f v
+unfolding sum_where
+sum_more f v = ap (sum_where each f) (add-one v)
 
 -- to the greatest
 pub most_step : (f : ℕ → ℕ) (names : List (List ℕ)) (vm : List ℕ) (v old new : ℕ) → old ≡ most_in f names vm v

@@ -1,5 +1,5 @@
 -- The vCPUs of a plan by virtual machine: the VM of a vCPU is its name's part before the last dot.
-use Rattle.std.specs.Prelude.{ℕ, zero, suc, ◌+◌, ◌==◌, ◌&&◌, ◌||◌, nat_lt, Bool, false, if◌then◌else◌, max, min, List, [], ◌++◌, codes, decimal, length, Option, Some, None, slice_get, slice_index, take}
+use Rattle.std.specs.Prelude.{ℕ, zero, suc, ◌+◌, ◌==◌, ◌&&◌, ◌||◌, nat_lt, Bool, false, not, if◌then◌else◌, max, min, List, [], ◌++◌, codes, decimal, length, Option, Some, None, slice_get, slice_index, take}
 use Rattle.std.specs.Str.{bytes_eq}
 use Rattle.tab_core.specs.declared.reservation.Reservation.{Reservation}
 use Rattle.tab_core.specs.declared.vcpu.Vcpu.{Vcpu}
@@ -8,9 +8,9 @@ use Rattle.vcpu_names.specs.Names.{name_at}
 use Rattle.view_doc.specs.declared.view.Stretch.{Stretch}
 use Rattle.view_doc.specs.declared.view.Task.{Task}
 use Rattle.view_doc.specs.declared.view.View.{View}
-use Rattle.table_cells.specs.Cells.{count_cell, left, millis_cell, percent_cell, right, width_below}
+use Rattle.table_cells.specs.Cells.{count_cell, left, millis_cell, percent_cell, right, width_below, yes_or_no}
 use Rattle.view_table.specs.Loads.{stands_on}
-use Rattle.view_table.specs.Table.{asked_of, core_head, core_row, share_of, wait_cell}
+use Rattle.view_table.specs.Table.{asked_of, core_head, core_row, is_kept, share_of, wait_cell}
 use Rattle.view_table.specs.Waits.{wait_of}
 
 -- where the VM's part of a name ends, by so many of its bytes: at the last dot behind the first byte,
@@ -31,10 +31,18 @@ unfoldable pub any_below : (ℕ → Bool) → ℕ → Bool
 any_below test zero = false
 any_below test (suc v) = any_below test v || test v
 
+-- the sum of the figures of the vCPUs below n that pass
+unfoldable pub sum_where : (ℕ → Bool) → (ℕ → ℕ) → ℕ → ℕ
+sum_where test figure zero = 0
+sum_where test figure (suc v) = sum_where test figure v + (if test v then figure v else 0)
+
+-- how many of them pass
+abbrev pub count_where : (ℕ → Bool) → ℕ → ℕ
+count_where test n = sum_where test (λ v. 1) n
+
 -- the sum, and the greatest, of the vCPUs below n that are of the VM
-unfoldable pub sum_in : (ℕ → ℕ) → List (List ℕ) → List ℕ → ℕ → ℕ
-sum_in figure names vm zero = 0
-sum_in figure names vm (suc v) = sum_in figure names vm v + (if is_of names vm v then figure v else 0)
+abbrev pub sum_in : (ℕ → ℕ) → List (List ℕ) → List ℕ → ℕ → ℕ
+sum_in figure names vm n = sum_where (is_of names vm) figure n
 
 unfoldable pub most_in : (ℕ → ℕ) → List (List ℕ) → List ℕ → ℕ → ℕ
 most_in figure names vm zero = 0
@@ -73,12 +81,25 @@ least_in vcpus names vm zero = None
 least_in vcpus names vm (suc v) = if is_of names vm v
     then lesser (least_in vcpus names vm v) (asked_at vcpus names v) else least_in vcpus names vm v
 
+-- what was promised to the vCPU of a number isn't kept; nothing was where none of its name is admitted
+abbrev pub is_broken_by : ℕ → Option Reservation → ℕ → ℕ → Bool
+is_broken_by tick None share wait = false
+is_broken_by tick (Some r) share wait = not (is_kept tick r share wait)
+
+abbrev pub is_broken : ℕ → List Vcpu → List (List ℕ) → List Task → List Stretch → ℕ → Bool
+is_broken tick vcpus names tasks slots v =
+    is_broken_by tick (asked_at vcpus names v) (share_in (slice_get tasks v)) (wait_of slots v)
+
+-- one of the VM's vCPUs hasn't what it was promised
+abbrev pub vm_breaks : ℕ → List Vcpu → List (List ℕ) → List ℕ → List Task → List Stretch → ℕ → Bool
+vm_breaks tick vcpus names vm tasks slots v = is_broken tick vcpus names tasks slots v && is_of names vm v
+
 -- ---- rows
 
 -- the names of the columns behind the first; what was asked for stands where there is a host
 abbrev pub vm_head : Option (List Vcpu) → List ℕ
 vm_head None = codes "  vcpus   share %    wait ms  cores\n"
-vm_head (Some vcpus) = codes "  vcpus   asked %   given %    wait ms  promised ms  cores\n"
+vm_head (Some vcpus) = codes "  vcpus   asked %   given %    wait ms  promised ms  kept  cores\n"
 
 -- the shares that were asked for together, or a dash where nothing was promised
 abbrev pub sum_cell : Option ℕ → ℕ → List ℕ
@@ -90,28 +111,34 @@ abbrev pub least_cell : Option ℕ → List ℕ
 least_cell None = right 13 (codes "-")
 least_cell (Some ns) = millis_cell 9 ns
 
+-- whether each of its vCPUs has what it was promised, or a dash where nothing was promised
+abbrev pub all_kept_cell : Option ℕ → Bool → List ℕ
+all_kept_cell None breaks = right 6 (codes "-")
+all_kept_cell (Some ns) breaks = right 6 (yes_or_no (not breaks))
+
 -- the cells of a VM: how many vCPUs it has, their shares together, and the longest of their waits
 unfoldable pub vm_cells : ℕ → ℕ → List ℕ → ℕ → ℕ → ℕ → List ℕ
 vm_cells tick width vm count share wait = left width vm ++ (count_cell 7 count
     ++ (percent_cell 5 share ++ (wait_cell tick wait ++ codes " ")))
 
 -- the same beside what was asked for and promised
-unfoldable pub asked_vm_cells : ℕ → ℕ → List ℕ → ℕ → ℕ → ℕ → ℕ → Option ℕ → List ℕ
-asked_vm_cells tick width vm count asked share wait promised = left width vm ++ (count_cell 7 count
+unfoldable pub asked_vm_cells : ℕ → ℕ → List ℕ → ℕ → ℕ → ℕ → ℕ → Option ℕ → Bool → List ℕ
+asked_vm_cells tick width vm count asked share wait promised breaks = left width vm ++ (count_cell 7 count
     ++ (sum_cell promised asked ++ (percent_cell 5 share ++ (wait_cell tick wait
-    ++ (least_cell promised ++ codes " ")))))
+    ++ (least_cell promised ++ (all_kept_cell promised breaks ++ codes " "))))))
 
 -- the cells of a VM of these vCPUs
 abbrev pub vm_figures : Option (List Vcpu) → ℕ → ℕ → List (List ℕ) → List Task → List Stretch → List ℕ → List ℕ
 vm_figures None tick width names tasks slots vm =
-    vm_cells tick width vm (sum_in (λ v. 1) names vm (length tasks))
+    vm_cells tick width vm (count_where (is_of names vm) (length tasks))
     (sum_in (λ v. share_in (slice_get tasks v)) names vm (length tasks))
     (most_in (wait_of slots) names vm (length tasks))
 vm_figures (Some vcpus) tick width names tasks slots vm =
-    asked_vm_cells tick width vm (sum_in (λ v. 1) names vm (length tasks))
+    asked_vm_cells tick width vm (count_where (is_of names vm) (length tasks))
     (sum_in (λ v. ppm_of (asked_at vcpus names v)) names vm (length tasks))
     (sum_in (λ v. share_in (slice_get tasks v)) names vm (length tasks))
     (most_in (wait_of slots) names vm (length tasks)) (least_in vcpus names vm (length tasks))
+    (any_below (vm_breaks tick vcpus names vm tasks slots) (length tasks))
 
 -- the row of a VM
 abbrev pub vm_line : Option (List Vcpu) → ℕ → ℕ → List (List ℕ) → List Task → List Stretch → ℕ → List ℕ → List ℕ
@@ -124,13 +151,3 @@ abbrev pub vm_row : Option (List Vcpu) → ℕ → ℕ → List (List ℕ) → L
 vm_row host tick width names tasks slots cores v =
     if any_below (is_of names (vm_of (name_at names v))) v then []
     else vm_line host tick width names tasks slots cores (vm_of (name_at names v))
-
--- the text of these vCPUs and cores
-abbrev pub vm_table_of : Option (List Vcpu) → ℕ → ℕ → View → List ℕ
-vm_table_of host tick width view = left width (codes "vm") ++ (vm_head host
-    ++ (texts_below (vm_row host tick width view.names.items view.tasks.items view.slots.items view.cores)
-    (length view.tasks.items) ++ (core_head ++ texts_below (core_row view.slots.items) view.cores)))
-
--- the tables of a plan by VM, beside what the vCPUs of a host have reserved where these are known
-abbrev pub vm_table_text : Option (List Vcpu) → ℕ → View → List ℕ
-vm_table_text host tick view = vm_table_of host tick (width_below view.names.items (length view.tasks.items)) view

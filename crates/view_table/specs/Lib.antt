@@ -3,5 +3,8 @@ pub mod Figures
 pub mod Groups
 pub mod Inside
 pub mod Loads
+pub mod Sums
 pub mod Table
+pub mod TableTexts
+pub mod Totals
 pub mod Waits

@@ -105,16 +105,3 @@ core_row slots core = core_cells core (load_of slots core)
 
 abbrev pub core_head : List ℕ
 core_head = codes "\ncore    load %  headroom %\n"
-
--- ---- the text
-
--- the text of these vCPUs and cores
-abbrev pub table_of : Option (List Vcpu) → ℕ → ℕ → List (List ℕ) → List Task → List Stretch → ℕ → List ℕ
-table_of host tick width names tasks slots cores = left width (codes "vcpu") ++ (head_text host
-    ++ (texts_below (vcpu_row host tick width names tasks slots cores) (length tasks)
-    ++ (core_head ++ texts_below (core_row slots) cores)))
-
--- the tables of a plan, beside what the vCPUs of a host have reserved where these are known
-abbrev pub table_text : Option (List Vcpu) → ℕ → View → List ℕ
-table_text host tick view = table_of host tick (width_below view.names.items (length view.tasks.items))
-    view.names.items view.tasks.items view.slots.items view.cores

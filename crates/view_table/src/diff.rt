@@ -151,7 +151,7 @@ pub(crate) fn figure_of(view: &View, figures: &Figures, vcpu: usize) -> u32
 }
 
 // The number below the count of the vCPU of this name.
-fn number_of(names: &[Name], count: usize, name: &[u8]) -> Option<usize>
+pub(crate) fn number_of(names: &[Name], count: usize, name: &[u8]) -> Option<usize>
     ensures value { result ≡ number_of names.now count name.now }
     ensures low { IfSome result (λ vcpu. vcpu < count) }
 {

@@ -4,25 +4,26 @@ ghost use Rattle.tab_io.specs.Sinks.{Writes};
 ghost use Rattle.tab_words.specs.Texts.{texts_below};
 ghost use Rattle.vcpu_names.specs.Names.{name_at};
 ghost use Rattle.view_table.specs.Figures.{AreFigures};
-ghost use Rattle.view_table.specs.Groups.{any_below, asked_at, is_of, least_cell, least_in, lesser, most_in, ppm_of, share_in, sum_cell, sum_in, vm_core, vm_figures, vm_head, vm_line, vm_of, vm_row, vm_stands, vm_table_of, vm_table_text};
+ghost use Rattle.view_table.specs.Groups.{all_kept_cell, any_below, asked_at, count_where, is_broken, is_broken_by, is_of, least_cell, least_in, lesser, most_in, ppm_of, share_in, sum_cell, sum_in, vm_breaks, vm_core, vm_figures, vm_head, vm_line, vm_of, vm_row, vm_stands};
+ghost use Rattle.view_table.specs.TableTexts.{vm_table_of, vm_table_text};
 ghost use Rattle.table_cells.specs.CellTexts.{cell_text};
 ghost use Rattle.view_table.specs.Waits.{wait_of};
 
 use crate::diff::figure_of;
 use crate::figures::Figures;
-use crate::rows::{asked_of, name_at, share_of, wait_cell, width_of};
-use crate::table::{put_core_head, put_cores};
+use crate::rows::{asked_of, is_kept, name_at, share_of, wait_cell, width_of};
+use crate::totals::put_end;
 use tab_core::{MAX_CORES, Name, Reservation, Vcpu};
 use tab_io::{Sink, WriteFault, write_all};
 use tab_words::put_numbered;
-use table_cells::{Cell, put_cells, put_left};
+use table_cells::{Cell, put_cells, put_left, yes_or_no};
 use view_doc::View;
 
 /// Writes the tables of a plan by virtual machine: a row for each VM, which is the part of its vCPUs'
 /// names before the last dot, with how many vCPUs it has, their shares together, the longest of their
-/// waits, and the cores where one of them has slots; then a row for each core. Beside a host a row has what
-/// the VM's admitted vCPUs have reserved too: their shares together and the least of their latencies, or
-/// dashes where none is admitted.
+/// waits, and the cores where one of them has slots; then a row for each core and the line of totals. Beside a
+/// host a row has what the VM's admitted vCPUs have reserved too: their shares together and the least of their
+/// latencies, and whether each has what it was promised, or dashes where none is admitted.
 ///
 /// A fault leaves a front of the text in the sink. Nothing is settled, and nothing is allocated.
 pub fn write_vm_table<K: Sink>(
@@ -57,8 +58,7 @@ fn put_vm_table<K: Sink>(
     put_left(sink, width, b"vm")?;
     put_vm_head(sink, &host)?;
     put_vms(sink, host, view, figures, tick_ns, width)?;
-    put_core_head(sink)?;
-    put_cores(sink, view)
+    put_end(sink, host, view, figures, tick_ns)
 }
 
 fn put_vm_head<K: Sink>(sink: &mut K, host: &Option<&[Vcpu]>) -> Result<(), WriteFault>
@@ -68,7 +68,7 @@ fn put_vm_head<K: Sink>(sink: &mut K, host: &Option<&[Vcpu]>) -> Result<(), Writ
         None => write_all(sink, b"  vcpus   share %    wait ms  cores\n"),
         Some(_) => write_all(
             sink,
-            b"  vcpus   asked %   given %    wait ms  promised ms  cores\n",
+            b"  vcpus   asked %   given %    wait ms  promised ms  kept  cores\n",
         ),
     }
 }
@@ -211,6 +211,7 @@ fn put_asked_vm<K: Sink>(
     let share = share_in(view, vm);
     let wait = wait_in(view, figures, vm);
     let promised = least_in(view, vcpus, vm);
+    let breaks = breaks_in(view, vcpus, figures, tick_ns, vm);
     put_cells(
         sink,
         &[
@@ -220,6 +221,7 @@ fn put_asked_vm<K: Sink>(
             Cell::Percent(5, share),
             wait_cell(tick_ns, wait),
             least_cell(promised),
+            all_kept_cell(promised, breaks),
             Cell::Text(b" "),
         ],
     )
@@ -245,6 +247,16 @@ fn least_cell(promised: Option<u64>) -> Cell<'static>
     }
 }
 
+// Whether each vCPU has what it was promised.
+fn all_kept_cell(promised: Option<u64>, breaks: bool) -> Cell<'static>
+    ensures { cell_text result ≡ all_kept_cell promised breaks }
+{
+    match promised {
+        Some(_) => Cell::Right(6, yes_or_no(!breaks)),
+        None => Cell::Right(6, b"-"),
+    }
+}
+
 // The part of a name before the last dot, or all of it.
 fn vm_of(name: &[u8]) -> &[u8]
     ensures { result.now ≡ vm_of name.now }
@@ -266,20 +278,20 @@ fn is_last_part(name: &[u8], k: usize) -> bool
     name[k] == b'.' && 0 < k
 }
 
-fn vm_at(names: &[Name], vcpu: usize) -> &[u8]
+pub(crate) fn vm_at(names: &[Name], vcpu: usize) -> &[u8]
     ensures { result.now ≡ vm_of (name_at names.now vcpu) }
 {
     vm_of(name_at(names, vcpu))
 }
 
-fn is_of(view: &View, vm: &[u8], vcpu: usize) -> bool
+pub(crate) fn is_of(view: &View, vm: &[u8], vcpu: usize) -> bool
     ensures { result ≡ is_of view.now.names.items vm.now vcpu }
 {
     vm_at(&view.names, vcpu) == vm
 }
 
 // Whether a vCPU below the number is of the VM.
-fn has_vm(view: &View, vm: &[u8], count: usize) -> bool
+pub(crate) fn has_vm(view: &View, vm: &[u8], count: usize) -> bool
     ensures { result ≡ any_below (is_of view.now.names.items vm.now) count }
 {
     let mut found = false;
@@ -294,7 +306,7 @@ fn has_vm(view: &View, vm: &[u8], count: usize) -> bool
 // How many vCPUs the VM has.
 fn count_in(view: &View, vm: &[u8]) -> u64
     requires { length view.now.tasks.items ≤ MAX_VCPUS }
-    ensures { result ≡ sum_in (λ v. 1) view.now.names.items vm.now (length view.now.tasks.items) }
+    ensures { result ≡ count_where (is_of view.now.names.items vm.now) (length view.now.tasks.items) }
 {
     let mut count = 0;
     for vcpu in 0..view.tasks.len() {
@@ -320,7 +332,7 @@ fn share_in(view: &View, vm: &[u8]) -> u64
     share
 }
 
-fn share_at(view: &View, vcpu: usize) -> u64
+pub(crate) fn share_at(view: &View, vcpu: usize) -> u64
     requires { vcpu < length view.now.tasks.items }
     ensures value { result ≡ share_in (slice_get view.now.tasks.items vcpu) }
     ensures small { result < 2 ^ 52 }
@@ -343,7 +355,7 @@ fn asked_in(view: &View, vcpus: &[Vcpu], vm: &[u8]) -> u64
     share
 }
 
-fn ppm_at(view: &View, vcpus: &[Vcpu], vcpu: usize) -> u64
+pub(crate) fn ppm_at(view: &View, vcpus: &[Vcpu], vcpu: usize) -> u64
     ensures value { result ≡ ppm_of (asked_at vcpus.now view.now.names.items vcpu) }
     ensures small { result < 2 ^ 32 }
 {
@@ -353,7 +365,7 @@ fn ppm_at(view: &View, vcpus: &[Vcpu], vcpu: usize) -> u64
     }
 }
 
-fn asked_at(view: &View, vcpus: &[Vcpu], vcpu: usize) -> Option<Reservation>
+pub(crate) fn asked_at(view: &View, vcpus: &[Vcpu], vcpu: usize) -> Option<Reservation>
     ensures { result ≡ asked_at vcpus.now view.now.names.items vcpu }
 {
     asked_of(vcpus, name_at(&view.names, vcpu))
@@ -395,6 +407,65 @@ fn wait_in(view: &View, figures: &Figures, vm: &[u8]) -> u32
         }
     }
     wait
+}
+
+// Whether one of the VM's vCPUs hasn't what it was promised.
+fn breaks_in(view: &View, vcpus: &[Vcpu], figures: &Figures, tick_ns: u32, vm: &[u8]) -> bool
+    requires { AreFigures view.now figures.now }
+    ensures { result ≡ any_below (vm_breaks tick_ns vcpus.now view.now.names.items vm.now view.now.tasks.items
+        view.now.slots.items) (length view.now.tasks.items) }
+{
+    let mut found = false;
+    for vcpu in 0..view.tasks.len() {
+        if breaks_there(view, vcpus, figures, tick_ns, vm, vcpu) {
+            found = true;
+        }
+    }
+    found
+}
+
+fn breaks_there(
+    view: &View,
+    vcpus: &[Vcpu],
+    figures: &Figures,
+    tick_ns: u32,
+    vm: &[u8],
+    vcpu: usize,
+) -> bool
+    requires figures { AreFigures view.now figures.now }
+    requires low { vcpu < length view.now.tasks.items }
+    ensures { result ≡ vm_breaks tick_ns vcpus.now view.now.names.items vm.now view.now.tasks.items
+        view.now.slots.items vcpu }
+{
+    is_broken(view, vcpus, figures, tick_ns, vcpu) && is_of(view, vm, vcpu)
+}
+
+// Whether the vCPU hasn't what it was promised, if anything was.
+pub(crate) fn is_broken(
+    view: &View,
+    vcpus: &[Vcpu],
+    figures: &Figures,
+    tick_ns: u32,
+    vcpu: usize,
+) -> bool
+    requires figures { AreFigures view.now figures.now }
+    requires low { vcpu < length view.now.tasks.items }
+    ensures { result ≡ is_broken tick_ns vcpus.now view.now.names.items view.now.tasks.items view.now.slots.items
+        vcpu }
+{
+    let asked = asked_at(view, vcpus, vcpu);
+    let share = share_at(view, vcpu);
+    let wait = figure_of(view, figures, vcpu);
+    is_broken_by(tick_ns, &asked, share, wait)
+}
+
+fn is_broken_by(tick_ns: u32, asked: &Option<Reservation>, share: u64, wait: u32) -> bool
+    ensures { result ≡ is_broken_by tick_ns asked.now share wait }
+{
+    match asked {
+        Some(r) => !is_kept(tick_ns, r, share, wait),
+        None => false,
+    }
 }
 
 // Writes the cores where some vCPU of the VM has a slot.

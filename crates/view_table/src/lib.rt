@@ -9,11 +9,14 @@ mod figures;
 mod groups;
 mod laws;
 mod rows;
+mod sums;
 mod table;
+mod totals;
 mod waits;
 
 pub use diff::write_diff;
 pub use figures::{Figures, figures_of};
 pub use groups::write_vm_table;
 pub use laws::a_shown_wait_is_the_longest;
+pub use sums::write_sums;
 pub use table::write_table;

@@ -172,7 +172,8 @@ pub(crate) fn kept_cell(
     }
 }
 
-fn is_kept(tick_ns: u32, r: &Reservation, share: u64, wait: u32) -> bool
+// Whether the share and the wait are as was promised.
+pub(crate) fn is_kept(tick_ns: u32, r: &Reservation, share: u64, wait: u32) -> bool
     ensures { result ≡ is_kept tick_ns r.now share wait }
 {
     u64::from(r.share_ppm) <= share

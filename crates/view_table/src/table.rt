@@ -1,16 +1,18 @@
 ghost use Rattle.std.specs.Prelude.{◌≡◌, ◌<◌, ◌≤◌, ℕ, length, option_copied, slice_index};
-ghost use Rattle.tab_core.specs.declared.TheConstants.{MAX_CORES};
+ghost use Rattle.tab_core.specs.declared.TheConstants.{MAX_CORES, MAX_VCPUS};
 ghost use Rattle.tab_io.specs.Sinks.{Writes};
 ghost use Rattle.tab_words.specs.Texts.{texts_below};
 ghost use Rattle.view_table.specs.Figures.{AreFigures};
 ghost use Rattle.view_table.specs.Loads.{load_of};
-ghost use Rattle.view_table.specs.Table.{asked_cells, core_cells, core_head, core_row, core_word, core_words, head_text, plain_cells, row_cells, table_of, table_text, vcpu_row};
+ghost use Rattle.view_table.specs.Table.{asked_cells, core_cells, core_head, core_row, core_word, core_words, head_text, plain_cells, row_cells, vcpu_row};
+ghost use Rattle.view_table.specs.TableTexts.{table_of, table_text};
 
 use crate::figures::Figures;
 use crate::rows::{
     asked_cell, asked_of, core_cell, kept_cell, load_of, loads_of, name_at, of_round, period_cell,
     promised_cell, rest_of_round, share_of, wait_cell, width_of,
 };
+use crate::totals::put_end;
 use tab_core::{MAX_CORES, Reservation, Vcpu};
 use tab_io::{Sink, WriteFault, write_all};
 use tab_words::put_numbered;
@@ -22,7 +24,8 @@ use view_doc::{Stretch, Task, View};
 /// A row for each `vcpu` line has the share in percent of a core, the period, the longest wait, and the
 /// cores where it has slots. Beside a host it has what the host's vCPU of this name has reserved too, and
 /// whether the plan keeps it, or dashes where no such vCPU is admitted. A row for each core has its load
-/// and what is left of a round. Times are in milliseconds, with three digits.
+/// and what is left of a round. The last line has how many vCPUs there are, their shares together, how full the
+/// cores are together, and how many of the admitted vCPUs have what they were promised. Times are in milliseconds, with three digits.
 ///
 /// A fault leaves a front of the text in the sink. Nothing is settled, and nothing is allocated.
 pub fn write_table<K: Sink>(
@@ -34,6 +37,7 @@ pub fn write_table<K: Sink>(
 ) -> Result<(), WriteFault>
     requires figures { AreFigures view.now figures.now }
     requires few { view.now.cores ≤ MAX_CORES }
+    requires vcpus { length view.now.tasks.items ≤ MAX_VCPUS }
     ensures { Writes (K.state sink.old) (K.state sink.new)
         (table_text (option_copied host.entry) tick_ns view.now) result }
 {
@@ -52,15 +56,14 @@ fn put_table<K: Sink>(
 ) -> Result<(), WriteFault>
     requires figures { AreFigures view.now figures.now }
     requires few { view.now.cores ≤ MAX_CORES }
+    requires vcpus { length view.now.tasks.items ≤ MAX_VCPUS }
     ensures { Writes (K.state sink.old) (K.state sink.new)
-        (table_of (option_copied host.entry) tick_ns width view.now.names.items view.now.tasks.items
-        view.now.slots.items view.now.cores) result }
+        (table_of (option_copied host.entry) tick_ns width view.now) result }
 {
     put_left(sink, width, b"vcpu")?;
     put_head(sink, &host)?;
     put_vcpus(sink, host, view, figures, tick_ns, width)?;
-    put_core_head(sink)?;
-    put_cores(sink, view)
+    put_end(sink, host, view, figures, tick_ns)
 }
 
 // Writes the names of the columns behind the first.

@@ -34,9 +34,9 @@ leader ticks (suc n) = if nat_lt (ticks (leader ticks n)) (ticks n) then n else 
 abbrev pub letter_of : ℕ → ℕ
 letter_of v = if nat_lt v 26 then 97 + v else if nat_lt v 52 then 39 + v else 35
 
--- the letter of the vCPU that has the most ticks, or a dot where nobody had more
-abbrev pub letter_for : ℕ → ℕ → ℕ → ℕ
-letter_for v most idle = if nat_lt 0 most && nat_le idle most then letter_of v else 46
+-- the letter of the vCPU that has the most ticks, a colon where nobody had more, and a dot where no vCPU had any
+unfoldable pub letter_for : ℕ → ℕ → ℕ → ℕ
+letter_for v most idle = if most == 0 then 46 else if nat_le idle most then letter_of v else 58
 
 abbrev pub letter_by : Frame → ℕ → List Bar → ℕ → ℕ → ℕ
 letter_by f columns bars j v =

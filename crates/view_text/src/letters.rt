@@ -69,14 +69,17 @@ fn leader(ticks: &[u64; 256], vcpus: usize) -> usize
     best
 }
 
-// The letter of who has the most ticks, or a dot where nobody had more.
+// The letter of who has the most ticks, a colon where nobody had more, and a dot where no vCPU had any.
+#[tactic(auto, unfolding(crate::specs::TextCharts::letter_for))]
 fn letter_for(v: usize, most: u64, idle: u64) -> u8
     ensures { result ≡ letter_for v most idle }
 {
-    if 0 < most && idle <= most {
+    if most == 0 {
+        b'.'
+    } else if idle <= most {
         letter_of(v)
     } else {
-        b'.'
+        b':'
     }
 }
 

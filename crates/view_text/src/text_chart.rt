@@ -27,7 +27,8 @@ use view_lanes::{
 /// Draws a view of at most 32 cores and 256 vCPUs as a text: a line for each core, in it a letter for each
 /// column, and below the letters' vCPUs, and how many have no letter of their own.
 ///
-/// A column's letter is that of the vCPU that has the most of its ticks, and a dot where nobody had more.
+/// A column's letter is that of the vCPU that has the most of its ticks, a colon where nobody had more, and a dot where
+/// no vCPU had any.
 /// A fault of writing leaves a front of the text in the sink; nothing is written where there is no memory,
 /// or where no tick or no core is shown. Nothing is settled.
 pub fn write_text_chart<K: Sink>(

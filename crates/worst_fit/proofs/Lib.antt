@@ -1,5 +1,7 @@
 pub mod BoundLemmas
 pub mod Counts
+pub mod KeepingHomes
+pub mod KeptPlacement
 pub mod LeastCore
 pub mod LoadLemmas
 pub mod OnePlacement
@@ -7,3 +9,4 @@ pub mod OrderLemmas
 pub mod PlacementLemmas
 pub mod PlacesEach
 pub mod PlacingInvariant
+pub mod StayingLemmas

@@ -13,7 +13,7 @@ use Rattle.worst_fit.specs.declared.placed.Placed.{Placed}
 use Rattle.worst_fit.specs.declared.by_demand.ByDemand.{ByDemand}
 use Rattle.worst_fit.specs.Load.{task_demand}
 use Rattle.worst_fit.specs.Order.{IsFallingOrder, by_falling_demand, ranks_from}
-use Rattle.worst_fit.specs.Placement.{IsPlacement, PartialPlacement, nothing_placed, place_all}
+use Rattle.worst_fit.specs.Placement.{IsStayingPlacement, PartialPlacement, place_moving, who_stays}
 use Rattle.worst_fit.proofs.Counts.{same, same-one, same-zero, turns, turns-cons, turns-nil, turns-permutation}
 use Rattle.worst_fit.proofs.PlacingInvariant.{IsRankIn, all_ranked}
 
@@ -135,13 +135,14 @@ falling_order_unique tasks one other of_one of_other =
     ∙ sym (turns-permutation vcpu (ranks_from 0 tasks) other of_other.admitted))
     (all_ranked tasks one of_one) (all_ranked tasks other of_other) of_one.falls of_other.falls
 
--- so the tasks have one placement
-pub placement_unique : (tasks : List (Option Periodic)) (cores : ℕ) (one other : Placed)
-    → IsPlacement tasks cores one → IsPlacement tasks cores other → one ≡ other
-placement_unique tasks cores one other of_one of_other =
+-- so the tasks have one placement beside those that stay
+pub placement_unique : (homes : List (Option ℕ)) (tasks : List (Option Periodic)) (cores : ℕ)
+    (one other : Placed)
+    → IsStayingPlacement homes tasks cores one → IsStayingPlacement homes tasks cores other → one ≡ other
+placement_unique homes tasks cores one other of_one of_other =
     let order = falling_order_unique tasks of_one.order of_other.order of_one.falling_order
     of_other.falling_order in
-    let outcome = ap (place_all (nothing_placed cores (length tasks))) order in
+    let outcome = ap (λ l. place_moving (who_stays homes cores (length tasks) l)) order in
     let core_of : one.core_of ≡ other.core_of =
     of_one.core_of ∙ ap (λ (p : PartialPlacement). p.core_of) outcome ∙ sym of_other.core_of in
     let left : one.left ≡ other.left =

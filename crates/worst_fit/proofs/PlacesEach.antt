@@ -7,10 +7,11 @@ use Rattle.tab_core.specs.declared.periodic.Periodic.{Periodic}
 use Rattle.worst_fit.specs.declared.placed.Placed.{Placed}
 use Rattle.worst_fit.specs.Bound.{IsWithinBound}
 use Rattle.worst_fit.specs.Load.{FitsEachCore}
-use Rattle.worst_fit.specs.Placement.{IsAdmitted, IsPlacement, PartialPlacement, PlacesEach, nothing_placed, place_all}
+use Rattle.worst_fit.specs.Placement.{IsAdmitted, IsStayingPlacement, PartialPlacement, PlacesEach, place_moving, who_stays}
 use Rattle.worst_fit.proofs.BoundLemmas.{none_left}
 use Rattle.worst_fit.proofs.Counts.{contains_counted, counts_at, has, lefts, one_if, one_place, turns-nil}
-use Rattle.worst_fit.proofs.PlacingInvariant.{PlacingInvariant, at_most_one, kept_all}
+use Rattle.worst_fit.proofs.PlacingInvariant.{PlacingInvariant, at_most_one}
+use Rattle.worst_fit.proofs.StayingLemmas.{kept_all}
 
 -- all were tried
 abbrev IsDone : List (Option Periodic) → ℕ → PartialPlacement → Type 0
@@ -91,28 +92,31 @@ places_each tasks cores p placed core_of left done =
     }
 
 -- where a placement leaves off
-done_all : (tasks : List (Option Periodic)) (cores : ℕ) (placed : Placed) → 1 ≤ cores
-    → (is : IsPlacement tasks cores placed)
-    → IsDone tasks cores (place_all (nothing_placed cores (length tasks)) is.order)
-done_all tasks cores placed some is = kept_all tasks cores is.order some is.falling_order
+done_all : (homes : List (Option ℕ)) (tasks : List (Option Periodic)) (cores : ℕ) (placed : Placed)
+    → 1 ≤ cores → (is : IsStayingPlacement homes tasks cores placed)
+    → IsDone tasks cores (place_moving (who_stays homes cores (length tasks) is.order))
+done_all homes tasks cores placed some is = kept_all homes tasks cores is.order some is.falling_order
 
--- what `place` promises of each vCPU, by its definition
-pub placement_places_each : (tasks : List (Option Periodic)) (cores : ℕ) (placed : Placed)
-    → 1 ≤ cores → IsPlacement tasks cores placed → PlacesEach tasks cores placed
-placement_places_each tasks cores placed some is =
-    places_each tasks cores (place_all (nothing_placed cores (length tasks)) is.order) placed
-    is.core_of is.left (done_all tasks cores placed some is)
+-- what `place_staying` promises of each vCPU, by its definition
+pub placement_places_each : (homes : List (Option ℕ)) (tasks : List (Option Periodic)) (cores : ℕ)
+    (placed : Placed) → 1 ≤ cores → IsStayingPlacement homes tasks cores placed
+    → PlacesEach tasks cores placed
+placement_places_each homes tasks cores placed some is =
+    places_each tasks cores (place_moving (who_stays homes cores (length tasks) is.order)) placed
+    is.core_of is.left (done_all homes tasks cores placed some is)
 
--- what `place` promises of each core
-pub placement_fits : (tasks : List (Option Periodic)) (cores : ℕ) (placed : Placed) → 1 ≤ cores
-    → IsPlacement tasks cores placed → FitsEachCore tasks cores placed.core_of
-placement_fits tasks cores placed some is =
+-- what it promises of each core
+pub placement_fits : (homes : List (Option ℕ)) (tasks : List (Option Periodic)) (cores : ℕ)
+    (placed : Placed) → 1 ≤ cores → IsStayingPlacement homes tasks cores placed
+    → FitsEachCore tasks cores placed.core_of
+placement_fits homes tasks cores placed some is =
     subst (FitsEachCore tasks cores) (sym is.core_of)
-    (fits_each tasks cores (place_all (nothing_placed cores (length tasks)) is.order)
-    (done_all tasks cores placed some is))
+    (fits_each tasks cores (place_moving (who_stays homes cores (length tasks) is.order))
+    (done_all homes tasks cores placed some is))
 
--- what `place` promises within the bound; `plan` is refused for no room only beyond it
-pub placement_within_bound : (tasks : List (Option Periodic)) (cores : ℕ) (placed : Placed)
-    → 1 ≤ cores → IsPlacement tasks cores placed → IsWithinBound tasks cores → placed.left ≡ []
-placement_within_bound tasks cores placed some is bound = is.left
-    ∙ none_left tasks cores is.order some is.falling_order bound
+-- what it promises within the bound; a plan is refused for no room only beyond it
+pub placement_within_bound : (homes : List (Option ℕ)) (tasks : List (Option Periodic)) (cores : ℕ)
+    (placed : Placed) → 1 ≤ cores → IsStayingPlacement homes tasks cores placed
+    → IsWithinBound tasks cores → placed.left ≡ []
+placement_within_bound homes tasks cores placed some is bound = is.left
+    ∙ none_left homes tasks cores is.order some is.falling_order bound

@@ -84,22 +84,18 @@ has_other : (vcpu other home : ℕ) (core_of : List (Option ℕ)) → vcpu ≢ o
 has_other vcpu other home core_of ne =
     ap (λ o. one_if (is_some o)) (get_or-set_other core_of other vcpu (Some home) None ne)
 
--- a vCPU came to stand on the least core
-keeps_on : (tasks : List (Option Periodic)) (cores : ℕ) (rank : ByDemand) (rest : List ByDemand)
-    (p : PartialPlacement) → 1 ≤ cores → IsRankIn tasks rank
-    → least_load p.loads + rank.demand ≤ ROUND → PlacingInvariant tasks cores (rank ∷ rest) p
-    → PlacingInvariant tasks cores rest (on_core p rank (least_core p.loads)
-    (least_load p.loads + rank.demand))
-keeps_on tasks cores rank rest p some ranked room kept =
-    let home = least_core p.loads in
-    let load = least_load p.loads + rank.demand in
+-- a vCPU came to stand on a core
+pub keeps_on : (tasks : List (Option Periodic)) (cores : ℕ) (rank : ByDemand) (rest : List ByDemand)
+    (p : PartialPlacement) (home load : ℕ) → home < cores → IsRankIn tasks rank
+    → load ≡ get_or p.loads home 0 + rank.demand → load ≤ ROUND
+    → PlacingInvariant tasks cores (rank ∷ rest) p
+    → PlacingInvariant tasks cores rest (on_core p rank home load)
+keeps_on tasks cores rank rest p home load there ranked sum room kept =
     let known = ranked.known in
     let takes = ranked.takes in
     let cores_are = kept.cores_are in
     let as_many = kept.as_many in
-    let least = least_core_in p.loads (omega arith) in
-    let in_loads : home < length p.loads = least.0 in
-    let least_is : get_or p.loads home 0 ≡ least_load p.loads = least.1 in
+    let in_loads : home < length p.loads = omega arith in
     let none = fresh tasks cores rank rest p kept in
     let grown = λ (core : ℕ). load_on-set core home tasks p.core_of rank.vcpu as_many known none in
     record {
@@ -170,12 +166,18 @@ keeps_next tasks cores rank rest p some ranked kept =
     elim (cases_lt ROUND (least_load p.loads + rank.demand)) [
       | inl over ↦ subst (PlacingInvariant tasks cores rest) (sym (place_next-left p rank over))
           (keeps_left tasks cores rank rest p kept)
-      | inr room ↦ subst (PlacingInvariant tasks cores rest) (sym (place_next-fits p rank room))
-          (keeps_on tasks cores rank rest p some ranked room kept)
+      | inr room ↦
+          (let cores_are = kept.cores_are in
+          let least = least_core_in p.loads (omega arith) in
+          let there = least.0 in
+          let least_is = least.1 in
+          subst (PlacingInvariant tasks cores rest) (sym (place_next-fits p rank room))
+          (keeps_on tasks cores rank rest p (least_core p.loads) (least_load p.loads + rank.demand)
+          (omega arith) ranked (omega arith) room kept))
     ]
 
 -- so do all of them
-keeps_all : (tasks : List (Option Periodic)) (cores : ℕ) (order : List ByDemand) (p : PartialPlacement)
+pub keeps_all : (tasks : List (Option Periodic)) (cores : ℕ) (order : List ByDemand) (p : PartialPlacement)
     → 1 ≤ cores → All (IsRankIn tasks) order → PlacingInvariant tasks cores order p
     → PlacingInvariant tasks cores [] (place_all p order)
 keeps_all tasks cores [] p some ranked kept = rw (place_all-nil p) kept
@@ -228,7 +230,7 @@ no_load cores core lt =
     ≡ 0 = get_or-replicate {A = ℕ} cores core 0 0 lt in omega arith
 
 -- so the invariant holds before the first step
-starts : (tasks : List (Option Periodic)) (cores : ℕ) (order : List ByDemand)
+pub starts : (tasks : List (Option Periodic)) (cores : ℕ) (order : List ByDemand)
     → IsFallingOrder tasks order → PlacingInvariant tasks cores order (nothing_placed cores (length tasks))
 starts tasks cores order falling_order = record {
   cores_are = length-replicate cores 0;
@@ -245,10 +247,51 @@ starts tasks cores order falling_order = record {
       omega arith);
 }
 
--- what holds when all were tried
-pub kept_all : (tasks : List (Option Periodic)) (cores : ℕ) (order : List ByDemand) → 1 ≤ cores
-    → IsFallingOrder tasks order → PlacingInvariant tasks cores []
-    (place_all (nothing_placed cores (length tasks)) order)
-kept_all tasks cores order some falling_order =
-    keeps_all tasks cores order (nothing_placed cores (length tasks)) some
-    (all_ranked tasks order falling_order) (starts tasks cores order falling_order)
+-- the invariant asks only how often each vCPU is still to come
+pub same_turns : (tasks : List (Option Periodic)) (cores : ℕ) (rest other : List ByDemand)
+    (p : PartialPlacement) → ((vcpu : ℕ) → turns vcpu other ≡ turns vcpu rest)
+    → PlacingInvariant tasks cores rest p → PlacingInvariant tasks cores other p
+same_turns tasks cores rest other p same kept = record {
+  cores_are = kept.cores_are;
+  as_many = kept.as_many;
+  loads_are = kept.loads_are;
+  fit = kept.fit;
+  on_cores = kept.on_cores;
+  balance = λ vcpu. (let before = kept.balance vcpu in let turn = same vcpu in omega arith);
+}
+
+-- a vCPU that stands on a core isn't the next one
+pub not_next : (tasks : List (Option Periodic)) (cores : ℕ) (rank : ByDemand) (rest : List ByDemand)
+    (p : PartialPlacement) (vcpu core : ℕ) → PlacingInvariant tasks cores (rank ∷ rest) p
+    → get_or p.core_of vcpu None ≡ Some core → vcpu ≢ rank.vcpu
+not_next tasks cores rank rest p vcpu core kept stands = λ e.
+    (let none = fresh tasks cores rank rest p kept in
+    let here = ap (λ v. get_or p.core_of v None) e in
+    absurd (cc))
+
+-- so it stays there
+stands_next : (tasks : List (Option Periodic)) (cores : ℕ) (rank : ByDemand) (rest : List ByDemand)
+    (p : PartialPlacement) (vcpu core : ℕ) → PlacingInvariant tasks cores (rank ∷ rest) p
+    → get_or p.core_of vcpu None ≡ Some core → get_or (place_next p rank).core_of vcpu None ≡ Some core
+stands_next tasks cores rank rest p vcpu core kept stands =
+    elim (cases_lt ROUND (least_load p.loads + rank.demand)) [
+      | inl over ↦ ap (λ (q : PartialPlacement). get_or q.core_of vcpu None) (place_next-left p rank over)
+          ∙ stands
+      | inr room ↦ ap (λ (q : PartialPlacement). get_or q.core_of vcpu None) (place_next-fits p rank room)
+          ∙ get_or-set_other p.core_of rank.vcpu vcpu (Some (least_core p.loads)) None
+          (not_next tasks cores rank rest p vcpu core kept stands)
+          ∙ stands
+    ]
+
+-- until all are placed
+pub stands_still : (tasks : List (Option Periodic)) (cores : ℕ) (order : List ByDemand)
+    (p : PartialPlacement) (vcpu core : ℕ) → 1 ≤ cores → All (IsRankIn tasks) order
+    → PlacingInvariant tasks cores order p
+    → get_or p.core_of vcpu None ≡ Some core → get_or (place_all p order).core_of vcpu None ≡ Some core
+stands_still tasks cores [] p vcpu core some ranked kept stands = rw (place_all-nil p) stands
+stands_still tasks cores (rank ∷ order) p vcpu core some ranked kept stands =
+    rw (place_all-cons p rank order)
+    (stands_still tasks cores order (place_next p rank) vcpu core some
+    (All-tail (IsRankIn tasks) rank order ranked)
+    (keeps_next tasks cores rank order p some (All-head (IsRankIn tasks) rank order ranked) kept)
+    (stands_next tasks cores rank order p vcpu core kept stands))

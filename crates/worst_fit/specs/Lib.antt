@@ -2,3 +2,4 @@ pub mod Bound
 pub mod Load
 pub mod Order
 pub mod Placement
+pub mod Staying

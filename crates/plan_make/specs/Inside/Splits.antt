@@ -8,7 +8,7 @@ use Rattle.cd_split.specs.Shares.{AreOf, FitTheirCores, HaveAdjacentWindows, Sta
 use Rattle.cd_split.specs.Splitting.{IsSplit}
 use Rattle.cd_split.specs.declared.fault.SplitFault.{SplitFault}
 use Rattle.cd_split.specs.declared.fault.SplitFault.TheVariants.{NoMemory, NoRoom}
-use Rattle.plan_make.specs.Planned.{IsFirstWithoutRoom}
+use Rattle.plan_make.specs.Planned.{IsFirstStayingWithoutRoom}
 use Rattle.plan_make.specs.SplitInTurn.{IsFirstStuck, home_of, with_pieces}
 
 -- what a split gives: the pieces that splitting asks for, of all the vCPU's cost, in windows that
@@ -52,6 +52,6 @@ IsStuckFault tasks start core_of left (NoRoom vcpu rest over) =
 IsStuckFault tasks start core_of left NoMemory = Unit {0}
 
 -- the host has a vCPU without room; want of memory says nothing of the host
-abbrev pub IsLayoutFault : Host → SplitFault → Type 0
-IsLayoutFault host (NoRoom vcpu rest over) = IsFirstWithoutRoom host vcpu rest over
-IsLayoutFault host NoMemory = Unit {0}
+abbrev pub IsLayoutFault : List (Option ℕ) → Host → SplitFault → Type 0
+IsLayoutFault old_homes host (NoRoom vcpu rest over) = IsFirstStayingWithoutRoom old_homes host vcpu rest over
+IsLayoutFault old_homes host NoMemory = Unit {0}

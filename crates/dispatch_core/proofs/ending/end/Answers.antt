@@ -81,6 +81,23 @@ returns-in-Some-hear_all-clause-waits c =
     let low = c.in-Some-hear_all.ensures.low in
     low_stays core _ _ _ _ (part (view_of c.args.seat.now) core) low.heard (part (view_of c.hear_all.new.seat) core) low.near low.becomes
 
+pub returns-in-Some-hear_all-clause-goes : goal.returns-in-Some-hear_all-clause-goes
+returns-in-Some-hear_all-clause-goes c =
+    let core : ℕ = c.args.log.now.core in
+    let p : Part = part (view_of c.args.seat.now) core in
+    let low = c.in-Some-hear_all.ensures.low in (
+      record {
+        end = c.next_stint_in-next.result.stint.end;
+        core = omega (arith, low.core, c.cores-cores.ensures.cores);
+        other = low.other;
+        heard = low.heard;
+        near = subst (λ (l : ℕ). HearsCores core l c.next_stint_in-next.result.stint.end c.in-Some-hear_all.other.core p low.heard) c.lag-lag.ensures.lag low.near;
+        low = omega (arith, low.low, c.lag-lag.ensures.lag);
+        becomes = low.becomes;
+      },
+      low.exact,
+    )
+
 pub returns-in-Some-hear_all-clause-plans : goal.returns-in-Some-hear_all-clause-plans
 returns-in-Some-hear_all-clause-plans c = λ plan of plans numbers is follows.
     let log : CoreLog = c.args.log.now in
@@ -135,6 +152,22 @@ returns-in-None-clause-told c = λ plan of plans numbers is follows.
             c.requires.stands.clock c.requires.begun.sight.last n.from n.seen n.used;
         follows = n.follows plan shown plans numbers is p.stints follows.last;
       };
+      heard = q;
+      near = hears_same log.core c.lag-lag.result o.lag c.next_stint_in-next.result.stint.end c.cores-cores.result o.cores p q c.lag-lag.ensures.lag c.cores-cores.ensures.cores c.in-None.ensures.heard;
+      becomes = c.advance.ensures.becomes;
+    }
+
+pub returns-in-None-clause-goes : goal.returns-in-None-clause-goes
+returns-in-None-clause-goes c =
+    let log : CoreLog = c.args.log.now in
+    let o : OutlineView = c.args.outline.now in
+    let p : Part = part (view_of c.args.seat.now) log.core in
+    let q : Part = part (view_of c.hear_all.new.seat) log.core in
+    let n = c.next_stint_in-next.ensures in
+    record {
+      begins = begins_next p c.next_stint_in-next.result.stint log.clock c.args.seen c.args.used log.used.items c.requires.stands.used c.requires.begun.entered
+          c.requires.stands.clock c.requires.begun.sight.last n.from n.seen n.used;
+      some = n.some;
       heard = q;
       near = hears_same log.core c.lag-lag.result o.lag c.next_stint_in-next.result.stint.end c.cores-cores.result o.cores p q c.lag-lag.ensures.lag c.cores-cores.ensures.cores c.in-None.ensures.heard;
       becomes = c.advance.ensures.becomes;

@@ -69,6 +69,23 @@ returns-in-Some-clause-waits c =
     let low = c.in-Some.ensures.low in
     low_stays core _ _ _ _ (part (view_of c.args.seat.now) core) low.heard (part (view_of c.hear_all.new.seat) core) low.near low.becomes
 
+pub returns-in-Some-clause-goes : goal.returns-in-Some-clause-goes
+returns-in-Some-clause-goes c =
+    let core : ℕ = c.args.log.now.core in
+    let p : Part = part (view_of c.args.seat.now) core in
+    let low = c.in-Some.ensures.low in (
+      record {
+        end = c.next_stint_in-next.result.stint.end;
+        core = omega (arith, low.core, c.cores.ensures.cores);
+        other = low.other;
+        heard = low.heard;
+        near = subst (λ (l : ℕ). HearsCores core l c.next_stint_in-next.result.stint.end c.in-Some.low.core p low.heard) c.lag.ensures.lag low.near;
+        low = omega (arith, low.low, c.lag.ensures.lag);
+        becomes = low.becomes;
+      },
+      low.exact,
+    )
+
 pub returns-in-Some-clause-plans : goal.returns-in-Some-clause-plans
 returns-in-Some-clause-plans c = λ plan shown plans numbers is follows.
     let log : CoreLog = c.args.log.now in
@@ -108,6 +125,22 @@ returns-in-None-clause-told c = λ plan shown plans numbers is follows.
             c.requires.stands.clock c.requires.begun.sight.last n.from n.seen n.used;
         follows = n.follows plan shown plans numbers is p.stints follows.last;
       };
+      heard = q;
+      near = hears_same log.core c.lag.result o.lag c.next_stint_in-next.result.stint.end c.cores.result o.cores p q c.lag.ensures.lag c.cores.ensures.cores c.in-None.ensures.heard;
+      becomes = c.advance.ensures.becomes;
+    }
+
+pub returns-in-None-clause-goes : goal.returns-in-None-clause-goes
+returns-in-None-clause-goes c =
+    let log : CoreLog = c.args.log.now in
+    let o : OutlineView = c.args.outline.now in
+    let p : Part = part (view_of c.args.seat.now) log.core in
+    let q : Part = part (view_of c.hear_all.new.seat) log.core in
+    let n = c.next_stint_in-next.ensures in
+    record {
+      begins = begins_next p c.next_stint_in-next.result.stint log.clock c.args.seen c.args.used log.used.items c.requires.stands.used c.requires.begun.entered
+          c.requires.stands.clock c.requires.begun.sight.last n.from n.seen n.used;
+      some = n.some;
       heard = q;
       near = hears_same log.core c.lag.result o.lag c.next_stint_in-next.result.stint.end c.cores.result o.cores p q c.lag.ensures.lag c.cores.ensures.cores c.in-None.ensures.heard;
       becomes = c.advance.ensures.becomes;

@@ -2,7 +2,7 @@ use Rattle.std.proofs.Common.{◌≡◌, [], drop, length, subst, sym, ◌∙◌
 use Rattle.std.proofs.lemmas.List.{take_at}
 use Rattle.std.proofs.lemmas.Result.{err_from_is_err_and}
 use Rattle.plan_make.specs.Inside.Allotted.{AreLaidOut}
-use Rattle.plan_make.specs.Layout.{IsStart}
+use Rattle.plan_make.specs.Layout.{IsStayingStart}
 use Rattle.plan_make.specs.Unsplit.{StandUnsplit}
 use Rattle.plan_make.proofs.SplitInTurnLemmas.{layout_fault}
 use Rattle.plan_make.proofs.StartLemmas.{IsRead, read_is_laid_out, read_is_stuck}
@@ -41,9 +41,9 @@ returns-in_err-split_each-clause-fault c =
     c.items-core_of.ensures.same
     (subst (λ ts. StandUnsplit ts c.items-core_of.result.now c.args.host.now.cores
     c.in_ok-cores.cores) c.items.ensures.same c.in_ok-cores.ensures) in
-    let start : IsStart c.args.host.now c.args.tasks.now placed c.in_ok-cores.cores =
+    let start : IsStayingStart c.args.old_homes.now c.args.host.now c.args.tasks.now placed c.in_ok-cores.cores =
     record { tasks_are = c.requires; placement = c.in_ok-placed.ensures.placement; stand = stand } in
-    rw (p.1, p.2) (layout_fault c.args.host.now c.args.tasks.now placed c.in_ok-cores.cores _ start
+    rw (p.1, p.2) (layout_fault c.args.old_homes.now c.args.host.now c.args.tasks.now placed c.in_ok-cores.cores _ start
     (read_is_stuck c.args.tasks.now _ placed _ _ c.in_ok-cores.cores c.in_err-split_each.field-0.0
     read c.in_err-split_each.ensures.fault))
 

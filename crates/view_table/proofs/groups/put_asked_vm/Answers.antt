@@ -9,7 +9,9 @@ returns g c = rw (
   ← c.share_in-share.ensures,
   ← c.wait_in-wait.ensures,
   ← c.least_in-promised.ensures,
+  ← c.breaks_in-breaks.ensures,
   ← c.sum_cell.ensures,
   ← c.wait_cell.ensures,
   ← c.least_cell.ensures,
+  ← c.all_kept_cell.ensures,
 ) c.put_cells.ensures

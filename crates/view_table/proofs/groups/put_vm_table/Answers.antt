@@ -21,18 +21,9 @@ returns-in_err-put_vms g c =
     let at1 = left_behind _ _ _ _ _ _ _ _ _ at0 refl c.put_vm_head.ensures c.in_ok-put_vm_head.was in
     rw p.1 (left_broken _ _ _ _ _ _ _ _ _ at1 refl c.put_vms.ensures c.in_err-put_vms.was)
 
-pub returns-in_err-put_core_head : goal.returns-in_err-put_core_head
-returns-in_err-put_core_head g c =
-    let p = err_from_is_err_and c.from_residual-in_err-put_core_head.result c.from_residual-in_err-put_core_head.ensures.1 in
-    let at0 = left_behind _ _ _ _ _ _ _ _ _ (all_left _ _) refl c.put_left.ensures c.in_ok-put_left.was in
-    let at1 = left_behind _ _ _ _ _ _ _ _ _ at0 refl c.put_vm_head.ensures c.in_ok-put_vm_head.was in
-    let at2 = left_behind _ _ _ _ _ _ _ _ _ at1 refl c.put_vms.ensures c.in_ok-put_vms.was in
-    rw p.1 (left_broken _ _ _ _ _ _ _ _ _ at2 refl c.put_core_head.ensures c.in_err-put_core_head.was)
-
 pub returns : goal.returns
 returns g c =
     let at0 = left_behind _ _ _ _ _ _ _ _ _ (all_left _ _) refl c.put_left.ensures c.in_ok-put_left.was in
     let at1 = left_behind _ _ _ _ _ _ _ _ _ at0 refl c.put_vm_head.ensures c.in_ok-put_vm_head.was in
     let at2 = left_behind _ _ _ _ _ _ _ _ _ at1 refl c.put_vms.ensures c.in_ok-put_vms.was in
-    let at3 = left_behind _ _ _ _ _ _ _ _ _ at2 refl c.put_core_head.ensures c.in_ok-put_core_head.was in
-    left_last _ _ _ _ _ _ at3 c.put_cores.ensures
+    left_last _ _ _ _ _ _ at2 c.put_end.ensures

@@ -2,7 +2,7 @@ use Rattle.std.proofs.Common.{Err, ap}
 use Rattle.std.proofs.lemmas.Result.{err_from_is_err_and}
 use Rattle.period_choice.proofs.TasksLemmas.{none_without_period}
 use Rattle.plan_make.proofs.TasksOfPlan.{no_memory_for_tasks}
-use Rattle.plan_make.proofs.planner.plan.Goals as goal
+use Rattle.plan_make.proofs.planner.plan_staying.Goals as goal
 
 pub returns-in_err-tasks-clause-bound : goal.returns-in_err-tasks-clause-bound
 returns-in_err-tasks-clause-bound g c tasks are within =
@@ -19,7 +19,7 @@ returns-in_err-tasks-clause-planned g c plan planned =
     (λ vcpu is. c.in_err-tasks.ensures.no_period vcpu (ap Err is)))
 
 pub returns-clause-no_period : goal.returns-clause-no_period
-returns-clause-no_period g c vcpu is = absurd (c.plan_with.ensures.no_period vcpu is)
+returns-clause-no_period g c vcpu is = absurd (c.plan_staying_with.ensures.no_period vcpu is)
 
 pub returns-clause-without_period : goal.returns-clause-without_period
 returns-clause-without_period g c vcpu first =

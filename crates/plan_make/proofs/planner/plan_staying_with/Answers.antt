@@ -3,21 +3,22 @@ use Rattle.std.proofs.lemmas.Result.{err_from_is_err_and}
 use Rattle.table_form.specs.Tables.Serves.{has_task}
 use Rattle.table_form.specs.Tables.Views.{plan_view}
 use Rattle.coalesce.specs.Joining.{AreJoined}
-use Rattle.plan_make.proofs.OnePlan.{IsMadeOf, layout_is_planned, no_memory_for_layout, planned_or_refused, planned_unique}
+use Rattle.plan_make.proofs.OnePlan.{IsMadeOf, layout_is_planned, no_memory_for_layout, staying_or_refused, staying_unique}
 use Rattle.table_form.proofs.TaskLemmas.{tasks_admit}
 use Rattle.period_choice.proofs.TasksLemmas.{tasks_where_reserved}
 use Rattle.period_choice.proofs.Unique.{tasks_unique}
 use Rattle.worst_fit.specs.Bound.{IsWithinBound}
 use Rattle.plan_make.specs.Faults.{fault_of_split}
-use Rattle.plan_make.proofs.planner.plan_with.Given.{Over}
-use Rattle.plan_make.proofs.planner.plan_with.Goals as goal
+use Rattle.plan_make.proofs.planner.plan_staying_with.Given.{Over}
+use Rattle.plan_make.proofs.StayingHomes.{plan_leaves_for_need, plan_stays}
+use Rattle.plan_make.proofs.planner.plan_staying_with.Goals as goal
 
 pub returns-in_err-layout-clause-planned : goal.returns-in_err-layout-clause-planned
 returns-in_err-layout-clause-planned g c plan planned =
     let p = err_from_is_err_and c.from_residual.result
     c.from_residual.ensures.1 in
     rw (p.1, p.2)
-    (no_memory_for_layout c.args.host.now plan c.in_err-layout.field-0.0 planned
+    (no_memory_for_layout c.args.old_homes.now c.args.host.now plan c.in_err-layout.field-0.0 planned
     c.in_err-layout.ensures.fault)
 
 pub returns-in_err-layout-clause-bound : goal.returns-in_err-layout-clause-bound
@@ -46,8 +47,8 @@ made g c = record {
 
 pub returns-clause-only : goal.returns-clause-only
 returns-clause-only g c other planned =
-    planned_unique c.args.host.now other _ planned
-    (layout_is_planned c.args.host.now _ _ _ _ _ _ c.in_ok-layout.ensures.layout (made g c))
+    staying_unique c.args.old_homes.now c.args.host.now other _ planned
+    (layout_is_planned c.args.old_homes.now c.args.host.now _ _ _ _ _ _ c.in_ok-layout.ensures.layout (made g c))
 
 pub returns-clause-fits_host : goal.returns-clause-fits_host
 returns-clause-fits_host g c = record {
@@ -61,5 +62,15 @@ returns-clause-fits_host g c = record {
 
 pub returns-clause-without_room : goal.returns-clause-without_room
 returns-clause-without_room g c vcpu rest over first =
-    let laid = layout_is_planned c.args.host.now _ _ _ _ _ _ c.in_ok-layout.ensures.layout (made g c) in
-    absurd (planned_or_refused c.args.host.now _ vcpu rest over laid first)
+    let laid = layout_is_planned c.args.old_homes.now c.args.host.now _ _ _ _ _ _ c.in_ok-layout.ensures.layout (made g c) in
+    absurd (staying_or_refused c.args.old_homes.now c.args.host.now _ vcpu rest over laid first)
+
+pub returns-clause-stay : goal.returns-clause-stay
+returns-clause-stay g c = plan_stays c.args.old_homes.now c.args.host.now _
+    (layout_is_planned c.args.old_homes.now c.args.host.now _ _ _ _ _ _ c.in_ok-layout.ensures.layout
+    (made g c))
+
+pub returns-clause-need : goal.returns-clause-need
+returns-clause-need g c = plan_leaves_for_need c.args.old_homes.now c.args.host.now _
+    (layout_is_planned c.args.old_homes.now c.args.host.now _ _ _ _ _ _ c.in_ok-layout.ensures.layout
+    (made g c))

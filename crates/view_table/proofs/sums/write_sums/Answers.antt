@@ -1,0 +1,14 @@
+use Rattle.std.proofs.lemmas.Result.{err_from_is_err_and}
+use Rattle.std.proofs.Common.{refl}
+use Rattle.tab_io.proofs.SinkLemmas.{all_left, left_behind, left_broken, left_last}
+use Rattle.view_table.proofs.sums.write_sums.Goals as goal
+
+pub returns-in_err-put_vcpu_sum : goal.returns-in_err-put_vcpu_sum
+returns-in_err-put_vcpu_sum g c =
+    let p = err_from_is_err_and c.from_residual.result c.from_residual.ensures.1 in
+    rw p.1 (left_broken _ _ _ _ _ _ _ _ _ (all_left _ _) refl c.put_vcpu_sum.ensures c.in_err-put_vcpu_sum.was)
+
+pub returns : goal.returns
+returns g c =
+    let at0 = left_behind _ _ _ _ _ _ _ _ _ (all_left _ _) refl c.put_vcpu_sum.ensures c.in_ok-put_vcpu_sum.was in
+    left_last _ _ _ _ _ _ at0 c.put_vm_sum.ensures

@@ -1,0 +1,222 @@
+ghost use Rattle.std.specs.Prelude.{◌≡◌, ◌<◌, ◌≤◌, ◌^◌, length, option_copied};
+ghost use Rattle.tab_core.specs.declared.TheConstants.{MAX_CORES, MAX_VCPUS};
+ghost use Rattle.tab_io.specs.Sinks.{Writes};
+ghost use Rattle.view_table.specs.Figures.{AreFigures};
+ghost use Rattle.view_table.specs.Groups.{count_where};
+ghost use Rattle.view_table.specs.TableTexts.{end_text};
+ghost use Rattle.view_table.specs.Totals.{asked_below, asked_total, busy_below, full_of, given_below, has_all, is_admitted, plain_total, total_text};
+
+use crate::figures::Figures;
+use crate::groups::{asked_at, is_broken, ppm_at, share_at};
+use crate::rows::loads_of;
+use crate::table::{put_core_head, put_cores};
+use tab_core::{ROUND, Vcpu, WHOLE_PPM};
+use tab_io::{Sink, WriteFault};
+use table_cells::{Cell, put_cells};
+use view_doc::View;
+
+// Writes what stands behind the rows of vCPUs or of VMs.
+pub(crate) fn put_end<K: Sink>(
+    sink: &mut K,
+    host: Option<&[Vcpu]>,
+    view: &View,
+    figures: &Figures,
+    tick_ns: u32,
+) -> Result<(), WriteFault>
+    requires figures { AreFigures view.now figures.now }
+    requires few { view.now.cores ≤ MAX_CORES }
+    requires vcpus { length view.now.tasks.items ≤ MAX_VCPUS }
+    ensures { Writes (K.state sink.old) (K.state sink.new)
+        (end_text (option_copied host.entry) tick_ns view.now) result }
+{
+    put_core_head(sink)?;
+    put_cores(sink, view)?;
+    put_total(sink, host, view, figures, tick_ns)
+}
+
+// Writes the line of totals.
+fn put_total<K: Sink>(
+    sink: &mut K,
+    host: Option<&[Vcpu]>,
+    view: &View,
+    figures: &Figures,
+    tick_ns: u32,
+) -> Result<(), WriteFault>
+    requires figures { AreFigures view.now figures.now }
+    requires few { view.now.cores ≤ MAX_CORES }
+    requires vcpus { length view.now.tasks.items ≤ MAX_VCPUS }
+    ensures { Writes (K.state sink.old) (K.state sink.new)
+        (total_text (option_copied host.entry) tick_ns view.now) result }
+{
+    let given = given_below(view);
+    let full = full_of(busy_below(view), view.cores);
+    match host {
+        None => put_plain_total(sink, view.tasks.len(), given, full),
+        Some(vcpus) => put_asked_total(sink, vcpus, view, figures, tick_ns, given, full),
+    }
+}
+
+#[tactic(auto, unfolding(crate::specs::Totals::plain_total))]
+fn put_plain_total<K: Sink>(
+    sink: &mut K,
+    vcpus: usize,
+    given: u64,
+    full: u64,
+) -> Result<(), WriteFault>
+    ensures { Writes (K.state sink.old) (K.state sink.new) (plain_total vcpus given full) result }
+{
+    put_cells(
+        sink,
+        &[
+            Cell::Text(b"\ntotal: vCPUs "),
+            Cell::Count(0, vcpus as u64),
+            Cell::Text(b", given "),
+            Cell::Percent(0, given),
+            Cell::Text(b" %, load "),
+            Cell::Percent(0, full),
+            Cell::Text(b" %\n"),
+        ],
+    )
+}
+
+fn put_asked_total<K: Sink>(
+    sink: &mut K,
+    vcpus: &[Vcpu],
+    view: &View,
+    figures: &Figures,
+    tick_ns: u32,
+    given: u64,
+    full: u64,
+) -> Result<(), WriteFault>
+    requires figures { AreFigures view.now figures.now }
+    requires vcpus { length view.now.tasks.items ≤ MAX_VCPUS }
+    ensures { Writes (K.state sink.old) (K.state sink.new)
+        (asked_total (length view.now.tasks.items) (asked_below vcpus.now view.now.names.items
+        (length view.now.tasks.items)) given full (count_where (has_all tick_ns vcpus.now view.now.names.items
+        view.now.tasks.items view.now.slots.items) (length view.now.tasks.items)) (count_where (is_admitted
+        vcpus.now view.now.names.items) (length view.now.tasks.items))) result }
+{
+    let asked = asked_below(view, vcpus);
+    let kept = kept_below(view, vcpus, figures, tick_ns);
+    let admitted = admitted_below(view, vcpus);
+    put_cells(
+        sink,
+        &[
+            Cell::Text(b"\ntotal: vCPUs "),
+            Cell::Count(0, view.tasks.len() as u64),
+            Cell::Text(b", asked "),
+            Cell::Percent(0, asked),
+            Cell::Text(b" %, given "),
+            Cell::Percent(0, given),
+            Cell::Text(b" %, load "),
+            Cell::Percent(0, full),
+            Cell::Text(b" %, kept "),
+            Cell::Count(0, kept),
+            Cell::Text(b" of "),
+            Cell::Count(0, admitted),
+            Cell::Text(b"\n"),
+        ],
+    )
+}
+
+// The shares of all vCPUs together.
+#[tactic(auto, using(crate::proofs::GroupLemmas::sum_none, crate::proofs::GroupLemmas::sum_more))]
+fn given_below(view: &View) -> u64
+    requires { length view.now.tasks.items ≤ MAX_VCPUS }
+    ensures { result ≡ given_below view.now.tasks.items (length view.now.tasks.items) }
+{
+    let mut share = 0;
+    for vcpu in 0..view.tasks.len() {
+        share += share_at(view, vcpu);
+    }
+    share
+}
+
+// The shares together that the host has for them.
+#[tactic(auto, using(crate::proofs::GroupLemmas::sum_none, crate::proofs::GroupLemmas::sum_more))]
+fn asked_below(view: &View, vcpus: &[Vcpu]) -> u64
+    requires { length view.now.tasks.items ≤ MAX_VCPUS }
+    ensures { result ≡ asked_below vcpus.now view.now.names.items (length view.now.tasks.items) }
+{
+    let mut share = 0;
+    for vcpu in 0..view.tasks.len() {
+        share += ppm_at(view, vcpus, vcpu);
+    }
+    share
+}
+
+// How many of them the host admits.
+fn admitted_below(view: &View, vcpus: &[Vcpu]) -> u64
+    requires { length view.now.tasks.items ≤ MAX_VCPUS }
+    ensures { result ≡ count_where (is_admitted vcpus.now view.now.names.items)
+        (length view.now.tasks.items) }
+{
+    let mut count = 0;
+    for vcpu in 0..view.tasks.len() {
+        if is_admitted(view, vcpus, vcpu) {
+            count += 1;
+        }
+    }
+    count
+}
+
+fn is_admitted(view: &View, vcpus: &[Vcpu], vcpu: usize) -> bool
+    ensures { result ≡ is_admitted vcpus.now view.now.names.items vcpu }
+{
+    match asked_at(view, vcpus, vcpu) {
+        Some(_) => true,
+        None => false,
+    }
+}
+
+// How many of these have what they were promised.
+fn kept_below(view: &View, vcpus: &[Vcpu], figures: &Figures, tick_ns: u32) -> u64
+    requires figures { AreFigures view.now figures.now }
+    requires vcpus { length view.now.tasks.items ≤ MAX_VCPUS }
+    ensures { result ≡ count_where (has_all tick_ns vcpus.now view.now.names.items view.now.tasks.items
+        view.now.slots.items) (length view.now.tasks.items) }
+{
+    let mut count = 0;
+    for vcpu in 0..view.tasks.len() {
+        if has_all(view, vcpus, figures, tick_ns, vcpu) {
+            count += 1;
+        }
+    }
+    count
+}
+
+fn has_all(view: &View, vcpus: &[Vcpu], figures: &Figures, tick_ns: u32, vcpu: usize) -> bool
+    requires figures { AreFigures view.now figures.now }
+    requires low { vcpu < length view.now.tasks.items }
+    ensures { result ≡ has_all tick_ns vcpus.now view.now.names.items view.now.tasks.items view.now.slots.items
+        vcpu }
+{
+    is_admitted(view, vcpus, vcpu) && !is_broken(view, vcpus, figures, tick_ns, vcpu)
+}
+
+// The ticks of the slots of all cores.
+#[tactic(auto, using(crate::proofs::GroupLemmas::sum_none, crate::proofs::GroupLemmas::sum_more))]
+fn busy_below(view: &View) -> u64
+    requires { view.now.cores ≤ MAX_CORES }
+    ensures value { result ≡ busy_below view.now.slots.items view.now.cores }
+    ensures small { result < 2 ^ 40 }
+{
+    let loads = loads_of(&view.slots);
+    let mut ticks = 0;
+    for core in 0..view.cores {
+        ticks += u64::from(loads[core as usize]);
+    }
+    ticks
+}
+
+// How full the cores are, in parts per million.
+fn full_of(ticks: u64, cores: u32) -> u64
+    requires { ticks < 2 ^ 40 }
+    ensures { result ≡ full_of ticks cores }
+{
+    if cores == 0 {
+        0
+    } else {
+        ticks * u64::from(WHOLE_PPM) / (u64::from(cores) * u64::from(ROUND))
+    }
+}
