@@ -21,7 +21,7 @@ IsOfOutline o v = IsStarted o.lag o.cores (length o.ticks) v
 abbrev pub HasEvents : OutlineView → ℕ → ℕ → Type 0
 HasEvents o count x = HasUpTo (with_plans o [] []) count x
 
--- the same part, but for what it heard
+-- the parts are one, but for what they heard
 pub record SameButHeard (p q : Part) : Type 0 where
   pub clock : q.clock ≡ p.clock
   pub sights : q.sights ≡ p.sights
