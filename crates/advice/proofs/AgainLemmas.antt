@@ -13,14 +13,14 @@ use Rattle.toml.specs.Data.{Members}
 use Rattle.advice.specs.Advice.{IsPeriodText, IsVcpuText, TellsOfDocument, TellsOfTasks}
 use Rattle.advice.specs.Inside.Again.{IsNoDocument, IsNoHost, LacksTasks}
 
--- who lacks a period has no task
+-- a vCPU without a period has no task
 no_task : (reservation : Option Reservation) (tick : ℕ) (task : Option Periodic) → LacksPeriod reservation tick
     → ¬ (IsTaskOf reservation tick task)
 no_task None tick task lacks is = lacks
 no_task (Some r) tick None lacks is = is
 no_task (Some r) tick (Some task) lacks is = lacks (task.period, is.admissible)
 
--- where one lacks a period, the host has no tasks
+-- where a vCPU has no period, the host has no tasks
 pub lacks_tasks : (host : Host) (number : ℕ) → IsFirstWithoutPeriod host number → LacksTasks host
 lacks_tasks host number first tasks are =
     let within : number < length host.vcpus = slice_get_within host.vcpus number first.vcpu first.at in
@@ -33,24 +33,24 @@ pub no_member_is_told : (section : List ℕ) (told : Members → List ℕ) → I
     → (other : List ℕ) → ¬ (TellsOfDocument section told other)
 no_member_is_told section told none other tells = none tells.0 tells.1
 
--- nor of the budgets of what is no host
+-- no text says anything of the budgets of what is no host
 pub no_host_is_told : (section : List ℕ) (told : Host → List (Option Periodic) → List ℕ) → IsNoHost section
     → (other : List ℕ) → ¬ (TellsOfTasks section told other)
 no_host_is_told section told none other tells = none tells.host tells.is_host
 
--- nor of those of a host of which a vCPU has none
+-- no text says anything of the budgets of a host of which a vCPU has no period
 pub no_task_is_told : (section : List ℕ) (told : Host → List (Option Periodic) → List ℕ) (host : Host)
     → IsHostText section host → LacksTasks host → (other : List ℕ) → ¬ (TellsOfTasks section told other)
 no_task_is_told section told host is_host none other tells =
     let same : tells.host ≡ host = one_host section tells.host host tells.is_host is_host in
     none tells.tasks (subst (λ (h : Host). AreTasksOf h tells.tasks) same tells.are_tasks)
 
--- nor of a vCPU of what is no host
+-- no text says anything of a vCPU of what is no host
 pub no_vcpu_is_told : (section : List ℕ) (number : ℕ) → IsNoHost section
     → (other : List ℕ) → ¬ (IsPeriodText section number other)
 no_vcpu_is_told section number none other tells = none tells.host tells.is_host
 
--- nor of one that the host hasn't
+-- no text says anything of a vCPU that the host hasn't
 pub no_such_vcpu_is_told : (section : List ℕ) (number : ℕ) (host : Host) → IsHostText section host
     → slice_get host.vcpus number ≡ None → (other : List ℕ) → ¬ (IsPeriodText section number other)
 no_such_vcpu_is_told section number host is_host none other tells =
@@ -59,7 +59,7 @@ no_such_vcpu_is_told section number host is_host none other tells =
     subst (λ (h : Host). slice_get h.vcpus number ≡ Some tells.vcpu) same tells.at in
     let e : ◌≡◌ {A = Option Vcpu} None (Some tells.vcpu) = sym none ∙ at in absurd cc
 
--- what is told of the host's vCPU of this number is told of this one
+-- what is said of the host's vCPU of this number is said of this one
 pub told_of_it : (section : List ℕ) (number : ℕ) (host : Host) (vcpu : Vcpu) → IsHostText section host
     → slice_get host.vcpus number ≡ Some vcpu → (other : List ℕ) → IsPeriodText section number other
     → IsVcpuText vcpu host.tick_ns other
@@ -78,7 +78,7 @@ pub no_reservation_is_told : (vcpu : Vcpu) (tick : ℕ) → vcpu.reservation ≡
 no_reservation_is_told vcpu tick none other tells =
     let e : ◌≡◌ {A = Option Reservation} None (Some tells.reservation) = sym none ∙ tells.reserved in absurd cc
 
--- nor of one whose reservation has a period
+-- no text says anything of a period of a vCPU whose reservation has one
 pub no_period_is_told : (vcpu : Vcpu) (tick : ℕ) (r : Reservation) → vcpu.reservation ≡ Some r
     → HasPeriod r tick → (other : List ℕ) → ¬ (IsVcpuText vcpu tick other)
 no_period_is_told vcpu tick r reserved has other tells =

@@ -90,7 +90,7 @@ latency_found r tick low high is near = record {
   least = λ other share has. omega (arith, is.lacks other share has, near);
 }
 
--- the same of shares
+-- the search for the least share begins
 pub share_begins : (r : Reservation) (tick : ℕ) → ¬ (HasPeriod r tick) → IsShareBetween r tick r.share_ppm WHOLE_PPM
 share_begins r tick none = record {
   order = below_having r.share_ppm WHOLE_PPM

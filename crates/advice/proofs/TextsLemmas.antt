@@ -2,11 +2,11 @@
 use Rattle.std.proofs.Common.{◌≡◌, List, [], ◌∷◌, ◌++◌, ℕ, String, Global, flat_map, map, refl, ap, string_bytes}
 use Rattle.advice.specs.Usage.{spaced}
 
--- a word of the command line behind a space
+-- a word of the command line after a space
 abbrev pub spaced_string : String Global → List ℕ
 spaced_string word = spaced (string_bytes word)
 
--- the words' bytes, each behind a space, are those of the strings
+-- the words' bytes, each after a space, are those of the strings
 pub spaced-strings : (words : List (String Global))
     → flat_map spaced_string words ≡ flat_map spaced (map string_bytes words)
 spaced-strings [] = refl

@@ -26,7 +26,7 @@ pub tells_it : (IsText : List ℕ → Type 0) (text : List ℕ) (s t : SinkView)
     → IsText text → Writes s t text r → WritesSome (WhereThereIs IsText) s t (of_sink r)
 tells_it IsText text s t r is writes = writes_such (WhereThereIs IsText) text s t r (inl is) writes
 
--- and there was none
+-- there was no text, and none was written
 pub tells_nothing : (IsText : List ℕ → Type 0) (s : SinkView) → ((other : List ℕ) → ¬ (IsText other))
     → WritesSome (WhereThereIs IsText) s s (Ok (tt {0}))
 tells_nothing IsText s none = record { text = []; is = inr (none, refl); writes = writes_nothing s (tt {0}) }
@@ -49,7 +49,7 @@ told_of_host section number host vcpu text is_host at (inl tells) =
 told_of_host section number host vcpu text is_host at (inr none) =
     inr ((λ other tells. none.0 other (told_of_it section number host vcpu is_host at other tells)), none.1)
 
--- and so does the call that wrote it
+-- the call that writes of a vCPU writes of the host's
 pub tells_vcpu : (section : List ℕ) (number : ℕ) (host : Host) (vcpu : Vcpu) (s t : SinkView)
     (r : Result (Unit {0}) AdviceFault) → IsHostText section host → slice_get host.vcpus number ≡ Some vcpu
     → WritesSome (WhereThereIs (IsVcpuText vcpu host.tick_ns)) s t r

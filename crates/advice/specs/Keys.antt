@@ -18,7 +18,7 @@ host_rule Quantum = codes "quantum is a whole number from 1 to 102600, in ticks,
 host_rule Vcpu = codes "vcpu is an array of tables; a line [[vcpu]] begins each"
 host_rule key = codes " is no key of a host; those are format, tick_ns (in format 2), cores, lag, sliver, quantum and vcpu"
 
--- the same of a vCPU
+-- what a key of a vCPU has to be; any other is none
 abbrev pub vcpu_rule : Key → List ℕ
 vcpu_rule Vcpu = codes "it has to be a table, as { name = \"web\", share_ppm = 250000, latency_ns = 20000000 }"
 vcpu_rule Name = codes "name is 1 to 32 characters of a-z A-Z 0-9 _ - . in quotes, and has to be there"

@@ -7,7 +7,7 @@ use Rattle.advice.specs.declared.part.Part.TheVariants.{Text, Number, Wide, Quot
 abbrev pub shown_byte : ℕ → List ℕ
 shown_byte byte = if nat_le 32 byte && nat_le byte 126 then byte ∷ [] else codes "?"
 
--- the quote that ends, behind two dots where more than 60 bytes stand there
+-- the quote that ends, after two dots where more than 60 bytes are there
 abbrev pub end_of_quote : List ℕ → List ℕ
 end_of_quote bytes = if nat_lt 60 (length bytes) then codes "..'" else codes "'"
 

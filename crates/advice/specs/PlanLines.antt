@@ -36,7 +36,7 @@ abbrev pub behind_head : List (List ℕ) → Option (ℕ × Periodic) → List �
 behind_head names (Some admitted) = vcpu_text (name_at names admitted.0) admitted.1
 behind_head names None = table_text
 
--- the line of this number: the first one, that of the admitted vCPU so far behind it, or one of the tables
+-- the line of this number: the first one, that of the admitted vCPU so far after it, or one of the tables
 abbrev pub wanted_text : ℕ → ℕ → List (List ℕ) → List (Option Periodic) → List ℕ
 wanted_text number cores names tasks = if nat_le number 1
     then head_text cores (length (admitted_from 0 tasks))

@@ -1,4 +1,5 @@
--- What is told before a command reads a terminal: which texts it reads, in their order, and what to type.
+-- What is written before a command reads a terminal: which texts it reads, in their order, and what to
+-- type.
 use Rattle.std.specs.Prelude.{ℕ, List, [], ◌++◌, codes, flat_map}
 use Rattle.tab_words.specs.declared.command.Command.{Command}
 use Rattle.tab_words.specs.declared.command.Command.TheVariants.{Plan, PlanStay, PlanWhole, Check, Replay, Run}
@@ -8,7 +9,7 @@ use Rattle.advice.specs.Usage.{spaced}
 abbrev pub reading_text : List ℕ → List ℕ
 reading_text input = codes "tableau: reading " ++ (input ++ codes " from the terminal\n")
 
--- the words, and a file behind them
+-- the words, and a file after them
 abbrev pub typed_text : List (List ℕ) → List ℕ
 typed_text words = flat_map spaced words ++ codes " < FILE\n"
 
@@ -19,7 +20,7 @@ ending_text words = codes "tableau: end the input with Ctrl-D, or use: tableau" 
 abbrev pub asking_text : List (List ℕ) → List ℕ → List ℕ
 asking_text words input = reading_text input ++ ending_text words
 
--- what is told of a command of these words; nothing of one that reads nothing
+-- what is written of a command of these words; nothing of one that reads nothing
 abbrev pub prompt_text : List (List ℕ) → Command → List ℕ
 prompt_text words Plan = asking_text words (codes "a host document")
 prompt_text words PlanWhole = asking_text words (codes "a host document")

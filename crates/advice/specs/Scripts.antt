@@ -5,7 +5,7 @@ use Rattle.script_doc.specs.declared.script_fault.ScriptFault.TheVariants as scr
 use Rattle.advice.specs.Lines.{line_at}
 use Rattle.advice.specs.Parts.{quoted}
 
--- the line of this number in quotes, and behind it what is wrong
+-- the line of this number in quotes, and after it what is wrong
 abbrev pub script_line_text : List ℕ → ℕ → List ℕ → List ℕ
 script_line_text text number what = codes "tableau: script line "
     ++ (decimal number ++ (codes ", " ++ (quoted (line_at number text) ++ (codes ": " ++ (what ++ codes "\n")))))

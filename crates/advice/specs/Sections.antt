@@ -11,7 +11,7 @@ wanted_texts wanted = if wanted == 1 then codes " text is wanted, a host, and no
     then codes " texts are wanted, a line %% between each two: a host, a script and a list of steps"
     else codes " texts are wanted, a line %% between them: a host and a plan text for check, a host and a script for run")
 
--- what stands before the count of the texts that there are
+-- what is before the count of the texts that there are
 abbrev pub here_words : ℕ → List ℕ
 here_words found = if found == 1 then codes "; here is " else codes "; here are "
 

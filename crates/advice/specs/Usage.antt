@@ -1,11 +1,11 @@
--- The advice on words that are no command: what may stand at the place of the fault, and what to type.
+-- The advice on words that are no command: what may are at the place of the fault, and what to type.
 use Rattle.std.specs.Prelude.{ℕ, Bool, false, true, ◌==◌, ◌&&◌, ◌||◌, nat_le, if◌then◌else◌, List, [], ◌∷◌, ◌++◌, bytes_eq, codes, decimal, flat_map, Option, Some, None, slice_get, slice_index, take}
 use Rattle.std.specs.List.{list_all, list_any}
 use Rattle.advice.specs.Parts.{quoted}
 use Rattle.advice.specs.declared.usage.Wanted.{Wanted}
 use Rattle.advice.specs.declared.usage.Wanted.TheVariants.{Command, Nothing, Whole, Rounds, Mode, Seed, Cores, Vcpus}
 
--- what may stand behind one word, behind two of which it is the first, and behind three
+-- what may be after one word, after two of which it is the first, and after three
 abbrev pub wanted_first : List ℕ → Wanted
 wanted_first word = if bytes_eq word (codes "plan") then Whole
     else (if bytes_eq word (codes "replay") || bytes_eq word (codes "run") then Rounds
@@ -19,7 +19,7 @@ wanted_second word = if bytes_eq word (codes "run") then Mode
 abbrev pub wanted_third : List ℕ → Wanted
 wanted_third word = if bytes_eq word (codes "gen") then Vcpus else Nothing
 
--- what may stand behind words that a command begins with
+-- what may be after words that a command begins with
 abbrev pub wanted_behind : List (List ℕ) → Wanted
 wanted_behind [] = Command
 wanted_behind (word ∷ []) = wanted_first word
@@ -27,7 +27,7 @@ wanted_behind (word ∷ second ∷ []) = wanted_second word
 wanted_behind (word ∷ second ∷ third ∷ []) = wanted_third word
 wanted_behind (word ∷ second ∷ third ∷ fourth ∷ more) = Nothing
 
--- the name of what has to stand there; where nothing has to, these other words
+-- the name of what has to are there; where nothing has to, these other words
 abbrev pub name_text : Wanted → List ℕ → List ℕ
 name_text Command other = codes "a command"
 name_text Rounds other = codes "a count of rounds"
@@ -36,7 +36,7 @@ name_text Cores other = codes "a count of cores"
 name_text Vcpus other = codes "a count of vCPUs"
 name_text wanted other = other
 
--- what may stand there, in words
+-- what may are there, in words
 abbrev pub wanted_text : Wanted → List ℕ
 wanted_text Command =
     codes "the commands are plan, check, run, replay, gen and selftest; for help type: tableau --help"
@@ -87,11 +87,11 @@ abbrev pub rounds_text : Wanted → List ℕ
 rounds_text Rounds = codes " ROUNDS"
 rounds_text wanted = []
 
--- the file behind the words
+-- the file after the words
 abbrev pub file_text : List (List ℕ) → List ℕ → List ℕ
 file_text front word = rounds_text (wanted_behind front) ++ (codes " < " ++ (file_word word ++ codes "\n"))
 
--- the line to type: the words that are right, and the file behind them
+-- the line to type: the words that are right, and the file after them
 abbrev pub shell_text : List (List ℕ) → List ℕ → List ℕ
 shell_text front word = codes "tableau: a file goes to standard input: tableau"
     ++ (flat_map spaced front ++ file_text front word)
@@ -101,21 +101,21 @@ abbrev pub is_begun : List (List ℕ) → Bool
 is_begun [] = false
 is_begun (word ∷ words) = true
 
--- what to type in place of a word behind others
+-- what to type in place of a word after others
 abbrev pub hint_text : List (List ℕ) → List ℕ → List ℕ
 hint_text front word = if is_begun front
     then (if asks_help word then codes "tableau: for help type: tableau --help\n"
     else (if read_behind front then shell_text front word else []))
     else []
 
--- this word is wrong behind those
+-- this word is wrong after those
 abbrev pub found_text : List (List ℕ) → List ℕ → ℕ → List ℕ
 found_text front word place = codes "tableau: word "
     ++ (decimal place ++ (codes ", " ++ (quoted word
     ++ (codes ", isn't " ++ (name_text (wanted_behind front) (codes "expected")
     ++ (codes ": " ++ (wanted_text (wanted_behind front) ++ codes "\n")))))))
 
--- a word is missing behind those
+-- a word is missing after those
 abbrev pub missing_text : List (List ℕ) → List ℕ
 missing_text front = codes "tableau: "
     ++ (name_text (wanted_behind front) (codes "a word")

@@ -10,7 +10,7 @@ use tab_io::WriteFault;
 pub enum AdviceFault {
     /// Memory ran out, and nothing was written.
     NoMemory,
-    /// The sink failed behind a front of the advice.
+    /// The sink failed after a prefix of the advice.
     Sink(WriteFault),
 }
 

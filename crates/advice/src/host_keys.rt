@@ -160,7 +160,7 @@ fn member_at(table: &Table, number: u32) -> Option<&Table>
     member.as_table()
 }
 
-// What stands at a key of a table.
+// What is at a key of a table.
 fn value_at<'a>(table: &'a Table, word: &str) -> Option<&'a Value>
     ensures { option_map (λ value. view value.now) result ≡ get_member word.now (table_view table.now) }
 {

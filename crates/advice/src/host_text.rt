@@ -64,7 +64,7 @@ fn place_at(text: &[u8], at: usize) -> Place
     place_behind(front)
 }
 
-// The place behind these bytes of a text.
+// The place after these bytes of a text.
 fn place_behind(front: &[u8]) -> Place
     requires { length front.now < 2 ^ 31 }
     ensures { result ≡ place_behind front.now }
@@ -76,7 +76,7 @@ fn place_behind(front: &[u8]) -> Place
     place
 }
 
-// The place behind one more byte.
+// The place after one more byte.
 fn place_after(place: Place, byte: u8) -> Place
     requires line { place.line + 1 < 2 ^ 32 }
     requires column { place.column + 1 < 2 ^ 32 }

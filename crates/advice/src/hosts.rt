@@ -18,7 +18,7 @@ use std::alloc::Global;
 use tab_core::{Host, ROUND, Reservation, Tasks, Vcpu, VcpuNo};
 use tab_io::{Sink, WriteFault};
 
-// The longest text of which places are told.
+// The longest text of which places are named.
 const LONGEST: usize = 2_000_000_000;
 
 // Writes the advice on a section that is no host.
@@ -55,7 +55,7 @@ fn put_bad_key<K: Sink>(
     }
 }
 
-// The same of a key of the host.
+// Writes the advice on the key of the host that this path names.
 fn put_host_key<K: Sink>(
     alloc: Global,
     sink: &mut K,

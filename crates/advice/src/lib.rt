@@ -1,8 +1,8 @@
 //! Advice after a refusal: where the fault is, and what to do.
 //!
-//! `specs/Advice.antt` says what is told of each refusal, for the words and the input that were refused: the
+//! `specs/Advice.antt` says what is written of each refusal, for the words and the input that were refused: the
 //! line that is quoted and the numbers, by the definitions of the crates that refuse. `write_advice` writes
-//! exactly that, or tells that it lacks memory to look the input up again. `write_prompt` writes what a command
+//! exactly that, or says that memory ran out to look the input up again. `write_prompt` writes what a command
 //! reads, before it reads a terminal.
 #![tactic(auto)]
 

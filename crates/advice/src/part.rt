@@ -12,7 +12,7 @@ pub(crate) enum Part<'a> {
     Text(&'a [u8]),
     // The number's decimal digits.
     Number(u32),
-    // The same of a wide number.
+    // The decimal digits of a wide number.
     Wide(u64),
     // A word or a line of somebody else.
     Quoted(&'a [u8]),
@@ -51,7 +51,7 @@ fn put_quoted<K: Sink>(sink: &mut K, bytes: &[u8]) -> Result<(), WriteFault>
     put_rest(sink, bytes)
 }
 
-// Writes what stands behind the first quote.
+// Writes what is after the first quote.
 fn put_rest<K: Sink>(sink: &mut K, bytes: &[u8]) -> Result<(), WriteFault>
     ensures { Writes (K.state sink.old) (K.state sink.new) (rest_of_quote bytes.now) result }
 {

@@ -42,7 +42,7 @@ fn put_found<K: Sink>(sink: &mut K, plan: &[u8], number: u32) -> Result<(), Writ
     )
 }
 
-// Writes the line that has to stand there.
+// Writes the line that has to are there.
 fn put_wanted<K: Sink>(
     sink: &mut K,
     number: u32,
@@ -58,7 +58,7 @@ fn put_wanted<K: Sink>(
     put_behind_head(sink, host, tasks, number - 2)
 }
 
-// Writes the line that has to stand so far behind the first of the vCPUs.
+// Writes the line that has to be so far after the first of the vCPUs.
 fn put_behind_head<K: Sink>(
     sink: &mut K,
     host: &Host,
@@ -127,7 +127,7 @@ fn count_admitted(tasks: &[Option<Periodic>]) -> u32
     count
 }
 
-// The number and the budget of the admitted vCPU behind so many others.
+// The number and the budget of the admitted vCPU after so many others.
 fn admitted_at(tasks: &[Option<Periodic>], behind: u32) -> Option<(VcpuNo, Periodic)>
     requires { length tasks.now ≤ MAX_VCPUS }
     ensures { result ≡ slice_get (admitted_from 0 tasks.now) behind }
@@ -162,7 +162,7 @@ pub(crate) fn put_shape<K: Sink>(sink: &mut K, core: CoreNo, place: u32) -> Resu
     )
 }
 
-// Writes the advice on a vCPU that stands on two cores at a tick.
+// Writes the advice on a vCPU that is on two cores at a tick.
 pub(crate) fn put_twice<K: Sink>(
     sink: &mut K,
     tick: u32,

@@ -14,7 +14,7 @@ use tab_words::{Command, read_words};
 /// read.
 ///
 /// Of words that are no command, and of a command that reads nothing, nothing is written. A fault of the sink
-/// leaves a front of the lines in it. Nothing is settled.
+/// leaves a prefix of the lines in it. Nothing is settled.
 pub fn write_prompt<K: Sink>(words: &[String], sink: &mut K) -> Result<(), WriteFault>
     ensures asks { (command : CommandValue) → IsCommand (texts words.now) command
         → Writes (K.state sink.old) (K.state sink.new) (prompt_text (texts words.now) command) result }
@@ -83,7 +83,7 @@ fn put_ending<K: Sink>(sink: &mut K, words: &[String]) -> Result<(), WriteFault>
     put_typed(sink, words)
 }
 
-// Writes the words, and a file behind them.
+// Writes the words, and a file after them.
 fn put_typed<K: Sink>(sink: &mut K, words: &[String]) -> Result<(), WriteFault>
     ensures { Writes (K.state sink.old) (K.state sink.new) (typed_text (texts words.now)) result }
 {

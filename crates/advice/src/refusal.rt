@@ -62,7 +62,7 @@ pub enum Refusal {
         core: CoreNo,
         place: u32,
     },
-    /// A vCPU stands at one tick on two cores.
+    /// A vCPU is at one tick on two cores.
     Twice {
         tick: u32,
         core: CoreNo,

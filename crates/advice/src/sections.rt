@@ -81,7 +81,7 @@ fn wanted_texts(wanted: u32) -> &'static [u8]
     }
 }
 
-// What stands before the count of the texts that there are.
+// What is before the count of the texts that there are.
 fn here_words(found: u32) -> &'static [u8]
     ensures { result.now ≡ here_words found }
 {

@@ -6,7 +6,7 @@ ghost use Rattle.advice.specs.Usage.{are_plain, asks_help, behind_text, file_tex
 use crate::part::{Part, put_parts};
 use tab_io::{Sink, WriteFault, write_all};
 
-// What may stand behind words that a command begins with.
+// What may be after words that a command begins with.
 #[derive(Clone, Copy)]
 pub(crate) enum Wanted {
     Command,
@@ -35,7 +35,7 @@ pub(crate) fn put_usage<K: Sink>(
     )
 }
 
-// Writes the advice on this word behind those, or on none there.
+// Writes the advice on this word after those, or on none there.
 fn put_behind<'a, K: Sink>(
     sink: &mut K,
     front: &'a [String],
@@ -80,7 +80,7 @@ fn word_at(words: &[String], place: u32) -> Option<&[u8]>
     }
 }
 
-// Writes what has to stand behind all the words.
+// Writes what has to are after all the words.
 fn put_missing<K: Sink>(sink: &mut K, front: &[String]) -> Result<(), WriteFault>
     ensures { Writes (K.state sink.old) (K.state sink.new) (missing_text (texts front.now)) result }
 {
@@ -96,7 +96,7 @@ fn put_missing<K: Sink>(sink: &mut K, front: &[String]) -> Result<(), WriteFault
     )
 }
 
-// Writes what has to stand in this word's place, and what to type.
+// Writes what has to are in this word's place, and what to type.
 fn put_found<K: Sink>(
     sink: &mut K,
     front: &[String],
@@ -161,7 +161,7 @@ fn put_shell<K: Sink>(sink: &mut K, front: &[String], word: &[u8]) -> Result<(),
     put_shell_end(sink, front, word)
 }
 
-// Writes the line's words, and the file behind them.
+// Writes the line's words, and the file after them.
 fn put_shell_end<K: Sink>(sink: &mut K, front: &[String], word: &[u8]) -> Result<(), WriteFault>
     ensures { Writes (K.state sink.old) (K.state sink.new)
         (flat_map spaced (texts front.now) ++ file_text (texts front.now) word.now) result }
@@ -186,7 +186,7 @@ fn put_file<K: Sink>(sink: &mut K, front: &[String], word: &[u8]) -> Result<(), 
     )
 }
 
-// Writes the words, each behind a space.
+// Writes the words, each after a space.
 pub(crate) fn put_spaced<K: Sink>(sink: &mut K, words: &[String]) -> Result<(), WriteFault>
     ensures { Writes (K.state sink.old) (K.state sink.new) (flat_map spaced (texts words.now)) result }
 {
@@ -202,14 +202,14 @@ fn put_spaced_word<K: Sink>(sink: &mut K, word: &String) -> Result<(), WriteFaul
     put_parts(sink, &[Part::Text(b" "), Part::Text(word.as_bytes())])
 }
 
-// The name of what has to stand behind these words; where nothing has to, these other words.
+// The name of what has to are after these words; where nothing has to, these other words.
 fn name_words<'a>(front: &[String], other: &'a [u8]) -> &'a [u8]
     ensures { result.now ≡ name_text (wanted_behind (texts front.now)) other.now }
 {
     name_text(wanted_behind(front), other)
 }
 
-// What may stand behind these words, in words.
+// What may are after these words, in words.
 fn wanted_words(front: &[String]) -> &'static [u8]
     ensures { result.now ≡ wanted_text (wanted_behind (texts front.now)) }
 {
@@ -222,7 +222,7 @@ fn rounds_words(front: &[String]) -> &'static [u8]
     rounds_text(wanted_behind(front))
 }
 
-// What may stand behind these words.
+// What may are after these words.
 fn wanted_behind(front: &[String]) -> Wanted
     ensures { result ≡ wanted_behind (texts front.now) }
 {

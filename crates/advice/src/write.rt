@@ -21,7 +21,7 @@ use tab_io::{Sink, WriteFault, write_all};
 ///
 /// The host is read again where its text is no TOML, has an unknown key or a fault of a vCPU, where it has no
 /// plan, and where it isn't that of a plan text. Where it isn't refused so, there is then no advice, and nothing
-/// is written. Nor is anything where memory runs out (`NoMemory`). A fault of the sink leaves a front of the
+/// is written. Nor is anything where memory runs out (`NoMemory`). A fault of the sink leaves a prefix of the
 /// advice in it. Nothing is settled.
 pub fn write_advice<K: Sink>(
     alloc: Global,

@@ -9,7 +9,7 @@ use Rattle.dispatch_core.specs.Parts.{used_counts}
 use Rattle.board_state.specs.Readings.{decided_by, extended_by}
 use Rattle.board_state.proofs.Lists.{in_map, of_map}
 
--- what stands in a list that is extended stands in it or in the other
+-- what is in a list that is extended is in it or in the other
 extended_has : (ms ns : List ℕ) (k d : ℕ) → slice_get (extended_by ms ns) k ≡ Some d
     → (slice_get ms k ≡ Some d) ⊎ (slice_get ns k ≡ Some d)
 extended_has [] ns k d h = inr h

@@ -33,7 +33,7 @@ module _ (course : CourseView) (rounds : ℕ) (v : View) (run : IsRunView course
       let mine = of_core course rounds v c run lt in
       omega (arith, mine.own.timeline.reach, end.clocks c lt, mine.agrees.timely.in_rounds)
 
-  -- so no round beyond the run has a count
+  -- no round beyond the run has a count
   none_beyond : (n : ℕ) → n ≡ length (counts_of v) → length (counts_of v) ≤ rounds
   none_beyond zero is = omega arith
   none_beyond (suc n) is =
@@ -43,7 +43,7 @@ module _ (course : CourseView) (rounds : ℕ) (v : View) (run : IsRunView course
       let within = slice_get_within (part v found.0).entries n w.entry w.entered.0 in
       omega (arith, all_entered found.0 w.core, is, within)
 
-  -- and each round of the run has one
+  -- each round of the run has a count
   all_counted : (c n : ℕ) → c < v.cores → n ≡ rounds → length (counts_of v) ≡ rounds
   all_counted c zero lt is = (let most = none_beyond (length (counts_of v)) refl in omega arith)
   all_counted c (suc n) lt is =

@@ -42,7 +42,7 @@ core_is course v c core at =
     let place = of_numbers (part v) v.cores c found.0 found.1 in
     (place.0, found.2 ∙ ap (core_state course) place.1)
 
--- and the other way round
+-- a core of the view is one of the state
 pub is_core : (course : CourseView) (v : View) (c : ℕ) → c < v.cores
     → IsCore (state_of course v) c (core_state course (part v c))
 is_core course v c lt =
@@ -124,7 +124,7 @@ module _ (course : CourseView) (rounds : ℕ) (v : View) (run : IsRunView course
       (at_place (λ (x : Entry). (x.seen ≤ length (floors_of v)) × (x.used ≤ length (floors_of v)))
       (part v c).entries r e at mine.floors.fits.counts.entries).0
 
-  -- and they were fresh at its round's start
+  -- what an entry had seen was fresh at its round's start
   entry_fresh : (c r : ℕ) (e : Entry) → c < v.cores → slice_get (part v c).entries r ≡ Some e
       → IsFresh course e.seen (r * ROUND)
   entry_fresh c r e lt at =

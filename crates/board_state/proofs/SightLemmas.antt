@@ -24,7 +24,7 @@ test_has course count x h = λ i lt due. elim (cases_lt i count) [
       absurd (omega (arith, is, later))
 ]
 
--- and passes where there is no other
+-- the test passes where there is no event that is due and unseen
 pub has_test : (course : CourseView) (count x : ℕ) → HasUpTo course count x → has_up_to course count x ≡ true
 has_test course count x has =
     list_all-from_AllPass (λ tick. nat_lt x (tick + course.lag)) (drop count course.ticks)
@@ -63,7 +63,7 @@ seen_last course clock n (k ∷ ks) h =
     let has = test_has course (last_of (k ∷ ks)) clock found.0 in
     (omega arith, found.1, subst (λ (m : ℕ). HasUpTo course m clock) found.1 has)
 
--- and a last sight that has them is what the core has seen
+-- a last sight that has each event that is due is what the core has seen
 pub last_seen : (course : CourseView) (clock n : ℕ) (sights : List ℕ)
     → (0 < length sights) × (last_of sights ≡ n) × HasUpTo course n clock
     → seen_by course clock sights ≡ Some n

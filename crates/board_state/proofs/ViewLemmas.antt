@@ -18,7 +18,7 @@ pub record IsAgreedBy (course : CourseView) (rounds c : ℕ) (v : View) (s : Sta
   pub rounds_are : s.rounds ≡ rounds
   pub agrees : AgreesWith course s v
 
--- so the part is one of the run
+-- the part of a core's state is one of the run
 part_of : (course : CourseView) (rounds c : ℕ) (v : View) (s : StateView) → IsAgreedBy course rounds c v s
     → IsPartOf course rounds c (part v c)
 part_of course rounds c v s by =
@@ -45,7 +45,7 @@ run_view course rounds v k states control shown =
       floors = control.floors;
     }
 
--- and where they have finished, of the finished run
+-- a view in which all have finished is one of the finished run
 pub finished_view : (course : CourseView) (rounds : ℕ) (v : View) (k : ControlState)
     → ((c : ℕ) → c < course.cores
     → (s : StateView) × IsAgreedBy course rounds c v s × (s.clock ≡ s.rounds * ROUND))

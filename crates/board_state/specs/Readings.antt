@@ -15,7 +15,7 @@ abbrev pub has_up_to : CourseView → ℕ → ℕ → Bool
 has_up_to course count x = list_all (λ tick. nat_lt x (tick + course.lag)) (drop count course.ticks)
 
 -- what a core has seen since its last stint: its last sight, if that has each event that is due at its
--- clock. A sight that lacks one is no step of the run, and the core has to look again
+-- clock. A sight without one is no step of the run, and the core has to look again
 abbrev pub seen_by : CourseView → ℕ → List ℕ → Option ℕ
 seen_by course clock [] = None
 seen_by course clock (n ∷ ns) =

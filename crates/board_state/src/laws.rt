@@ -16,7 +16,8 @@ pub fn a_run_view_is_kept()
         → StateInvariant course rounds (state_of course v) }
 {}
 
-/// So it keeps all promises of a run, wherever the actors stopped.
+/// A view of all parts of a run, read as a state, keeps all promises of a run, wherever the actors
+/// stopped.
 pub fn a_run_view_keeps_its_promises()
     ensures { (course : CourseView) (rounds : ℕ) (v : View) → IsCourse course → IsRunView course rounds v
         → KeepsPromises course rounds (state_of course v) }
@@ -28,7 +29,7 @@ pub fn a_finished_run_view_is_complete()
         → IsFinished rounds v → IsComplete course rounds (state_of course v) }
 {}
 
-/// And there each core has used the count of each round, one for each round of the run.
+/// In a complete run each core has used the count of each round, one for each round of the run.
 pub fn every_core_used_the_decided_counts()
     ensures counts { (course : CourseView) (rounds c : ℕ) (v : View) → IsRunView course rounds v
         → IsFinished rounds v → c < v.cores

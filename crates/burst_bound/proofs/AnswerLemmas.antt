@@ -14,7 +14,7 @@ done_once : (rounds : ℕ) (s : State) (vcpu work x a b : ℕ) → IsDoneAt roun
 done_once rounds s vcpu work x a b of_a of_b =
     omega (arith, of_a.least b of_b.after of_b.enough, of_b.least a of_a.after of_a.enough)
 
--- so in the words of an answer's parts
+-- the burst is done by its bound, in the words of an answer's parts
 pub in_time : (course : CourseView) (rounds : ℕ) (s : State) (event vcpu work : ℕ) (seen bound ended : Option ℕ)
     → IsCourse course → StateInvariant course rounds s → IsComplete course rounds s
     → IsOneIfAny (IsSeenAt rounds s event) seen → IsOneSince (IsDoneAt rounds s vcpu work) seen ended

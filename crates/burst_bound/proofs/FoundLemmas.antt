@@ -26,7 +26,7 @@ round_within : (x bound r : ℕ) → x < (r + 1) * ROUND → r * ROUND < bound
     → (x / ROUND ≤ r) × (r < bound / ROUND + min 1 (bound % ROUND))
 round_within x bound r low high = (omega arith, omega (arith, div_ceil_times bound ROUND (omega arith)))
 
--- and the other way round
+-- each round from the one of x up to this one meets the ticks from x up to the bound
 round_meets : (x bound r : ℕ) → x / ROUND ≤ r → r < bound / ROUND + min 1 (bound % ROUND)
     → (x < (r + 1) * ROUND) × (r * ROUND < bound)
 round_meets x bound r low high = (omega arith, omega (arith, div_ceil_times bound ROUND (omega arith)))
@@ -107,7 +107,7 @@ alike_budget : (course : CourseView) (v cost period a b : ℕ) → plan_number_a
 alike_budget course v cost period a b same is =
     subst (λ (k : ℕ). IsBudget (flat (slice_get (slice_index_or course.plans k no_plan).tasks v)) cost period) (sym same) is
 
--- so the rounds of one plan give it, where one of them does
+-- the rounds of one plan give the budget where one of them does
 pub budgets_since : (course : CourseView) (used since : List ℕ) (vcpu : ℕ) (task : Periodic) (next end : ℕ)
     → AreSince course used since → 1 ≤ next → next ≤ end → end ≤ length used
     → KeepsBudget course used vcpu task next end
@@ -122,7 +122,7 @@ budgets_since course used since vcpu task next end are some le within keeps is =
   | inr later ↦ keeps r later high
 ])
 
--- and where one doesn't, not all do
+-- where one round of a plan doesn't give the budget, not all do
 pub budgets_lost : (course : CourseView) (used : List ℕ) (vcpu : ℕ) (task : Periodic) (first r end : ℕ)
     → first ≤ r → r < end → end ≤ length used
     → (IsBudget (task_by course (Some (get_or used r 0)) vcpu) task.cost task.period → ⊥)
@@ -139,7 +139,7 @@ pub ready_since : (course : CourseView) (event v first : ℕ) → IsReadyFrom co
     → StaysReady course event v
 ready_since course event v first is le = λ n low high. is.ready n (omega arith) high
 
--- and doesn't from before
+-- a vCPU that is blocked at a count isn't runnable from before it on
 pub blocked_since : (course : CourseView) (event v first : ℕ) → IsReadyFrom course v first → event + 1 < first
     → StopsReady course event v
 blocked_since course event v first is lt = record {

@@ -32,7 +32,7 @@ few_with : (ran : Option ℕ) (from end : ℕ) → length (piece_with ran from e
 few_with None from end = omega arith
 few_with (Some v) from end = omega arith
 
--- so stints have no more pieces than they are
+-- stints have no more pieces than they are
 pub pieces_few : (stints : List Stint) → length (pieces_of stints) ≤ length stints
 pieces_few [] = omega arith
 pieces_few (st ∷ stints) =
@@ -52,7 +52,7 @@ pieces_on_more s c core at =
     ∙ sym (flat_map_more f [] (take c s.cores) (get_or s.cores c core))
     ∙ ap (λ (k : CoreState). pieces_on (take c s.cores) ++ pieces_of k.stints) here
 
--- and of one stint more
+-- the pieces of one stint more
 pub pieces_more : (old : List RanPiece) (stints : List Stint) (k : ℕ) (st : Stint) → k < length stints
     → st ≡ get_or stints k st → old ++ pieces_of (take (k + 1) stints) ≡ (old ++ pieces_of (take k stints)) ++ piece_of st
 pieces_more old stints k st lt is =
@@ -72,7 +72,7 @@ pieces_on_room s c core at =
     let size = length-flat_map (λ (k : CoreState). pieces_of k.stints) (take c s.cores) in
     omega arith
 
--- and all pieces aren't
+-- all pieces are no more than all stints
 pub pieces_on_few : (s : State) → length (pieces_on s.cores) ≤ stints_in s
 pieces_on_few s =
     let f : CoreState → ℕ = λ (k : CoreState). length (pieces_of k.stints) in
@@ -96,7 +96,7 @@ count_with v x None from end = no_cell (nat_le from x) (nat_lt x end) where
   no_cell false b = refl
 count_with v x (Some w) from end = omega arith
 
--- so do those of stints
+-- the pieces of stints cover what the stints run
 count_of : (v x : ℕ) (stints : List Stint) → count_by (covers_for v x) (pieces_of stints) ≡ count_by (runs_in v x) stints
 count_of v x [] = refl
 count_of v x (st ∷ stints) =
@@ -108,7 +108,7 @@ count_of v x (st ∷ stints) =
       count_of v x stints,
     )
 
--- and of cores
+-- the pieces of cores cover what their stints run
 count_on : (v x : ℕ) (cores : List CoreState) → count_by (covers_for v x) (pieces_on cores) ≡ stints_running v x cores
 count_on v x [] = refl
 count_on v x (core ∷ cores) =
@@ -154,7 +154,7 @@ chain_on from to [] chain ticks = omega (arith, chain)
 chain_on from to (s ∷ ss) chain ticks =
     omega (arith, ticks 0 s refl, chain.0, chain_on s.end to ss chain.1 (λ i u g. ticks (suc i) u g))
 
--- no stint of it ends behind it
+-- no stint of it ends after it
 ends_within : (from to : ℕ) (ss : List Stint) (k : ℕ) (t : Stint) → AreContiguous from ss to
     → ((i : ℕ) (u : Stint) → slice_get ss i ≡ Some u → u.from < u.end) → slice_get ss k ≡ Some t → t.end ≤ to
 ends_within from to [] k t chain ticks h = absurd cc
@@ -190,7 +190,7 @@ pieces_tell course rounds s ok kept whole = record {
   count = λ v x. count_on v x s.cores ∙ runs_once course rounds s v x ok kept;
 }
 
--- and in another order they do too
+-- the pieces of all cores in another order are those of the run too
 pub tell_moved : (rounds : ℕ) (s : State) (first pieces : List RanPiece) → IsPermutation first pieces
     → TellRuns rounds s first → TellRuns rounds s pieces
 tell_moved rounds s first pieces moved tell =
@@ -220,7 +220,7 @@ sum_none rounds s pieces k p few tell order at first =
     ran_none rounds s pieces few tell order p.vcpu p.from
     (subst (IsBegun pieces p.vcpu p.from) first (begun_here rounds s pieces few tell order k p at))
 
--- nor behind another's
+-- before a piece of another vCPU than the last nothing more ran
 pub sum_other : (rounds : ℕ) (s : State) (pieces : List RanPiece) (k : ℕ) (p last : RanPiece) → rounds ≤ MAX_ROUNDS
     → TellRuns rounds s pieces → AreInPlace pieces → slice_get pieces k ≡ Some p → 1 ≤ k
     → slice_get pieces (k - 1) ≡ Some last → (last.vcpu ≡ p.vcpu → ⊥) → ticks_run s p.vcpu 0 p.from ≡ 0
@@ -231,7 +231,7 @@ sum_other rounds s pieces k p last few tell order at some before other =
     ran_other rounds s pieces few tell order p.vcpu p.from (k - 1) last (omega arith)
     (subst (IsBegun pieces p.vcpu p.from) next (begun_here rounds s pieces few tell order k p at)) before other
 
--- and as much as by the end of the one before, where that is the same vCPU's
+-- before a piece of the last one's vCPU as much ran as by the end of the last
 pub sum_same : (rounds : ℕ) (s : State) (pieces : List RanPiece) (k : ℕ) (p last : RanPiece) → rounds ≤ MAX_ROUNDS
     → TellRuns rounds s pieces → AreInPlace pieces → slice_get pieces k ≡ Some p → 1 ≤ k
     → slice_get pieces (k - 1) ≡ Some last → last.vcpu ≡ p.vcpu

@@ -197,7 +197,7 @@ module _ (rounds : ℕ) (s : State) (pieces : List RanPiece) (few : rounds ≤ M
       other has.place has.piece
       (begun_before v t n has.place has.piece begun has.at has.of (omega arith)) has.at has.of))
 
-  -- so where there is no first one
+  -- a vCPU without a first piece didn't run before the tick
   pub ran_none : (v t : ℕ) → IsBegun pieces v t 0 → ticks_run s v 0 t ≡ 0
   ran_none v t begun = ran_nothing v t 0 begun (λ k p lt at of. absurd (omega arith))
 
@@ -293,7 +293,7 @@ module _ (rounds : ℕ) (s : State) (pieces : List RanPiece) (before : List ℕ)
   pub before_is : (k : ℕ) (p : RanPiece) → slice_get pieces k ≡ Some p → get_or before k 0 ≡ ticks_run s p.vcpu 0 p.from
   before_is k p at = are.ran k (get_or before k 0) p at (before_at k p at)
 
-  -- and up to its end
+  -- at how many ticks a piece's vCPU ran up to its end
   pub after_is : (k : ℕ) (p : RanPiece) → slice_get pieces k ≡ Some p
       → ticks_run s p.vcpu 0 p.end ≡ get_or before k 0 + (p.end - p.from)
   after_is k p at =
@@ -325,7 +325,7 @@ module _ (rounds : ℕ) (s : State) (pieces : List RanPiece) (before : List ℕ)
       ran_other rounds s pieces few are.tell are.order v t (n - 1) last small
       (subst (IsBegun pieces v t) next begun) at other
 
-  -- and where none began
+  -- nothing ran where no piece began
   pub ran_at_none : (v t n : ℕ) → n ≡ 0 → IsBegun pieces v t n → ticks_run s v 0 t ≡ 0
   ran_at_none v t n none begun =
       ran_none rounds s pieces few are.tell are.order v t (subst (IsBegun pieces v t) none begun)
@@ -380,7 +380,7 @@ module _ (rounds : ℕ) (s : State) (pieces : List RanPiece) (before : List ℕ)
       let same = get_or_from_slice_get before k b 0 is in
       omega arith
 
-  -- it doesn't: nor do those behind it
+  -- it doesn't: nor do those after it
   pub rest_from : (v ticks m k b : ℕ) (p q : RanPiece) → slice_get pieces m ≡ Some q
       → place_of v ticks ≤ place_of q.vcpu (after_piece (get_or before m 0) q) → m ≤ k
       → slice_get pieces k ≡ Some p → slice_get before k ≡ Some b
@@ -523,7 +523,7 @@ other_there rounds s pieces before v ticks n q few are some small first at other
     let p_some = are.tell.some k p here in
     other (omega arith)))
 
--- nor where there is none
+-- where there is no piece, the work was never done there
 pub none_there : (rounds : ℕ) (s : State) (pieces : List RanPiece) (before : List ℕ) (v ticks n : ℕ)
     → rounds ≤ MAX_ROUNDS → AreRuns rounds s pieces before → 1 ≤ ticks → IsFirstWith pieces before v ticks n
     → n ≡ length pieces → (x : ℕ) → ticks_run s v 0 x < ticks
@@ -548,7 +548,7 @@ done_reached rounds s v work seen e some reached =
       least = λ x low more. reached.least x (let split = from_start s v seen x low in omega arith);
     }
 
--- and never where they never are
+-- work is never done where as many ticks more are never run
 pub never_done : (rounds : ℕ) (s : State) (v work seen e : ℕ)
     → ((x : ℕ) → ticks_run s v 0 x < ticks_run s v 0 seen + work) → IsDoneAt rounds s v work seen e → ⊥
 never_done rounds s v work seen e never at =
@@ -576,7 +576,7 @@ beyond s v work seen rounds e few many le at =
     let in_run = at.in_run in
     omega arith
 
--- so of what is reached, if anything is
+-- the tick of what is reached, if anything is, is that of the work
 pub done_if_reached : (rounds : ℕ) (s : State) (v work seen : ℕ) (result : Option ℕ) → 1 ≤ work
     → IsReached rounds s v (ticks_run s v 0 seen + work) result → IsOneIfAny (IsDoneAt rounds s v work seen) result
 done_if_reached rounds s v work seen None some never = λ e at. never_done rounds s v work seen e never at

@@ -23,7 +23,7 @@ from_here : (events : List Event) (i : ℕ) (event : Event) → i < length event
 from_here events i event lt is =
     ap (bursts_from i) (drop_more events i event lt ∙ ap (λ (e : Event). e ∷ drop (i + 1) events) (sym is))
 
--- an element behind a front
+-- an element after a prefix
 at_front : {X : Type 0} (front rest : List X) (x : X) → slice_get (front ++ x ∷ rest) (length front) ≡ Some x
 at_front [] rest x = refl
 at_front (y ∷ front) rest x = at_front front rest x
@@ -69,7 +69,7 @@ no_burst_here events i k event so_far lt is other = record {
   count = so_far.count;
 }
 
--- behind the last event they are all
+-- after the last event they are all
 pub all_bursts : (events : List Event) (i k : ℕ) → BurstsSoFar events i k → length events ≤ i
     → k ≡ length (bursts_of events)
 all_bursts events i k so_far le =
@@ -97,7 +97,7 @@ few_at number tick (Block vcpu) = omega arith
 few_at number tick (Change edits) = omega arith
 few_at number tick (Burst vcpu work) = omega arith
 
--- so there are no more bursts than events
+-- there are no more bursts than events
 pub few_bursts : (number : ℕ) (events : List Event) → length (bursts_from number events) ≤ length events
 few_bursts number [] = omega arith
 few_bursts number (event ∷ events) =

@@ -100,7 +100,7 @@ pub seen_by_all : (s : State) (event x : ℕ)
 seen_by_all s event x all =
     λ c y core st at covers low. all c core at covers.place st covers.at (let going = covers.going in omega arith)
 
--- and the other way round
+-- from a tick on from which the event is seen each core's stints have seen it
 pub all_see : (course : CourseView) (rounds : ℕ) (s : State) (event x : ℕ) → StateInvariant course rounds s
     → IsSeenFrom s event x → (c : ℕ) (core : CoreState) → IsCore s c core → SeesFrom event x core.stints
 all_see course rounds s event x kept seen c core at k st listed beyond =
@@ -118,7 +118,7 @@ seen_in_run course rounds s event x kept below lt = record {
   least = λ y seen. below.least y (λ c core small at. all_see course rounds s event y kept seen c core at);
 }
 
--- and otherwise there is none
+-- where the least tick for all cores isn't in the run there is none
 pub not_seen_in_run : (course : CourseView) (rounds : ℕ) (s : State) (event x y : ℕ)
     → StateInvariant course rounds s → IsSeenBelow s course.cores event x → rounds * ROUND ≤ x
     → IsSeenAt rounds s event y → ⊥
@@ -157,7 +157,7 @@ test_stint event x st = elim (cases_lt x st.end) [
   | inr past ↦ inl (λ h. absurd (omega arith))
 ]
 
--- so of each stint of each core
+-- whether each stint of each core beyond the tick has seen the event can be tested
 test_seen : (event x : ℕ) (s : State)
     → ((c : ℕ) (core : CoreState) → slice_get s.cores c ≡ Some core → SeesFrom event x core.stints)
     ⊎ (((c : ℕ) (core : CoreState) → slice_get s.cores c ≡ Some core → SeesFrom event x core.stints) → ⊥)

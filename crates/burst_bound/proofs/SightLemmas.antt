@@ -18,7 +18,7 @@ raised_none event n old stints count none = record {
   is = omega arith;
 }
 
--- and otherwise it is to the end of the last that hasn't
+-- what is raised is raised to the end of the last stint that hasn't seen the event
 pub raised_last : (event n old new : ℕ) (stints : List Stint) (last : Stint) → AreInOrder stints
     → IsUnseenCount event stints n → 0 < n → slice_get stints (n - 1) ≡ Some last → new ≡ max old last.end
     → IsRaised event stints old new
@@ -47,7 +47,7 @@ raised_more stints first before event new lt raised here e low = elim (cases_lt 
       rw (place, same) here)
 ]
 
--- those behind it are as they were
+-- those after it are as they were
 pub rest_more : (first before : List ℕ) (event new : ℕ)
     → ((e : ℕ) → event ≤ e → get_or before e 0 ≡ get_or first e 0)
     → (e : ℕ) → event + 1 ≤ e → get_or (set before event new) e 0 ≡ get_or first e 0

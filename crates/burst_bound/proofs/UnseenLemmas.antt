@@ -46,7 +46,7 @@ seen_behind event n stints last order parts at = λ k st is beyond. (elim (cases
   | inr behind ↦ parts.seen k st behind is
 ])
 
--- and from none before it
+-- before the end of the last stint that hasn't seen the event, not all have
 pub not_before : (event n x : ℕ) (stints : List Stint) (last : Stint) → IsUnseenCount event stints (suc n)
     → slice_get stints n ≡ Some last → SeesFrom event x stints → last.end ≤ x
 not_before event n x stints last parts at sees = elim (cases_lt x last.end) [

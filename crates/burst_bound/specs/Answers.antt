@@ -1,4 +1,4 @@
--- What is told of a burst of a run.
+-- What is reported of a burst of a run.
 -- Source: the rules of this project.
 use Rattle.std.specs.Prelude.{◌≡◌, ℕ, ◌≤◌, Option, None, Some, MatchOption}
 use Rattle.table_form.specs.Running.Courses.{CourseView}
@@ -10,7 +10,8 @@ use Rattle.burst_bound.specs.declared.answer.BurstAnswer.{BurstAnswer}
 abbrev pub IsOneIfAny : (ℕ → Type 0) → Option ℕ → Type 0
 IsOneIfAny Is tick = MatchOption tick ((x : ℕ) → ¬ (Is x)) Is
 
--- the same of ticks that depend on when the burst is seen; where it isn't, there is none
+-- the tick is such a one, of ticks that depend on when the burst is seen; where it isn't, there is
+-- none
 abbrev pub IsOneSince : (ℕ → ℕ → Type 0) → Option ℕ → Option ℕ → Type 0
 IsOneSince Is None tick = tick ≡ None
 IsOneSince Is (Some seen) tick = IsOneIfAny (Is seen) tick

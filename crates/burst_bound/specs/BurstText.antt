@@ -23,10 +23,11 @@ burst_line name k burst answer = line_of
 abbrev pub no_burst : ScriptBurst
 no_burst = record { event = 0; tick = 0; vcpu = 0; work = 0 }
 
+-- what stands for the answer of a burst that a list of answers doesn't have
 abbrev pub no_answer : BurstAnswer
 no_answer = record { seen = None; bound = None; done = None }
 
--- the same out of lists of bursts and of their answers
+-- the line of a burst out of lists of bursts and of their answers
 abbrev pub burst_line_at : List (List ℕ) → List ScriptBurst → List BurstAnswer → ℕ → List ℕ
 burst_line_at names bursts answers k =
     let burst = slice_index_or bursts k no_burst in

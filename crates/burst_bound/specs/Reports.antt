@@ -1,4 +1,4 @@
--- What is told of all bursts of a run.
+-- What is reported of all bursts of a run.
 -- Source: the rules of this project.
 use Rattle.std.specs.Prelude.{◌≡◌, ℕ, ◌≤◌, List, Some, length, slice_get}
 use Rattle.stint_limit.specs.StintBounds.{stints_in}
@@ -16,6 +16,7 @@ pub record BurstReportView : Type 0 where
   pub stints : ℕ
   pub events : ℕ
 
+-- a report of bursts by its parts
 abbrev pub burst_report_view : List BurstAnswer → ℕ → ℕ → ℕ → BurstReportView
 burst_report_view answers rounds stints events = record {
   answers = answers;

@@ -1,4 +1,4 @@
-/// What is told of a burst, in ticks from the start of the run.
+/// What is reported of a burst, in ticks from the start of the run.
 #[derive(Clone, Copy, Debug, PartialEq, Eq)]
 pub struct BurstAnswer {
     /// From when on each core has seen it, if all do before the run's end.

@@ -12,7 +12,8 @@ use core_workers::Crew;
 use tab_core::{CoreNo, VcpuNo};
 use table_form::Course;
 
-/// What is told of an event that brings so many ticks of work for the vCPU, in a whole run that the crew keeps.
+/// What is answered of an event that brings so many ticks of work for the vCPU, in a whole run that the crew
+/// keeps.
 ///
 /// It is seen from the least tick of the run on from which on every core's stints have seen it. It is done
 /// at the least tick of the run up to which the vCPU has run, since it was seen, at as many ticks as it has

@@ -12,11 +12,11 @@ use tab_io::{Sink, WriteFault};
 use tab_words::{TextPiece, put_line};
 use vcpu_names::name_in;
 
-/// Writes a line for each burst of the script with what is told of it, in their order, for the names of a
+/// Writes a line for each burst of the script with what is reported of it, in their order, for the names of a
 /// host: `burst K NAME at TICK work WORK seen TICK bound TICK done TICK`, with `-` for a tick that there isn't.
 ///
-/// There is one answer for each burst. A fault leaves a front of the text in the sink. Nothing is settled,
-/// and nothing is allocated.
+/// There is one answer for each burst. A fault leaves a prefix of the text in the sink. Nothing is
+/// settled, and nothing is allocated.
 pub fn write_bursts<K: Sink>(
     sink: &mut K,
     host: &Host,
@@ -86,7 +86,7 @@ fn tick_piece(tick: &Option<u32>) -> TextPiece<'static>
     }
 }
 
-// The same of a wide number.
+// The wide tick, or `-` where there is none.
 fn wide_piece(tick: &Option<u64>) -> TextPiece<'static>
     ensures { piece_text result ≡ tick_word tick.now }
 {

@@ -86,7 +86,7 @@ fn reached_at(pieces: &[RanPiece], before: &[u32], vcpu: u32, ticks: u32) -> Opt
 }
 
 // The first of the pieces by whose end its vCPU ran at so many ticks, among those of the vCPU, or else the first
-// behind these.
+// after these.
 fn first_with(pieces: &[RanPiece], before: &[u32], vcpu: u32, ticks: u32) -> usize
     requires { (rounds : ℕ) × (s : StateValue) × (rounds ≤ MAX_ROUNDS)
         × AreRuns rounds s pieces.now before.now }

@@ -21,7 +21,7 @@ use std::marker::Model;
 use tab_core::{CoreNo, NoMemory, ROUND, VcpuNo};
 use table_form::Course;
 
-/// What is told of all bursts of a run. All its memory is taken as it is made.
+/// What is reported of all bursts of a run. All its memory is taken as it is made.
 ///
 /// No burst walks all stints: when each event is seen is found once for all of them, and what each vCPU ran is
 /// put in order once, and found by bisection. Contracts see
@@ -54,7 +54,7 @@ impl Model for BurstReport {
 impl BurstReport {
     /// A report without answers, with room for a run of so many rounds, stints and events.
     ///
-    /// Fails only for want of memory.
+    /// Fails only when memory runs out.
     pub fn room(
         alloc: Global,
         rounds: u32,
@@ -106,7 +106,7 @@ impl BurstReport {
         );
     }
 
-    /// What is told of each burst, in the order of the script.
+    /// What is reported of each burst, in the order of the script.
     pub fn answers(&self) -> &[BurstAnswer]
         ensures { result.now ≡ self.now.answers }
     {
@@ -129,7 +129,7 @@ pub fn burst_count(script: &Script) -> u32
     count
 }
 
-// What is told of each burst of the script.
+// What is reported of each burst of the script.
 fn answer_all(
     course: &Course,
     rounds: u32,
@@ -170,7 +170,8 @@ fn answer_all(
     }
 }
 
-// What is told of the burst that this event is, which all cores have seen from the tick `latest` on.
+// What is reported of the burst that this event is, which all cores have seen from the tick `latest`
+// on.
 fn answer_of(
     course: &Course,
     rounds: u32,

@@ -1,4 +1,4 @@
--- A run whose stints are all kept: it can be told of, and there is room for that.
+-- A run whose stints are all kept: it can be reported, and there is room for that.
 use Rattle.std.proofs.Common.{ℕ, ◌<◌, refl, sym, ap, ◌∙◌, arith}
 use Rattle.std.proofs.lemmas.Option.{slice_get_within}
 use Rattle.tab_words.specs.declared.command.RunMode.TheVariants.{Burst}

@@ -1,4 +1,4 @@
-//! What is told of bursts, judged tick by tick.
+//! What is reported of bursts, judged tick by tick.
 use crate::running::Shown;
 use crate::settings::{Setting, bit, bit_of};
 use burst_bound::BurstAnswer;
@@ -48,7 +48,7 @@ pub(crate) struct Burst {
     pub(crate) work: u32,
 }
 
-// A burst, what was told of it, and what becomes of its bound, if it is seen.
+// A burst, what was reported of it, and what becomes of its bound, if it is seen.
 #[derive(Clone, Copy, Debug)]
 pub(crate) struct Judged {
     pub(crate) burst: Burst,

@@ -1,6 +1,6 @@
-//! The tests of bursts in whole runs: what is told of each burst is judged tick by tick, by a plain test that
-//! shares nothing with the crate that tells it. They stand apart since a crate with tests is proved twice, with
-//! them and without.
+//! The tests of bursts in whole runs: what is reported of each burst is judged tick by tick, by a plain test
+//! that shares nothing with the crate that reports it. They are a crate of their own, since a crate with tests
+//! is proved twice, with them and without.
 #![tactic(auto)]
 
 #[cfg(test)]

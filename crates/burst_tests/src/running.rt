@@ -75,7 +75,7 @@ fn shown_of(
     })
 }
 
-// A run of a scene, whose bursts are told.
+// A run of a scene, whose bursts are reported.
 pub(crate) fn run_scene<R: Threads + Sync, G: Gate>(
     rt: &R,
     alloc: Global,

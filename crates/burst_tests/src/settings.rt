@@ -19,7 +19,7 @@ pub(crate) fn bit_of(vcpu: Option<VcpuNo>) -> u64 {
     }
 }
 
-// What a plan says: the budgets by vCPU, and who stands on two cores.
+// What a plan says: the budgets by vCPU, and who is on two cores.
 #[derive(Drop)]
 pub(crate) struct Budgets {
     pub(crate) tasks: Vec<Option<Periodic>>,
@@ -57,7 +57,7 @@ impl Setting {
     }
 }
 
-// Who is runnable is told by the events alone, and who is capped by the host.
+// Who is runnable is said by the events alone, and who is capped by the host.
 pub(crate) fn setting_of(
     alloc: Global,
     rounds: u32,
@@ -86,7 +86,7 @@ pub(crate) fn setting_of(
     })
 }
 
-// Who stands in the rows of two cores.
+// Who is in the rows of two cores.
 fn split_in(rows: &[CoreTable]) -> u64 {
     let mut met = 0;
     let mut split = 0;

@@ -27,7 +27,7 @@ fits_down jobs v x f t (suc d) is some within fits =
     fits_down jobs v x f t d is some (omega arith)
     (subst (λ y. FitsBeside jobs (tight v y f t)) same one_less)
 
--- so where a cut doesn't fit, no longer one does
+-- where a cut doesn't fit, no longer one does
 pub longer_misses : (jobs : List Job) (v x more f t : ℕ) → IsPeriod t → 1 ≤ x → x ≤ more
     → f + more ≤ t → (FitsBeside jobs (tight v x f t) → ⊥) →
     FitsBeside jobs (tight v more f t) → ⊥
@@ -37,7 +37,7 @@ longer_misses jobs v x more f t is some le within miss fits =
     (subst (λ y. FitsBeside jobs (tight v y f t)) same fits))
 
 -- of the first n windows of cuts of x and of y ticks, those inside an interval: none of x, or count
--- + 1, which stand a period apart
+-- + 1, which are a period apart
 record Inside (v x y f t from to n : ℕ) : Type 0 where
   count : ℕ
   demand : demand_in (first_jobs (tight v x f t) n) from to
@@ -93,7 +93,7 @@ insides v x y f t from to (suc n) le =
           ])
     ]
 
--- a cut that lacks less than the interval's excess overloads it too
+-- a cut that is shorter by less than the interval's excess overloads it too
 pub still_over : (cores : List (List Piece)) (core v cost less f t : ℕ) (over : Over) → 1 ≤ t
     → IsOverloadWith cores (tight v cost f t) core over → over.to - over.from < over.demand →
     cost - (over.demand - (over.to - over.from) - 1) / ((over.to - over.from - cost) / t + 1) ≤ less

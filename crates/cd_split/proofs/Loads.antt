@@ -36,7 +36,7 @@ subtask_load s within is =
     let facts = period_facts s.period is in
     round_demand s (ROUND / s.period) within (omega (arith, facts.whole))
 
--- so the load of pieces is their demand of the whole round
+-- the load of pieces is their demand of the whole round
 pub load_demand : (ps : List Piece) → demand_in (jobs_of ps) 0 ROUND ≡ load ps
 load_demand [] = rw jobs_of-nil (demand_in-none 0 ROUND)
 load_demand (p ∷ ps) =

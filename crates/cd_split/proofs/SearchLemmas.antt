@@ -26,7 +26,7 @@ cut_is cores left unused piece homeless cut =
       greatest = cut.greatest;
     }
 
--- what splits behind a cut splits with it
+-- what splits after a cut splits with it
 pub splits_after_cut : (cores : List (List Piece)) (left : Left) (unused : List ℕ) (piece : Piece)
     (pieces : List Piece) → IsHomeless cores left unused → IsCutPiece cores left unused piece →
     Splits cores (behind left piece.cost) (without piece.core unused) pieces
@@ -35,7 +35,7 @@ splits_after_cut cores left unused piece pieces homeless cut next =
     Cut left unused piece.core piece.cost piece pieces (cut_is cores left unused piece homeless cut)
     (refl, cut.shape) next
 
--- and what is refused behind a cut is refused
+-- what is refused after a cut is refused with it
 pub refuses_after_cut : (cores : List (List Piece)) (left : Left) (unused : List ℕ) (piece : Piece)
     (rest : ℕ) (over : List Over) → IsHomeless cores left unused
     → IsCutPiece cores left unused piece →

@@ -14,7 +14,7 @@ use Rattle.cd_split.specs.Splitting.{FitsWith, IsPieceOf, Left, Splits, behind, 
 use Rattle.cd_split.specs.Splitting.Splits.{AtHome, Cut}
 use Rattle.cd_split.proofs.Trials.{jobs_of-push}
 
--- the unused cores behind a cut were unused before it
+-- the unused cores after a cut were unused before it
 pub still_unused : (core other : ℕ) (unused : List ℕ) → Contains (without core unused) other
     → Contains unused other
 still_unused core other unused there =
@@ -22,7 +22,7 @@ still_unused core other unused there =
     (All-filter (λ c. not (c == core)) (Contains unused) unused (All-contains_itself unused))
     there
 
--- and the core of the cut is none of them, so no core is used twice
+-- the core of a cut is none of the unused cores after it, so no core is used twice
 not_without : (core other : ℕ) (unused : List ℕ) → Contains (without core unused) other → other ≢ core
 not_without core other unused there e =
     let passes = All-contains (λ c. not (c == core) ≡ true) (without core unused) other
@@ -71,7 +71,7 @@ splits_fit cores left unused pieces there (Cut l u core cost piece ps cut is nex
     (splits_fit cores (behind l cost) (without core u) ps
     (All-filter (λ c. not (c == core)) (λ c. c < length cores) u there) next)
 
--- each stands on an unused core
+-- each is on an unused core
 splits_unused : (cores : List (List Piece)) (left : Left) (unused : List ℕ) (pieces : List Piece)
     → Splits cores left unused pieces →
     All (λ p. Contains unused p.core) pieces
@@ -85,13 +85,13 @@ splits_unused cores left unused pieces (Cut l u core cost piece ps cut is next) 
     (λ p there. still_unused core p.core u there) ps
     (splits_unused cores (behind l cost) (without core u) ps next))
 
--- one piece stands apart
+-- one piece is on a core of its own
 apart_one : (piece : Piece) → StandApart (piece ∷ [])
 apart_one piece zero zero a b at at' same = refl
 apart_one piece zero (suc j) a b at at' same = absurd (cc)
 apart_one piece (suc i) j a b at at' same = absurd (cc)
 
--- and a piece on a core of its own before pieces that do
+-- pieces are on cores of their own with one more that is on none of theirs
 apart_cons : (piece : Piece) (ps : List Piece) → All (λ p. p.core ≢ piece.core) ps → StandApart ps
     → StandApart (piece ∷ ps)
 apart_cons piece ps others apart zero zero a b at at' same = refl
@@ -99,7 +99,7 @@ apart_cons piece ps others apart zero (suc j) a b at at' same = absurd (grind (a
 apart_cons piece ps others apart (suc i) zero a b at at' same = absurd (grind (arith, gets, others i a))
 apart_cons piece ps others apart (suc i) (suc j) a b at at' same = ap (λ n. suc n) (apart i j a b at at' same)
 
--- no two stand on one core
+-- no two are on one core
 pub splits_apart : (cores : List (List Piece)) (left : Left) (unused : List ℕ) (pieces : List Piece)
     → Splits cores left unused pieces → StandApart pieces
 splits_apart cores left unused pieces (AtHome l u core piece first is) = apart_one piece

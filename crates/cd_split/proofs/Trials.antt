@@ -16,7 +16,7 @@ use Rattle.edf_table.specs.Overloads.{IsReported, IsReportedOf, core_of}
 use Rattle.cd_split.specs.Cores.{LackVcpu, ShareCore, pieces_on}
 use Rattle.cd_split.specs.Splitting.{FitsWith, IsOverloadWith, IsPieceOf}
 
--- its jobs come behind those of the others
+-- its jobs come after those of the others
 pub jobs_of-push : (ps : List Piece) (p : Piece)
     → jobs_of (ps ++ p ∷ []) ≡ jobs_of ps ++ jobs_of_subtask (subtask_of p)
 unfolding jobs_of
@@ -38,13 +38,13 @@ pub distinct_push : (ps : List Piece) (p : Piece) → DistinctVcpus ps → LackV
 distinct_push ps p distinct lack i j a b at at' same =
     grind (arith, common_steps, gets, distinct i j a b, lack i a, lack j b)
 
--- the piece stands on the core of the others, so all with it do
+-- the piece is on the core of the others, so all with it do
 pub core_of-push : (ps : List Piece) (p : Piece) → All (λ q. q.core ≡ p.core) ps
     → core_of (ps ++ p ∷ []) ≡ p.core
 core_of-push [] p own = refl
 core_of-push (q ∷ ps) p own = All-head (λ (r : Piece). r.core ≡ p.core) q ps own
 
--- what is told of a core's pieces with one more, said of the piece beside the others
+-- what a core's pieces with one more come to, said of the piece beside the others
 pub told_beside : (ps : List Piece) (p : Piece) (trial : List Piece) (found : Option Over)
     → trial ≡ ps ++ p ∷ [] → All (λ q. q.core ≡ p.core) ps → IfNone found (Fits (jobs_of trial)) →
     IfSome found (IsReportedOf trial)
@@ -55,7 +55,7 @@ told_beside ps p trial (Some o) is own fits over =
     subst (λ js. IsReported p.core js o) (ap jobs_of is ∙ jobs_of-push ps p)
     (subst (λ core. IsReported core (jobs_of trial) o) (ap core_of is ∙ core_of-push ps p own) over)
 
--- a subtask that is told to overload an interval doesn't fit
+-- a subtask that is reported to overload an interval doesn't fit
 pub not_both : (cores : List (List Piece)) (s : Subtask) (core : ℕ) (over : Over)
     → IsOverloadWith cores s core over → FitsWith (pieces_on cores core) s → ⊥
 not_both cores s core over told fits =
@@ -64,7 +64,7 @@ not_both cores s core over told fits =
     let much = overloaded.too_much in
     omega arith
 
--- so the piece's subtask fits on the core exactly where nothing is told
+-- the piece's subtask fits on the core exactly where no interval is reported
 pub told_takes : (cores : List (List Piece)) (s : Subtask) (core : ℕ) (p : Piece) (found : Option Over)
     (takes : Bool) → IsPieceOf core s p → is_some found ≡ not takes →
     MatchOption found (FitsWith (pieces_on cores p.core) (subtask_of p))

@@ -21,7 +21,7 @@ one_first cores c d (inl a) (inr b) = absurd (omega (arith, b.0))
 one_first cores c d (inr a) (inl b) = absurd (omega (arith, a.0))
 one_first cores c d (inr a) (inr b) = absurd (omega (arith, a.1, b.1))
 
--- so the first core is one
+-- the first core that does is one
 first_core_unique : (cores : List (List Piece)) (unused : List ℕ) (Does : ℕ → Type 0) (c d : ℕ)
     → IsFirstCore cores unused Does c → IsFirstCore cores unused Does d → c ≡ d
 first_core_unique cores unused Does c d of_c of_d = elim (cases_eq c d) [
@@ -38,20 +38,20 @@ greatest_unique cores left core x y of_x of_y =
     let high = of_y.greatest x of_x.part of_x.fits in
     omega arith
 
--- the same cut: its core
+-- two greatest cuts have one core
 cut_core : (cores : List (List Piece)) (left : Left) (unused : List ℕ) (c x d y : ℕ)
     → IsCut cores left unused c x → IsCut cores left unused d y → d ≡ c
 cut_core cores left unused c x d y a b =
     first_core_unique cores unused (TakesCut cores left) d c b.first a.first
 
--- and its cost
+-- two greatest cuts have one cost
 cut_cost : (cores : List (List Piece)) (left : Left) (unused : List ℕ) (c x d y : ℕ)
     → IsCut cores left unused c x → IsCut cores left unused d y → y ≡ x
 cut_cost cores left unused c x d y a b =
     let same = cut_core cores left unused c x d y a b in
     greatest_unique cores left c y x (subst (λ e. IsGreatestCut cores left e y) same b.greatest) a.greatest
 
--- so what is left behind the two is the same
+-- what is left after two greatest cuts is the same
 same_behind : (P : Left → List ℕ → Type 0) (left : Left) (unused : List ℕ) (c x d y : ℕ) → d ≡ c → y ≡ x
     → P (behind left y) (without d unused) → P (behind left x) (without c unused)
 same_behind P left unused c x d y core cost h =
@@ -126,7 +126,7 @@ reported_unique core jobs a b of_a of_b =
     let same : over a.core a.from a.to a.demand ≡ over b.core b.from b.to b.demand = cc in
     same
 
--- so do the unused cores with the rest
+-- unused cores and a subtask have one list of reported intervals
 overloads_unique : (cores : List (List Piece)) (s : Subtask) (unused : List ℕ) (os ps : List Over)
     → AllZip (IsOverloadWith cores s) unused os → AllZip (IsOverloadWith cores s) unused ps → os ≡ ps
 overloads_unique cores s [] [] [] a b = refl
@@ -156,18 +156,18 @@ refuses_unique cores left unused rest rest' over over' (AfterCut l u core cost r
     (same_behind (λ m v. Refuses cores m v r' o') l u core cost d y
     (cut_core cores l u core cost d y cut cut') (cut_cost cores l u core cost d y cut cut') next')
 
--- the same for a whole vCPU: its pieces are one
+-- the pieces of a whole vCPU are one list
 pub one_split : (cores : List (List Piece)) (vcpu : ℕ) (task : Periodic) (ps qs : List Piece)
     → IsSplit cores vcpu task ps → IsSplit cores vcpu task qs → AllZip IsSamePiece qs ps
 one_split cores vcpu task = splits_unique cores (all_of vcpu task) (core_numbers cores)
 
--- so is its refusal
+-- a whole vCPU has one refusal
 pub one_refusal : (cores : List (List Piece)) (vcpu : ℕ) (task : Periodic) (rest rest' : ℕ)
     (over over' : List Over) → IsSplitRefused cores vcpu task rest over
     → IsSplitRefused cores vcpu task rest' over' → (rest ≡ rest') × (over ≡ over')
 one_refusal cores vcpu task = refuses_unique cores (all_of vcpu task) (core_numbers cores)
 
--- and it has not both
+-- a vCPU isn't both split and refused
 pub split_or_refused : (cores : List (List Piece)) (vcpu : ℕ) (task : Periodic) (pieces : List Piece)
     (rest : ℕ) (over : List Over) → IsSplit cores vcpu task pieces
     → IsSplitRefused cores vcpu task rest over → ⊥

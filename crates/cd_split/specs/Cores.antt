@@ -1,4 +1,4 @@
--- The pieces that stand on each core, by core number.
+-- The pieces that are on each core, by core number.
 use Rattle.std.specs.Prelude.{◌≡◌, ◌≢◌, ℕ, ◌≤◌, List, [], ◌∷◌, ◌++◌, All, length, slice_index_or}
 use Rattle.tab_core.specs.declared.TheConstants.{MAX_CORES}
 use Rattle.tab_core.specs.declared.piece.Piece.{Piece}
@@ -23,7 +23,7 @@ pub record ShareCore (pieces : List Piece) : Type 0 where
   pub distinct : DistinctVcpus pieces
   pub fit : Fits (jobs_of pieces)
 
--- what the pieces of the cores keep: each stands on its own core, and shares it with the others there
+-- what the pieces of the cores keep: each is on its own core, and shares it with the others there
 pub record KeepCores (cores : List (List Piece)) : Type 0 where
   pub few : length cores ≤ MAX_CORES
   pub own : (core : ℕ) → All (λ p. p.core ≡ core) (pieces_on cores core)

@@ -6,7 +6,7 @@ use Rattle.cd_split.specs.Splitting.{IsSplitRefused}
 use Rattle.cd_split.specs.declared.fault.SplitFault.{SplitFault}
 use Rattle.cd_split.specs.declared.fault.SplitFault.TheVariants.{NoRoom, NoMemory}
 
--- no room is told where splitting ends without it; want of memory says nothing of the cores
+-- the fault is that of where splitting ends without room; out of memory says nothing of the cores
 abbrev pub IsSplitFault : List (List Piece) → ℕ → Periodic → SplitFault → Type 0
 IsSplitFault cores vcpu task (NoRoom named rest over) =
     (named ≡ vcpu) × IsSplitRefused cores vcpu task rest over

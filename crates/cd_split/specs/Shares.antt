@@ -9,7 +9,7 @@ abbrev pub FitTheirCores : List (List Piece) → List Piece → Type 0
 FitTheirCores cores pieces = All (λ p. (p.core < length cores)
     × HaveRoomFor (pieces_on cores p.core) p) pieces
 
--- no two pieces stand on one core
+-- no two pieces are on one core
 abbrev pub StandApart : List Piece → Type 0
 StandApart pieces = (i j : ℕ) (a b : Piece) → slice_get pieces i ≡ Some a
     → slice_get pieces j ≡ Some b → a.core ≡ b.core → i ≡ j

@@ -32,7 +32,7 @@ pub record Left : Type 0 where
 abbrev pub all_of : ℕ → Periodic → Left
 all_of vcpu task = record { vcpu = vcpu; period = task.period; from = 0; rest = task.cost }
 
--- what is left behind a cut of so many ticks
+-- what is left after a cut of so many ticks
 abbrev pub behind : Left → ℕ → Left
 behind left cost = record left { from = left.from + cost; rest = left.rest - cost }
 

@@ -11,7 +11,7 @@ use tab_core::{CoreNo, NoMemory, Piece, Pieces};
 
 /// The pieces on each core, by core number. Contracts see the list of the cores' lists.
 ///
-/// Each piece stands on its own core, and the pieces of a core are of distinct vCPUs and fit.
+/// Each piece is on its own core, and the pieces of a core are of distinct vCPUs and fit.
 #[derive(Drop)]
 pub struct CorePieces {
     cores: Vec<Pieces>,

@@ -14,7 +14,7 @@ pub fn a_vcpu_has_one_split()
         → AllZip IsSamePiece other pieces }
 {}
 
-/// A vCPU without room lacks it for one number of ticks, with one list of overloaded intervals.
+/// A vCPU without room has one number of ticks left, with one list of overloaded intervals.
 pub fn a_vcpu_has_one_refusal()
     ensures { (cores : List (List Piece)) (vcpu : ℕ) (task : Periodic) (rest more : ℕ)
         (over other : List Over) → IsSplitRefused cores vcpu task rest over

@@ -71,7 +71,7 @@ impl Left {
         self.piece(core, cost, self.from + cost)
     }
 
-    // What is left behind a cut of so many ticks.
+    // What is left after a cut of so many ticks.
     pub(crate) fn behind(&self, cost: u32) -> Left
         requires { cost < self.now.rest }
         ensures { left_of result ≡ behind (left_of self.now) cost }

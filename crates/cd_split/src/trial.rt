@@ -8,7 +8,7 @@ use edf_table::find_overload;
 use std::alloc::Global;
 use tab_core::{NoMemory, Over, Piece};
 
-// The pieces and one more behind them.
+// The pieces and one more after them.
 fn with_piece(alloc: Global, pieces: &[Piece], piece: Piece) -> Result<Vec<Piece>, NoMemory>
     ensures { IfOk result (λ trial. trial.items ≡ pieces.now ++ piece ∷ []) }
 {

@@ -81,12 +81,12 @@ take_suc [] i d lt = absurd (omega arith)
 take_suc (p ∷ ps) zero d lt = refl
 take_suc (p ∷ ps) (suc i) d lt = ap (λ qs. p ∷ qs) (take_suc ps i d (omega arith))
 
--- the same in the form of the loop's index
+-- the pieces up to the next one, in the form of the loop's index
 take_one_more : (pieces : List Piece) (i : ℕ) (d : Piece) → i < length pieces → take
     (i + 1) pieces ≡ take i pieces ++ get_or pieces i d ∷ []
 take_one_more pieces i d lt = ap (λ n. take n pieces) (add-one i) ∙ take_suc pieces i d lt
 
--- a piece among the first ones stands at an earlier place, so it isn't the next one
+-- a piece among the first ones is at an earlier place, so it isn't the next one
 before_is_earlier : (pieces : List Piece) (i j : ℕ) (p : Piece)
     → slice_get (take i pieces) j ≡ Some p → (j < i) ×
     (slice_get pieces j ≡ Some p)
@@ -178,7 +178,7 @@ none_seen = record {
 member_same : (set : List Bool) (v : ℕ) (b : Bool) → v < length set → has_vcpu (slice_set set v b) v ≡ b
 member_same set v b lt = get_or-set_same set v b false lt
 
--- and the others, who stay
+-- a vCPU that isn't put in or taken out stays
 member_other : (set : List Bool) (v w : ℕ) (b : Bool) → w ≢ v
     → has_vcpu (slice_set set v b) w ≡ has_vcpu set w
 member_other set v w b other = get_or-set_other set v w b false other
@@ -235,7 +235,7 @@ seen_again pieces i p seen single lt is old have =
       ];
     }
 
--- and one that has none gets its first
+-- a vCPU that has no piece yet gets its first
 pub seen_first : (pieces : List Piece) (i : ℕ) (p : Piece) (seen single : List Bool) → i < length pieces
     → p ≡ get_or pieces i p → has_vcpu seen p.vcpu ≡ false
     → HaveSeen (take i pieces) seen single → HaveSeen (take (i + 1) pieces) (slice_set seen p.vcpu true)
@@ -264,7 +264,7 @@ seen_first pieces i p seen single lt is new have =
       ];
     }
 
--- behind the last piece the set is that of the vCPUs with a single piece
+-- after the last piece the set is that of the vCPUs with a single piece
 pub all_seen : (pieces : List Piece) (i : ℕ) (seen single : List Bool) → length pieces ≤ i → HaveSeen
     (take i pieces) seen single → (v : ℕ) → has_vcpu single v ≡ has_single_piece pieces v
 unfolding count_of
@@ -329,7 +329,7 @@ left_less pieces n p table lt is left = record {
     clash : (q : Piece) → ◌≡◌ {A = Option (Option Piece)} (Some None) (Some (Some q)) → ⊥
     clash q e = cc
 
--- behind the last piece nothing is left
+-- after the last piece nothing is left
 pub left_none : (pieces : List Piece) (n : ℕ) (table : List (Option Piece)) → length pieces ≤ n
     → IsLeftOf pieces n table → IsTableOf [] table
 left_none pieces n table all left = record {

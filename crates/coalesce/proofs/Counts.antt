@@ -7,7 +7,7 @@ use Rattle.table_form.specs.Tables.Rows.{Row}
 use Rattle.table_form.specs.Tables.Serves.{is_cell_of}
 use Rattle.table_form.proofs.Supplies.{cells_before}
 
--- cells of one owner in front of others
+-- cells of one owner before others
 before_replicate : (v w n m : ℕ) (cells : Row) (b : Bool) → eqb v w ≡ b → cells_before v
     (replicate n (Some w) ++ cells) m ≡ cond b (min m n) 0 + cells_before v cells (m - n)
 unfolding cells_before
@@ -44,7 +44,7 @@ before_replicate v w (suc n) (suc m) cells false is =
       none,
     ))
 
--- other cells in front
+-- other cells before them
 before_front : (v : ℕ) (front cells : Row) (m : ℕ) → cells_before v
     (front ++ cells) m ≡ cells_before v front m + cells_before v cells (m - length front)
 unfolding cells_before
@@ -100,7 +100,7 @@ two_runs v first second l a n b true true (Behind le) ex ey = omega arith
 two_runs v first second l a n b true false (Behind le) ex ey = omega arith
 two_runs v first second l a n b false true (Behind le) ex ey = omega arith
 
--- so up to such a tick the vCPU has as many cells
+-- up to a tick outside of what changes places the vCPU has as many cells
 pub same_before : (row row' : Row) (b l a first second v n : ℕ) → AreMoved row row' b l a first second
     → IsOutside b l a first second v n → cells_before v row' n ≡ cells_before v row n
 same_before row row' b l a first second v n moved out =

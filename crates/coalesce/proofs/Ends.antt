@@ -61,7 +61,7 @@ last_but_one_at ss xs u t i d e last =
     ap segment_view (ap (λ n. get_or ss n d) at ∙ ap (λ ts. get_or ts (length two.front) d) two.is
     ∙ get_or-append_seam two.front two.a (two.b ∷ []) d) ∙ two.second
 
--- the last two are a last one behind another last one
+-- the last two are a last one after another last one
 pub of_last_two : (xs : List SegmentView) (u t : SegmentView) → xs ++ u ∷ t ∷ [] ≡ (xs ++ u ∷ []) ++ t ∷ []
 of_last_two xs u t = sym (append_assoc xs (u ∷ []) (t ∷ []))
 
@@ -106,7 +106,7 @@ pub record SameEnds (xs ys : List SegmentView) (u t v w : SegmentView) : Type 0 
   pub first : u ≡ v
   pub second : t ≡ w
 
--- so what one call names as the last two is what another does
+-- what one call names as the last two is what another does
 pub same_ends : (xs ys : List SegmentView) (u t v w : SegmentView) → xs ++ u ∷ t ∷ [] ≡ ys ++ v ∷ w ∷ []
     → SameEnds xs ys u t v w
 same_ends [] [] u t v w e = record { before = refl; first = cc; second = cc }
@@ -130,7 +130,7 @@ ends_before start [] t ts end m = (m.0, m.2)
 ends_before start (x ∷ xs) t ts end m = let rest = ends_before x.end xs t ts end m.2 in
     (omega (arith, m.0, rest.0), rest.1)
 
--- so the last two rise to below the tick
+-- the last two segments end below the tick
 pub two_rise : (ss : List Segment) (tick i j : ℕ) (d e : Segment) → EndBelow (map segment_view ss) tick
     → i + 2 ≡ length ss → j + 1 ≡ length ss
     → ((get_or ss i d).end < (get_or ss j e).end) × ((get_or ss j e).end < tick)

@@ -30,7 +30,7 @@ in_that_window p k window tick starts ends begun not_over = elim (cases_lt k win
   ]
 ]
 
--- so is a cell of the vCPU in the period
+-- a cell of the vCPU in the period is in a window of its piece
 cell_in_window : (pieces : List Piece) (row : Row) (i k : ℕ) (p : Piece) → DistinctVcpus pieces
     → AreInWindows pieces row → slice_get pieces i ≡ Some p → (tick : ℕ) → k * p.period ≤ tick
     → tick < (k + 1) * p.period → slice_get row tick ≡ Some (Some p.vcpu)

@@ -34,14 +34,14 @@ filled_after_maximal may_grow sliver start x (y ∷ ts) end m =
     (omega (arith, e, m.0))
     (subst (λ n. AreMaximal n (filled_after may_grow sliver y ts) end) (sym e) rest)
 
--- and so the whole row does, which makes it a table
+-- the filled row is maximal, which makes it a table
 pub filled_maximal : (may_grow : ℕ → Bool) (sliver : ℕ) (ts : List SegmentView) (end : ℕ)
     → AreMaximal 0 ts end
     → AreMaximal 0 (filled may_grow sliver ts) end
 filled_maximal may_grow sliver ts end m = filled_after_maximal may_grow sliver 0
     (record { owner = None; end = 0 }) ts end m
 
--- and has no more segments
+-- the filled row has no more segments
 pub filled_after_length : (may_grow : ℕ → Bool) (sliver : ℕ) (x : SegmentView) (ts : List SegmentView)
     → length
     (filled_after may_grow sliver x ts) ≤ length ts
@@ -62,7 +62,7 @@ pub given_when : (may_grow : ℕ → Bool) (sliver : ℕ) (x y : SegmentView)
     → record { owner = x.owner; end = y.end } ≡ given may_grow sliver x y
 given_when may_grow sliver x y is = rw is refl
 
--- and each other one its own
+-- a segment that isn't given keeps its own owner
 pub given_unless : (may_grow : ℕ → Bool) (sliver : ℕ) (x y : SegmentView)
     → is_given may_grow sliver x.owner y.owner (y.end - x.end) ≡ false → y ≡ given may_grow sliver x y
 given_unless may_grow sliver x y isnt = rw isnt refl
@@ -83,7 +83,7 @@ given_rise may_grow sliver start x (y ∷ ys) (s ∷ ss) end m is =
     rises_from_parts start s ss end (omega (arith, m.0, same))
     (given_rise may_grow sliver s.end y ys ss end (subst (λ n. AreMaximal n ys end) (sym same) m.2) there)
 
--- and neighbours of one owner joined they are the filled segments
+-- segments with the given owners, neighbours of one owner joined, are the filled segments
 pub given_filled : (may_grow : ℕ → Bool) (sliver start : ℕ) (x : SegmentView) (ys : List SegmentView)
     (ss : List Segment) (end : ℕ) → AreMaximal start ys end
     → map segment_view ss ≡ given_all may_grow sliver x ys
@@ -119,7 +119,7 @@ pub none_given : (may_grow : ℕ → Bool) (sliver : ℕ) (old : List Segment)
     → HasGiven may_grow sliver old old 0 (record { owner = None; end = 0 })
 none_given may_grow sliver old m = record { size = refl; rest = refl; rises = m; leads = refl }
 
--- the next segment in front of those behind it, and what it rises from
+-- the next segment before those after it, and what it rises from
 pub next_given : (may_grow : ℕ → Bool) (sliver : ℕ) (old now : List Segment) (at : ℕ) (before : SegmentView)
     (s : Segment) → at < length now → s ≡ get_or now at s → HasGiven may_grow sliver old now at before
     → (drop at old ≡ s ∷ drop (at + 1) old) × (before.end < s.end)
@@ -161,7 +161,7 @@ one_left may_grow sliver old now at before s lt is own so_far =
     (ap (set now at) is ∙ set-get_or now at s)
     (one_given may_grow sliver old now at before s s lt is own so_far)
 
--- behind the last one all have
+-- after the last one all have
 pub all_given : (may_grow : ℕ → Bool) (sliver : ℕ) (old now : List Segment) (at : ℕ) (before : SegmentView)
     → length now ≤ at → HasGiven may_grow sliver old now at before
     → map segment_view now ≡ given_all may_grow sliver (record { owner = None; end = 0 }) (map segment_view old)

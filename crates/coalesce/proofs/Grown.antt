@@ -30,7 +30,7 @@ grows_nil : (may_grow : ℕ → Bool) → Grows may_grow [] []
 unfolding Grows
 grows_nil may_grow = tt
 
--- a run whose owner stays, or that was idle, in front of rows that grow
+-- a run whose owner stays, or that was idle, before rows that grow
 grows_run : (may_grow : ℕ → Bool) (n : ℕ) (o p : Option ℕ) (cs ds : Row) → IsGrown may_grow o p
     → Grows may_grow cs ds
     → Grows may_grow (replicate n o ++ cs) (replicate n p ++ ds)
@@ -38,7 +38,7 @@ unfolding Grows
 grows_run may_grow zero o p cs ds same rest = rest
 grows_run may_grow (suc n) o p cs ds same rest = (same, grows_run may_grow n o p cs ds same rest)
 
--- an interval's cells are a part of those behind its start
+-- an interval's cells are a part of those after its start
 grows_drop : (may_grow : ℕ → Bool) (n : ℕ) (cs ds : Row) → Grows may_grow cs ds
     → Grows may_grow (drop n cs) (drop n ds)
 unfolding Grows
@@ -70,14 +70,14 @@ count_grows may_grow v (suc n) (c ∷ cs) (d ∷ ds) g =
         let e : ◌≡◌ {A = ℕ} (cond (is_cell_of v d) 1 0) (cond (is_cell_of v c) 1 0) = ap {B = ℕ}
         (λ o. cond (is_cell_of v o) 1 0) same in omega arith
 
--- so no vCPU has fewer cells in any interval
+-- no vCPU has fewer cells of the filled row in any interval
 pub within_grows : (may_grow : ℕ → Bool) (v from to : ℕ) (row joined : Row) → Grows may_grow row joined
     → cells_within v row from to ≤ cells_within v joined from to
 unfolding cells_within
 within_grows may_grow v from to row joined g = count_grows may_grow v (to - from) (drop from row)
     (drop from joined) (grows_drop may_grow from row joined g)
 
--- and one that may not have more gets no cell
+-- a vCPU that may not have more gets no cell
 count_stays : (may_grow : ℕ → Bool) (v n : ℕ) (cs ds : Row) → may_grow v ≡ false → Grows may_grow cs ds
     → count_by (λ cell. is_cell_of v cell) (take n ds) ≡ count_by (λ cell. is_cell_of v cell) (take n cs)
 unfolding Grows
@@ -97,7 +97,7 @@ count_stays may_grow v (suc n) (c ∷ cs) (d ∷ ds) no_more g =
         rw (idle, is) (ap {B = ℕ} (λ b. cond b 1 0) (ne_eqb v w (λ same. false≢true
         (sym no_more ∙ ap may_grow same ∙ may))))
 
--- so it has as many cells as before in each interval
+-- a vCPU that may not have more has as many cells as before in each interval
 pub within_stays : (may_grow : ℕ → Bool) (v from to : ℕ) (row joined : Row) → may_grow v ≡ false
     → Grows may_grow row joined → cells_within v joined from to ≡ cells_within v row from to
 unfolding cells_within
@@ -134,7 +134,7 @@ gift_grows : (may_grow : ℕ → Bool) (x y : SegmentView) (owner : Option ℕ) 
 gift_grows may_grow x y owner (Kept same) = Stays same
 gift_grows may_grow x y owner (Gift v of_x of_y may is) = Gets of_y v may (is ∙ of_x)
 
--- the cells of the segments behind the first
+-- the cells of the segments after the first
 filled_cells : (may_grow : ℕ → Bool) (sliver start : ℕ) (x y : SegmentView) (ts : List SegmentView) (end : ℕ)
     → AreMaximal start (y ∷ ts) end
     → cells_of start (filled_after may_grow sliver x (y ∷ ts)) ≡ replicate (y.end - start)
@@ -147,7 +147,7 @@ filled_cells may_grow sliver start x y ts end m =
     cells_of_front start g (filled_after may_grow sliver y ts) end (omega (arith, e, m.0)) rest ∙ ap
     (λ n. replicate (n - start) g.owner ++ cells_of n (filled_after may_grow sliver y ts)) e
 
--- so the filled row has each vCPU's cells of before
+-- the filled row has each vCPU's cells of before
 pub filled_grows : (may_grow : ℕ
     → Bool) (sliver start : ℕ) (x : SegmentView) (ts : List SegmentView) (end : ℕ)
     → AreMaximal start ts end
@@ -164,7 +164,7 @@ filled_grows may_grow sliver start x (y ∷ ts) end m =
     (gift_grows may_grow x y (given may_grow sliver x y).owner (gift_of may_grow sliver x y))
     (filled_grows may_grow sliver y.end y ts end m.2)))
 
--- a cell behind the segment x is as before, or of a vCPU that may grow and has x or a cell
+-- a cell after the segment x is as before, or of a vCPU that may grow and has x or a cell
 pub data IsGrownCell (may_grow : ℕ → Bool) (owner : Option ℕ) (row : Row) (place v : ℕ) : Type 0 where
   Was : slice_get row place ≡ Some (Some v) → IsGrownCell may_grow owner row place v
   HasBefore : may_grow v ≡ true → owner ≡ Some v → IsGrownCell may_grow owner row place v

@@ -44,7 +44,7 @@ record Holds (p : Piece) (low high : ℕ) : Type 0 where
   begun : window * p.period + p.from ≤ low
   over : high ≤ window * p.period + p.to
 
--- then each other one ends before it or begins behind it
+-- then each other one ends before it or begins after it
 outside_windows : (p : Piece) (low high k : ℕ) → Holds p low high
     → ((k * p.period + p.from ≤ low) ⊎ (high ≤ k * p.period + p.from)) ×
     ((k * p.period + p.to ≤ low) ⊎ (high ≤ k * p.period + p.to))
@@ -120,12 +120,12 @@ second_holds pieces row row' b l a first second may inside =
       },
     )
 
--- so the ends of each window of each piece are outside of what changes places, or it is another vCPU's
+-- the ends of each window of each piece are outside of what changes places, or it is another vCPU's
 from_sides : (b l a first second v n : ℕ) → (n ≤ b) ⊎ (b + l + a ≤ n) → IsOutside b l a first second v n
 from_sides b l a first second v n (inl le) = Before le
 from_sides b l a first second v n (inr le) = Behind le
 
--- so counts of cells up to a window's begin and end stay
+-- counts of cells up to a window's begin and end stay
 ends_outside : (pieces : List Piece) (row row' : Row) (b l a first second : ℕ)
     → MayMove pieces row row' b l a first second → DistinctVcpus pieces → AreInWindows pieces row
     → (i k : ℕ) (p : Piece) → slice_get pieces i ≡ Some p
@@ -154,7 +154,7 @@ ends_outside pieces row row' b l a first second may distinct inside i k p listed
               (k * p.period + p.to) sides.1,
         )
 
--- and each window keeps its number of cells
+-- each window keeps its number of cells
 pub move_serves : (pieces : List Piece) (row row' : Row) (b l a first second : ℕ)
     → MayMove pieces row row' b l a first second → DistinctVcpus pieces → AreInWindows pieces row
     → ServesWindows pieces row → ServesWindows pieces row'
@@ -169,7 +169,7 @@ move_serves pieces row row' b l a first second may distinct inside serves i k p 
     let is = cells_before-end p.vcpu row' from to le in
     omega (arith, lead, all, was, is, serves i k p listed lt)
 
--- and each cell stays in a window
+-- each cell stays in a window
 pub move_keeps : (pieces : List Piece) (row row' : Row) (b l a first second : ℕ)
     → MayMove pieces row row' b l a first second → AreInWindows pieces row → AreInWindows pieces row'
 move_keeps pieces row row' b l a first second may inside v x at = by_cell

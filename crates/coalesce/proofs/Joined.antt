@@ -20,7 +20,7 @@ same_given f g sliver x y same = ap (λ b. cond b (record { owner = x.owner; end
     same_test (Some v) (Some w) ticks = refl
     same_test (Some v) None ticks = ap (λ b. ltb ticks sliver && b) (same v)
 
--- so sets that agree on each vCPU fill alike
+-- sets that agree on each vCPU fill alike
 same_filled : (f g : ℕ → Bool) (sliver : ℕ) (x : SegmentView) (ts : List SegmentView) → ((v : ℕ) → f v ≡ g v)
     → filled_after f sliver x ts ≡ filled_after g sliver x ts
 same_filled f g sliver x [] same = refl
@@ -89,7 +89,7 @@ no_more_segments pieces may_grow sliver row joined is =
       swaps_shorten pieces sliver is.end (segments_from 0 row) is.swaps,
     )
 
--- the same of what equals them
+-- rows that equal joined rows have no more segments than before
 pub joined_as : (pieces pieces' : List Piece) (capped capped' : List Bool) (sliver : ℕ)
     (rows rows' joined joined' : List Row)
     → pieces' ≡ pieces → capped' ≡ capped

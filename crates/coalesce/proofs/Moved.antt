@@ -15,7 +15,7 @@ end_of : ℕ → List SegmentView → ℕ
 end_of start [] = start
 end_of start (t ∷ ts) = end_of t.end ts
 
--- the segments behind some are maximal from their end on
+-- the segments after it some are maximal from their end on
 behind_maximal : (start : ℕ) (xs ys : List SegmentView) (end : ℕ) → AreMaximal start (xs ++ ys) end
     → AreMaximal
     (end_of start xs) ys end
@@ -36,7 +36,7 @@ cells_of_append start (x ∷ xs) ys =
     (cells_of (end_of x.end xs) ys))
     ∙ ap (λ cells. cells ++ cells_of (end_of x.end xs) ys) (sym (cells_of-cons start x xs))
 
--- and how many those of the first part are
+-- how many cells the segments of the first part have
 length-cells_of : (start : ℕ) (xs ys : List SegmentView) (end : ℕ) → AreMaximal start (xs ++ ys) end → length
     (cells_of start xs) + start ≡ end_of start xs
 unfolding end_of
@@ -127,7 +127,7 @@ cells_moved pieces sliver row next end swap m =
           ++ (replicate (y.end - x.end) (Some can.second) ++ back)));
     }
 
--- a cell behind the first list
+-- a cell after the first list
 pub get_behind : (xs ys : Row) (i j : ℕ) → i ≡ length xs + j → slice_get (xs ++ ys) i ≡ slice_get ys j
 get_behind [] ys i j e = ap (slice_get ys) (omega (arith, e))
 get_behind (x ∷ xs) ys zero j e = absurd (omega (arith, e))
@@ -139,12 +139,12 @@ get_replicate zero o i lt = absurd (omega arith)
 get_replicate (suc n) o zero lt = refl
 get_replicate (suc n) o (suc i) lt = get_replicate n o i (omega arith)
 
--- a cell of a run in front of others
+-- a cell of a run before others
 get_run : (n : ℕ) (o : Option ℕ) (cells : Row) (i : ℕ) → i < n → slice_get (replicate n o ++ cells) i ≡ Some o
 get_run n o cells i lt = get_front (replicate n o) cells i (omega (arith, length-replicate n o, lt))
     ∙ get_replicate n o i lt
 
--- and one behind it
+-- a cell after a run, among the others
 get_past_run : (n : ℕ) (o : Option ℕ) (cells : Row) (i j : ℕ) → i ≡ n + j → slice_get
     (replicate n o ++ cells) i ≡ slice_get cells j
 get_past_run n o cells i j e = get_behind (replicate n o) cells i j (omega (arith, length-replicate n o, e))
@@ -156,7 +156,7 @@ first_cell row row' b l a first second moved some =
     ap (λ r. slice_get r b) moved.old ∙ get_behind moved.front _ b 0 (omega (arith, moved.size)) ∙ get_run l
     (Some second) _ 0 some
 
--- so windows of both vCPUs are known at the two ends
+-- windows of both vCPUs are known at the two ends of what changes places
 pub last_cell : (row row' : Row) (b l a first second y : ℕ) → AreMoved row row' b l a first second → b + l ≤ y
     → y < b + l + a → slice_get row y ≡ Some (Some first)
 last_cell row row' b l a first second y moved le lt =

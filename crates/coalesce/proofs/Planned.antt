@@ -92,7 +92,7 @@ grown_rows tasks pieces homes capped sliver rows joined draft are core new at =
       inside = draft_row_inside pieces rows core row draft.inside row_at;
     }) (are.each core row new row_at at)
 
--- so each job has at least its cost inside its window
+-- each job has at least its cost inside its window
 pub jobs_served : (pieces : List Piece) (capped : List Bool) (core : ℕ) (new : Row) → IsGrownRow pieces capped core new
     → (i k : ℕ) (p : Piece)
     → slice_get (pieces_at pieces core) i ≡ Some p → k < ROUND / p.period
@@ -105,7 +105,7 @@ jobs_served pieces capped core new grown i k p at lt =
           (k * p.period + p.to) grown.swapped new grown.grows,
     )
 
--- so each period has the cost, since the window lies in it
+-- each period has the cost, since the window lies in it
 costs_given : (pieces : List Piece) (capped : List Bool) (joined : List Row) →
     ((core : ℕ) (new : Row) → slice_get joined core ≡ Some new → IsGrownRow pieces capped core new)
     → GiveCosts pieces joined
@@ -138,7 +138,7 @@ count_none v (q ∷ ps) none (suc i) p at own =
     count_none v ps (omega (arith, none, sum_by-cons (λ (r : Piece). cond (eqb r.vcpu v) 1 0) q ps))
     i p at own
 
--- so two of its pieces are the same, and it can't be on two cores
+-- two pieces of a vCPU with a single piece are the same, so it can't be on two cores
 single_is_one : (v : ℕ) (ps : List Piece) → count_by (λ (p : Piece). eqb p.vcpu v) ps ≡ 1
     → (i j : ℕ) (p q : Piece)
     → slice_get ps i ≡ Some p → slice_get ps j ≡ Some q → p.vcpu ≡ v → q.vcpu ≡ v → p ≡ q
@@ -224,7 +224,7 @@ owner_in_row rows core tick v owned = in_row (slice_get rows core) refl owned
     in_row None is e = absurd cc
     in_row (Some row) is e = (row, is, in_cell row (slice_get row tick) refl e)
 
--- so the owners of all cells are, which keeps the rows apart
+-- the owners of all cells stay, which keeps the rows apart
 places_kept : (pieces : List Piece) (capped : List Bool) (joined : List Row) →
     ((core : ℕ) (new : Row) → slice_get joined core ≡ Some new → IsGrownRow pieces capped core new)
     → KeepPlaces pieces joined
@@ -232,7 +232,7 @@ places_kept pieces capped joined grown v tick core owned =
     let row = owner_in_row joined core tick v owned in
     cell_at_place pieces capped core tick v row.0 (grown core row.0 row.1) row.2
 
--- and a capped vCPU gets exactly what its pieces cost
+-- a capped vCPU gets exactly what its pieces cost
 capped_exactly : (tasks : List (Option Periodic)) (pieces : List Piece) (capped : List Bool)
     (joined : List Row) (v : ℕ) (task : Periodic) → HavePeriods tasks pieces → HaveOwnCores pieces
     → ((core : ℕ) (new : Row) → slice_get joined core ≡ Some new → IsGrownRow pieces capped core new)

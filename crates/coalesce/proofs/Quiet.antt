@@ -46,7 +46,7 @@ last_grows pieces sliver (x ∷ y ∷ []) t t' same le quiet = (
 last_grows pieces sliver (x ∷ y ∷ z ∷ xs) t t' same le quiet =
     (quiet.0, last_grows pieces sliver (y ∷ z ∷ xs) t t' same le quiet.1)
 
--- and the last two, as they do after a swap
+-- the last two segments may grow as they do after a swap
 pub two_grow : (pieces : List Piece) (sliver : ℕ) (xs : List SegmentView) (u u' t t' : SegmentView)
     → u'.owner ≡ u.owner
     → u.end ≤ u'.end → t'.owner ≡ t.owner → t.end ≤ t'.end

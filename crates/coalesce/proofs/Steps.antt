@@ -19,7 +19,7 @@ use Rattle.coalesce.proofs.Swapping.{parts_of}
 abbrev pub first_after : SegmentView → SegmentView → SegmentView → SegmentView
 first_after u t s = record { owner = u.owner; end = u.end + (s.end - t.end) }
 
--- and the second of them, which comes to the end
+-- the second of the last two after a swap, which comes to the end
 abbrev pub second_after : SegmentView → SegmentView → SegmentView
 second_after t s = record { owner = t.owner; end = s.end }
 
@@ -38,7 +38,7 @@ stands_after_swap xs u t s rest stand =
       after = stand.after.2;
     }
 
--- and is one leftmost swap of the row
+-- a swap of the two parts is one leftmost swap of the row
 pub passed_after_swap : (pieces : List Piece) (sliver : ℕ) (row xs : List SegmentView) (u t s : SegmentView)
     (rest : List SegmentView)
     → StandInRow (xs ++ u ∷ t ∷ []) (s ∷ rest) → CanSwap pieces sliver u t s → IsPassed pieces sliver row
@@ -74,7 +74,7 @@ passed_after_swap pieces sliver row xs u t s rest stand can passed =
       leads = λ end swaps. passed.leads end (Again _ _ swap swaps);
     }
 
--- so does a segment that is appended
+-- a segment that is appended keeps what holds of the two parts
 pub stands_after_append : (out : List SegmentView) (s : SegmentView) (rest : List SegmentView)
     → StandInRow out (s ∷ rest)
     → StandInRow (put_before out (s ∷ [])) rest
@@ -118,7 +118,7 @@ none_passed segments table sliver maximal = record {
   passed = λ pieces is. record { quiet = tt; leads = λ end swaps. swaps };
 }
 
--- the next segment is in front of the rest, so what is known of both is what `take_next` asks
+-- the next segment is before the rest, so what is known of both is what `take_next` asks
 pub record Comes (segments : List Segment) (table : List (Option Piece)) (sliver at : ℕ)
     (out : List SegmentView) (s : Segment) : Type 0 where
   pub rest : List SegmentView
@@ -131,7 +131,7 @@ pub record Comes (segments : List Segment) (table : List (Option Piece)) (sliver
       → IsPassed pieces sliver (map segment_view segments) new rest)
       → HasPassed segments table sliver (at + 1) new
 
--- so it is for each index below the count
+-- what is known of the segments is so for each index below the count
 pub one_comes : (segments : List Segment) (table : List (Option Piece)) (sliver at : ℕ)
     (out : List SegmentView)
     (s : Segment) → at < length segments → s ≡ get_or segments at s
@@ -162,7 +162,7 @@ below_next out s rest stand = record {
   below = stand.after.0;
 }
 
--- behind the last segment
+-- after the last segment
 pub record Ended (segments : List Segment) (table : List (Option Piece)) (sliver : ℕ)
     (out : List SegmentView) : Type 0 where
   pub maximal : AreMaximal 0 out ROUND

@@ -53,7 +53,7 @@ swap_keeps pieces sliver start end row next swap m =
     (parts.instead _ _ end refl
     (swap_differs pieces sliver parts.middle swap.x swap.y swap.z swap.after end parts.second swap.can))
 
--- and so do all of them
+-- all swaps keep the row maximal
 pub swaps_keep : (pieces : List Piece) (sliver : ℕ) (start bound : ℕ) (end row : List SegmentView)
     → SwapsTo pieces sliver end row → AreMaximal start row bound → AreMaximal start end bound
 swaps_keep pieces sliver start bound end _ (Done row quiet same) m =
@@ -62,7 +62,7 @@ swaps_keep pieces sliver start bound end _
     (Again row next swap swaps) m = swaps_keep pieces sliver start bound end next swaps
     (swap_keeps pieces sliver start bound row next swap m)
 
--- a segment in front adds at most one
+-- a segment before others adds at most one
 pub front_length : (s : SegmentView) (ts : List SegmentView) → length (put_front s ts) ≤ length ts + 1
 front_length s [] = omega arith
 front_length s (t ∷ ts) = elim (front_cases s.owner (t ∷ ts)) [
@@ -84,7 +84,7 @@ swap_shortens pieces sliver row next swap =
       front_length t swap.after,
     )
 
--- so all swaps leave no more segments, and there is an end of them
+-- all swaps leave no more segments, and there is an end of them
 pub swaps_shorten : (pieces : List Piece) (sliver : ℕ) (end row : List SegmentView)
     → SwapsTo pieces sliver end row
     → length end ≤ length row

@@ -10,7 +10,7 @@ use Rattle.table_form.specs.Tables.Segments.{SegmentView}
 use Rattle.coalesce.specs.Joining.{CanSwap, NoBegin, NoEnd}
 use Rattle.coalesce.specs.Inside.Passing.{IsTableOf}
 
--- what stands at the vCPU's number
+-- what is at the vCPU's number
 pub at_number : (table : List (Option Piece)) (v i : ℕ) (d o : Option Piece)
     → length table ≡ MAX_VCPUS → i ≡ v
     → i < MAX_VCPUS → get_or table i d ≡ o → slice_get table v ≡ Some o
@@ -62,7 +62,7 @@ abbrev pub NoneAt : (Piece → ℕ) → List Piece → ℕ → ℕ → ℕ → T
 NoneAt offset pieces vcpu low high = (at k : ℕ) (p : Piece) → slice_get pieces at ≡ Some p → p.vcpu ≡ vcpu →
     low < k * p.period + offset p → k * p.period + offset p < high → ⊥
 
--- as the first behind the lower one tells
+-- as the first after the lower one tells
 pub none_by_next : (offset : Piece → ℕ) (pieces : List Piece) (table : List (Option Piece))
     (v low high next : ℕ)
     (q : Piece) → IsTableOf pieces table → slice_get table v ≡ Some (Some q)

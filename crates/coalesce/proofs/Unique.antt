@@ -74,7 +74,7 @@ same_swap pieces sliver (w ∷ ws) x y z after (w' ∷ ws') x' y' z' after' same
     (no_swap_behind pieces sliver w' (ws' ++ x' ∷ y' ∷ []) quiet') in
     ap (λ s. s ∷ (ws ++ swapped x y z after)) here ∙ ap (λ ss. w' ∷ ss) rest
 
--- so they lead to one row
+-- two leftmost swaps of a row lead to one row
 leftmost_unique : (pieces : List Piece) (sliver : ℕ) (row a b : List SegmentView)
     → SwapsLeftmost pieces sliver row a
     → SwapsLeftmost pieces sliver row b → a ≡ b
@@ -89,7 +89,7 @@ quiet_or_swap pieces sliver row next quiet swap =
     no_swap_at pieces sliver swap.before swap.x swap.y swap.z swap.after
     (subst (NoSwap pieces sliver) swap.row_is quiet) swap.can
 
--- so the swaps of a row end in one row
+-- the swaps of a row end in one row
 swaps_unique : (pieces : List Piece) (sliver : ℕ) (a b row : List SegmentView) → SwapsTo pieces sliver a row
     → SwapsTo pieces sliver b row → a ≡ b
 swaps_unique pieces sliver a b row (Done r quiet same) (Done q quiet' same') = sym same ∙ same'
@@ -101,14 +101,14 @@ swaps_unique pieces sliver a b row (Again r next swap swaps) (Again q next' swap
     let same = leftmost_unique pieces sliver row next' next swap' swap in
     swaps_unique pieces sliver a b next swaps (subst (SwapsTo pieces sliver b) same swaps')
 
--- and the joined row is one
+-- the joined row is one
 pub joined_unique : (pieces : List Piece) (may_grow : ℕ → Bool) (sliver : ℕ) (row a b : Row)
     → IsJoined pieces may_grow sliver row a → IsJoined pieces may_grow sliver row b → a ≡ b
 joined_unique pieces may_grow sliver row a b s t =
     let same = swaps_unique pieces sliver s.end t.end (segments_from 0 row) s.swaps t.swaps in
     same_row a b (s.fills ∙ ap (filled may_grow sliver) same ∙ sym t.fills)
 
--- so the rows of all cores are determined
+-- the rows of all cores are determined
 pub rows_unique : (pieces : List Piece) (capped : List Bool) (sliver : ℕ) (rows a b : List Row) → AreJoined pieces capped sliver rows a
     → AreJoined pieces capped sliver rows b → a ≡ b
 rows_unique pieces capped sliver rows a b s t = ext_get_or [] a b (s.size ∙ sym t.size) (λ core lt. (

@@ -40,8 +40,8 @@ NoSwap pieces sliver (x ∷ y ∷ []) = Unit {0}
 NoSwap pieces sliver (x ∷ y ∷ z ∷ rest) = (CanSwap pieces sliver x y z → ⊥)
     × NoSwap pieces sliver (y ∷ z ∷ rest)
 
--- the first takes the third's ticks behind its own, and the second comes after them, in front of
--- what followed
+-- the first takes the third's ticks after its own, and the second comes after them, before what
+-- followed
 abbrev pub swapped : SegmentView → SegmentView → SegmentView → List SegmentView → List SegmentView
 swapped x y z after =
     record { owner = x.owner; end = x.end + (z.end - y.end) }
@@ -83,7 +83,7 @@ filled_after may_grow sliver x [] = []
 filled_after may_grow sliver x (y ∷ rest) =
     put_front (given may_grow sliver x y) (filled_after may_grow sliver y rest)
 
--- no vCPU stands before the first segment
+-- no vCPU is before the first segment
 abbrev pub filled : (ℕ → Bool) → ℕ → List SegmentView → List SegmentView
 filled may_grow sliver row = filled_after may_grow sliver (record { owner = None; end = 0 }) row
 

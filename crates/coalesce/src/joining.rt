@@ -61,12 +61,12 @@ fn join_rows(
 /// First, of three neighbouring segments A, B, A of two vCPUs, of which B's is such a sliver, the
 /// third comes before B's, if strictly between B's begin and the end of the three no window of A's
 /// piece on the core begins and none of B's ends. That is done at the leftmost place until it can
-/// be done nowhere. Then each idle sliver behind a segment of a vCPU that isn't capped and has a
+/// be done nowhere. Then each idle sliver after a segment of a vCPU that isn't capped and has a
 /// single piece becomes that vCPU's.
 ///
-/// So each job has at least its cost of ticks inside its window, a capped vCPU has exactly its cost
-/// in each of its periods, and no row has more segments than before. Only want of memory prevents
-/// it.
+/// Each job then has at least its cost of ticks inside its window, a capped vCPU has exactly its
+/// cost in each of its periods, and no row has more segments than before. Only running out of
+/// memory prevents it.
 ///
 /// Source: the coalescing of M. Vanga, A. Gujarati and B. B. Brandenburg, EuroSys 2018.
 pub fn join_slivers(alloc: Global, draft: &Draft, sliver: u32) -> Result<Plan, NoMemory>

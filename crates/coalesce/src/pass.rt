@@ -11,7 +11,7 @@ use std::alloc::Global;
 use tab_core::{NoMemory, Piece};
 use table_form::{Segment, push_segment};
 
-// The last but one takes the ticks up to `end` behind its own, and the last comes after them.
+// The last but one takes the ticks up to `end` after its own, and the last comes after them.
 fn swap_last(out: &mut Vec<Segment>, end: u32)
     requires two { 2 ≤ length out.old.items }
     requires below { EndBelow (map segment_view out.old.items) end }

@@ -53,7 +53,7 @@ accounts_size crew (suc n) whole le =
     ∙ (length_push (accounts_below crew n) a.0.account ∙ omega arith) in
     omega (arith, before, after)
 
--- and each is that of the core's actor
+-- each core's account is that of its actor
 account_at : (crew : CrewView) (n c : ℕ) (account : CoreAccount) → IsWhole crew → n ≤ crew.course.cores
     → slice_get (accounts_below crew n) c ≡ Some account
     → (a : StateView) × (actor_of crew c ≡ Some a) × (a.account ≡ account)

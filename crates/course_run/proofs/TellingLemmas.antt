@@ -1,4 +1,4 @@
--- What is told of a run: that it can be, and that it is told of the state as which its view reads.
+-- What is reported of a run: that it can be, and that it is of the state as which its view reads.
 use Rattle.std.proofs.Common.{◌≡◌, ℕ, zero, suc, ◌/◌, ◌<◌, ◌≤◌, All, List, ◌++◌, length, Option, None, Some, refl, sym, ap, subst, ◌∙◌, arith}
 use Rattle.std.proofs.lemmas.List.{length-map}
 use Rattle.std.proofs.lemmas.Option.{get_or_from_slice_get}
@@ -35,7 +35,7 @@ used_in_course course rounds s c k st kept at = of (slice_get s.cores c) refl at
       let decided = (kept.table.cores c core is).stints k st at in
       omega (arith, kept.decided_posted (st.from / ROUND) st.used decided, kept.posted_most)
 
--- so each is
+-- the used counts of all stints are the course's
 all_in_course : (course : CourseView) (rounds : ℕ) (s : State) (c : ℕ) → StateInvariant course rounds s
     → All (λ (st : Stint). st.used ≤ length course.ticks) (stints_at s c)
 all_in_course course rounds s c kept = λ k d lt.
@@ -44,7 +44,7 @@ all_in_course course rounds s c kept = λ k d lt.
     (sym (get_or_from_slice_get (stints_at s c) k at.0 d at.1))
     (used_in_course course rounds s c k at.0 kept at.1)
 
--- the run can be told
+-- the run can be reported
 pub can_be_told : (course : CourseView) (rounds : ℕ) (mode : RunMode) (view : View) (ran : RanView) (host : Host)
     → IsRunOf course rounds mode view ran → length host.vcpus ≡ vcpus_of course → host.cores ≡ course.cores
     → CanBeTold mode host ran

@@ -23,6 +23,7 @@ use Rattle.trace_report.specs.RunReports.{IsReportOf}
 
 -- ---- a state's stints and report
 
+-- the stints of a core that may be missing
 abbrev pub stints_of : Option CoreState → List Stint
 stints_of None = []
 stints_of (Some core) = core.stints
@@ -65,9 +66,11 @@ pub record RanView : Type 0 where
   pub crew : CrewView
   pub report : ReportView
 
+-- a finished run by its crew and its report
 abbrev pub ran_view : CrewView → ReportView → RanView
 ran_view crew report = record { crew = crew; report = report }
 
+-- the stints that an actor kept, if it is there
 abbrev pub kept_in : Option StateView → List Stint
 kept_in None = []
 kept_in (Some a) = a.stints

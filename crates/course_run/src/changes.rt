@@ -7,7 +7,7 @@ use std::alloc::Global;
 use tab_core::NoMemory;
 
 /// The changes among the events, each with its tick (of the run) and what became of it: there is an outcome
-/// for each change, in their order. Fails only for want of memory.
+/// for each change, in their order. Fails only when memory runs out.
 pub fn changes_of(
     alloc: Global,
     events: &[Event],

@@ -16,7 +16,7 @@ use trace_report::{write_report, write_trace};
 /// Writes a run: its trace if that is asked for, then its report, for the names of a host. Lines of bursts
 /// are not written. `changes` has for each change of the script its tick and what became of it.
 ///
-/// A fault leaves a front of the text in the sink. Nothing is settled, and nothing is allocated.
+/// A fault leaves a prefix of the text in the sink. Nothing is settled, and nothing is allocated.
 pub fn write_run<K: Sink>(
     sink: &mut K,
     mode: RunMode,

@@ -53,7 +53,7 @@ actors_met mask v left own x y w is is' one two joined = subst (SameActors v) (s
     by true m v a e = ap₂ (λ (b c : Bool). b || c) (without_named m v a e) (only_named m v a e).0
     by false m v a e = ap₂ (λ (b c : Bool). b || c) (without_others m v a e).0 (only_others m v a e) ∙ or_none (holds v a)
 
--- and of one board
+-- views of one board stay so where a seat is parted and meets its parts again
 pub board_met : (mask : ℕ) (v left own x y : View) → left ≡ without mask v → own ≡ only mask v → SameActors left x → SameActors own y → IsSameBoard x y
 board_met mask v left own x y is is' one two = record {
   started = two.started ∙ (ap (λ (z : View). z.started) is' ∙ sym (one.started ∙ ap (λ (z : View). z.started) is));

@@ -46,7 +46,7 @@ module _ {C : Type 0} (core : Kind C) (laws : IsLawful core) (short : (a : C) (v
   number_now : core.number now.actor ≡ c
   number_now = are.each c now at
 
-  -- and after it ran on
+  -- what holds after the player ran on
   module _ (n : Player C) (answer : ℕ) (w : View) (is_same : core.same now.actor n.actor) (changes : ChangesOnly v w (core.number now.actor))
       (agrees : core.agrees n.actor w) (parts : PartsGoOn v w) (runs : RunsOn core now.actor v answer n.actor w) where
     abbrev cores' : List (Player C)

@@ -16,14 +16,14 @@ pub record IsOn (p q : Part) : Type 0 where
 abbrev pub PartsGoOn : View → View → Type 0
 PartsGoOn v w = (a : ℕ) → IsOn (part v a) (part w a)
 
--- the same board
+-- the views are of one board
 pub record IsSameBoard (v w : View) : Type 0 where
   pub started : w.started ≡ v.started
   pub lag : w.lag ≡ v.lag
   pub cores : w.cores ≡ v.cores
   pub events : w.events ≡ v.events
 
--- the same board, and parts of the same actors
+-- the views are of one board, with parts of the same actors
 pub record SameActors (v w : View) : Type 0 where
   pub started : w.started ≡ v.started
   pub lag : w.lag ≡ v.lag

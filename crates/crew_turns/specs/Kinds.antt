@@ -24,6 +24,7 @@ pub record Kind (A : Type 0) : Type 1 where
   -- by what it did last since the first view it can't get on in the second
   pub waits : A → View → View → Type 0
 
+-- what every kind of actor keeps
 pub record IsLawful {A : Type 0} (kind : Kind A) : Type 0 where
   -- it is where its part is held, of a board that was started, and agrees with each view of the board that has the part
   pub begun : (a : A) (v : View) → kind.agrees a v → v.started ≡ true

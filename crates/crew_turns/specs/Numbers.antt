@@ -3,7 +3,7 @@
 use Rattle.std.specs.Prelude.{◌≡◌, ◌≢◌, ◌⊎◌, ℕ, ◌<◌, ◌≤◌, List, slice_index}
 use Rattle.crew_turns.specs.declared.clocks.TheConstants.{OUT}
 
--- no core of the first n is behind core c
+-- no core of the first n has a lower clock than core c
 abbrev pub IsLeast : List ℕ → ℕ → ℕ → Type 0
 IsLeast ticks c n = (d : ℕ) → d < n → slice_index ticks c ≤ slice_index ticks d
 

@@ -24,7 +24,7 @@ pub record AreHeld {C L : Type 0} (core : Kind C) (control : Kind L) (cores : Li
   pub each : (i : ℕ) (p : Player C) → slice_get cores i ≡ Some p → core.agrees p.actor v
   pub control_agrees : control.agrees lead.actor v
 
--- the same players, maybe some steps on
+-- the players are the same, maybe some steps on
 pub record AreSame {C L : Type 0} (core : Kind C) (control : Kind L) (cores : List (Player C)) (lead : Player L)
     (cores' : List (Player C)) (lead' : Player L) : Type 0 where
   pub count : length cores' ≡ length cores

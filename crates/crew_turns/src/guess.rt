@@ -6,8 +6,8 @@ use crate::clocks::OUT;
 /// it: where the core that it names doesn't get on, a turn looks at all clocks (`find_least`).
 #[derive(Drop)]
 pub struct Guess {
-    // A tree of numbers `64 * clock + core`. Those of the cores stand so many levels below place 1, as few as the count
-    // of cores allows, and at each place above them the lesser of the two at twice the place and behind it.
+    // A tree of numbers `64 * clock + core`. Those of the cores are so many levels below place 1, as few as the count
+    // of cores allows, and at each place above them the lesser of the two at twice the place and after it.
     places: [u64; 64],
     levels: u32,
     running: u32,

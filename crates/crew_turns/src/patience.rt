@@ -15,8 +15,9 @@ const FEW_SPINS: u32 = 64;
 // how often a worker lets others have its processor, where each has one of its own but may not have it at this moment
 const YIELDS: u32 = 2;
 
-/// How long a thread whose actors can't get on waits for the others: so many turns in a row it spins, and so many more
-/// in which it lets others have its processor. A worker, behind which all parts are driven together, waits little.
+/// How long a thread whose actors can't get on waits for the others: so many turns in a row it spins, and so many
+/// more in which it lets others have its processor. A worker, after which all parts are driven together, waits
+/// little.
 #[derive(Clone, Copy)]
 pub struct Patience {
     spins: u32,
@@ -51,7 +52,7 @@ impl Patience {
         }
     }
 
-    /// That of a thread behind which nobody goes on: `PATIENCE` turns.
+    /// The patience of a thread after which nobody goes on: `PATIENCE` turns.
     pub fn long() -> Patience {
         Patience {
             spins: FEW_SPINS,
@@ -93,7 +94,7 @@ impl Patience {
     }
 }
 
-// How many processors there are, or 1 where that can't be told.
+// How many processors there are, or 1 where that isn't known.
 fn processors<R: Threads>(rt: &R) -> usize {
     match available_parallelism(rt) {
         Ok(count) => count.get(),

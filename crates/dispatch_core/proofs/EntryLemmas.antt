@@ -15,7 +15,7 @@ use Rattle.dispatch_core.specs.Told.{MakesEntry}
 pub count_used : (entries : List Entry) → length (used_counts entries) ≡ length entries
 count_used entries = length-map entries (λ (e : Entry). e.used)
 
--- the entry whose used count stands there
+-- the entry whose used count is there
 pub used_at : (entries : List Entry) (k r : ℕ) → slice_get (used_counts entries) k ≡ Some r
     → (e : Entry) × (slice_get entries k ≡ Some e) × (e.used ≡ r)
 used_at [] k r h = absurd cc

@@ -13,7 +13,7 @@ use Rattle.round_words.proofs.ListLemmas.{at_get}
 use Rattle.dispatch_core.specs.Parts.{HasEvents, HasSeen, IsTimely}
 use Rattle.dispatch_core.specs.Told.{BeginsNext, ComesToEnter, MakesEntry}
 
--- the same clock, entries and stints
+-- the parts have one clock, and the same entries and stints
 pub record SameRun (p q : Part) : Type 0 where
   pub clock : q.clock ≡ p.clock
   pub entries : q.entries ≡ p.entries
@@ -80,7 +80,7 @@ pub record SameButEntries (p q : Part) : Type 0 where
   pub stints : q.stints ≡ p.stints
   pub heard : q.heard ≡ p.heard
 
--- so it does
+-- entering leaves all but the entries of a part
 pub entered_same : (p q : Part) → ComesToEnter p q → SameButEntries p q
 entered_same p q enters = elim enters [
   | inl had ↦ subst (SameButEntries p) (sym had.1) (record { clock = refl; sights = refl; stints = refl; heard = refl })

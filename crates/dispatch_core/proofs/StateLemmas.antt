@@ -62,7 +62,7 @@ stands_new o log v new of core fresh = record {
   };
 }
 
--- and in the rest
+-- a new state agrees with a part to which nothing has happened in what needs a plan
 pub plans_new : (course : CourseView) (log : CoreLog) (p : Part) → IsNewLog log → p.stints ≡ []
     → FollowsPlans course (log_view log) p
 plans_new course log p new stints = record {

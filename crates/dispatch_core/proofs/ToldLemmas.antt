@@ -21,13 +21,13 @@ use Rattle.dispatch_core.proofs.PartLemmas.{SameRun}
 pub run_of_same : (p q : Part) → SamePart p q → SameRun p q
 run_of_same p q same = record { clock = same.clock; entries = same.entries; stints = same.stints }
 
--- so has one that heard up to a core of low clock
+-- a part that heard up to a core of low clock has the same run
 pub low_same : (c lag tick d n : ℕ) (p heard q : Part) → HearsCores c lag tick d p heard → q ≡ hears heard d n → SameRun p q
 low_same c lag tick d n p heard q near is =
     let same = heard_same c lag tick d p heard near in
     subst (SameRun p) (sym is) (record { clock = same.clock; entries = same.entries; stints = same.stints })
 
--- and nothing else of its part has changed
+-- nothing else has changed of a part that heard up to a core of low clock
 pub low_stays : (c lag tick d n : ℕ) (p heard q : Part) → HearsCores c lag tick d p heard → q ≡ hears heard d n
     → SameButHeard p q
 low_stays c lag tick d n p heard q near is =
@@ -70,7 +70,7 @@ has_seen o v c count q is sighted has events = subst (HasSeen o count) (sym is) 
   stints = λ k d lt. (sighted.counts.stints k d lt).0;
 })
 
--- a count that lacks an event that is due was seen
+-- a count that leaves out an event that is due was seen
 abbrev pub lacks_event : (o : OutlineView) (v w : View) (c count tick : ℕ) → IsOutline o → (HasEvents o count (part v c).clock → ⊥)
     → IsSight v c count → v.events ≡ length o.ticks → tick ≡ slice_index o.ticks count → part w c ≡ sees (part v c) count
     → LacksEvent o c v w tick

@@ -8,6 +8,7 @@ use Rattle.table_form.specs.Running.Choice.{is_shared}
 use Rattle.table_form.specs.Running.Courses.{CourseView}
 use Rattle.dispatch_core.specs.declared.account.CoreAccount.{CoreAccount}
 
+-- how many ticks a stint has
 abbrev pub length_of : Stint → ℕ
 length_of s = s.end - s.from
 

@@ -21,7 +21,7 @@ IsOfOutline o v = IsStarted o.lag o.cores (length o.ticks) v
 abbrev pub HasEvents : OutlineView → ℕ → ℕ → Type 0
 HasEvents o count x = HasUpTo (with_plans o [] []) count x
 
--- the same part, but for what it heard
+-- the parts are one, but for what they heard
 pub record SameButHeard (p q : Part) : Type 0 where
   pub clock : q.clock ≡ p.clock
   pub sights : q.sights ≡ p.sights
@@ -36,6 +36,7 @@ pub record IsNewPart (p : Part) : Type 0 where
   pub entries : p.entries ≡ []
   pub stints : p.stints ≡ []
 
+-- the used counts of a core's entries, by round
 abbrev pub used_counts : List Entry → List ℕ
 used_counts entries = map (λ (e : Entry). e.used) entries
 

@@ -36,6 +36,7 @@ pub record ActorView : Type 0 where
   pub course : CourseView
   pub state : StateView
 
+-- a core's actor by its course and its state
 abbrev pub actor_view : CourseView → StateView → ActorView
 actor_view course state = record { course = course; state = state }
 

@@ -62,7 +62,7 @@ pub record SeesAll (o : OutlineView) (c : ℕ) (v : View) (count : ℕ) : Type 0
   pub sighted : IsSight v c count
   pub has : HasEvents o count (part v c).clock
 
--- See, with a count that lacks such an event. The tick is that of the first one
+-- See, with a count that leaves out such an event. The tick is that of the first one
 pub record LacksEvent (o : OutlineView) (c : ℕ) (v w : View) (tick : ℕ) : Type 0 where
   pub count : ℕ
   pub sighted : IsSight v c count

@@ -38,7 +38,8 @@ impl CoreActor<'_> {
     /// each round and for so many stints.
     ///
     /// It agrees with the core's part of each view that was started for the course, if that part is one to which
-    /// nothing has happened. A run of so many rounds has all events of the course. Fails only for want of memory.
+    /// nothing has happened. A run of so many rounds has all events of the course. Fails only when memory runs
+    /// out.
     pub fn make(
         alloc: Global,
         course: &Course,

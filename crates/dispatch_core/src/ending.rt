@@ -91,7 +91,8 @@ pub(crate) fn end(
     }
 }
 
-// The same by `end_anew`. Its answer is taken to pieces, so that the answer of the usual way needs no memory.
+// Ends the step by `end_anew`. Its answer is taken to pieces, so that the answer of the usual way needs no
+// memory.
 #[inline(always)]
 fn end_otherwise(
     board: &RoundBoard,
@@ -127,7 +128,8 @@ fn end_otherwise(
     }
 }
 
-// The same, whatever has to be looked up, heard or kept. It stands apart, so that the usual way is short.
+// Ends the step, whatever has to be looked up, heard or kept. It is a function of its own, so that the
+// usual way is short.
 #[cold]
 #[inline(never)]
 fn end_anew(
@@ -165,14 +167,14 @@ fn end_anew(
     run_at(board, seat, outline, log, start, seen, used, &span)
 }
 
-// A guess at the number of the next span, which is the one behind where the stint ends this one, whose end is given.
+// A guess at the number of the next span, which is the one after where the stint ends this one, whose end is given.
 // Counted and not branched on, since whether a stint ends its span can't be foreseen.
 #[inline(always)]
 fn place_behind(place: u32, stint: &Stint, end: u32) -> u32 {
     place.wrapping_add((stint.end == end) as u32)
 }
 
-// The core hears the others and runs its next stint, at this span, if none of them is too far behind.
+// The core hears the others and runs its next stint, at this span, if no clock of theirs is too low.
 #[inline(always)]
 fn run_at(
     board: &RoundBoard,

@@ -41,8 +41,8 @@ impl Model for CoreState {
 impl CoreState {
     /// The state of a core that has done nothing yet, with room for the run's used counts and for so many stints.
     ///
-    /// It agrees with the core's part of each view that was started for the outline, or for a course of that outline, if that
-    /// part is one to which nothing has happened. Fails only for want of memory.
+    /// It agrees with the core's part of each view that was started for the outline, or for a course of that outline,
+    /// if that part is one to which nothing has happened. Fails only when memory runs out.
     pub fn make(
         alloc: Global,
         outline: &Outline,

@@ -38,7 +38,7 @@ no_window_yet : (p : Piece) (tick : ℕ) → tick < p.from → window_no p tick 
 no_window_yet p tick lt = let none : tick - p.from ≡ 0 = omega arith in ap (λ n. n / p.period) none
     ∙ div-eq_of_lt (some_period p)
 
--- and no first window begins in a calm stretch
+-- no first window begins in a calm stretch before which none did
 calm_from : (p : Piece) (tick until x : ℕ) → IsCalm p tick until → x < until → tick < p.from → x < p.from
 calm_from p tick until x calm lt early = let first = calm 0 (omega arith) in omega arith
 
@@ -50,7 +50,7 @@ calm_window p tick until x calm le lt = elim (cases_lt tick p.from) [
   | inr from ↦ calm_window_begun p tick until x calm le lt from
 ]
 
--- so whether one has begun stays too
+-- whether the window has begun stays in a calm stretch
 calm_begun : (p : Piece) (tick until x : ℕ) → IsCalm p tick until → tick ≤ x → x < until
     → leb p.from x ≡ leb p.from tick
 calm_begun p tick until x calm le lt = elim (cases_lt tick p.from) [
@@ -58,14 +58,14 @@ calm_begun p tick until x calm le lt = elim (cases_lt tick p.from) [
   | inr from ↦ le-leb p.from x (omega arith) ∙ sym (le-leb p.from tick from)
 ]
 
--- and whether the piece is ready, of equal ticks given
+-- whether the piece is ready stays in a calm stretch, of equal ticks given
 calm_ready : (p : Piece) (given tick until x : ℕ) → IsCalm p tick until → tick ≤ x → x < until
     → is_ready p given x ≡ is_ready p given tick
 calm_ready p given tick until x calm le lt =
     ap (λ b. b && ltb given ((window_no p x + 1) * p.cost)) (calm_begun p tick until x calm le lt)
     ∙ ap (λ n. leb p.from tick && ltb given ((n + 1) * p.cost)) (calm_window p tick until x calm le lt)
 
--- and when it is due
+-- when the piece is due stays in a calm stretch
 calm_due : (p : Piece) (tick until x : ℕ) → IsCalm p tick until → tick ≤ x → x < until
     → due_at p x ≡ due_at p tick
 calm_due p tick until x calm le lt = ap (λ n. n * p.period + p.to) (calm_window p tick until x calm le lt)
@@ -77,12 +77,12 @@ ServedUntil ps gs tick until = (i : ℕ) (d : Piece) → i < length ps →
     → k * (get_or ps i d).period + (get_or ps i d).to < until
     → (k + 1) * (get_or ps i d).cost ≤ get_or gs i 0
 
--- so nothing is missed between
+-- nothing is missed between the ends of a calm stretch
 served_at : (ps : List Piece) (gs : List ℕ) (tick until x : ℕ) → ServedUntil ps gs tick until
     → tick < x → x < until → ServedBelow ps gs x (length ps)
 served_at ps gs tick until x served gt lt i d i-in k at = served i d i-in k (omega arith) (omega arith)
 
--- and what was met stays so from tick to tick
+-- what was met in a calm stretch stays so from tick to tick
 met_along : (ps : List Piece) (gs : List ℕ) (tick until x : ℕ) → ServedUntil ps gs tick until
     → tick ≤ x → x < until → IsCounted ps gs x → MetBefore (jobs_of ps) (tick + 1)
     → MetBefore (jobs_of ps) x →
@@ -129,7 +129,7 @@ unready_until ps gs tick until calm unready i d i-in k gt lt =
     subst (λ n. (n + 1) * p.cost ≤ get_or gs i 0) (sym last.1)
     (unready_served p (get_or gs i 0) tick last.0 (unready i d i-in))
 
--- and so has each that ends before the most urgent piece is due
+-- each window that ends before the most urgent piece is due has had its cost
 pub urgent_until : (ps : List Piece) (gs : List ℕ) (tick until i : ℕ) → AreCalm ps (length ps) tick until
     → IsMostUrgent ps gs tick (length ps) i → ((d : Piece) → until ≤ due_at (get_or ps i d) tick)
     → ServedUntil ps gs tick until
@@ -179,18 +179,18 @@ more_given gs i n = set gs i (get_or gs i 0 + n)
 more-zero : (gs : List ℕ) (i : ℕ) → more_given gs i 0 ≡ gs
 more-zero gs i = ap (set gs i) (add-zero (get_or gs i 0)) ∙ set-get_or gs i 0
 
--- and one tick more is one tick given
+-- one tick more of a turn is one tick given
 more-suc : (gs : List ℕ) (i n : ℕ) → i < length gs → one_more (more_given gs i n) i ≡ more_given gs i (suc n)
 more-suc gs i n lt =
     set-set gs i (get_or gs i 0 + n) (get_or (more_given gs i n) i 0 + 1)
     ∙ ap (set gs i) (ap (λ g. g + 1) (get_or-set_same gs i (get_or gs i 0 + n) 0 lt) ∙ omega arith)
 
--- the piece lacks more than m ticks of the window that began last
+-- the piece still has to get more than m ticks of the window that began last
 abbrev pub LacksMore : List Piece → List ℕ → ℕ → ℕ → ℕ → Type 0
 LacksMore ps gs tick i m = (d : Piece)
     → get_or gs i 0 + m < (window_no (get_or ps i d) tick + 1) * (get_or ps i d).cost
 
--- the most urgent piece stays so while it lacks ticks
+-- the most urgent piece stays so while it still has to get ticks
 still_urgent : (ps : List Piece) (gs : List ℕ) (tick until i n : ℕ) → length ps ≤ length gs
     → AreCalm ps (length ps) tick until → tick + n < until → IsMostUrgent ps gs tick (length ps) i →
     LacksMore ps gs tick i n → IsMostUrgent ps (more_given gs i n) (tick + n) (length ps) i
@@ -281,7 +281,7 @@ run_along ps gs tick until i (suc n) now urgent le lacks =
       subst (MetBefore (jobs_of ps)) e met,
     )
 
--- so each of the ticks goes to that piece: what `run_turn` says of its owner
+-- each of the ticks of a turn goes to its piece: what `run_turn` says of its owner
 pub run_goes : (ps : List Piece) (gs : List ℕ) (tick until i n : ℕ) (d : Piece)
     → BeforeTurn ps gs tick until → IsMostUrgent ps gs tick (length ps) i → tick + n ≤ until
     → ((m : ℕ) → m < n → LacksMore ps gs tick i m) →
@@ -325,7 +325,7 @@ idle_along ps gs tick until (suc n) now unready le =
     let e : tick + n + 1 ≡ tick + suc n = omega arith in
     (subst (IsCounted ps gs) e after, subst (MetBefore (jobs_of ps)) e met)
 
--- so all of them are: what `run_turn` says without an owner
+-- all ticks of an idle turn are idle: what `run_turn` says without an owner
 pub idle_goes : (ps : List Piece) (gs : List ℕ) (tick until : ℕ) → BeforeTurn ps gs tick until
     → NoneReady ps gs tick → GoesTo (jobs_of ps) tick until None
 idle_goes ps gs tick until now unready x ge lt =

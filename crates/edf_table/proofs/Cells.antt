@@ -31,7 +31,7 @@ length-edf_cells js (suc n) = omega (
   length-append (edf_cells js n) (first_pending (edf_cells js n) n js ∷ []),
 )
 
--- and none before the first
+-- there is no cell before the first tick
 pub edf_cells-zero : (js : List Job) → edf_cells js 0 ≡ []
 unfolding edf_cells
 edf_cells-zero js = refl

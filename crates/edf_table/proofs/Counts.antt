@@ -12,7 +12,7 @@ abbrev pub Distinct : List Job → Type 0
 Distinct [] = Unit {0}
 Distinct (j ∷ js) = ((k : Job) → Among js k → k.vcpu ≡ j.vcpu → k.deadline ≡ j.deadline → ⊥) × Distinct js
 
--- so two of them with both in common are one
+-- two jobs of a list with one vCPU and one deadline are one
 pub distinct_same : (js : List Job) (i j : Job) → Distinct js → Among js i → Among js j
     → i.vcpu ≡ j.vcpu → i.deadline ≡ j.deadline → i ≡ j
 distinct_same [] i j d a b v t = absurd a
@@ -30,7 +30,7 @@ pub had-suc : (js : List Job) (j : Job) (n : ℕ)
     → had js j (suc n) ≡ had js j n + cond (is_run_of j (cell js n)) 1 0
 had-suc js j n = ap (cells_of j) (edf_cells-suc js n) ∙ cells_of-push j (edf_cells js n) (cell js n)
 
--- and none at the begin
+-- a job has no cell at the begin
 pub had-zero : (js : List Job) (j : Job) → had js j 0 ≡ 0
 had-zero js j = ap (cells_of j) (edf_cells-zero js) ∙ cells_of-none j
 
@@ -79,6 +79,6 @@ had_later js j n (suc m) =
     let here : had js j n ≤ had js j (n + m) = had_later js j n m in
     rw (add-suc n m) (rw (had-suc js j (n + m)) (omega arith))
 
--- the same between any two ticks
+-- what was had at a tick is at most what was had at a later one
 pub had_le_had : (js : List Job) (j : Job) (n e : ℕ) → n ≤ e → had js j n ≤ had js j e
 had_le_had js j n e le = subst (λ m. had js j n ≤ had js j m) (omega arith) (had_later js j n (e - n))

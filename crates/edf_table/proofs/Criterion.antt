@@ -63,7 +63,7 @@ given_push s e js cells c d =
 abbrev pub given_by : ℕ → ℕ → List Job → ℕ → ℕ
 given_by s e js n = given s e js (edf_cells js n)
 
--- so each tick gives the jobs of an interval at most one
+-- each tick gives the jobs of an interval at most one cell
 given_by-suc : (s e : ℕ) (js : List Job) (n : ℕ) → Distinct js
     → given_by s e js (suc n) ≤ given_by s e js n + 1
 given_by-suc s e js n d = rw (edf_cells-suc js n) (given_push s e js (edf_cells js n) (cell js n) d)
@@ -76,12 +76,12 @@ term_early true s e js j inside d a =
     (leb-true _ _ ((and_parts (leb s j.release) (leb j.deadline e) inside).0))
 term_early false s e js j inside d a = refl
 
--- so all of them together have had nothing there
+-- all jobs inside the interval together have had nothing where it begins
 given_before : (s e : ℕ) (js : List Job) → Distinct js → given_by s e js s ≡ 0
 given_before s e js d = sum_zero (λ j. cond (is_inside s e j) (had js j s) 0) js
     (λ j a. term_early (is_inside s e j) s e js j refl d a)
 
--- and after m ticks at most m: an interval gives no more than its ticks
+-- an interval gives its jobs no more cells than it has ticks
 given_within : (s e : ℕ) (js : List Job) (m : ℕ) → Distinct js → given_by s e js (s + m) ≤ m
 given_within s e js zero d = rw (add-zero s) (let none = given_before s e js d in omega arith)
 given_within s e js (suc m) d =
@@ -149,7 +149,7 @@ busy_back js end (suc p) busy = elim (due_or_slack end (cell js p)) [
   | inr slack ↦ (suc p, omega arith, busy, inr (p, refl, slack))
 ]
 
--- whoever lacks ticks and is due by the end was released inside the stretch
+-- a job that still has to get ticks and is due by the end was released inside the stretch
 no_pending_at_slack : (js : List Job) (end p : ℕ) (c : Option Job) (i : Job)
     → IsFirst (edf_cells js p) p js c → IsSlackCell end c →
     Among js i → i.deadline ≤ end → is_pending (edf_cells js p) p i ≡ true → ⊥
@@ -159,7 +159,8 @@ no_pending_at_slack js end p (Some k) i first slack a due pending = elim (first.
   | inr same ↦ (let e : k.deadline ≡ i.deadline = same.0 in omega arith)
 ]
 
--- so it was released in the stretch: at the slack cell before, it would have come first
+-- a pending job that is due by the end was released in the stretch: at the slack cell before, it
+-- would have come first
 released_inside : (js : List Job) (end t n : ℕ) (i : Job) → BeginsFresh js t end → Among js i
     → i.deadline ≤ end → t ≤ n → had js i n < i.cost → t ≤ i.release
 released_inside js end t n i (inl e) a due le lacks = omega arith
@@ -200,7 +201,7 @@ busy_tick js end t n (Some i) d fresh le first due =
     grows_by_one t end js (edf_cells js n) i first.0
     (and_from (leb t i.release) (leb i.deadline end) (le-leb _ _ inside) (le-leb _ _ due))
 
--- so m ticks of it give these jobs at least m
+-- m ticks of the stretch give the jobs inside it at least m
 busy_given : (js : List Job) (end t m : ℕ) → Distinct js → BeginsFresh js t end → BusyFrom js t end
     → t + m ≤ end → m ≤ given_by t end js (t + m)
 busy_given js end t zero d fresh busy le = omega arith

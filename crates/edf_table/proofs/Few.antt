@@ -13,7 +13,7 @@ below : ℕ → List Piece → ℕ
 below n [] = 0
 below n (p ∷ ps) = cond (ltb p.vcpu n) 1 0 + below n ps
 
--- and of one vCPU
+-- how many pieces are of vCPU v
 of_vcpu : ℕ → List Piece → ℕ
 of_vcpu v [] = 0
 of_vcpu v (p ∷ ps) = cond (eqb p.vcpu v) 1 0 + of_vcpu v ps
@@ -28,7 +28,7 @@ below-zero (p ∷ ps) = let rest = below-zero ps in grind (arith, nat_tests)
 one_step : (v n : ℕ) → cond (ltb v (suc n)) 1 0 ≡ cond (ltb v n) 1 0 + cond (eqb v n) 1 0
 one_step v n = grind (arith, nat_tests)
 
--- so the pieces of vCPUs below n + 1 are those below n and those of n
+-- the pieces of vCPUs below n + 1 are those below n and those of n
 below-suc : (n : ℕ) (ps : List Piece) → below (suc n) ps ≡ below n ps + of_vcpu n ps
 unfolding below of_vcpu
 below-suc n [] = refl
@@ -43,7 +43,7 @@ of_no_other v (p ∷ ps) other =
     let rest = of_no_other v ps (λ i q at. other (suc i) q at) in
     rw (ne_eqb p.vcpu v (other 0 p refl)) (omega arith)
 
--- and one at most where the vCPUs are distinct
+-- at most one piece is of a vCPU where the vCPUs are distinct
 of_one : (v : ℕ) (ps : List Piece) → DistinctVcpus ps → of_vcpu v ps ≤ 1
 unfolding of_vcpu
 of_one v [] apart = omega arith
@@ -55,7 +55,7 @@ of_one v (p ∷ ps) apart = elim (cases_Bool (eqb p.vcpu v)) [
   | inr other ↦ rw other (omega (arith, of_one v ps (tail_distinct p ps apart)))
 ]
 
--- so there are at most n of vCPUs below n
+-- at most n pieces are of vCPUs below n
 below_few : (n : ℕ) (ps : List Piece) → DistinctVcpus ps → below n ps ≤ n
 below_few zero ps apart = omega (arith, below-zero ps)
 below_few (suc n) ps apart = omega (arith, below-suc n ps, below_few n ps apart, of_one n ps apart)
@@ -83,7 +83,7 @@ some_of v (p ∷ ps) some = elim (cases_Bool (eqb p.vcpu v)) [
       (suc there.0, there.1, there.2, there.3))
 ]
 
--- and where a piece is of it, it counts
+-- a piece of the vCPU counts as one of it
 of_some : (v i : ℕ) (ps : List Piece) (q : Piece) → slice_get ps i ≡ Some q → q.vcpu ≡ v → 1 ≤ of_vcpu v ps
 unfolding of_vcpu
 of_some v i [] q at is = absurd (none-some q at)
@@ -96,7 +96,7 @@ of_some v (suc i) (p ∷ ps) q at is = omega (arith, of_some v i ps q at is)
 abbrev pub AreAmong : List Piece → List Piece → Type 0
 AreAmong qs ps = (i : ℕ) (q : Piece) → slice_get qs i ≡ Some q → (k : ℕ) × (slice_get ps k ≡ Some q)
 
--- so no more of them are of a vCPU
+-- no more pieces of a vCPU are among the first than among the others
 of_among : (v : ℕ) (qs ps : List Piece) → DistinctVcpus qs → AreAmong qs ps → of_vcpu v qs ≤ of_vcpu v ps
 of_among v qs ps apart among = elim (cases_lt 0 (of_vcpu v qs)) [
   | inl some ↦
@@ -106,7 +106,7 @@ of_among v qs ps apart among = elim (cases_lt 0 (of_vcpu v qs)) [
   | inr none ↦ omega arith
 ]
 
--- nor of the vCPUs below n
+-- no more pieces of vCPUs below n are among the first than among the others
 below_among : (n : ℕ) (qs ps : List Piece) → DistinctVcpus qs → AreAmong qs ps → below n qs ≤ below n ps
 below_among zero qs ps apart among = omega (arith, below-zero qs, below-zero ps)
 below_among (suc n) qs ps apart among = omega (
@@ -117,7 +117,7 @@ below_among (suc n) qs ps apart among = omega (
   of_among n qs ps apart among,
 )
 
--- the same for pieces of distinct vCPUs that are all among others
+-- pieces of distinct vCPUs that are all among others are no more than these
 pub fewer_pieces : (qs ps : List Piece) → DistinctVcpus qs → AreAmong qs ps → length qs ≤ length ps
 fewer_pieces qs ps apart among =
     omega (arith, all_below qs, all_below ps, below_among MAX_VCPUS qs ps apart among)

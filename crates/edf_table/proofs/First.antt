@@ -14,7 +14,7 @@ NotAfter a b = (a.deadline < b.deadline) ⊎ ((a.deadline ≡ b.deadline) × (a.
 pub not_after_from_test : (a b : Job) → comes_before b a ≡ false → NotAfter a b
 not_after_from_test a b h = grind (arith, nat_tests)
 
--- and where it holds
+-- what the test of the definition says where it holds
 pub not_after_from_before : (a b : Job) → comes_before a b ≡ true → NotAfter a b
 not_after_from_before a b h = grind (arith, nat_tests)
 
@@ -43,7 +43,7 @@ none_first cells tick j js unready rest k (inl e) =
     subst (λ (x : Job). is_pending cells tick x ≡ false) e unready
 none_first cells tick j js unready rest k (inr a) = rest k a
 
--- nor where there is one
+-- a job that isn't pending changes nothing where there is a first
 stays_first : (cells : List (Option Job)) (tick : ℕ) (j : Job) (js : List Job) (i : Job)
     → is_pending cells tick j ≡ false →
     IsFirst cells tick js (Some i) → IsFirst cells tick (j ∷ js) (Some i)
@@ -90,7 +90,7 @@ choose_first cells tick j js i true e ready h = kept_first cells tick j js i (no
 choose_first cells tick j js i false e ready h =
     new_first cells tick j js i ready (not_after_from_test j i e) h
 
--- so one job more keeps the statement, pending or not
+-- one job more keeps the statement, pending or not
 first_more : (cells : List (Option Job)) (tick : ℕ) (j : Job) (js : List Job) (rest : Option Job)
     (b : Bool) → is_pending cells tick j ≡ b →
     IsFirst cells tick js rest → IsFirst cells tick (j ∷ js) (cond b (Some (sooner j rest)) rest)

@@ -86,7 +86,7 @@ idle_alone : (x v : ℕ) (c : Option Job) → IsFirst (edf_cells (jobs_of []) x)
 idle_alone x v None first owner = cc
 idle_alone x v (Some j) first owner = no_jobs j first.0
 
--- so the statement holds of any list of pieces
+-- a cell lies in its job's window, of any list of pieces
 cell_in_window : (ps : List Piece) (x v : ℕ) (c : Option Job) → MetBefore (jobs_of ps) (ROUND + 1)
     → x < ROUND → IsFirst (edf_cells (jobs_of ps) x) x (jobs_of ps) c → owner_of c ≡ Some v →
     IsInWindow ps v x

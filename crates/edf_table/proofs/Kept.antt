@@ -17,14 +17,15 @@ goal_counted p next n is =
     let at : next - p.from ≡ n * p.period = omega arith in
     ap (λ m. m * p.cost) (ap (λ m. m / p.period) at ∙ mul-div_cancel n (some_period p))
 
--- and the end of the one before it
+-- what the windows before the next one cost, and where the last of them ends, by the next one's
+-- number
 due_counted : (p : Piece) (next n : ℕ) → next ≡ n * p.period + p.from → 0 < n
     → due_of p next + p.period ≡ n * p.period + p.to
 unfolding due_of
 due_counted p next n is some =
     let more = mul-le-mul_left {m = 1} {n = n} p.period (omega arith) in omega arith
 
--- so what is kept of a piece follows from the number of the next window
+-- what is kept of a piece follows from the number of the next window
 pub kept_counted : (p : Piece) (b e next n : ℕ) → next ≡ n * p.period + p.from → next < b + p.period
     → e ≤ next
     → IsKept p b e next
@@ -42,11 +43,11 @@ pub kept_ahead : (p : Piece) (b c e f next : ℕ) → IsKept p b e next → b �
 kept_ahead p b c e f next kept le le' =
     kept_counted p c f next kept.count kept.next_is (omega (arith, kept.begun)) le'
 
--- so where less is asked of the next begin
+-- what is kept of a piece is so for a later bound, and up to the next begin
 pub kept_later : (p : Piece) (b c e f next : ℕ) → IsKept p b e next → b ≤ c → f ≤ e → IsKept p c f next
 kept_later p b c e f next kept le le' = kept_ahead p b c e f next kept le (omega (arith, kept.ahead))
 
--- so it is of all pieces
+-- what is kept of all pieces is so for a later bound
 pub all_kept_later : (ps : List Piece) (ns : List ℕ) (n b c e f : ℕ) → AreKept ps ns n b e → b ≤ c
     → f ≤ e → AreKept ps ns n c f
 all_kept_later ps ns n b c e f kept le le' i d i-in =
@@ -74,7 +75,7 @@ goal_next p next after kept is =
     let there = goal_counted p after (kept.count + 1) (omega (arith, kept.next_is)) in
     omega (arith, kept.goal_is)
 
--- and ends as the code says
+-- the next window ends as the code says
 pub due_next : (p : Piece) (next after : ℕ) → IsKept p next next next → after ≡ next + p.period
     → due_of p after ≡ next - p.from + p.to
 due_next p next after kept is =
@@ -136,13 +137,13 @@ kept_goal p tick next kept goal = elim (cases_lt 0 kept.count) [
   | inr none ↦ (let early = none_counted p tick next kept none in absurd (omega (arith, early.1)))
 ]
 
--- so a ready piece has windows that cost something
+-- a ready piece has windows that cost something
 pub ready_goal : (p : Piece) (given tick : ℕ) (next : ℕ) → IsKept p (tick + 1) (tick + 1) next
     → is_ready p given tick ≡ true → given < goal_of p next
 ready_goal p given tick next kept ready =
     ltb-true given (goal_of p next) (kept_ready p given tick next kept ∙ ready)
 
--- and is due where the last of them ends
+-- a ready piece is due where the last of its windows ends
 pub kept_due : (p : Piece) (tick : ℕ) (next : ℕ) → IsKept p (tick + 1) (tick + 1) next → 0 < goal_of p next
     → due_of p next ≡ due_at p tick
 kept_due p tick next kept goal = elim (cases_lt 0 kept.count) [
@@ -181,7 +182,7 @@ last_ends p tick k next kept at = elim (cases_lt k kept.count) [
       absurd (omega (arith, kept.next_is, kept.ahead, p.begins)))
 ]
 
--- so where that one ends at another tick, none ends at this one
+-- no window ends at this tick where the last one counted ends at another
 pub kept_apart : (p : Piece) (given tick : ℕ) (next : ℕ) → IsKept p tick tick next
     → (due_of p next ≡ tick → ⊥) → IsServedAt p given tick
 kept_apart p given tick next kept apart k at =
@@ -198,7 +199,8 @@ kept_served p given tick next kept enough k at =
     let goal : (k + 1) * p.cost ≡ goal_of p next = ap (λ m. m * p.cost) last ∙ sym kept.goal_is in
     omega arith
 
--- and missed where it ends at the tick and they don't
+-- a piece is missed where its last window ends at the tick and the ticks given don't reach what its
+-- windows cost
 pub kept_missed : (p : Piece) (given tick : ℕ) (next : ℕ) → IsKept p tick tick next → due_of p next ≡ tick
     → given < goal_of p next → IsMissedAt p given tick
 kept_missed p given tick next kept now short = elim (cases_lt 0 kept.count) [
@@ -286,7 +288,7 @@ before_run ps ns gs tick event end i d apart counted met in_round kept lt urgent
       omega (arith, due d),
     )
 
--- it lacks each of the ticks that it is given
+-- the piece still had to get each of the ticks that it is given
 pub lacks_all : (ps : List Piece) (ns gs : List ℕ) (tick event i n : ℕ)
     → AreKept ps ns (length ps) (tick + 1) event → tick < event → IsMostUrgent ps gs tick (length ps) i
     → ((d : Piece) → get_or gs i 0 + n ≤ goal_of (get_or ps i d) (get_or ns i 0))

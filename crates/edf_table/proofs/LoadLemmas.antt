@@ -84,7 +84,7 @@ piece_room p start end whole within =
     regroup : (a b c : ℕ) → a * (b * c) ≡ b * (c * a)
     regroup a b c = omega arith
 
--- so all pieces ask for no more than their part of the interval
+-- all pieces ask for no more than their part of the interval
 all_room : (ps : List Piece) (start end : ℕ) → AreUnsplit ps → end ≤ ROUND
     → demand_in (jobs_of ps) start end * ROUND ≤ (end - start) * load ps
 all_room [] start end whole within = rw jobs_of-nil (rw (demand_in-none start end) (omega arith))
@@ -130,7 +130,7 @@ pub all_unsplit_more : (ps : List Piece) (i : ℕ) (d : Piece) → i < length ps
 all_unsplit_more ps i d lt all whole =
     rw (take_more ps i d lt) (all_unsplit_push (take i ps) (get_or ps i d) all whole)
 
--- and adds its load
+-- one more piece adds its load
 pub load_more : (ps : List Piece) (i : ℕ) (d : Piece) → i < length ps
     → load (take (i + 1) ps) ≡ load (take i ps) + (get_or ps i d).cost
     * (ROUND / (get_or ps i d).period)

@@ -46,7 +46,7 @@ window_overloads ps gs tick i d apart counted i-in window le =
     let at = subst P window.1 (found.1, found.2) in
     (found.0, record { some_ticks = at.0; within = le; too_much = at.1 })
 
--- the same of the piece that a search found
+-- a missed window of the piece that a search found makes an overload
 missed_overloads : (ps : List Piece) (gs : List ℕ) (tick : ℕ) (d : Piece) → DistinctVcpus ps
     → IsCounted ps gs tick → SomeMissed ps gs tick → tick ≤ ROUND →
     (start : ℕ) × IsOverloaded (jobs_of ps) start tick
@@ -64,7 +64,7 @@ fits_served ps gs tick apart counted fits le i d i-in k at =
       | inr served ↦ served
     ]
 
--- so the simulation of pieces that fit goes on with all met
+-- the simulation of pieces that fit goes on with all met
 pub fits_met : (ps : List Piece) (gs : List ℕ) (tick : ℕ) → DistinctVcpus ps → IsCounted ps gs tick
     → MetBefore (jobs_of ps) tick → Fits (jobs_of ps) → tick ≤ ROUND
     → MetBefore (jobs_of ps) (tick + 1)
@@ -75,7 +75,7 @@ fits_met ps gs tick apart counted met fits le =
 no_piece_missed : (gs : List ℕ) (tick : ℕ) → SomeMissed [] gs tick → ⊥
 no_piece_missed gs tick missed = let lt = missed.in_range in omega arith
 
--- so a first piece need not be given
+-- a missed window makes an overload, whatever piece comes first
 missed_overloads_any : (ps : List Piece) (gs : List ℕ) (tick : ℕ) → DistinctVcpus ps
     → IsCounted ps gs tick → SomeMissed ps gs tick → tick ≤ ROUND →
     (start : ℕ) × IsOverloaded (jobs_of ps) start tick

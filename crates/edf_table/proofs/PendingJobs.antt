@@ -1,4 +1,5 @@
--- The pending jobs of a core, whose keys fall, are those of the pieces that lack ticks.
+-- The pending jobs of a core, whose keys fall, are those of the pieces that still have to get
+-- ticks.
 use Rattle.std.proofs.Common.{◌≡◌, ◌≢◌, ℕ, zero, suc, ◌+◌, ◌-◌, ◌*◌, ◌<◌, ◌≤◌, List, [], ◌∷◌, Some, length, get_or, replicate, set, slice_get, refl, ap, subst, sym, ◌∙◌, inl, inr, arith, length-set, get_or-set_same, get_or-set_other}
 use Rattle.std.proofs.Math.Nat.{mul-le-mul_left}
 use Rattle.std.proofs.lemmas.Bool.{cases_eq, cases_lt, le-ltb, lt-ltb}
@@ -21,7 +22,7 @@ use Rattle.edf_table.proofs.Steps.{counted_start, distinct_at, met_more_any}
 abbrev no_job : Pending
 no_job = record { key = 0; left = 0 }
 
--- the key of a piece that lacks ticks is by the end of its window
+-- the key of a piece that still has to get ticks is by the end of its window
 key_is : (p : Piece) (tick next : ℕ) → IsKept p (tick + 1) (tick + 1) next → 0 < goal_of p next
     → key_at p next ≡ due_at p tick * MAX_VCPUS + p.vcpu
 key_is p tick next kept some = ap (λ due. due * MAX_VCPUS + p.vcpu) (kept_due p tick next kept some)
@@ -43,7 +44,7 @@ last_least ps gs ns jobs count j pending lt = elim (cases_lt j (count - 1)) [
       subst (λ k. (job_at jobs (count - 1)).key ≤ (job_at jobs k).key) (sym same) (omega arith))
 ]
 
--- so its piece is the most urgent
+-- the piece of the last job is the most urgent
 pub urgent_by_key : (ps : List Piece) (gs ns : List ℕ) (jobs : List Pending) (count tick event i : ℕ)
     → AreKept ps ns (length ps) (tick + 1) event → tick < event → ArePending ps gs ns jobs count
     → 0 < count → IsJobOf ps gs ns (job_at jobs (count - 1)) i → IsMostUrgent ps gs tick (length ps) i
@@ -65,7 +66,7 @@ urgent_by_key ps gs ns jobs count tick event i kept' before pending some job =
           due_by_key (get_or ps i d) (get_or ps k d) tick (omega (arith, job.key_is d, place.2)));
     }
 
--- and without a job no piece is ready
+-- without a job no piece is ready
 pub none_by_key : (ps : List Piece) (gs ns : List ℕ) (jobs : List Pending) (count tick event : ℕ)
     → AreKept ps ns (length ps) (tick + 1) event → tick < event → ArePending ps gs ns jobs count
     → count ≡ 0 → NoneReady ps gs tick
@@ -99,7 +100,7 @@ two_keys ps ns ms i k d apart i-in k-in ne e =
     distinct_at ps i k d apart i-in k-in ne
     (omega (arith, (get_or ps i d).vcpu_small, (get_or ps k d).vcpu_small))
 
--- so jobs of two keys are of two pieces
+-- jobs of two keys are of two pieces
 two_pieces : (ps : List Piece) (gs ns : List ℕ) (a b : Pending) (i k : ℕ) → IsJobOf ps gs ns a i
     → IsJobOf ps gs ns b k → (d : Piece) → a.key ≢ b.key → i ≢ k
 two_pieces ps gs ns a b i k at bt d ne same =
@@ -376,7 +377,7 @@ room_for_job ps gs ns jobs count i d apart i-in pending idle =
         (picked_at ps gs ns jobs count count k d a pending (omega arith) at)
         (picked_at ps gs ns jobs count count m d b pending (omega arith) bt) e)
 
--- so it is for a piece whose next window begins
+-- beside the jobs there is room for one of a piece whose next window begins
 pub room_to_begin : (ps : List Piece) (gs ns : List ℕ) (jobs : List Pending) (count tick i : ℕ) (d : Piece)
     → DistinctVcpus ps → IsKept (get_or ps i d) tick tick (get_or ns i 0) → get_or ns i 0 ≡ tick
     → i < length ps
@@ -570,14 +571,14 @@ timely_served ps gs ns jobs count tick kept pending timely i d i-in =
       | inr enough ↦ kept_served p (get_or gs i 0) tick next here enough
     ]
 
--- so the last job tells whether that is so
+-- the last job says whether each window that ends now has had its cost
 pub last_timely : (ps : List Piece) (gs ns : List ℕ) (jobs : List Pending) (count tick : ℕ)
     → ArePending ps gs ns jobs count → (0 < count → tick * MAX_VCPUS ≤ (job_at jobs (count - 1)).key)
     → AreTimely jobs count tick
 last_timely ps gs ns jobs count tick pending last j lt =
     omega (arith, last (omega arith), last_least ps gs ns jobs count j pending lt)
 
--- and where it is due now, its window was missed
+-- where the last job is due now, its window was missed
 pub last_missed : (ps : List Piece) (gs ns : List ℕ) (jobs : List Pending) (count tick : ℕ)
     → AreKept ps ns (length ps) tick tick → ArePending ps gs ns jobs count → AreTimely jobs count tick
     → 0 < count → (job_at jobs (count - 1)).key < (tick + 1) * MAX_VCPUS → SomeMissed ps gs tick
@@ -636,7 +637,7 @@ under_way_start ps ns jobs apart kept = record {
   met = λ j a lt. absurd (omega arith);
 }
 
--- and goes on with what else is kept of the windows
+-- the simulation that is under way keeps what else is kept of the windows
 pub under_way_kept : (ps : List Piece) (ns : List ℕ) (jobs : List Pending) (count tick b c served e f : ℕ)
     → IsUnderWay ps ns jobs count tick b served e → AreKept ps ns (length ps) c f
     → IsUnderWay ps ns jobs count tick c served f
@@ -649,7 +650,7 @@ under_way_kept ps ns jobs count tick b c served e f here kept = record {
   met = here.met;
 }
 
--- so where less is asked
+-- the simulation that is under way is so for a later bound
 pub under_way_later : (ps : List Piece) (ns : List ℕ) (jobs : List Pending) (count tick b c served e f : ℕ)
     → IsUnderWay ps ns jobs count tick b served e → b ≤ c → f ≤ e
     → IsUnderWay ps ns jobs count tick c served f
@@ -681,7 +682,7 @@ served_now ps ns jobs count tick event here le last =
           here.pending timely);
     }
 
--- and where the last one is, the window was missed
+-- where the last job is late, its window was missed
 pub missed_now : (ps : List Piece) (ns : List ℕ) (jobs : List Pending) (count tick event : ℕ)
     (here : IsUnderWay ps ns jobs count tick tick tick event) → tick ≤ event
     → (0 < count) × ((job_at jobs (count - 1)).key < (tick + 1) * MAX_VCPUS) → SomeMissed ps here.given tick

@@ -18,12 +18,12 @@ among_left [] ys j a = absurd a
 among_left (x ∷ xs) ys j (inl e) = inl e
 among_left (x ∷ xs) ys j (inr a) = inr (among_left xs ys j a)
 
--- and one of the second is
+-- a job of the second list is one of both
 among_right : (xs ys : List Job) (j : Job) → Among ys j → Among (xs ++ ys) j
 among_right [] ys j a = a
 among_right (x ∷ xs) ys j a = inr (among_right xs ys j a)
 
--- and a job of both is one of either
+-- a job of both lists is one of either
 among_either : (xs ys : List Job) (j : Job) → Among (xs ++ ys) j → Among xs j ⊎ Among ys j
 among_either [] ys j a = inr a
 among_either (x ∷ xs) ys j (inl e) = inl (inl e)
@@ -34,7 +34,7 @@ pub first_jobs-suc : (s : Subtask) (n : ℕ) → first_jobs s (suc n) ≡ first_
 unfolding first_jobs
 first_jobs-suc s n = refl
 
--- and none of no windows
+-- a subtask has no jobs of no windows
 pub first_jobs-zero : (s : Subtask) → first_jobs s 0 ≡ []
 unfolding first_jobs
 first_jobs-zero s = refl
@@ -47,7 +47,7 @@ first_job_among s (suc n) k lt = rw (first_jobs-suc s n) (elim (cases_eq k n) [
   | inr ne ↦ among_left (first_jobs s n) (job_of s n ∷ []) (job_of s k) (first_job_among s n k (omega arith))
 ])
 
--- and each of these has a window
+-- each of a subtask's first jobs has a window
 pub first_job_place : (s : Subtask) (n : ℕ) (j : Job) → Among (first_jobs s n) j
     → (k : ℕ) × (k < n) × (job_of s k ≡ j)
 first_job_place s zero j a = absurd (rw (first_jobs-zero s) at a)
@@ -157,7 +157,7 @@ jobs_of_distinct (p ∷ ps) h =
 pub no_jobs : (j : Job) → Among (jobs_of []) j → ⊥
 no_jobs j a = rw jobs_of-nil at a
 
--- and nobody first
+-- nobody is first among the jobs of no pieces
 pub none_of_none : (cells : List (Option Job)) (tick : ℕ) → first_pending cells tick (jobs_of []) ≡ None
 unfolding first_pending
 none_of_none cells tick = rw jobs_of-nil refl

@@ -85,7 +85,7 @@ ready_shift p g s x whole = elim (cases_lt x p.from) [
           ∙ le-ltb _ _ (omega arith))
     ]
 
--- and is due later by the shift
+-- a piece after the shift is due later by the shift
 due_shift : (p : Piece) (s x : ℕ) → s / p.period * p.period ≡ s → p.from ≤ x
     → due_at p (s + x) ≡ s + due_at p x
 due_shift p s x whole from =
@@ -99,7 +99,7 @@ abbrev pub IsShifted : List Piece → List ℕ → List ℕ → ℕ → Type 0
 IsShifted ps gs hs s = (i : ℕ) (d : Piece) → i < length ps
     → get_or hs i 0 ≡ s / (get_or ps i d).period * (get_or ps i d).cost + get_or gs i 0
 
--- so the same pieces are ready
+-- after the shift the same pieces are ready
 pub ready_alike : (ps : List Piece) (gs hs : List ℕ) (s x i : ℕ) (d : Piece) → IsCommon ps (length ps) s
     → IsShifted ps gs hs s → i < length ps
     → is_ready (get_or ps i d) (get_or hs i 0) (s + x) ≡ is_ready (get_or ps i d) (get_or gs i 0) x
@@ -107,7 +107,7 @@ ready_alike ps gs hs s x i d common shifted i-in =
     ap (λ g. is_ready (get_or ps i d) g (s + x)) (shifted i d i-in)
     ∙ ready_shift (get_or ps i d) (get_or gs i 0) s x (common i d i-in)
 
--- and the same one is the most urgent
+-- after the shift the same piece is the most urgent
 pub urgent_alike : (ps : List Piece) (gs hs : List ℕ) (s x i : ℕ) → IsCommon ps (length ps) s
     → IsShifted ps gs hs s → IsMostUrgent ps gs x (length ps) i
     → IsMostUrgent ps hs (s + x) (length ps) i
@@ -127,7 +127,7 @@ urgent_alike ps gs hs s x i common shifted urgent = record {
       ]);
 }
 
--- no window that ends at the shifted tick lacks ticks, where none that ends at the tick does
+-- no window that ends at the shifted tick was missed, where none that ends at the tick does
 served_alike : (ps : List Piece) (gs hs : List ℕ) (s x : ℕ) → IsCommon ps (length ps) s
     → IsShifted ps gs hs s → IsCounted ps gs x → MetBefore (jobs_of ps) (x + 1) → x ≤ ROUND
     → ServedBelow ps hs (s + x) (length ps)
@@ -335,7 +335,7 @@ alike_more ps s x apart common met lt now =
           })
     ]
 
--- and so many
+-- so many ticks more go to the same pieces after the shift
 pub alike_along : (ps : List Piece) (s n : ℕ) → DistinctVcpus ps → IsCommon ps (length ps) s
     → MetBefore (jobs_of ps) (n + 1) → s + n ≤ ROUND → Alike ps s 0 → Alike ps s n
 alike_along ps s zero apart common met le now = now
@@ -395,7 +395,7 @@ common_more ps s h i d common common' i-in =
     let both : (a + b) * p.period ≡ s + h = omega arith in
     ap (λ n. n / p.period) (sym both) ∙ mul-div_left (a + b) (some_period p)
 
--- what is known at a multiple of all periods: the simulation stands as at the begin of the round
+-- what is known at a multiple of all periods: the simulation is as at the begin of the round
 pub record Anew (ps : List Piece) (s : ℕ) : Type 0 where
   pub given : List ℕ
   pub common : IsCommon ps (length ps) s
@@ -417,7 +417,7 @@ anew_start ps apart = record {
   met = λ j a lt. absurd (omega arith);
 }
 
--- and after the shift as at the begin
+-- the simulation does after the shift as at the begin
 pub alike_start : (ps : List Piece) (s : ℕ) → DistinctVcpus ps → Anew ps s → Alike ps s 0
 alike_start ps s apart anew =
     let at : s ≡ s + 0 = omega arith in
@@ -430,7 +430,7 @@ alike_start ps s apart anew =
       met = subst (MetBefore (jobs_of ps)) at anew.met;
     }
 
--- so at each further multiple
+-- the simulation begins anew at each further multiple
 anew_more : (ps : List Piece) (s h : ℕ) → DistinctVcpus ps → IsCommon ps (length ps) h → 0 < h → h < ROUND
     → MetBefore (jobs_of ps) (h + 1) → s + h ≤ ROUND → Anew ps s → Anew ps (s + h)
 anew_more ps s h apart common some lt met le anew =

@@ -45,13 +45,13 @@ left_rise ss i start end s lt at rises =
     rises_parts start s (drop (i + 1) ss) end
     (subst (λ (ts : List Segment). RisesTo start ts end) (drop_next ss i s lt at) rises)
 
--- and what they stand for begins with the first one's cells
+-- what the segments that are left stand for begins with the first one's cells
 pub left_cells : (ss : List Segment) (i start : ℕ) (s : Segment) → i < length ss → s ≡ get_or ss i s
     → cells_from start (drop i ss) ≡ replicate (s.end - start) s.owner ++ cells_from s.end (drop (i + 1) ss)
 left_cells ss i start s lt at =
     ap (cells_from start) (drop_next ss i s lt at) ∙ cells-cons start s (drop (i + 1) ss)
 
--- the same vCPU has the shifted tick
+-- a shifted tick goes to the same vCPU
 owner_alike : (ps : List Piece) (s x : ℕ) → DistinctVcpus ps → IsCommon ps (length ps) s
     → MetBefore (jobs_of ps) (x + 1) → s + x < ROUND → Alike ps s x
     → owner_of (cell (jobs_of ps) (s + x)) ≡ owner_of (cell (jobs_of ps) x)
@@ -84,7 +84,7 @@ owners-suc ps n =
     ap (owners ps) next ∙ ap (map owner_of) (edf_cells-suc (jobs_of ps) n)
     ∙ map-append owner_of (edf_cells (jobs_of ps) n) (cell (jobs_of ps) n ∷ [])
 
--- so the cells behind the shift are those of the begin
+-- the cells after the shift are those of the begin
 owners_alike : (ps : List Piece) (s n : ℕ) → DistinctVcpus ps → IsCommon ps (length ps) s
     → MetBefore (jobs_of ps) (n + 1) → s + n ≤ ROUND → Alike ps s 0
     → owners ps (s + n) ≡ owners ps s ++ owners ps n

@@ -39,7 +39,7 @@ due_by_key : (p : Piece) (next key : ℕ) → key ≡ key_at p next → key / MA
 due_by_key p next key is = ap (λ n. n / MAX_VCPUS) is
     ∙ div-mul-add (due_of p next) MAX_VCPUS p.vcpu p.vcpu_small
 
--- and of which vCPU it is
+-- of which vCPU the piece's job is, by its key
 vcpu_by_key : (p : Piece) (next key : ℕ) → key ≡ key_at p next → key % MAX_VCPUS ≡ p.vcpu
 vcpu_by_key p next key is = ap (λ n. n % MAX_VCPUS) is
     ∙ mod-mul-add (due_of p next) MAX_VCPUS p.vcpu p.vcpu_small

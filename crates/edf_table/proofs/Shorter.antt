@@ -18,7 +18,7 @@ demand_term : (s e : ℕ) (j : Job)
     ≤ cond (leb s j.release && leb j.deadline (e + 1)) j.cost 0
 demand_term s e j = grind (arith, nat_tests)
 
--- so is its demand, over all jobs
+-- a longer interval has no less demand, over all jobs
 demand_longer : (js : List Job) (s e : ℕ) → demand_in js s e ≤ demand_in js s (e + 1)
 unfolding demand_in
 demand_longer [] s e = omega arith
@@ -101,7 +101,7 @@ no_more_at_end v x f t (suc n) s two window round =
     last false b true h = omega arith
     last a b false h = cc
 
--- so bisection may search for the longest piece that fits
+-- a shorter piece fits where a longer one does, so bisection may search for the longest
 pub shorter_fits : (jobs : List Job) (vcpu cost from period : ℕ) → IsPeriod period → 2 ≤ cost
     → from + cost ≤ period → FitsBeside jobs (tight vcpu cost from period) →
     FitsBeside jobs (tight vcpu (cost - 1) from period)

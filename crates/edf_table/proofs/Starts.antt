@@ -132,7 +132,7 @@ demand_from_more ps i d s e lt =
     (jobs_of-cons p []
     ∙ (rw jobs_of-nil (append_empty (first_jobs (subtask_of p) (ROUND / p.period)))))))
 
--- and begins with none
+-- the sum of the demands begins with none
 pub demand_from_nothing : (s e : ℕ) → demand_from (jobs_of []) s e ≡ 0
 unfolding demand_from
 demand_from_nothing s e = rw jobs_of-nil refl
@@ -167,7 +167,8 @@ inside_alike s m e j le none = ap (λ b. b && leb j.deadline e) (elim (cases_lt 
   | inr from ↦ le-leb s j.release from ∙ sym (le-leb m j.release (none from))
 ])
 
--- so over all jobs, term by term
+-- two intervals have the same demand, term by term over all jobs, where no window begins between
+-- their begins
 same_demand : (js : List Job) (s m e : ℕ) → s ≤ m
     → ((j : Job) → Among js j → s ≤ j.release → m ≤ j.release) → demand_in js s e ≡ demand_in js m e
 unfolding demand_in
@@ -187,7 +188,7 @@ no_release (p ∷ ps) from tick none j a later =
     let P : Job → Type 0 = λ i. from < i.release → tick ≤ i.release in
     subst P place.4 (none place.0 p place.1 place.2) later
 
--- so the search may skip the ticks between two begins
+-- the search may skip the ticks between two begins
 demand_between : (ps : List Piece) (from s tick e : ℕ) → NoBegin ps (length ps) from tick → from < s
     → s ≤ tick → demand_in (jobs_of ps) s e ≡ demand_in (jobs_of ps) tick e
 demand_between ps from s tick e none lt le =
@@ -235,7 +236,7 @@ later_begin ps a b m is one other = elim (cases_lt a b) [
   | inr le ↦ (let later : m ≡ a = omega (arith, is, le) in rw later one)
 ]
 
--- and between the later and the tick no window of one more piece begins
+-- no window of one more piece begins between the later of two begins and the tick
 pub no_begin_next : (ps : List Piece) (i a b m tick : ℕ) (p q : Piece) → i < length ps → m ≡ max a b
     → NoBegin ps i a tick
     → ((k : ℕ) → b < k * (get_or ps i p).period + (get_or ps i q).from

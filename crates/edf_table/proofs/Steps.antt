@@ -68,7 +68,7 @@ distinct_at ps i k d apart i-in k-in ne e =
 not_run_by_vcpu : (i j : Job) → i.vcpu ≢ j.vcpu → is_same_job i j ≡ false
 not_run_by_vcpu i j ne = and_left (eqb i.vcpu j.vcpu) (eqb i.deadline j.deadline) (ne_eqb i.vcpu j.vcpu ne)
 
--- nor is one of another window
+-- a tick of another window is not the job's
 not_run_by_deadline : (i j : Job) → i.deadline ≢ j.deadline → is_same_job i j ≡ false
 not_run_by_deadline i j ne = and_right (eqb i.vcpu j.vcpu) (eqb i.deadline j.deadline)
     (ne_eqb i.deadline j.deadline ne)
@@ -189,14 +189,15 @@ met_more ps gs tick d counted met served j a lt = elim (cases_lt j.deadline tick
       subst (λ (x : Job). x.cost ≤ had (jobs_of ps) x x.deadline) place.4 at)
 ]
 
--- the same, where there may be no piece at all
+-- where each window that ends at the tick has its cost, all is met one tick further, with or
+-- without a piece
 pub met_more_any : (ps : List Piece) (gs : List ℕ) (tick : ℕ) → IsCounted ps gs tick
     → MetBefore (jobs_of ps) tick → ServedBelow ps gs tick (length ps)
     → MetBefore (jobs_of ps) (tick + 1)
 met_more_any [] gs tick counted met served = λ j a lt. absurd (no_jobs j a)
 met_more_any (p ∷ ps) gs tick counted met served = met_more (p ∷ ps) gs tick p counted met served
 
--- the same of an idle tick
+-- an idle tick gives nothing, with or without a piece
 pub idle_cell_any : (ps : List Piece) (gs : List ℕ) (tick : ℕ) → IsCounted ps gs tick
     → MetBefore (jobs_of ps) (tick + 1) → tick < ROUND →
     ((i : ℕ) (d : Piece) → i < length ps → is_ready (get_or ps i d) (get_or gs i 0) tick ≡ false)

@@ -14,7 +14,7 @@ sum_le f g (i ∷ js) h =
     let here : f i ≤ g i = h i (inl refl) in
     omega (arith, sum_by-cons f i js, sum_by-cons g i js)
 
--- and less, where one term is less
+-- a sum is less where one term is less and none is more
 pub sum_lt : (f g : Job → ℕ) (js : List Job) → ((j : Job) → Among js j → f j ≤ g j) → (m : Job)
     → Among js m → f m < g m → sum_by f js < sum_by g js
 sum_lt f g [] h m in_m lt = absurd in_m

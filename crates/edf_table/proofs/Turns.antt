@@ -17,7 +17,7 @@ use Rattle.edf_table.proofs.Pieces.{job_among, job_place, jobs_of_distinct}
 pub some_period : (p : Piece) → 0 < p.period
 some_period p = let facts = period_facts p.period p.listed in omega (arith, facts.at_least)
 
--- and no more than a round, so products of it are small
+-- a period has no more ticks than a round, so products of it are small
 pub short_period : (p : Piece) → p.period ≤ ROUND
 short_period p = let facts = period_facts p.period p.listed in omega (arith, facts.at_most)
 
@@ -93,7 +93,7 @@ ready_pending ps gs tick i d counted lt ready =
     (ltb (had (jobs_of ps) (job_of (subtask_of p) w) tick) p.cost) (le-leb _ _ started)
     (lt-ltb _ _ lacks)
 
--- and a pending job is the window that a ready piece is at: earlier ones are over and were met
+-- a pending job is the window that a ready piece is at: earlier ones are over and were met
 pending_ready : (ps : List Piece) (gs : List ℕ) (tick i : ℕ) (d : Piece) (k : ℕ)
     → IsCounted ps gs tick → MetBefore (jobs_of ps) (tick + 1) →
     i < length ps → k < ROUND / (get_or ps i d).period

@@ -34,7 +34,7 @@ owned-push : (v : ℕ) (cells : List (Option Job)) (c : Option Job)
 unfolding owned
 owned-push v cells c = sum_by_push (λ x. cond (is_cell_of v (owner_of x)) 1 0) cells c
 
--- and no cells count nothing
+-- no cells have none that is the vCPU's
 owned-none : (v : ℕ) → owned v [] ≡ 0
 unfolding owned
 owned-none v = refl
@@ -97,7 +97,7 @@ of_piece ps i d j apart lt a v =
           (ap (λ (x : Job). x.vcpu) place.4 ∙ v))
     ]
 
--- so whether a cell is the vCPU's is counted over the jobs of its piece
+-- whether a cell is the vCPU's is counted over the jobs of its piece
 runs_is : (ps : List Piece) (i n : ℕ) (d : Piece) (c : Option Job) → DistinctVcpus ps
     → i < length ps → IsFirst (edf_cells (jobs_of ps) n) n (jobs_of ps) c →
     sum_by (λ j. cond (is_run_of j c) 1 0)
@@ -192,7 +192,7 @@ prefix_is js n (suc m) =
     (take-append-le n (edf_cells js (n + m)) (cell js (n + m) ∷ [])
     (omega (arith, length-edf_cells js (n + m))) ∙ prefix_is js n m))
 
--- the same by the longer row's end
+-- the first n cells of a longer row, by that row's end
 prefix_of : (js : List Job) (n e : ℕ) → n ≤ e → take n (edf_cells js e) ≡ edf_cells js n
 prefix_of js n e le = subst (λ k. take n (edf_cells js k) ≡ edf_cells js n) (omega arith)
     (prefix_is js n (e - n))

@@ -8,7 +8,7 @@ window_at tick to t k some e =
     let at : tick - to ≡ k * t = omega arith in
     ap (λ n. n / t) at ∙ mul-div_left k some
 
--- and nothing is left of the division there
+-- nothing is left of the division at the tick where a window ends
 pub whole_at : (tick to t k : ℕ) → 0 < t → k * t + to ≡ tick → (tick - to) % t ≡ 0
 whole_at tick to t k some e =
     let at : tick - to ≡ k * t = omega arith in

@@ -8,7 +8,7 @@ pub record IsUnsplit (p : Piece) : Type 0 where
   pub begins : p.from ≡ 0
   pub ends : p.to ≡ p.period
 
--- so are those of each piece
+-- each piece is all of its vCPU
 abbrev pub AreUnsplit : List Piece → Type 0
 AreUnsplit [] = Unit {0}
 AreUnsplit (p ∷ ps) = IsUnsplit p × AreUnsplit ps

@@ -19,11 +19,11 @@ pub record IsReported (core : ℕ) (jobs : List Job) (over : Over) : Type 0 wher
   pub first : IsFirstOverload jobs over.from over.to
   pub asked : over.demand ≡ demand_in jobs over.from over.to
 
--- the same, of a core's pieces
+-- the overloaded interval that is reported of a core's pieces
 abbrev pub IsReportedOf : List Piece → Over → Type 0
 IsReportedOf pieces over = IsReported (core_of pieces) (jobs_of pieces) over
 
--- a miss names that interval; want of memory says nothing of the pieces
+-- a miss names that interval; out of memory says nothing of the pieces
 abbrev pub IsEdfFault : List Piece → EdfFault → Type 0
 IsEdfFault pieces (Miss from to demand) =
     IsReportedOf pieces (record { core = core_of pieces; from = from; to = to; demand = demand })

@@ -13,7 +13,7 @@ use crate::turn::{next_event, put_first_begins, run_turn};
 use tab_core::{MAX_VCPUS, Over, Piece};
 
 // The first tick at which a window ends without its cost. Where there is none up to a multiple of
-// all periods, there is none in the round, since the simulation then repeats itself. What stands in
+// all periods, there is none in the round, since the simulation then repeats itself. What is in
 // `begins` and `jobs` means nothing.
 fn first_miss_in(pieces: &[Piece], begins: &mut [u32], jobs: &mut [Pending]) -> Option<u32>
     requires distinct { DistinctVcpus pieces.now }
@@ -41,7 +41,8 @@ fn first_miss_in(pieces: &[Piece], begins: &mut [u32], jobs: &mut [Pending]) -> 
     }
 }
 
-// The same, with tables of its own: short ones for few pieces, since each is cleared first.
+// The first tick at which a window ends without its cost, with tables of its own: short ones for
+// few pieces, since each is cleared first.
 fn first_miss(pieces: &[Piece]) -> Option<u32>
     requires { DistinctVcpus pieces.now }
     ensures none { IfNone result (Fits (jobs_of pieces.now)) }

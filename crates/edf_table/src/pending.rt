@@ -6,12 +6,12 @@ ghost use Rattle.edf_table.specs.Inside.Progress.{ArePending, AreTimely, IsAdded
 
 use tab_core::{MAX_VCPUS, Piece, ROUND};
 
-// A job that has begun and lacks ticks of its cost.
+// A job that has begun and hasn't had its whole cost.
 #[derive(Clone, Copy)]
 pub(crate) struct Pending {
     // when it is due and, below that, its vCPU: the job of the lower key is the more urgent
     pub(crate) key: u32,
-    // the ticks that it lacks
+    // the ticks that it still has to get
     pub(crate) left: u32,
 }
 
@@ -49,7 +49,7 @@ pub(crate) fn job_from(piece: &Piece, tick: u32) -> Pending
     }
 }
 
-// Puts the job behind those of the first `count` that are less urgent, before the others.
+// Puts the job after those of the first `count` that are less urgent, before the others.
 pub(crate) fn add(jobs: &mut [Pending], count: usize, job: Pending)
     requires { count < length jobs.old }
     ensures a_place_each { length jobs.new ≡ length jobs.old }
@@ -74,7 +74,7 @@ pub(crate) fn is_late(jobs: &[Pending], count: usize, tick: u32) -> bool
     count > 0 && jobs[count - 1].key < (tick + 1) * MAX_VCPUS
 }
 
-// Gives the most urgent job so many of the ticks that it lacks.
+// Gives the most urgent job so many of the ticks that it still has to get.
 pub(crate) fn give(jobs: &mut [Pending], count: &mut usize, ticks: u32)
     requires some { 0 < count.old }
     requires known { count.old ≤ length jobs.old }

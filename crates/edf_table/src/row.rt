@@ -15,8 +15,8 @@ use std::alloc::{AllocError, Global};
 use tab_core::{MAX_VCPUS, Piece, ROUND};
 use table_form::{CoreTable, Owner, RowBuilder, Segment, push_segment};
 
-// The maximal segments of the ticks below `end`, of pieces that fit. What stands in `begins` and
-// `jobs` means nothing.
+// The maximal segments of the ticks below `end`, of pieces that fit. What is in `begins` and `jobs`
+// means nothing.
 fn first_segments_in(
     alloc: Global,
     pieces: &[Piece],
@@ -52,7 +52,8 @@ fn first_segments_in(
     Ok(segments)
 }
 
-// The same, with tables of its own: short ones for few pieces, since each is cleared first.
+// The maximal segments of the ticks below `end`, with tables of its own: short ones for few pieces,
+// since each is cleared first.
 pub(crate) fn first_segments(
     alloc: Global,
     pieces: &[Piece],

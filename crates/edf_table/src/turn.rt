@@ -45,8 +45,8 @@ fn begin_windows(
     }
 }
 
-// The least of the first begins, and at most the round's end. It stands apart from their search, so
-// that the compiler takes several at once.
+// The least of the first begins, and at most the round's end. It is a function of its own, beside
+// their search, so that the compiler takes several at once.
 fn least_of(begins: &[u32], count: usize) -> u32
     requires known { count ≤ length begins.now }
     ensures in_round { result ≤ ROUND }

@@ -1,4 +1,4 @@
--- A flow that lacks nothing is an allotment.
+-- A flow in which no job needs more is an allotment.
 use Rattle.std.proofs.Common.{◌≡◌, ℕ, ◌+◌, ◌*◌, ◌<◌, ◌≤◌, nat_lt, Bool, true, false, cond, List, map, refl, ap, sym, ◌∙◌, arith, ⊎_elim}
 use Rattle.std.proofs.lemmas.Bool.{cases_lt}
 use Rattle.std.proofs.lemmas.List.{length-map}
@@ -13,7 +13,7 @@ use Rattle.flow_net.specs.Flows.{IsNet, all_lacks, lack_of}
 use Rattle.flow_net.specs.Allotments.{AreMarks, IsAllotment, load_of_tasks, period_of_task, cost_of_task}
 use Rattle.tab_core.proofs.Totals.{total-point, total-le}
 
--- what one more search adds to the steps, where each is paid by a tick less of lack
+-- what one more search adds to the steps, where each is paid by a tick less that is needed
 pub step_cost : (s s' s0 e lacks lacks' lacks0 j : ℕ) (b : Bool) → (b ≡ true → lacks' + 1 ≡ lacks)
     → (b ≡ false → lacks' ≡ 0)
     → s' ≤ s + 2 * e → (b ≡ false → s' ≤ s + j) → s + 2 * e * lacks ≤ s0 + 2 * e * lacks0
@@ -26,7 +26,7 @@ step_cost s s' s0 e lacks lacks' lacks0 j false less none cost last old =
     let product : 2 * e * lacks' ≡ 0 = ap (λ n. 2 * e * n) (none refl) ∙ omega arith in
     omega (arith, product, last refl, old)
 
--- searches for all that lacks cost no more than two steps for each edge and pair
+-- searches for all that is needed cost no more than two steps for each edge and pair
 pub all_cost : (s s0 e pairs j lacks : ℕ) → lacks + j ≤ pairs → j ≤ e → s ≤ s0 + 2 * e * lacks + j
     → s ≤ s0 + 2 * pairs * e
 all_cost s s0 e pairs j lacks most few cost =
@@ -50,7 +50,7 @@ all_cost s s0 e pairs j lacks most few cost =
     ))
     (cases_lt 0 j)
 
--- where nothing lacks in all, each job lacks nothing
+-- where all jobs together need nothing more, none does
 pub zero_lack : (l : Load) (lacks : List (List ℕ)) → all_lacks l lacks ≡ 0 → (v k : ℕ) → v < l.width
     → k < jobs l v → ticks_at lacks v k ≡ 0
 zero_lack l lacks none v k h lt =
@@ -62,7 +62,7 @@ zero_lack l lacks none v k h lt =
       none,
     )
 
--- a flow of which nothing lacks is an allotment
+-- a flow in which no job needs more is an allotment
 pub allotted : (tasks : List (Option Periodic)) (marks : List ℕ) (cores : ℕ) (rows lacks : List (List ℕ))
     (room : List ℕ)
     → AreMarks (map period_of_task tasks) marks

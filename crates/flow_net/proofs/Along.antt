@@ -3,7 +3,7 @@ use Rattle.std.proofs.Common.{◌≡◌, ℕ, ◌-◌, ◌<◌, ◌≤◌, ap, r
 use Rattle.flow_net.specs.Load.{Load, job}
 use Rattle.flow_net.specs.Inside.Reach.{Reached, IsSearch, IsKeptTo}
 
--- before a tick moves, all links stand on the ticks that they had
+-- before a tick moves, all links are on the ticks that they had
 pub kept_start : (f : ℕ → ℕ → ℕ) (q : Reached) (x : ℕ) → IsKeptTo f f q x
 kept_start f q x = record { here = λ z h. refl; before = λ z h b. refl }
 

@@ -32,7 +32,7 @@ search_begins l f rv rk q empty far none = record {
 pub jobwise_begins : (l : Load) (q : Reached) → ((v i : ℕ) → q.scan v i ≡ 0) → IsJobwise l q
 jobwise_begins l q none v i j a b c e = none v i ∙ sym (none v j)
 
--- the job that lacks ticks may be read first
+-- the job that still needs ticks may be read first
 pub can_begin : (l : Load) (f : ℕ → ℕ → ℕ) (u k : ℕ) (q : Reached) → q.tail ≡ 0 → u < l.width
     → is_due l u ≡ 1 → CanReach l f u k q u k 0
 can_begin l f u k q empty h due = record {

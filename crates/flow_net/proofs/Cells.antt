@@ -10,7 +10,7 @@ pub row-with_here : (rows : List (List ℕ)) (i p n : ℕ) → i < length rows
     → row_at (with_ticks rows i p n) i ≡ set (row_at rows i) p n
 row-with_here rows i p n h = get_or-set_same rows i (set (row_at rows i) p n) [] h
 
--- and the other rows
+-- a write leaves the other rows
 pub row-with_else : (rows : List (List ℕ)) (i p n j : ℕ) → (j ≡ i → ⊥)
     → row_at (with_ticks rows i p n) j ≡ row_at rows j
 row-with_else rows i p n j ne = get_or-set_other rows i j (set (row_at rows i) p n) [] ne
@@ -22,7 +22,7 @@ unfolding ticks_at
 ticks-with_here rows i p n at = ap (λ r. get_or r p 0) (row-with_here rows i p n at.row)
     ∙ get_or-set_same (row_at rows i) p n 0 at.within
 
--- and the other places
+-- a write leaves the other places
 pub ticks-with_else : (rows : List (List ℕ)) (i p n j q : ℕ) → IsPlace rows i p → (j ≡ i → q ≡ p → ⊥)
     → ticks_at (with_ticks rows i p n) j q ≡ ticks_at rows j q
 unfolding ticks_at
@@ -38,7 +38,7 @@ ticks-with_else rows i p n j q at ne = elim (cases_eq j i) [
 pub length-with : (rows : List (List ℕ)) (i p n : ℕ) → length (with_ticks rows i p n) ≡ length rows
 length-with rows i p n = length-set rows i (set (row_at rows i) p n)
 
--- and their lengths
+-- a write leaves the lengths of rows
 pub length-row-with : (rows : List (List ℕ)) (i p n j : ℕ) → IsPlace rows i p
     → length (row_at (with_ticks rows i p n) j) ≡ length (row_at rows j)
 length-row-with rows i p n j at = elim (cases_eq j i) [
@@ -100,7 +100,7 @@ pub ticks-push_here : (rows : List (List ℕ)) (row : List ℕ) (i p : ℕ) → 
 unfolding ticks_at
 ticks-push_here rows row i p e = ap (λ r. get_or r p 0) (row-push_here rows row i e)
 
--- and those of the rows before it
+-- a pushed row leaves the places of the rows before it
 pub ticks-push_else : (rows : List (List ℕ)) (row : List ℕ) (i p : ℕ) → i < length rows
     → ticks_at (rows ++ row ∷ []) i p ≡ ticks_at rows i p
 unfolding ticks_at

@@ -21,7 +21,7 @@ all_due l v due = elim (cases_lt 0 (l.cost v)) [
       absurd (omega (arith, due, not)))
 ]
 
--- a place behind the first values of a function is behind those of one of them
+-- a place after the first values of a function is after those of one of them
 same_place : (f : ℕ → ℕ) (v k w j : ℕ) → total f v + k ≡ total f w + j → k < f v → j < f w → (v ≡ w) × (k ≡ j)
 same_place f v k w j same in_v in_w = elim (cases_order v w) [
   | inl e ↦ (e, omega (arith, ap (total f) e))
@@ -60,7 +60,7 @@ pub rank_less : (l : Load) (v : ℕ) → v < l.width → is_due l v ≡ 1 → ad
 rank_less l v lt due =
     omega (arith, due, total-step (is_due l) v, total-part (is_due l) (v + 1) l.width (omega arith))
 
--- and an edge to an interval before those to the sink
+-- an edge to an interval comes before those to the sink
 below_sink : (l : Load) (n v i : ℕ) → IsToInterval l n v i → n < job_count l + l.count * admitted l
 below_sink l n v i is =
     let rank = rank_less l v is.vcpu is.due in
@@ -68,7 +68,7 @@ below_sink l n v i is =
     let one : suc i * admitted l ≡ i * admitted l + admitted l = omega arith in
     omega (arith, is.number, rank, up, one)
 
--- so a number is of one edge
+-- a number is of one edge
 pub one_edge : (l : Load) (n : ℕ) (e d : Edge) → IsEdge l n e → IsEdge l n d → e ≡ d
 one_edge l n (ToJob v k) (ToJob w j) is is' =
     let same = same_place (jobs_due l) v k w j (sym is.number ∙ is'.number)

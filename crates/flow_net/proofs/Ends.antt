@@ -1,4 +1,4 @@
--- A search from a lacking job reaches an interval with room.
+-- A search from a job that still needs ticks reaches an interval with room.
 use Rattle.std.proofs.Common.{◌≡◌, ℕ, ◌+◌, ◌*◌, ◌<◌, ◌≤◌, ◌==◌, Bool, true, false, cond, ap, refl, sym, ◌∙◌, arith, inl, inr}
 use Rattle.std.proofs.lemmas.Bool.{cases_eq, ne_eqb, cond-false}
 use Rattle.std.proofs.Math.Nat.{mul-le-mul_right}
@@ -88,7 +88,7 @@ job_inside l f lack room seen near v i ok flow s w k h lt =
     ] in
     rw left (rw right middle)
 
--- a reached job that lacks ticks has less than its share in the near intervals
+-- a reached job that still needs ticks has less than its share in the near intervals
 job_lacks : (l : Load) (f lack : ℕ → ℕ → ℕ) (room : ℕ → ℕ) (seen : ℕ → ℕ → Bool) (near : ℕ
     → Bool) (v i : ℕ) → IsLoad l
     → IsFlow l f lack room l.count → IsStuck l f lack room seen near v i
@@ -108,7 +108,7 @@ job_lacks l f lack room seen near v i ok flow s =
     let strict : given l f v k * l.round < l.cost v * l.round = omega (arith, more, ok.some_round) in
     rw left (rw right strict)
 
--- so a search that has read all edges of what it reached has found room
+-- a search that has read all edges of what it reached has found room
 pub never_stuck_here : (l : Load) (f lack : ℕ → ℕ → ℕ) (room : ℕ → ℕ) (seen : ℕ → ℕ → Bool) (near : ℕ
     → Bool) (v i : ℕ) → IsLoad l
     → total (demand l) l.width ≤ l.cores * l.round → IsFlow l f lack room l.count

@@ -1,4 +1,4 @@
--- What flows and what is lacking are all demands together.
+-- What flows and what is still needed are all demands together.
 use Rattle.std.proofs.Common.{◌≡◌, ℕ, ◌+◌, List, sym, ◌∙◌, arith}
 use Rattle.std.proofs.Math.Nat.{mul_comm}
 use Rattle.tab_core.specs.Sums.{total}
@@ -7,7 +7,7 @@ use Rattle.flow_net.specs.Flows.{IsNet, all_lacks, lack_of, flow_of, flow_sum}
 use Rattle.tab_core.proofs.Totals.{total-ext, total-add, total-const}
 use Rattle.flow_net.proofs.Beyond.{given_used}
 
--- what flows and what lacks are the demands together
+-- what flows and what is still needed are the demands together
 pub flow_and_lacks : (l : Load) → IsLoad l → (rows lacks : List (List ℕ)) (room : List ℕ) (hole : ℕ)
     → IsNet l rows lacks room hole
     → all_lacks l lacks + flow_sum l rows ≡ total (demand l) l.width

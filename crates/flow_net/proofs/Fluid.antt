@@ -14,7 +14,7 @@ use Rattle.flow_net.proofs.Spans.{window_of, over_window, spans_fill}
 div_low : (x t : ℕ) → x / t * t ≤ x
 div_low x t = div-mul-le_self x t
 
--- and less than a divisor below it
+-- a dividend is less than a divisor above the quotient's multiple of it
 div_high : (x t : ℕ) → 0 < t → x + 1 ≤ x / t * t + t
 div_high x t some =
     ⊎_elim (λ (h : x < (x / t + 1) * t). omega (arith, h))
@@ -30,7 +30,7 @@ fluid_short l ok v i h =
     le_of_mul-le-mul_right {k =
     l.period v} (omega (arith, low, most, mul_comm (l.period v) (span l i))) (ok.some_period v h)
 
--- what a job is given, and what it lacks: less than one tick on each of its intervals
+-- what a job is given, and what it still needs: less than one tick on each of its intervals
 pub fluid_given : (l : Load) → IsLoad l → (v k : ℕ) → v < l.width → k < jobs l v
     → (given l (fluid l) v k ≤ l.cost v) × (l.cost v + 1 ≤ given l (fluid l) v k + over_job l v k (λ i. 1))
 fluid_given l ok v k h lt =
@@ -58,7 +58,7 @@ fluid_demand l ok v i h =
     let turned : l.cost v * span l i * jobs l v ≡ demand l v * span l i = omega arith in
     omega (arith, low, whole, turned)
 
--- so all vCPUs together use at most what the cores offer
+-- all vCPUs together use at most what the cores offer
 pub fluid_used : (l : Load) → IsLoad l → total (demand l) l.width ≤ l.cores * l.round → (i : ℕ)
     → used l (fluid l) i ≤ l.cores * span l i
 fluid_used l ok fits i =

@@ -82,6 +82,6 @@ cost_more head count k h = omega (
       ≤ count = omega arith in q),
 )
 
--- and so are all links and theirs
+-- all links and their edges back are within the bound
 pub cost_all : (head count k : ℕ) → head ≤ count → head * (k + 1) ≤ count * (k + 1)
 cost_all head count k h = mul-le-mul_right (k + 1) h

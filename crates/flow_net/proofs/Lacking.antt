@@ -1,4 +1,4 @@
--- What a vCPU's jobs lack, interval by interval.
+-- What a vCPU's jobs still need, interval by interval.
 use Rattle.std.proofs.Common.{◌≡◌, ℕ, ◌+◌, ◌-◌, ◌*◌, ◌<◌, ◌≤◌, ◌==◌, cond, List, [], ◌∷◌, ◌++◌, length, length-append, get_or, ap, ◌∙◌, arith, ⊎_elim, inl, inr}
 use Rattle.std.proofs.lemmas.Bool.{cases_eq, cases_lt, cond-false, cond-true, eq-eqb, ne_eqb}
 use Rattle.std.proofs.lemmas.List.{get_or_append_left}
@@ -42,7 +42,7 @@ job_of : (l : Load) → IsLoad l → (f : ℕ → ℕ → ℕ) (v : ℕ) (lacks 
 job_of l ok f v lacks end left i h s = job_is l ok v i (length lacks) h s.from
     (omega (arith, s.until, s.end_is))
 
--- it gets no more than it lacks
+-- it gets no more than it still needs
 pub lack_most : (l : Load) → IsLoad l → (f : ℕ → ℕ → ℕ) (v : ℕ) (lacks : List ℕ) (end left i : ℕ)
     → v < l.width → i < l.count → AreLacksTo l f v lacks end left i
     → ((k : ℕ) → k < jobs l v → given l f v k ≤ l.cost v) → f v i ≤ left
@@ -121,7 +121,7 @@ lacks_next l ok f v lacks end left i h lt s most is =
           );
     }
 
--- behind the last interval all jobs have ended
+-- after the last interval all jobs have ended
 pub lacks_end : (l : Load) → IsLoad l → (f : ℕ → ℕ → ℕ) (v : ℕ) (lacks : List ℕ) (end left i : ℕ)
     → v < l.width → i ≡ l.count → AreLacksTo l f v lacks end left i → length lacks ≡ jobs l v
 lacks_end l ok f v lacks end left i h last s =
@@ -150,7 +150,7 @@ lacks_end l ok f v lacks end left i h last s =
     (cases_lt (jobs l v) n))
     (cases_lt n (jobs l v))
 
--- and what each lacks is listed
+-- what each job still needs is listed
 pub lacks_due : (l : Load) → IsLoad l → (f : ℕ → ℕ → ℕ) (v : ℕ) (lacks : List ℕ) (end left i : ℕ)
     → v < l.width → i ≡ l.count → AreLacksTo l f v lacks end left i → (k : ℕ) → k < jobs l v
     → get_or lacks k 0 + given l f v k ≡ l.cost v

@@ -52,7 +52,7 @@ edge_place l r j u places h in_round = record {
   within = omega (arith, places.scan j in_round);
 }
 
--- and keeps it when it is read
+-- an edge keeps its place when it is read
 pub scans_places : (l : Load) (r r' : Reach) (j u : ℕ) → HasPlaces l r → u < l.width → j < l.count
     → r'.scans.items ≡ raised_at r.scans.items j u → length r'.near.items ≡ length r.near.items
     → length r'.queue.items ≡ length r.queue.items → HasPlaces l r'

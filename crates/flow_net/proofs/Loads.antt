@@ -38,7 +38,7 @@ pub cost_at : (tasks : List (Option Periodic)) (v : ℕ) → v < length tasks
     → get_or (map cost_of_task tasks) v 0 ≡ cost_of_task (get_or tasks v None)
 cost_at tasks v h = get_or-map cost_of_task tasks v None 0 h
 
--- and the period in that of periods
+-- the period in the list of periods is the task's
 pub period_at : (tasks : List (Option Periodic)) (v : ℕ) → v < length tasks
     → get_or (map period_of_task tasks) v 0 ≡ period_of_task (get_or tasks v None)
 period_at tasks v h = get_or-map period_of_task tasks v None 0 h

@@ -222,7 +222,7 @@ no_longer periods marks other of of' = elim (cases_lt (length other) (length mar
   | inr le ↦ le
 ]
 
--- so periods have one list of marks
+-- periods have one list of marks
 pub marks_unique : (periods marks other : List ℕ) → AreMarks periods marks → AreMarks periods other
     → marks ≡ other
 marks_unique periods marks other of of' =

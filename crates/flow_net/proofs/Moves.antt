@@ -29,7 +29,7 @@ pub raised_used : (l : Load) (f g : ℕ → ℕ → ℕ) (v i : ℕ) → v < l.w
 raised_used l f g v i h r =
     total-more (λ w. f w i) (λ w. g w i) l.width v h r.here (λ w ne. r.else w i (λ e e'. ne e))
 
--- and none more elsewhere
+-- a tick more in an interval is none more used elsewhere
 pub raised_used_else : (l : Load) (f g : ℕ → ℕ → ℕ) (v i j : ℕ) → Raised f g v i → (j ≡ i → ⊥)
     → used l g j ≡ used l f j
 raised_used_else l f g v i j r ne =
@@ -45,7 +45,7 @@ raised_given l f g v i h r =
     ∙ ap (λ n. n + 1) (sym (cond-true (job l v i == k) (f v i) 0 (eq-eqb k k refl))))
     (λ j ne. ap (λ n. cond (job l v j == k) n 0) (r.else v j (λ e e'. ne e')))
 
--- and no other job
+-- no other job gets more
 pub raised_given_else : (l : Load) (f g : ℕ → ℕ → ℕ) (v i w k : ℕ) → Raised f g v i → (w ≡ v
     → k ≡ job l v i → ⊥)
     → given l g w k ≡ given l f w k
@@ -62,7 +62,7 @@ raised_given_else l f g v i w k r ne =
 pub hole_here : (i j : ℕ) → i ≡ j → hole_at i j ≡ 1
 hole_here i j e = cond-true (i == j) 1 0 (eq-eqb i j e)
 
--- and the others
+-- an interval that isn't the short one has no hole
 pub hole_else : (i j : ℕ) → (i ≡ j → ⊥) → hole_at i j ≡ 0
 hole_else i j ne = cond-false (i == j) 1 0 (ne_eqb i j ne)
 
@@ -87,7 +87,7 @@ open_flow l f lack room room' i ok h here else = record {
   ];
 }
 
--- the short interval gets a tick of a job that another interval of the job then lacks
+-- the short interval gets a tick of a job that another interval of the job then still needs
 pub shift_flow : (l : Load) (f g h lack : ℕ → ℕ → ℕ) (room : ℕ → ℕ) (v j p : ℕ) → IsFlow l f lack room j
     → v < l.width
     → j < l.count → p < l.count → f v j < span l j → job l v j ≡ job l v p → Raised f g v j → Raised h g v p
@@ -152,7 +152,7 @@ shift_flow l f g h lack room v j p ok in_width in_j in_p lt same up down =
           omega (arith, ok.fits i a, at_j, at_p);
     }
 
--- the short interval gets a tick that its job lacks
+-- the short interval gets a tick that its job still needs
 pub close_flow : (l : Load) (f g lack lack' : ℕ → ℕ → ℕ) (room : ℕ → ℕ) (v j : ℕ)
     → IsFlow l f lack room j → v < l.width
     → j < l.count → f v j < span l j → Raised f g v j → Raised lack' lack v (job l v j)

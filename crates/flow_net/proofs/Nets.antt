@@ -17,7 +17,7 @@ net_place l rows lacks room hole v i net h lt = record {
   within = omega (arith, net.row_len i lt);
 }
 
--- and so has each job
+-- each job has its place
 pub lack_place : (l : Load) (rows lacks : List (List ℕ)) (room : List ℕ) (hole v k : ℕ)
     → IsNet l rows lacks room hole
     → v < l.width → k < jobs l v → IsPlace lacks v k
@@ -42,7 +42,7 @@ lowered_rows rows i v at some = record {
   else = λ w j ne. sym (ticks-with_else rows i v (ticks_at rows i v - 1) j w at (λ a b. ne b a));
 }
 
--- one less that a job lacks
+-- one less that a job still needs
 pub lowered_lacks : (lacks : List (List ℕ)) (v k : ℕ) → IsPlace lacks v k → 0 < ticks_at lacks v k
     → Raised (lack_of (with_ticks lacks v k (ticks_at lacks v k - 1))) (lack_of lacks) v k
 lowered_lacks lacks v k at some = record {
@@ -54,7 +54,7 @@ lowered_lacks lacks v k at some = record {
 abbrev pub raised_at : List (List ℕ) → ℕ → ℕ → List (List ℕ)
 raised_at rows i v = with_ticks rows i v (ticks_at rows i v + 1)
 
--- and with one less
+-- the rows with one less at a place
 abbrev pub lowered_at : List (List ℕ) → ℕ → ℕ → List (List ℕ)
 lowered_at rows i v = with_ticks rows i v (ticks_at rows i v - 1)
 
@@ -90,7 +90,7 @@ shift_net l rows lacks room v j p net h in_j in_p lt same some =
           net.flow h in_j in_p lt same (raised_rows rows j v at_j) (lowered_rows up p v at_p' some);
     }
 
--- the short interval gets a tick that its job lacks
+-- the short interval gets a tick that its job still needs
 pub close_net : (l : Load) → IsLoad l → (rows lacks : List (List ℕ)) (room : List ℕ) (v j : ℕ)
     → IsNet l rows lacks room j
     → v < l.width → j < l.count → ticks_at rows j v < span l j → 0 < ticks_at lacks v (job l v j)

@@ -1,4 +1,4 @@
--- What the opening flow gives, and how little it lacks.
+-- What the opening flow gives, and how little is still needed.
 use Rattle.std.proofs.Common.{◌≡◌, ℕ, ◌+◌, ◌-◌, ◌*◌, ◌<◌, ◌≤◌, ◌==◌, nat_lt, cond, List, ap, ◌∙◌, arith, ⊎_elim}
 use Rattle.std.proofs.lemmas.Bool.{cases_lt, cond-true, cond-false, lt-ltb, le-ltb}
 use Rattle.std.proofs.lemmas.Nat.{mul-le}
@@ -19,7 +19,7 @@ use Rattle.flow_net.proofs.Fluid.{fluid_given, fluid_used}
 abbrev IsOpen : Load → (ℕ → ℕ → ℕ) → Type 0
 IsOpen l f = (v i : ℕ) → v < l.width → i < l.count → f v i ≡ fluid l v i
 
--- so a job gets what the fluid schedule gives it in whole ticks
+-- a job gets from the opening flow what the fluid schedule gives it in whole ticks
 opened_given : (l : Load) (f : ℕ → ℕ → ℕ) → IsOpen l f → (v k : ℕ) → v < l.width
     → given l f v k ≡ given l (fluid l) v k
 opened_given l f o v k h = total-ext _ _ l.count (λ i lt. ap (λ n. cond (job l v i == k) n 0) (o v i h lt))
@@ -29,7 +29,7 @@ pub opened_most : (l : Load) → IsLoad l → (f : ℕ → ℕ → ℕ) → IsOp
     → k < jobs l v → given l f v k ≤ l.cost v
 opened_most l ok f o v k h lt = omega (arith, opened_given l f o v k h, (fluid_given l ok v k h lt).0)
 
--- and the intervals have room for it
+-- the intervals have room for the opening flow
 pub opened_used : (l : Load) → IsLoad l → (f : ℕ → ℕ → ℕ) → Fits l → IsOpen l f → (i : ℕ) → i < l.count
     → used l f i ≤ l.cores * (l.mark (i + 1) - l.mark i)
 opened_used l ok f fits o i h =
@@ -37,7 +37,7 @@ opened_used l ok f fits o i h =
     ≡ used l (fluid l) i = total-ext (λ v. f v i) (λ v. fluid l v i) l.width (λ v a. o v i a h) in
     omega (arith, same, fluid_used l ok fits i)
 
--- a vCPU lacks less than a tick in each interval
+-- a vCPU still needs less than a tick in each interval
 vcpu_lacks : (l : Load) → IsLoad l → (f lack : ℕ → ℕ → ℕ) → IsOpen l f
     → ((v k : ℕ) → v < l.width → k < jobs l v → lack v k + given l f v k ≡ l.cost v)
     → (v : ℕ) → v < l.width → total (lack v) (jobs l v) + jobs_due l v ≤ is_due l v * l.count
@@ -61,7 +61,7 @@ vcpu_lacks l ok f lack o due v h =
     omega (arith, zero_lacks, own))
     (cases_lt 0 (l.cost v))
 
--- so all jobs lack less than a tick for each pair, and each job one tick less than that
+-- all jobs still need less than a tick for each pair, and each job one tick less than that
 pub opened_lacks : (l : Load) → IsLoad l → (rows lacks : List (List ℕ)) → IsOpen l (flow_of rows)
     → ((v k : ℕ) → v < l.width → k < jobs l v → lack_of lacks v k + given l (flow_of rows) v k ≡ l.cost v)
     → all_lacks l lacks + job_count l ≤ admitted l * l.count

@@ -54,7 +54,7 @@ once_more l q q' u j r none due old v i a b = elim (cases_eq v u) [
   | inr ne ↦ omega (arith, r.else v i (λ x y. ne x), old v i a b)
 ]
 
--- so one more edge is read
+-- one more edge is read
 pub scanned_more : (l : Load) (q q' : Reached) (u j : ℕ) → u < l.width → j < l.count
     → Raised q.scan q'.scan u j
     → scanned l q' ≡ scanned l q + 1
@@ -243,7 +243,7 @@ push_can l f rv rk q q' u j k from can p = record {
       p.back x ne ∙ can.same x h (sym (p.by x ne) ∙ e) (rw (p.at x ne) at e'));
 }
 
--- and after an edge that reached nothing new
+-- the job may be read on after an edge that reached nothing new
 pub pass_can : (l : Load) (f : ℕ → ℕ → ℕ) (rv rk : ℕ) (q q' : Reached) (u j k from : ℕ)
     → CanReach l f rv rk q u k from
     → Passed q q' u j → CanReach l f rv rk q' u k from
@@ -267,7 +267,7 @@ push_more q q' u j from p = record {
   back = λ x h. p.back x (λ e. omega arith);
 }
 
--- and when none is
+-- links stay when none is pushed
 pub pass_more : (q q' : Reached) (u j : ℕ) → Passed q q' u j → IsMore q q'
 pass_more q q' u j p = record {
   more = omega (arith, p.tail);

@@ -38,7 +38,7 @@ in_window l ok u k from until i w h = elim (cases_lt i from) [
   ]
 ]
 
--- behind the last one whole jobs are read
+-- after the last one whole jobs are read
 pub reading_jobwise : (l : Load) → IsLoad l → (q q' : Reached) (u k from until : ℕ) → Window l u k from until
     → IsReading l q q' u from until → IsJobwise l q → IsJobwise l q'
 reading_jobwise l ok q q' u k from until w r old v i j h a b e = elim (cases_eq v u) [
@@ -57,7 +57,7 @@ reading_jobwise l ok q q' u k from until w r old v i j h a b e = elim (cases_eq 
   | inr other ↦ r.others v i (λ x y z. other x) ∙ old v i j h a b e ∙ sym (r.others v j (λ x y z. other x))
 ]
 
--- and all edges of this job
+-- a whole reading has read all edges of the job
 pub reading_all : (l : Load) → IsLoad l → (q q' : Reached) (u k from until i : ℕ) → Window l u k from until
     → IsReading l q q' u from until → i < l.count → job l u i ≡ k → 0 < q'.scan u i
 reading_all l ok q q' u k from until i w r h e = elim (in_window l ok u k from until i w h) [
@@ -65,7 +65,7 @@ reading_all l ok q q' u k from until i w r h e = elim (in_window l ok u k from u
   | inr there ↦ absurd (there.1 e)
 ]
 
--- and no edge less than before
+-- a reading has read no edge less than before
 pub reading_keeps : (l : Load) → IsLoad l → (q q' : Reached) (u k from until : ℕ) → Window l u k from until
     → IsReading l q q' u from until → ((i : ℕ) → i < l.count → job l u i ≡ k → q.scan u i ≡ 0)
     → ReadsMore l q q'
@@ -81,7 +81,7 @@ reading_keeps l ok q q' u k from until w r none v i h a = elim (cases_eq v u) [
 pub more_refl : (q : Reached) → IsMore q q
 more_refl q = record { more = omega arith; at = λ x h. refl; by = λ x h. refl; back = λ x h. refl }
 
--- and over two steps
+-- links stay over two steps
 pub more_trans : (q q' q'' : Reached) → IsMore q q' → IsMore q' q'' → IsMore q q''
 more_trans q q' q'' a b = record {
   more = omega (arith, a.more, b.more);

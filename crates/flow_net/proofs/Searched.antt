@@ -1,4 +1,4 @@
--- What a search costs, and what it does to the sum of all lacks.
+-- What a search costs, and what it does to the sum of all that is still needed.
 use Rattle.std.proofs.Common.{◌≡◌, ℕ, zero, suc, ◌+◌, ◌*◌, ◌<◌, ◌≤◌, List, sym, arith, ⊎_elim}
 use Rattle.std.proofs.lemmas.Bool.{cases_lt}
 use Rattle.std.proofs.Math.Nat.{mul_comm}
@@ -20,13 +20,13 @@ total-part f m (suc n) h =
     ⊎_elim (λ (lt : m < suc n). omega (arith, total-part f m n (omega arith)))
     (λ (ge : suc n ≤ m). let e : m ≡ suc n = omega arith in rw e (omega arith)) (cases_lt m (suc n))
 
--- where no job lacks, nothing lacks in all
+-- where no job needs more, all together need nothing more
 pub no_lacks : (l : Load) (lacks : List (List ℕ)) → ((v k : ℕ) → v < l.width → k < jobs l v
     → ticks_at lacks v k ≡ 0) → all_lacks l lacks ≡ 0
 no_lacks l lacks none =
     total-none _ l.width (λ v h. total-none (lack_of lacks v) (jobs l v) (λ k lt. none v k h lt))
 
--- a tick given is one that lacks less
+-- a tick given is one less that is needed
 pub lacks_less : (l : Load) (rows lacks : List (List ℕ)) (room : List ℕ) (hole v k : ℕ)
     → IsNet l rows lacks room hole → v < l.width
     → k < jobs l v → 0 < ticks_at lacks v k → all_lacks l (lowered_at lacks v k) + 1 ≡ all_lacks l lacks

@@ -19,7 +19,7 @@ marks_le l ok i j le h =
     let e : i + (j - i) ≡ j = omega arith in
     subst (λ n. l.mark i ≤ l.mark n) e (marks_rise l ok i (j - i) (omega arith))
 
--- and strictly so for another place
+-- an earlier mark is less than that of another place
 pub marks_lt : (l : Load) → IsLoad l → (i j : ℕ) → i < j → j ≤ l.count → l.mark i < l.mark j
 marks_lt l ok i j lt h = omega (arith, ok.rise i (omega arith), marks_le l ok (i + 1) j (omega arith) h)
 
@@ -28,7 +28,7 @@ pub place_lt : (l : Load) → IsLoad l → (i j : ℕ) → i ≤ l.count → l.m
 place_lt l ok i j h lt = ⊎_elim (λ (x : i < j). x) (λ (x : j
     ≤ i). absurd (omega (arith, marks_le l ok j i x h))) (cases_lt i j)
 
--- and the other way round
+-- the order of places is that of their marks
 pub place_le : (l : Load) → IsLoad l → (i j : ℕ) → i ≤ l.count → l.mark i ≤ l.mark j → i ≤ j
 place_le l ok i j h le =
     ⊎_elim (λ (x : j < i). absurd (omega (arith, marks_lt l ok j i x h))) (λ (x : i ≤ j). x) (cases_lt j i)
@@ -175,7 +175,7 @@ before_window l ok v k i j n w lt e =
     let low' : k * l.period v ≤ l.mark n = rw e at low in
     omega (arith, low', w.from, marks_lt l ok n i lt (omega (arith, w.some, w.in_round)))
 
--- nor is a later one
+-- a later interval is not in the window
 pub after_window : (l : Load) → IsLoad l → (v k i j n : ℕ) → Window l v k i j → j ≤ n → n ≤ l.count
     → job l v n ≡ k → ⊥
 after_window l ok v k i j n w le in_round e =

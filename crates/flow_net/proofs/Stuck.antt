@@ -1,4 +1,4 @@
--- A search that starts at a lacking job reaches an interval with room.
+-- A search that starts at a job that still needs ticks reaches an interval with room.
 use Rattle.std.proofs.Common.{◌≡◌, ℕ, ◌+◌, ◌*◌, ◌<◌, Bool, true, false, cond, ap, refl, sym, ◌∙◌, arith}
 use Rattle.std.proofs.Math.Nat.{mul_comm, zero-mul, add-mul}
 use Rattle.tab_core.specs.Sums.{total}
@@ -32,7 +32,7 @@ scaled_cond : (y : Bool) (cores l round : ℕ) → cond y (cores * l) 0 * round 
 scaled_cond true cores l round = grind arith
 scaled_cond false cores l round = zero-mul round
 
--- and what a pair has
+-- what a pair has in a near interval, times the round
 scaled_pair : (x y : Bool) (l round : ℕ) → cond x (cond y 0 l) 0 * round ≡ cond x (cond y 0 (round * l)) 0
 scaled_pair true true l round = zero-mul round
 scaled_pair true false l round = mul_comm l round

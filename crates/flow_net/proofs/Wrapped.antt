@@ -45,12 +45,12 @@ layout_serves o f l m h =
     let counted = rw all at (range_count o f rest) in
     sym (total-blocks (in_range o f) l m) ∙ counted
 
--- and no place is taken on two cores
+-- no place is taken on two cores
 pub layout_apart : (o f l c d t : ℕ) → f ≤ l → c < d → o ≤ c * l + t → d * l + t < o + f → ⊥
 layout_apart o f l c d t short less from until =
     omega (arith, mul-le-mul_right l (let q : suc c ≤ d = omega arith in q), suc-mul c l)
 
--- the opening flow of a job on its intervals: it lacks less than one tick on each
+-- the opening flow of a job on its intervals: it still needs less than one tick on each
 pub opening : (cost span intervals : ℕ) (length flow : ℕ → ℕ) → 0 < span → 0 < intervals
     → total length intervals ≡ span
     → ((i : ℕ) → i < intervals → flow i * span ≤ cost * length i) → ((i : ℕ) → i < intervals

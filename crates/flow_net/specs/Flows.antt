@@ -27,15 +27,16 @@ Fits l = total (demand l) l.width ≤ l.cores * l.round
 abbrev pub flow_of : List (List ℕ) → ℕ → ℕ → ℕ
 flow_of rows v i = ticks_at rows i v
 
--- what a job lacks
+-- what a job still needs
 abbrev pub lack_of : List (List ℕ) → ℕ → ℕ → ℕ
 lack_of lacks v k = ticks_at lacks v k
 
--- what all jobs lack
+-- what all jobs still need
 abbrev pub all_lacks : Load → List (List ℕ) → ℕ
 all_lacks l lacks = total (λ v. total (lack_of lacks v) (jobs l v)) l.width
 
--- a row of ticks for each interval, what each job lacks, and the room that each interval has left
+-- a row of ticks for each interval, what each job still needs, and the room that each interval has
+-- left
 pub record IsNet (l : Load) (rows lacks : List (List ℕ)) (room : List ℕ) (hole : ℕ) : Type 0 where
   pub rows_len : length rows ≡ l.count
   pub row_len : (i : ℕ) → i < l.count → length (row_at rows i) ≡ l.width

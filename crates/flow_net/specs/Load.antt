@@ -59,14 +59,14 @@ used l f i = total (λ v. f v i) l.width
 abbrev pub hole_at : ℕ → ℕ → ℕ
 hole_at hole i = cond (hole == i) 1 0
 
--- a flow with what each job lacks and what room each interval has; no interval is short where
+-- a flow with what each job still needs and what room each interval has; no interval is short where
 -- `hole` is beyond the last
 pub record IsFlow (l : Load) (f lack : ℕ → ℕ → ℕ) (room : ℕ → ℕ) (hole : ℕ) : Type 0 where
   pub short : (v i : ℕ) → v < l.width → i < l.count → f v i ≤ span l i
   pub due : (v k : ℕ) → v < l.width → k < jobs l v → lack v k + given l f v k ≡ l.cost v
   pub fits : (i : ℕ) → i < l.count → room i + used l f i + hole_at hole i ≡ l.cores * span l i
 
--- the intervals of a job stand from the mark of its begin up to that of its end
+-- the intervals of a job are from the mark of its begin up to that of its end
 pub record Window (l : Load) (v k i j : ℕ) : Type 0 where
   pub vcpu : v < l.width
   pub from : l.mark i ≡ k * l.period v

@@ -20,14 +20,14 @@ abbrev pub load : DemandsView → Load
 load d = load_of d.costs d.periods d.marks d.cores
 
 -- the demands; in each interval the ticks of each vCPU and the room that is left; and what each job
--- of each vCPU lacks
+-- of each vCPU still needs
 pub record NetView : Type 0 where
   pub demands : DemandsView
   pub rows : List (List ℕ)
   pub lacks : List (List ℕ)
   pub room : List ℕ
 
--- what all jobs lack
+-- what all jobs still need
 abbrev pub lacks_of : NetView → ℕ
 lacks_of net = all_lacks (load net.demands) net.lacks
 

@@ -1,4 +1,5 @@
--- Rows of ticks: for each interval the ticks of each vCPU, or for each vCPU what its jobs lack.
+-- Rows of ticks: for each interval the ticks of each vCPU, or for each vCPU what its jobs still
+-- need.
 use Rattle.std.specs.Prelude.{ℕ, ◌<◌, List, [], slice_index, slice_index_or, slice_set, length}
 
 -- a row; empty where there is none

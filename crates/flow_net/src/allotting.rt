@@ -25,8 +25,8 @@ fn search_all<L: Ledger>(net: &mut Net, steps: &mut Steps<L>)
     }
 }
 
-// Gives every job its cost. The first search tells whether any job lacks ticks; if so, nearly all of
-// them are handed out at once.
+// Gives every job its cost. The first search finds whether any job still needs ticks; if so, nearly
+// all of them are handed out at once.
 fn saturate<L: Ledger>(alloc: Global, net: &mut Net, steps: &mut Steps<L>) -> Result<(), NoMemory>
     requires lacks { lacks_of net.old + job_count (load net.old.demands)
         ≤ admitted (load net.old.demands) * (load net.old.demands).count }
@@ -48,7 +48,7 @@ fn saturate<L: Ledger>(alloc: Global, net: &mut Net, steps: &mut Steps<L>) -> Re
 ///
 /// There is an allotment exactly where the demands fit all cores together, which is asked here. The
 /// call tells at most two steps for each edge of the network, for each pair of an admitted vCPU and
-/// an interval, also where memory is wanting.
+/// an interval, also where memory runs out.
 ///
 /// Source: W. A. Horn, "Some simple scheduling algorithms", Naval Research Logistics Quarterly 21,
 /// 1974, by augmenting paths from the fluid schedule in whole ticks.

@@ -15,7 +15,7 @@ use tab_core::{NoMemory, Steps};
 // How many classes of urgency there are. The last one is of those that get nothing.
 const NOT_YET: usize = 64;
 
-// Gives a tick of an interval to a vCPU, if its job lacks one and there is room.
+// Gives a tick of an interval to a vCPU, if its job still needs one and there is room.
 fn hand_out(demands: &Demands, flow: &mut Flow, i: usize, v: usize)
     requires net { IsFlowOf demands.now flow.old (load demands.now).count }
     requires interval { i < (load demands.now).count }
@@ -36,8 +36,8 @@ fn hand_out(demands: &Demands, flow: &mut Flow, i: usize, v: usize)
     give(demands, flow, v, k, i);
 }
 
-// What is kept of a vCPU from interval to interval: where its job ends, what that job lacks, and how
-// far it is behind the fluid schedule, times its period, and above that by one period.
+// What is kept of a vCPU from interval to interval: where its job ends, what that job still needs,
+// and how late it is against the fluid schedule, times its period, and above that by one period.
 #[derive(Clone, Copy)]
 struct Watch {
     end: u32,
@@ -79,7 +79,7 @@ fn watch_at(demands: &Demands, flow: &Flow, at: Interval, v: usize, watch: Watch
 }
 
 // How urgently a vCPU wants a tick of an interval beyond the opening flow: the ticks until the fluid
-// schedule has given it the next one, or none where it isn't behind the fluid schedule.
+// schedule has given it the next one, or none where it isn't late against that.
 fn urgency<L: Ledger>(
     demands: &Demands,
     flow: &Flow,

@@ -7,7 +7,7 @@ use crate::demands::Demands;
 use crate::ticks::{Ticks, lower_at, raise_at};
 
 // A flow: for each interval the ticks of each vCPU and the room that is left, and for each vCPU
-// what each of its jobs lacks.
+// what each of its jobs still needs.
 #[derive(Drop)]
 pub(crate) struct Flow {
     pub(crate) rows: Vec<Ticks>,
@@ -45,7 +45,7 @@ pub(crate) fn shift(_demands: &Demands, flow: &mut Flow, v: usize, j: usize, p: 
     lower_at(&mut flow.rows, p, v);
 }
 
-// The interval that was one short gets a tick which its job `k` lacked.
+// The interval that was one short gets a tick which its job `k` still needed.
 pub(crate) fn give(_demands: &Demands, flow: &mut Flow, v: usize, k: usize, j: usize)
     requires net { IsFlowOf _demands.now flow.old j }
     requires vcpu { v < (load _demands.now).width }

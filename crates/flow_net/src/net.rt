@@ -73,9 +73,9 @@ impl Net {
         })
     }
 
-    /// Raises the flow by one tick along a path from a job that lacks ticks: true where it rose, and
-    /// false exactly where every job has its cost. It tells at most two steps for each edge, and takes
-    /// no memory.
+    /// Raises the flow by one tick along a path from a job that still needs ticks: true where it rose,
+    /// and false exactly where every job has its cost. It tells at most two steps for each edge, and
+    /// takes no memory.
     ///
     /// Source: the augmenting paths of L. R. Ford and D. R. Fulkerson, "Maximal flow through a
     /// network", Canadian Journal of Mathematics 8, 1956.
@@ -107,7 +107,7 @@ impl Net {
         left_for(&self.demands, &self.flow, edge as usize, back)
     }
 
-    // Gives ticks to nearly all jobs that lack some, straight from intervals with room.
+    // Gives ticks to nearly all jobs that still need some, straight from intervals with room.
     pub(crate) fn fill<L: Ledger>(
         &mut self,
         alloc: Global,

@@ -94,14 +94,15 @@ fn rooms_of(alloc: Global, demands: &Demands, rows: &Vec<Ticks>) -> Result<Vec<u
     Ok(room)
 }
 
-// The job of a vCPU that hasn't ended: where its period ends, and what it still lacks.
+// The job of a vCPU that hasn't ended: where its period ends, and what it still needs.
 #[derive(Clone, Copy)]
 struct Unended {
     end: u32,
     lack: u32,
 }
 
-// Goes through an interval: the job there gets its ticks, and its lack is listed where it ends.
+// Goes through an interval: the job there gets its ticks, and what it still needs is listed where
+// it ends.
 fn go_through(
     demands: &Demands,
     rows: &Vec<Ticks>,
@@ -132,7 +133,7 @@ fn go_through(
     })
 }
 
-// What each job of a vCPU lacks.
+// What each job of a vCPU still needs.
 fn lacks_of_vcpu(
     alloc: Global,
     demands: &Demands,
@@ -162,7 +163,7 @@ fn lacks_of_vcpu(
     Ok(Ticks::of(lacks))
 }
 
-// What each job lacks.
+// What each job still needs.
 fn lacks_of(alloc: Global, demands: &Demands, rows: &Vec<Ticks>) -> Result<Vec<Ticks>, NoMemory>
     requires len { length rows.now.items ≡ (load demands.now).count }
     requires widths { (i : ℕ) → i < (load demands.now).count
@@ -184,7 +185,7 @@ fn lacks_of(alloc: Global, demands: &Demands, rows: &Vec<Ticks>) -> Result<Vec<T
     Ok(lacks)
 }
 
-// The opening flow, with what it lacks and the room that it leaves.
+// The opening flow, with what it still needs and the room that it leaves.
 pub(crate) fn open_flow(alloc: Global, demands: &Demands) -> Result<Flow, NoMemory>
     ensures net { IfOk result (λ flow. IsFlowOf demands.now flow (load demands.now).count) }
     ensures shares { IfOk result (λ flow. (v i : ℕ) → v < (load demands.now).width

@@ -13,7 +13,7 @@ use std::sync::ledger::Ledger;
 use tab_core::Steps;
 
 // An interval that was reached: a tick of this vCPU may move there, from the interval of the link
-// before number `back`, or as one that its job lacks where `back` is 0.
+// before number `back`, or as one that its job still needs where `back` is 0.
 #[derive(Clone, Copy)]
 pub(crate) struct Link {
     pub(crate) interval: usize,
@@ -21,8 +21,8 @@ pub(crate) struct Link {
     pub(crate) back: usize,
 }
 
-// What a search from a lacking job has reached: the intervals, how often each edge from a job to an
-// interval was read, and the links in the order in which they were found.
+// What a search from a job that still needs ticks has reached: the intervals, how often each edge
+// from a job to an interval was read, and the links in the order in which they were found.
 #[derive(Drop)]
 pub(crate) struct Reach {
     pub(crate) near: Vec<bool>,
@@ -220,7 +220,7 @@ fn forget(near: &mut Vec<bool>)
     }
 }
 
-// Begins a search at a vCPU's job that lacks ticks: nothing is reached.
+// Begins a search at a vCPU's job that still needs ticks: nothing is reached.
 pub(crate) fn begin(demands: &Demands, flow: &Flow, reach: &mut Reach, u: usize, k: usize)
     requires places { HasPlaces (load demands.now) reach.old }
     requires vcpu { u < (load demands.now).width }

@@ -14,7 +14,7 @@ use crate::ticks::{Ticks, read, row_len};
 use std::sync::ledger::Ledger;
 use tab_core::Steps;
 
-// The first job of a vCPU that lacks ticks.
+// The first job of a vCPU that still needs ticks.
 fn first_in<L: Ledger>(lacks: &Vec<Ticks>, v: usize, steps: &mut Steps<L>) -> Option<usize>
     requires { v < length lacks.now.items }
     ensures within { IfSome result (λ k. k < length (row_at lacks.now.items v)) }
@@ -32,7 +32,7 @@ fn first_in<L: Ledger>(lacks: &Vec<Ticks>, v: usize, steps: &mut Steps<L>) -> Op
     None
 }
 
-// The first job of a vCPU that lacks ticks, if the vCPU is admitted.
+// The first job of a vCPU that still needs ticks, if the vCPU is admitted.
 fn first_of<L: Ledger>(
     demands: &Demands,
     flow: &Flow,
@@ -53,7 +53,7 @@ fn first_of<L: Ledger>(
     first_in(&flow.lacks, v, steps)
 }
 
-// The first job that lacks ticks, by vCPU and number.
+// The first job that still needs ticks, by vCPU and number.
 fn first_lacking<L: Ledger>(
     demands: &Demands,
     flow: &Flow,
@@ -75,7 +75,7 @@ fn first_lacking<L: Ledger>(
     None
 }
 
-// The first link to an interval with room. There is one, as the root's job lacks ticks.
+// The first link to an interval with room. There is one, as the root's job still needs ticks.
 fn find_room<L: Ledger>(
     demands: &Demands,
     flow: &Flow,
@@ -145,7 +145,7 @@ fn move_along(demands: &Demands, flow: &mut Flow, reach: &Reach, end: usize)
     );
 }
 
-// Raises the flow by one tick, if a job lacks ticks.
+// Raises the flow by one tick, if a job still needs ticks.
 pub(crate) fn search_once<L: Ledger>(
     demands: &Demands,
     flow: &mut Flow,

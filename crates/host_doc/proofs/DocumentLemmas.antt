@@ -49,24 +49,24 @@ whole path least most None None = refl
 whole path least most (Some default) None = refl
 whole path least most default (Some found) = range path least most (as_integer found)
 
--- the same of a truth value
+-- a truth value at a key has no other fault than those of its key
 truth : (path : Path) (default : Bool) (found : Option Data)
     → is_of_key (result_err (truth_or path default found)) ≡ true
 truth path default None = refl
 truth path default (Some found) = grind (arith, common_steps)
 
--- the same of a name
+-- a name at a key has no other fault than those of its key
 name : (path : Path) (found : Option Data)
     → is_of_key (result_err (well_formed path (text_in path found))) ≡ true
 name path None = refl
 name path (Some found) = grind (arith, common_steps)
 
--- the same of an array
+-- an array at a key has no other fault than those of its key
 items : (path : Path) (found : Option Data) → is_of_key (result_err (items_or path no_items found)) ≡ true
 items path None = refl
 items path (Some found) = grind (arith, common_steps)
 
--- the same of a name that stands twice
+-- a name that is there twice has no other fault than those of its key
 same : (earlier : List (List ℕ)) (number : ℕ) (name : Result (List ℕ) HostFault)
     → is_of_key (same_name earlier number name) ≡ true
 same earlier number (Ok name) = grind (arith, common_steps)
@@ -125,12 +125,12 @@ vcpus earlier number (item found more) =
     either _ _ (vcpu earlier number (as_table found))
     (vcpus (earlier ++ member_names number (as_table found)) (number + 1) more)
 
--- the same of the members of an array, if there is one
+-- the first fault of the members of an array, if there is one, is that of a key
 inside : (found : Result Items HostFault) → is_of_key (members_fault found) ≡ true
 inside (Ok found) = vcpus [] 0 found
 inside (Err fault) = refl
 
--- the same of a tick, which one format names
+-- a tick, which one format names, has no other fault than those of its key
 tick : (second : Bool) (ms : Members)
     → is_of_key (result_err (if second then integer_or (of_document TickNs) MIN_TICK_NS MAX_TICK_NS (Some TICK_NS)
     (found_at (of_document TickNs) ms) else Ok TICK_NS)) ≡ true
@@ -157,7 +157,7 @@ first_is_of_key ms =
     (unknown (of_document Unknown) (document_keys ms) ms)
     (either (members_fault (vcpus_of ms)) None (inside (vcpus_of ms)) refl))))))))
 
--- so an answer of such faults is never that the bytes are no document
+-- an answer of such faults is never that the bytes are no document
 pub no_not_toml : (result : Result Host HostFault) (ms : Members)
     → IfErr result (λ fault. (fault ≡ NoMemory) ⊎ (first_fault ms ≡ Some fault))
     → IsErrOf result NotToml → ⊥

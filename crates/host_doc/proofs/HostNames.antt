@@ -154,7 +154,7 @@ names_of_items items vcpus faultless are = record {
       ];
 }
 
--- the same of an array that is found at its key
+-- the members of an array that is found at its key have good names of which no two are one
 names_of_array : (found : Result Items HostFault) (vcpus : List Vcpu) → result_err found ≡ None
     → members_fault found ≡ None → IfOk found (λ items. AreVcpusOf items vcpus) → AreStatedNames vcpus
 names_of_array (Ok items) vcpus is_ok faultless are = names_of_items items vcpus faultless are
@@ -183,14 +183,14 @@ few_limited path (Some found) items h = by_test (leb (count_of found) MAX_VCPUS)
         let e : ◌≡◌ {A = Result Items HostFault} (Err (TooMany (count_of found))) (Ok items) =
         rw gt at h in absurd cc
 
--- the same of an array at a key, or none
+-- an array at a key, or none, is within the limit
 few_items : (path : Path) (found : Option Data) (items : Items) → items_or path no_items found ≡ Ok items
     → count_of items ≤ MAX_VCPUS
 few_items path None items h =
     let same : no_items ≡ items = cc in subst (λ i. count_of i ≤ MAX_VCPUS) same (omega arith)
 few_items path (Some found) items h = few_limited path (as_array found) items h
 
--- so its vCPUs are within the limit
+-- the vCPUs of an array are within the limit
 few_of_array : (found : Result Items HostFault) (vcpus : List Vcpu)
     → ((items : Items) → found ≡ Ok items → count_of items ≤ MAX_VCPUS)
     → result_err found ≡ None → IfOk found (λ items. AreVcpusOf items vcpus) → length vcpus ≤ MAX_VCPUS

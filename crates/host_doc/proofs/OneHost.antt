@@ -1,4 +1,4 @@
--- A document states one host at most: each of the host's numbers stands in it, and each vCPU is the
+-- A document states one host at most: each of the host's numbers is in it, and each vCPU is the
 -- member of its number.
 use Rattle.std.proofs.Common.{◌≡◌, ℕ, zero, suc, ◌+◌, ◌<◌, Bool, true, false, List, [], ◌++◌, get_or, Option, Some, None, Result, Ok, Err, IfOk, refl, sym, ap, subst, ◌∙◌, arith}
 use Rattle.std.proofs.lemmas.List.{same_lists}
@@ -37,7 +37,7 @@ is_table earlier number (datetime d) h = absurd cc
 is_table earlier number (array items) h = absurd cc
 is_table earlier number (table keys) h = (keys, refl)
 
--- so each member below the count is a table
+-- each member below the count is a table
 pub all_tables : (earlier : List (List ℕ)) (number : ℕ) (items : Items)
     → vcpus_fault earlier number items ≡ None → (k : ℕ) → k < count_of items
     → (keys : Members) × (get_item k items ≡ Some (table keys))
@@ -94,7 +94,7 @@ one_list items us ws faultless of_us of_ws = same_lists us ws (of_us.count ∙ s
     (of_ws.each k here.0 (get_or ws k d) here.1
     (slice_get-get_or ws k d (omega (arith, lt, of_us.count, of_ws.count)))))
 
--- the same of an array that is found at its key
+-- the members of an array that is found at its key state one list of vCPUs
 one_vcpus : (found : Result Items HostFault) (us ws : List Vcpu) → result_err found ≡ None
     → members_fault found ≡ None → IfOk found (λ items. AreVcpusOf items us)
     → IfOk found (λ items. AreVcpusOf items ws) → us ≡ ws
@@ -136,7 +136,7 @@ hosts_alike keys a b of_a of_b =
     same_host a b tick cores lag sliver quantum
     (one_vcpus (vcpus_of keys) a.vcpus b.vcpus faultless.0 faultless.1 of_a.vcpus of_b.vcpus)
 
--- and bytes are one document at most
+-- bytes state one host at most
 pub one_host : (bytes : List ℕ) (a b : Host) → IsHostText bytes a → IsHostText bytes b → a ≡ b
 one_host bytes a b of_a of_b =
     let both : Some of_a.0 ≡ Some of_b.0 = sym of_a.1.1 ∙ of_b.1.1 in
@@ -145,7 +145,7 @@ one_host bytes a b of_a of_b =
 
 -- ---- one fault
 
--- a document has one list of members, so what its faults are told of is one
+-- a document has one list of members, so its faults are of one list
 same_members : (bytes : List ℕ) (a b : Members) → IsDocument bytes a → IsDocument bytes b → a ≡ b
 same_members bytes a b p q = let e = sym p.1 ∙ q.1 in cc
 

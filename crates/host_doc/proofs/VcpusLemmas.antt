@@ -58,7 +58,7 @@ or-none : (fault : Option HostFault) → option_or fault None ≡ fault
 or-none None = refl
 or-none (Some fault) = refl
 
--- a member whose name is new has the fault of what is behind its name
+-- a member whose name is new has the fault of what is after its name
 pub fault_named : (earlier : List (List ℕ)) (number : ℕ) (found : Option Members) (keys : Members)
     (name : List ℕ) → found ≡ Some keys
     → name_of number keys ≡ Ok name → list_any (bytes_eq name) earlier ≡ false
@@ -75,7 +75,7 @@ names_named number found keys name is named = rw (is, named)
 length-last : {A : Type 0} (xs : List A) (x : A) → length (xs ++ x ∷ []) ≡ length xs + 1
 length-last xs x = grind (arith, common_steps)
 
--- an element of a list with one more is that one or stood there before
+-- an element of a list with one more is that one or was there before
 slice_get-last : {A : Type 0} (xs : List A) (x y : A) (k : ℕ) → slice_get (xs ++ x ∷ []) k ≡ Some y
     → (slice_get xs k ≡ Some y) ⊎ ((k ≡ length xs) × (x ≡ y))
 slice_get-last [] x y zero h = inr (refl, cc)
@@ -190,7 +190,7 @@ pub all_faultless : (values : List Value) (index : ℕ) (texts : BTreeSet (Bor (
 unfolding vcpus_fault
 all_faultless values index texts vcpus read past = read.rest ∙ rw (drop_all index values past) refl
 
--- behind the last member the vCPUs are those that the members stand for
+-- after the last member the vCPUs are those that the members stand for
 pub all_read : (values : List Value) (index : ℕ) (texts : BTreeSet (Bor (List ℕ)))
     (vcpus : List Vcpu) → AreRead values index texts vcpus → index ≡ length values
     → AreVcpusOf (items_view values) vcpus

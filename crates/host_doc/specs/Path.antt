@@ -1,4 +1,4 @@
--- The keys of a host document, and where a fault of it stands.
+-- The keys of a host document, and where a fault of it is.
 use Rattle.std.specs.Prelude.{ℕ, List, Some, None, codes}
 use Rattle.host_doc.specs.declared.fault.Key.{Key}
 use Rattle.host_doc.specs.declared.fault.Key.TheVariants.{Format, Cores, Lag, Sliver, Quantum, Vcpu, Name, Admitted, Runnable, Share, Latency, Capped, Unknown, TickNs}

@@ -1,4 +1,4 @@
--- What stands at a key of a table: its value, or the fault that it has.
+-- What is at a key of a table: its value, or the fault that it has.
 use Rattle.std.specs.Prelude.{ℕ, ℤ, pos, negsuc, Bool, ◌&&◌, nat_le, if◌then◌else◌, Option, Some, None, ok_or, Result, Ok, Err}
 use Rattle.toml.specs.Data.{Data, as_bool, as_integer, Members, get_member}
 use Rattle.host_doc.specs.Path.{word_of}
@@ -6,7 +6,7 @@ use Rattle.host_doc.specs.declared.fault.Path.{Path}
 use Rattle.host_doc.specs.declared.fault.HostFault.{HostFault}
 use Rattle.host_doc.specs.declared.fault.HostFault.TheVariants.{BadKey, OutOfRange}
 
--- what stands at a key
+-- what is at a key
 abbrev pub found_at : Path → Members → Option Data
 found_at path members = get_member (word_of path.key) members
 
@@ -17,7 +17,7 @@ in_range path least most (Some (pos n)) = if nat_le least n && nat_le n most the
     else Err (OutOfRange path)
 in_range path least most (Some (negsuc n)) = Err (OutOfRange path)
 
--- such a number, or where nothing stands there its default, if it has one
+-- such a number, or where nothing is there its default, if it has one
 abbrev pub integer_or : Path → ℕ → ℕ → Option ℕ → Option Data → Result ℕ HostFault
 integer_or path least most default None = ok_or default (BadKey path)
 integer_or path least most default (Some found) = in_range path least most (as_integer found)

@@ -32,7 +32,7 @@ reservation_fault number members =
     where_admitted (admitted_of number members)
     (first_of (result_err (share_of number members) ∷ result_err (latency_of number members) ∷ []))
 
--- the first fault of a member behind its name
+-- the first fault of a member after its name
 abbrev pub settings_fault : ℕ → Members → Option HostFault
 settings_fault number members =
     first_of (result_err (admitted_of number members)
@@ -42,7 +42,7 @@ settings_fault number members =
     ∷ unknown_key (of_vcpu number Unknown) vcpu_keys members
     ∷ [])
 
--- the first fault of a member, behind members of these names
+-- the first fault of a member, after members of these names
 abbrev pub vcpu_fault : List (List ℕ) → ℕ → Option Members → Option HostFault
 vcpu_fault earlier number None = Some (BadKey (of_vcpu number VcpuKey))
 vcpu_fault earlier number (Some members) =
@@ -56,7 +56,7 @@ abbrev pub member_names : ℕ → Option Members → List (List ℕ)
 member_names number None = []
 member_names number (Some members) = option_to_list (result_ok (name_of number members))
 
--- the first fault of the members from this number on, behind members of these names
+-- the first fault of the members from this number on, after members of these names
 unfoldable pub vcpus_fault : List (List ℕ) → ℕ → Items → Option HostFault
 vcpus_fault earlier number no_items = None
 vcpus_fault earlier number (item found items) =

@@ -41,14 +41,15 @@ const SECOND_KEYS: [Key; 7] = [
 /// isn't in the table, is a bad key. The tick is a key of format 2 alone. Where a vCPU isn't admitted
 /// its share and its latency aren't examined. Bytes that the crate `toml` refuses are no document.
 ///
-/// `NoMemory` comes for want of memory, and also where `vcpu` has more members than `u32::MAX`, which
-/// `TooMany` couldn't count; no document below 4 GiB has so many.
+/// `NoMemory` comes when memory runs out, and also where `vcpu` has more members than `u32::MAX`,
+/// which `TooMany` couldn't count; no document below 4 GiB has so many.
 pub fn read_host(alloc: Global, bytes: &[u8]) -> Result<Host, HostFault>
     ensures ok { IfOk result (IsHostText bytes.now) }
     ensures fault { IfErr result (λ fault. (fault ≡ HostFault.NotToml)
         ⊎ ((fault ≡ HostFault.NoMemory) ⊎ HasFirstFault bytes.now fault)) }
 
-    // Where the bytes are a document, nothing but want of memory takes the place of its host or fault.
+    // Where the bytes are a document, nothing but running out of memory takes the place of its host or
+    // fault.
     ensures due { (members : Members) → IsDocument bytes.now members → result ≢ Err HostFault.NoMemory
         → MatchResult result (IsHostOf members) (λ fault. first_fault members ≡ Some fault) }
 

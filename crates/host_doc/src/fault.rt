@@ -51,7 +51,7 @@ impl Key {
     }
 }
 
-/// Where a fault stands.
+/// Where a fault is.
 #[derive(Clone, Copy, Debug, PartialEq, Eq)]
 pub struct Path {
     /// The number of the member of `vcpu`, from 0, or none for a key of the document.
@@ -104,7 +104,7 @@ pub enum HostFault {
     SameName { vcpu: u32 },
     /// The document has this many vCPUs, which are more than a host may have.
     TooMany { count: u32 },
-    /// Memory ran out, or more than `u32::MAX` vCPUs stand there, which no text below 4 GiB has.
+    /// Memory ran out, or more than `u32::MAX` vCPUs are there, which no text below 4 GiB has.
     NoMemory,
 }
 

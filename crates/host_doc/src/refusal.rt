@@ -7,9 +7,9 @@ use tab_io::{Sink, WriteFault, write_all};
 use tab_words::{TextPiece, put_numbered, put_pieces};
 
 /// Writes the line of the refusal of a document: `refused: `, the fault as it is displayed, and a
-/// line feed. For want of memory, which is no fault of the document, it writes nothing.
+/// line feed. For out of memory, which is no fault of the document, it writes nothing.
 ///
-/// A fault of the sink leaves a front of the line in it. Nothing is settled.
+/// A fault of the sink leaves a prefix of the line in it. Nothing is settled.
 pub fn put_host_fault<K: Sink>(sink: &mut K, fault: &HostFault) -> Result<(), WriteFault>
     ensures { Writes (K.state sink.old) (K.state sink.new) (host_fault_line fault.now) result }
 {
@@ -59,7 +59,7 @@ fn put_path_line<K: Sink>(sink: &mut K, begin: &[u8], path: &Path) -> Result<(),
     }
 }
 
-// What stands behind a vCPU's number, in two pieces.
+// What is after a vCPU's number, in two pieces.
 fn behind_number(key: Key) -> (&'static [u8], &'static [u8])
     ensures { result.0.now ++ result.1.now ≡ key_behind key }
 {

@@ -13,7 +13,7 @@ use std::alloc::Global;
 use tab_core::{MAX_VCPUS, Name, NameFault};
 use toml::{Table, Value};
 
-// What stands at the key of a table.
+// What is at the key of a table.
 pub(crate) fn value_at(table: &Table, path: Path) -> Option<&Value>
     ensures { option_map (λ value. view value.now) result ≡ found_at path (table_view table.now) }
 {

@@ -1,5 +1,5 @@
--- A generated host lies within the bound of worst fit, and so is refused neither for want of a period
--- nor of room.
+-- A generated host lies within the bound of worst fit, and so is refused neither because a period is
+-- missing nor because room is.
 use Rattle.std.proofs.Common.{◌≡◌, ℕ, ◌+◌, ◌-◌, ◌*◌, ◌%◌, ◌<◌, ◌≤◌, ◌++◌, List, [], ◌∷◌, length, get_or, Option, Some, None, IsSomeAnd, inl, inr, subst, sym, ◌∙◌, arith}
 use Rattle.std.specs.Prelude.{All}
 use Rattle.std.proofs.Math.Nat.{mul-le-mul_left}
@@ -32,7 +32,7 @@ pub has_whole_period : (percent second : ℕ) (reservation : Option Reservation)
 has_whole_period percent second None is = is
 has_whole_period percent second (Some r) is = whole_reservation percent second r is
 
--- so it isn't without a period
+-- a vCPU of such a reservation isn't without a period
 never_lacks : (percent second : ℕ) (reservation : Option Reservation)
     → IsSomeAnd reservation (IsReservationOf percent (period_of second))
     → LacksPeriod reservation TICK_NS → ⊥
@@ -40,7 +40,7 @@ never_lacks percent second None is lacks = is
 never_lacks percent second (Some r) is lacks =
     lacks (period_of second, (whole_reservation percent second r is).admissible)
 
--- and takes 1026 ticks of a round for each percent
+-- a generated vCPU takes 1026 ticks of a round for each percent
 takes : (percent second : ℕ) (reservation : Option Reservation) (task : Option Periodic)
     → IsSomeAnd reservation (IsReservationOf percent (period_of second)) → IsTaskOf reservation TICK_NS task
     → task_demand task ≡ 1026 * percent
@@ -74,7 +74,7 @@ total_at_most (task ∷ tasks) most all =
     let size : length (task ∷ tasks) ≡ length tasks + 1 = omega arith in
     rw size (omega arith)
 
--- nor does the largest
+-- the largest demand is at most this where none is more
 largest_at_most : (tasks : List (Option Periodic)) (most : ℕ) → All (TakesAtMost most) tasks
     → largest_demand tasks ≤ most
 largest_at_most [] most all = omega arith
@@ -141,7 +141,7 @@ has_element : (before after : List ℕ) (vcpu : ℕ) → before ++ vcpu ∷ afte
 has_element [] after vcpu same = absurd (cc)
 has_element (first ∷ before) after vcpu same = absurd (cc)
 
--- and none is without room, since worst fit leaves none over
+-- no generated vCPU is without room, since worst fit leaves none over
 pub has_room : (seed cores vcpus : ℕ) (host : Host) (vcpu rest : ℕ) (over : List Over)
     → vcpus ≤ 99 * cores + 1 → IsGenerated seed cores vcpus host
     → IsFirstWithoutRoom host vcpu rest over → ⊥

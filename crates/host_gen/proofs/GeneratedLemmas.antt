@@ -44,7 +44,7 @@ digits_named = decimal_by_steps (λ n ds. list_all is_byte_of_name ds ≡ true)
     digit : (n : ℕ) → n < 10 → list_all is_byte_of_name ((48 + n) ∷ []) ≡ true
     digit n low = grind (arith, nat_tests)
 
--- so each generated name is a name
+-- each generated name is a name
 pub is_good_name : (number : ℕ) → number < 256 → IsName (name_of number)
 is_good_name number low =
     let wide : number < 2 ^ 64 = omega arith in
@@ -86,7 +86,7 @@ same_number j k low high same =
     let digits : decimal j ≡ decimal k = cc in
     decimal_injective j k (omega arith) (omega arith) digits
 
--- so no two vCPUs of a seed have one name
+-- no two vCPUs of a seed have one name
 pub distinct : (seed most : ℕ) (vcpus : List Vcpu) → length vcpus ≤ 256 → AreGenerated seed most vcpus
     → HaveDistinctNames vcpus
 distinct seed most vcpus few are j k a b at_j at_k same =
@@ -111,7 +111,7 @@ admitted seed most vcpus are = λ k d low.
     some percent period None is = absurd is
     some percent period (Some r) is = refl
 
--- and none is capped
+-- no vCPU of a seed is capped
 pub none_capped : (seed most : ℕ) (vcpus : List Vcpu) → AreGenerated seed most vcpus
     → count_by (λ vcpu. vcpu.capped) vcpus ≡ 0
 none_capped seed most vcpus are = uncapped vcpus (λ k vcpu at. (are k vcpu at).capped)
@@ -138,7 +138,7 @@ one_reservation percent period (Some r) None of_r of_s = absurd of_s
 one_reservation percent period (Some r) (Some s) of_r of_s =
     ap Some (same_reservation r s (of_r.share ∙ sym of_s.share) (of_r.latency ∙ sym of_s.latency))
 
--- and so are two vCPUs of the same words
+-- two vCPUs of the same words are one
 one_vcpu : (most number first second : ℕ) (a b : Vcpu) → IsGeneratedVcpu most number first second a
     → IsGeneratedVcpu most number first second b → a ≡ b
 one_vcpu most number first second a b of_a of_b = same_vcpu a b (of_a.name ∙ sym of_b.name)

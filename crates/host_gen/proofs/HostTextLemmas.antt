@@ -15,7 +15,7 @@ pub key_line : (key value rest : List ℕ)
 unfolding line_of
 key_line key value rest = simp append_assoc
 
--- the same where more lines follow
+-- the line of a key and its value, and the lines that follow it
 key_first : (key value : List ℕ) (lines : List Line) (rest : List ℕ) → text_of lines ≡ rest
     → text_of (key_words key value ∷ lines) ≡ key ++ (codes " = " ++ (value ++ 10 ∷ rest))
 key_first key value lines rest is =
@@ -25,7 +25,7 @@ key_first key value lines rest is =
 pub first_pieces : text_of (format_lines None) ≡ codes "format = 1\n"
 first_pieces = key_first (codes "format") (codes "1") [] [] refl
 
--- and those that name a tick, piece by piece
+-- the lines of a format that names a tick, piece by piece
 pub second_pieces : (tick : ℕ)
     → text_of (format_lines (Some tick)) ≡ codes "format = 2\ntick_ns = " ++ (decimal tick ++ codes "\n")
 second_pieces tick =
@@ -49,7 +49,7 @@ number_pieces host =
     (key_first (codes "sliver") (decimal host.sliver) quantum _
     (key_first (codes "quantum") (decimal host.quantum) [] [] refl)))
 
--- both parts are the lines in front of the vCPUs'
+-- both parts are the lines before the vCPUs'
 pub head_parts : (host : Host)
     → text_of (head_lines host)
     ≡ text_of (format_lines (named_tick host.tick_ns)) ++ text_of (number_lines host)
@@ -75,7 +75,7 @@ if_named P tick is = by_test (tick == TICK_NS)
     by_test true = tt
     by_test false = is
 
--- and where none is named it is the default
+-- the tick that is named, or the default where none is, is the host's
 pub named_is : (tick : ℕ) → unwrap_or (named_tick tick) TICK_NS ≡ tick
 named_is tick = by_test (tick == TICK_NS) refl
   where
@@ -84,7 +84,7 @@ named_is tick = by_test (tick == TICK_NS) refl
     by_test true is = grind (arith, nat_tests)
     by_test false is = refl
 
--- a vCPU's lines, piece by piece, in front of others
+-- a vCPU's lines, piece by piece, before others
 admitted_pieces : (name : List ℕ) (r : Reservation) (truth : List ℕ) (lines : List Line)
     → text_of (key_words (codes "name") (quoted name) ∷ key_words (codes "share_ppm") (decimal r.share_ppm)
     ∷ key_words (codes "latency_ns") (decimal r.latency_ns) ∷ key_words (codes "runnable") truth ∷ lines)

@@ -51,7 +51,7 @@ whole_each percent = each_period (IsWhole percent)
     (record { listed = refl; cost_is = omega arith; takes = omega arith })
     (record { listed = refl; cost_is = omega arith; takes = omega arith })
 
--- so it keeps the latency that is made of it
+-- each of the six periods keeps the latency that is made of it
 whole_period : (percent period : ℕ) (r : Reservation) → IsWhole percent period
     → IsReservationOf percent period r → HasWholePeriod percent period r
 whole_period percent period r whole is =

@@ -43,7 +43,7 @@ number_lines host =
     ∷ key_words (codes "quantum") (decimal host.quantum)
     ∷ []
 
--- all lines in front of the vCPUs'
+-- all lines before the vCPUs'
 abbrev pub head_lines : Host → List Line
 head_lines host = format_lines (named_tick host.tick_ns) ++ number_lines host
 
@@ -52,7 +52,7 @@ abbrev pub capped_lines : Bool → List Line
 capped_lines true = key_words (codes "capped") (truth_word true) ∷ []
 capped_lines false = []
 
--- the lines of an admitted vCPU, behind an empty one
+-- the lines of an admitted vCPU, after an empty one
 abbrev pub admitted_lines : List ℕ → Reservation → Bool → Bool → List Line
 admitted_lines name r runnable capped =
     []

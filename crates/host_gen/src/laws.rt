@@ -29,8 +29,8 @@ pub fn a_generated_vcpu_has_its_period()
         → IsSomeAnd vcpu.reservation (HasWholePeriod (percent_of most first) (period_of second)) }
 {}
 
-/// A generated host is within the bound of worst fit. So it is refused neither for want of a period
-/// nor of room.
+/// A generated host is within the bound of worst fit. So planning refuses it neither because a
+/// period is missing nor because room is.
 pub fn a_generated_host_is_within_the_bound()
     ensures bound { (seed cores vcpus : ℕ) (host : Host) (tasks : List (Option Periodic))
         → vcpus ≤ 99 * cores + 1 → IsGenerated seed cores vcpus host → AreTasksOf host tasks

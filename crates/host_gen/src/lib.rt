@@ -2,7 +2,8 @@
 //!
 //! The host of a seed is `IsGenerated` of `specs/Generated.antt`, from the words of
 //! `specs/GeneratorWords.antt`. The laws say that a seed has one host, and that planning refuses it
-//! neither for want of a period nor of room. `write_host` writes `host_text` of `specs/HostText.antt`.
+//! neither because a period is missing nor because room is. `write_host` writes `host_text` of
+//! `specs/HostText.antt`.
 #![tactic(auto)]
 
 mod generator;

@@ -10,7 +10,7 @@ use tab_words::{TextPiece, put_pieces};
 /// Writes the host document of a host whose vCPUs are all admitted: in format 1 where its tick is the
 /// default, and otherwise in format 2, which names the tick.
 ///
-/// A fault leaves a front of the text in the sink. Nothing is settled.
+/// A fault leaves a prefix of the text in the sink. Nothing is settled.
 pub fn write_host<K: Sink>(sink: &mut K, host: &Host) -> Result<(), WriteFault>
     requires { AreAdmitted host.now.vcpus }
     ensures { Writes (K.state sink.old) (K.state sink.new) (host_text host.now) result }

@@ -65,7 +65,7 @@ numbers host = subst IsAscii (sym (number_pieces host))
     (numbered (codes "\nsliver = ") host.sliver _ refl (omega arith)
     (numbered (codes "\nquantum = ") host.quantum _ refl (omega arith) (literal (codes "\n") refl)))))
 
--- all lines in front of the vCPUs'
+-- all lines before the vCPUs'
 head : (host : Host) → IsAscii (text_of (head_lines host))
 head host = subst IsAscii (sym (head_parts host))
     (IsAscii-append (text_of (format_lines (named_tick host.tick_ns))) (text_of (number_lines host))

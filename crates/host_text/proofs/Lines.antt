@@ -27,12 +27,12 @@ plain_byte : (c : ℕ) → is_byte_of_name c ≡ true → needs_escape false 0 c
 unfolding needs_escape
 plain_byte c h = grind (arith, nat_tests)
 
--- and no quote stands before what follows it
+-- no quote is before what follows a byte of a name
 no_quotes : (c : ℕ) → is_byte_of_name c ≡ true → quotes_after false 0 c ≡ 0
 unfolding quotes_after
 no_quotes c h = grind (arith, nat_tests)
 
--- so bytes of a name need no escape
+-- bytes of a name need no escape
 plain_text : (s : List ℕ) → list_all is_byte_of_name s ≡ true → escaped false 0 s ≡ s
 unfolding escaped
 plain_text [] all = refl
@@ -56,7 +56,7 @@ lacks b (c ∷ cs) other all =
     let first : (c == b) ≡ false = grind (arith, nat_tests) in
     rw (first, lacks b cs other more)
 
--- so a name is written between quotation marks as it is
+-- a name is written between quotation marks as it is
 pub name_text : (s : List ℕ) → IsName s → string_text s ≡ quoted s
 unfolding string_text encoding_of
 name_text s good =
@@ -119,7 +119,7 @@ unfolding key_text
 format_line format low = pair_line false (codes "format") ((48 + format) ∷ []) (integer (pos format)) refl
     (sym (decimal_digit format low), fits_signed_from_abs w64 (pos format) (omega arith))
 
--- the lines of the host's numbers behind its format and its tick
+-- the lines of the host's numbers after its format and its tick
 numbers_text : (host : Host) → AreLines true (number_expressions host) (number_lines host)
 unfolding key_text
 numbers_text host =
@@ -143,7 +143,7 @@ unfolding key_text
 capped_text true = line_and true _ _ _ _ (truth_line true (codes "capped") true refl) no_line
 capped_text false = no_line
 
--- the lines of an admitted vCPU behind its header
+-- the lines of an admitted vCPU after its header
 settings_text : (s : Statement) → IsName s.name → AreLines true (settings_expressions s) (settings_lines s)
 unfolding key_text
 settings_text s good =
@@ -154,7 +154,7 @@ settings_text s good =
     (number_line true (codes "latency_ns") s.reservation.latency_ns refl (omega arith))
     (line_and true _ _ _ _ (truth_line true (codes "runnable") s.runnable refl) (capped_text s.capped))))
 
--- and with it
+-- the lines of an admitted vCPU with its header
 statement_text : (s : Statement) → IsName s.name
     → IsLinesText false true (vcpu_expressions s) (vcpu_text (vcpu_of s))
 unfolding key_text vcpu_text line_of
@@ -181,7 +181,7 @@ all_text (Some tick) host ss low good =
     IsLinesText-append false false (expressions_with (Some tick) host) (vcpus_expressions ss) _ _
     (lines_with (Some tick) host low).text (statements_text ss good)
 
--- so the text of a host is the lines of its expressions
+-- the text of a host is the lines of its expressions
 pub host_lines : (host : Host) (ss : List Statement) → map vcpu_of ss ≡ host.vcpus
     → AreNamed ss
     → IsLinesText false false (head_expressions host ++ vcpus_expressions ss) (host_text host)

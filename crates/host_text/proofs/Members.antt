@@ -41,7 +41,7 @@ named : (number : ℕ) (s : Statement) → IsName s.name → name_of number (vcp
 named number = either_way (λ s. IsName s.name → name_of number (vcpu_members s) ≡ Ok s.name)
     (λ s good. rw good refl) (λ s good. rw good refl)
 
--- so is its share
+-- the vCPU's share is taken
 shared : (number : ℕ) (s : Statement) → share_of number (vcpu_members s) ≡ Ok s.reservation.share_ppm
 shared number = either_way (λ s. share_of number (vcpu_members s) ≡ Ok s.reservation.share_ppm)
     (λ s. share s.reservation) (λ s. share s.reservation)
@@ -50,7 +50,7 @@ shared number = either_way (λ s. share_of number (vcpu_members s) ≡ Ok s.rese
         ≡ Ok r.share_ppm
     share r = taken (of_vcpu number Share) 1 WHOLE_PPM r.share_ppm r.shares r.whole
 
--- and its latency
+-- the vCPU's latency is taken
 waits : (number : ℕ) (s : Statement) → latency_of number (vcpu_members s) ≡ Ok s.reservation.latency_ns
 waits number = either_way (λ s. latency_of number (vcpu_members s) ≡ Ok s.reservation.latency_ns)
     (λ s. latency s.reservation) (λ s. latency s.reservation)
@@ -84,7 +84,7 @@ only_keys : (number : ℕ) (s : Statement)
 only_keys number = either_way (λ s. unknown_key (of_vcpu number Unknown) vcpu_keys (vcpu_members s) ≡ None)
     (λ s. refl) (λ s. refl)
 
--- and they have no fault behind the name
+-- the members of a vCPU have no fault after the name
 settled : (number : ℕ) (s : Statement) → settings_fault number (vcpu_members s) ≡ None
 settled number s = rw (
   admits number s,
@@ -97,12 +97,12 @@ settled number s = rw (
 
 -- ---- all vCPUs
 
--- each has the name of none behind it
+-- each has the name of none after it
 abbrev Apart : List Statement → Type 0
 Apart [] = Unit {0}
 Apart (s ∷ ss) = AllByRecursion (λ u. u.name ≡ s.name → ⊥) ss × Apart ss
 
--- and of none of these
+-- each of these names is new, and none of those before
 abbrev AreNew : List (List ℕ) → List Statement → Type 0
 AreNew earlier ss = AllByRecursion (λ s. list_any (bytes_eq s.name) earlier ≡ false) ss
 
@@ -111,7 +111,7 @@ all_new : (ss : List Statement) → AreNew [] ss
 all_new [] = tt
 all_new (s ∷ ss) = (refl, all_new ss)
 
--- new names stay new behind a further name that is none of them
+-- new names stay new after a further name that is none of them
 new_beside : (earlier : List (List ℕ)) (u : Statement) (ss : List Statement) → AreNew earlier ss
     → AllByRecursion (λ s. s.name ≡ u.name → ⊥) ss → AreNew (earlier ++ u.name ∷ []) ss
 new_beside earlier u [] new apart = tt
@@ -120,7 +120,7 @@ new_beside earlier u (s ∷ ss) new apart =
     let more = new_beside earlier u ss new.1 apart.1 in
     (list_any-append (bytes_eq s.name) earlier (u.name ∷ []) ∙ rw (new.0, other), more)
 
--- so no member has a fault
+-- no member has a fault
 faultless : (earlier : List (List ℕ)) (number : ℕ) (ss : List Statement)
     → AreNamed ss → AreNew earlier ss → Apart ss
     → vcpus_fault earlier number (vcpu_items ss) ≡ None
@@ -140,7 +140,7 @@ count : (ss : List Statement) → count_of (vcpu_items ss) ≡ length ss
 count [] = refl
 count (s ∷ ss) = ap suc (count ss)
 
--- and the value of each number stands for the vCPU of that number
+-- the value of each number stands for the vCPU of that number
 each : (ss : List Statement) (k number : ℕ) (keys : Members) (vcpu : Vcpu)
     → AreNamed ss → get_item k (vcpu_items ss) ≡ Some (table keys)
     → slice_get (map vcpu_of ss) k ≡ Some vcpu → IsVcpuOf number keys vcpu
@@ -167,7 +167,7 @@ all_stand ss good = record {
 few_taken : (path : Path) (items : Items) → count_of items ≤ MAX_VCPUS → limited path (Some items) ≡ Ok items
 few_taken path items few = grind (arith, nat_tests)
 
--- so the one of the document is
+-- the array of the document is taken
 array_taken : (named : Option ℕ) (host : Host) (ss : List Statement) → length ss ≤ MAX_VCPUS
     → vcpus_of (members_with named host ss) ≡ Ok (vcpu_items ss)
 array_taken None host [] few = refl
@@ -243,7 +243,7 @@ stand_with named host ss low is good are =
       vcpus = rw (array, ← are) (all_stand ss good.named);
     }
 
--- and so with the host's own
+-- the members with the host's own numbers stand for the host
 pub members_stand : (host : Host) (ss : List Statement) → AreGood ss → map vcpu_of ss ≡ host.vcpus
     → IsHostOf (host_members host ss) host
 members_stand host ss = stand_with (named_tick host.tick_ns) host ss
@@ -260,7 +260,7 @@ others : (name : List ℕ) (ss : List Statement)
 others name [] h = tt
 others name (u ∷ us) h = (h 0 (vcpu_of u) refl, others name us (λ k v at. h (suc k) v at))
 
--- so distinct names are apart
+-- distinct names are apart
 pub are_apart : (ss : List Statement) → HaveDistinctNames (map vcpu_of ss) → Apart ss
 are_apart [] distinct = tt
 are_apart (s ∷ ss) distinct = (

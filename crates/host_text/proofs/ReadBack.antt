@@ -29,13 +29,13 @@ use Rattle.host_text.proofs.SectionLemmas.{host_section}
 use Rattle.host_text.proofs.SizeLemmas.{host_size}
 use Rattle.host_text.proofs.Statements.{AreNamed, Statement, capped_expressions, head_expressions, host_members, stated, vcpu_of, vcpus_expressions, expressions_with, number_expressions}
 
--- that of a capped vCPU is of the kinds that a printed document has, in front of others
+-- that of a capped vCPU is of the kinds that a printed document has, before others
 capped_printed : (capped : Bool) (es : List Expression) → AllPrinted es
     → AllPrinted (capped_expressions capped ++ es)
 capped_printed true es rest = ((refl, omega arith, refl), rest)
 capped_printed false es rest = rest
 
--- so are all of them
+-- all expressions are of the kinds that a printed document has
 all_printed : (ss : List Statement) → AllPrinted (vcpus_expressions ss)
 all_printed [] = tt
 all_printed (s ∷ ss) = (
@@ -75,7 +75,7 @@ unfolding skip_bom line_of
 none_before None lines rest = refl
 none_before (Some tick) lines rest = refl
 
--- so the text has none
+-- the text of a host has no byte order mark
 no_mark : (host : Host) → skip_bom (host_text host) ≡ host_text host
 unfolding host_text
 no_mark host = none_before (named_tick host.tick_ns) (number_lines host) (flat_map vcpu_text host.vcpus)
@@ -101,7 +101,7 @@ all_named (s ∷ ss) good = (
   all_named ss (All-tail (λ (v : Vcpu). IsName v.name) (vcpu_of s) (map vcpu_of ss) good),
 )
 
--- and all that the members need
+-- the statements keep all that the members need
 are_good : (ss : List Statement) (vcpus : List Vcpu) → map vcpu_of ss ≡ vcpus → length vcpus ≤ MAX_VCPUS
     → All (λ (v : Vcpu). IsName v.name) vcpus → HaveDistinctNames vcpus → AreGood ss
 are_good ss vcpus are few good distinct = record {
@@ -141,7 +141,7 @@ generated_admitted seed cores vcpus host few is = record {
   admitted = admitted seed (most_percent cores vcpus) host.vcpus is.each;
 }
 
--- so its text is read back too
+-- the text of a generated host is read back
 pub generated_read_back : (seed cores vcpus : ℕ) (host : Host) → vcpus ≤ MAX_VCPUS
     → IsGenerated seed cores vcpus host → IsHostText (host_text host) host
 generated_read_back seed cores vcpus host few is =
@@ -155,14 +155,14 @@ one_section host is =
     let s = stated host.vcpus is.admitted in
     host_section host s.statements s.are (are_named host s.statements s.are is)
 
--- and short
+-- the text of such a host is short
 pub short : (host : Host) → IsAdmittedHost host → length (host_text host)
     ≤ 100 + 120 * length host.vcpus + 14 * count_by (λ vcpu. vcpu.capped) host.vcpus
 short host is =
     let s = stated host.vcpus is.admitted in
     host_size host s.statements s.are (are_named host s.statements s.are is)
 
--- so is that of a generated host
+-- the text of a generated host is one section
 pub generated_one_section : (seed cores vcpus : ℕ) (host : Host) → vcpus ≤ MAX_VCPUS
     → IsGenerated seed cores vcpus host → sections_of (host_text host) ≡ host_text host ∷ []
 generated_one_section seed cores vcpus host few is =

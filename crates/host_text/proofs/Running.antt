@@ -6,12 +6,12 @@ use Rattle.toml.specs.Tables.{Nodes, no_nodes, node, value, open_array, close, D
 use Rattle.toml.proofs.ReadLines.{run}
 use Rattle.host_text.proofs.Statements.{Statement, either_way, expressions_with, format_of, head_members, members_with, vcpu_expressions, vcpu_items, vcpu_members, vcpus_expressions}
 
--- the node of a named tick, in front of others
+-- the node of a named tick, before others
 abbrev tick_node : Option ℕ → Nodes → Nodes
 tick_node None rest = rest
 tick_node (Some tick) rest = node (codes "tick_ns") (value (integer (pos tick))) rest
 
--- the nodes of the host's own numbers, in front of others
+-- the nodes of the host's own numbers, before others
 abbrev head_nodes : Option ℕ → Host → Nodes → Nodes
 head_nodes named host rest =
     node (codes "cores") (value (integer (pos host.cores)))
@@ -20,7 +20,7 @@ head_nodes named host rest =
     (node (codes "quantum") (value (integer (pos host.quantum)))
     (node (codes "sliver") (value (integer (pos host.sliver))) (tick_node named rest)))))
 
--- that of a capped vCPU, in front of others
+-- that of a capped vCPU, before others
 abbrev capped_node : Bool → Nodes → Nodes
 capped_node true rest = node (codes "capped") (value (boolean true)) rest
 capped_node false rest = rest
@@ -34,11 +34,11 @@ vcpu_nodes s =
     (node (codes "runnable") (value (boolean s.runnable))
     (node (codes "share_ppm") (value (integer (pos s.reservation.share_ppm))) no_nodes))))
 
--- the document behind the host's own numbers
+-- the document after the host's own numbers
 abbrev after_head : Option ℕ → Host → Document
 after_head named host = (head_nodes named host no_nodes, [])
 
--- the document behind a vCPU, which others came before
+-- the document after a vCPU, which others came before
 abbrev after_vcpu : Option ℕ → Host → Items → Statement → Document
 after_vcpu named host done s =
     (head_nodes named host (node (codes "vcpu") (open_array done (vcpu_nodes s)) no_nodes), codes "vcpu" ∷ [])
@@ -66,7 +66,7 @@ abbrev Adds : Option ℕ → Host → Items → List Expression → Statement �
 Adds named host done es before s = run (after_vcpu named host done before) (vcpu_expressions s ++ es)
     ≡ run (after_vcpu named host (push_item done (table (vcpu_members before))) s) es
 
--- and each other adds a value to it
+-- the expressions of each further vCPU add a value to the array
 next_run : (named : Option ℕ) (host : Host) (done : Items) (u s : Statement) (es : List Expression)
     → run (after_vcpu named host done u) (vcpu_expressions s ++ es)
     ≡ run (after_vcpu named host (push_item done (table (vcpu_members u))) s) es
@@ -102,7 +102,8 @@ head_closes : (named : Option ℕ) (host : Host)
 head_closes None host = refl
 head_closes (Some tick) host = refl
 
--- and of one with these vCPUs and one more, whose value is added at the end of the text
+-- the members of a document with these vCPUs and one more, whose value is added at the end of the
+-- text
 vcpus_close : (named : Option ℕ) (host : Host) (done : Items) (u : Statement)
     → close (after_vcpu named host done u).0
     ≡ head_members named host
@@ -116,7 +117,7 @@ vcpus_close (Some tick) host done u = either_way (λ u. close (after_vcpu (Some 
     (member (codes "vcpu") (array (push_item done (table (vcpu_members u)))) no_members))
     (λ u. refl) (λ u. refl) u
 
--- the rest of the vCPUs, behind some and this one
+-- the rest of the vCPUs, after some and this one
 rest_run : (named : Option ℕ) (host : Host) (before : List Statement) (u : Statement) (ss : List Statement)
     → Defines (after_vcpu named host (vcpu_items before) u) (vcpus_expressions ss)
     (with_vcpus named host (before ++ u ∷ ss))

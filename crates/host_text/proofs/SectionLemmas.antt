@@ -56,7 +56,7 @@ line_cut line rest all = raw_lines_of-line line rest (λ k d low is.
     let inside = AllPass-from_list_all is_inside line all k d low in
     let feed : is_inside 10 ≡ true = ap is_inside (sym is) ∙ inside in absurd (cc))
 
--- a line that is no separator, in front of one section
+-- a line that is no separator, before one section
 line_more : (line rest : List ℕ) → list_all is_inside line ≡ true → is_separator (line ++ 10 ∷ []) ≡ false
     → IsOneSection rest → IsOneSection (line ++ 10 ∷ rest)
 line_more line rest all other one =
@@ -94,7 +94,7 @@ pair_line key value of_key of_value other rest one =
     key_line key value rest ∙ sym (append_assoc key (codes " = " ++ value) (10 ∷ rest)) in
     subst IsOneSection (sym same) (line_more line rest all other one)
 
--- the lines of the host's numbers behind its format and its tick
+-- the lines of the host's numbers after its format and its tick
 numbers_keep : (host : Host) → KeepsSection (number_lines host)
 numbers_keep host =
     line_and _ _
@@ -117,7 +117,7 @@ lines_with (Some tick) host low =
     (line_and _ _ (pair_line (codes "tick_ns") (decimal tick) refl (digits_inside tick (omega arith)) refl)
     (numbers_keep host))
 
--- all lines in front of the vCPUs'
+-- all lines before the vCPUs'
 head_keeps : (host : Host) → KeepsSection (head_lines host)
 head_keeps host = lines_with (named_tick host.tick_ns) host
     (if_named (λ tick. tick ≤ MAX_TICK_NS) host.tick_ns host.tick_at_most)
@@ -127,7 +127,7 @@ capped_keeps : (capped : Bool) → KeepsSection (capped_lines capped)
 capped_keeps true = line_and _ _ (pair_line (codes "capped") (truth_word true) refl refl refl) no_line
 capped_keeps false = no_line
 
--- the lines of an admitted vCPU behind its header
+-- the lines of an admitted vCPU after its header
 settings_keep : (s : Statement) → IsName s.name → KeepsSection (settings_lines s)
 settings_keep s good =
     let share = s.reservation.share_ppm in
@@ -141,7 +141,7 @@ settings_keep s good =
     (pair_line (codes "runnable") (truth_word s.runnable) refl (truth_inside s.runnable) refl)
     (capped_keeps s.capped))))
 
--- and with it
+-- the lines of an admitted vCPU with its header keep one section
 statement_keeps : (s : Statement) → IsName s.name → (rest : List ℕ) → IsOneSection rest
     → IsOneSection (vcpu_text (vcpu_of s) ++ rest)
 unfolding vcpu_text line_of

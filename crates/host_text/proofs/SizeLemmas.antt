@@ -31,7 +31,7 @@ numbers_size host =
     let quantum = length-decimal-le 6 host.quantum (omega arith) (omega arith) (omega arith) in
     rw (number_pieces host) (simp length-append (omega (arith, cores, lag, sliver, quantum)))
 
--- all lines in front of the vCPUs'
+-- all lines before the vCPUs'
 head_size : (host : Host) → length (text_of (head_lines host)) ≤ 100
 head_size host =
     let format = format_size (named_tick host.tick_ns)

@@ -71,7 +71,7 @@ AreNamed ss = AllByRecursion (λ s. IsName s.name) ss
 
 -- ---- the members
 
--- the member of a capped vCPU, in front of others
+-- the member of a capped vCPU, before others
 abbrev pub capped_member : Bool → Members → Members
 capped_member true rest = member (codes "capped") (boolean true) rest
 capped_member false rest = rest
@@ -100,12 +100,12 @@ abbrev pub format_of : Option ℕ → ℕ
 format_of None = 1
 format_of (Some tick) = 2
 
--- the member of a named tick, in front of others
+-- the member of a named tick, before others
 abbrev pub tick_member : Option ℕ → Members → Members
 tick_member None rest = rest
 tick_member (Some tick) rest = member (codes "tick_ns") (integer (pos tick)) rest
 
--- the members of the host's own numbers, by their keys, in front of others
+-- the members of the host's own numbers, by their keys, before others
 abbrev pub head_members : Option ℕ → Host → Members → Members
 head_members named host rest =
     member (codes "cores") (integer (pos host.cores))
@@ -152,11 +152,11 @@ capped_expressions false = []
 abbrev pub expressions_with : Option ℕ → Host → List Expression
 expressions_with named host = format_expressions named ++ number_expressions host
 
--- all in front of the vCPUs'
+-- all before the vCPUs'
 abbrev pub head_expressions : Host → List Expression
 head_expressions host = expressions_with (named_tick host.tick_ns) host
 
--- those of an admitted vCPU, behind its header
+-- those of an admitted vCPU, after its header
 abbrev pub settings_expressions : Statement → List Expression
 settings_expressions s =
     pair (codes "name") (string s.name)
@@ -165,7 +165,7 @@ settings_expressions s =
     ∷ pair (codes "runnable") (boolean s.runnable)
     ∷ capped_expressions s.capped
 
--- and with it
+-- the expressions of an admitted vCPU with its header
 abbrev pub vcpu_expressions : Statement → List Expression
 vcpu_expressions s = (([], codes "vcpu"), array_table) ∷ settings_expressions s
 
@@ -176,7 +176,7 @@ vcpus_expressions (s ∷ ss) = vcpu_expressions s ++ vcpus_expressions ss
 
 -- ---- the lines
 
--- the lines of an admitted vCPU behind its header
+-- the lines of an admitted vCPU after its header
 abbrev pub settings_lines : Statement → List Line
 settings_lines s =
     key_words (codes "name") (quoted s.name)

@@ -19,7 +19,7 @@ pub fn a_written_host_is_read_back()
         ≤ 100 + 120 * length host.vcpus + 14 * count_by (λ vcpu. vcpu.capped) host.vcpus }
 {}
 
-/// So is the text of a generated host, which has no capped vCPU.
+/// The text of a generated host, which has no capped vCPU, is a host document of exactly that host.
 pub fn a_generated_host_is_read_back()
     ensures host { (seed cores vcpus : ℕ) (host : Host) → vcpus ≤ MAX_VCPUS
         → IsGenerated seed cores vcpus host → IsHostText (host_text host) host }

@@ -1,6 +1,6 @@
 //! The tests of single calls of the libraries that no case can show: ends that fail, words of faults, and
-//! calls that the program doesn't make. They stand apart since a crate with tests is proved twice, with them
-//! and without.
+//! calls that the program doesn't make. They are a crate of their own, since a crate with tests is proved
+//! twice, with them and without.
 #![tactic(auto)]
 
 #[cfg(test)]

@@ -1,4 +1,4 @@
--- Bytes that are put behind the gathered ones.
+-- Bytes that are put after the gathered ones.
 use Rattle.std.proofs.Common.{decimal, ◌^◌, ◌≡◌, ℕ, zero, suc, ◌+◌, ◌-◌, ◌*◌, ◌/◌, ◌%◌, ◌<◌, ◌≤◌, Bool, true, ◌&&◌, eqb, List, [], ◌∷◌, ◌++◌, length, get_or, take, drop, refl, ap, subst, sym, ◌∙◌, inl, inr, arith, eq-zero-or-pos, append_assoc, add-one, take-add, take-take, take_all, length-take-le}
 use Rattle.std.proofs.Math.Seq.{drop-cons, take-append-add}
 use Rattle.std.proofs.lemmas.Bool.{and_parts, eqb-true}
@@ -46,13 +46,13 @@ last_six n low fits =
 
 -- ---- what is gathered
 
--- bytes came behind others, and more behind them
+-- bytes came after others, and more after them
 pub both_behind : (before middle after a b : List ℕ) → middle ≡ before ++ a → after ≡ middle ++ b
     → after ≡ before ++ (a ++ b)
 both_behind before middle after a b first second =
     second ∙ (ap (λ xs. xs ++ b) first ∙ append_assoc before a b)
 
--- of what came behind them a front counts
+-- of what came after them a prefix counts
 pub front_behind : (old new piece : List ℕ) (at end n k : ℕ) → end ≡ at + n → k ≤ n → at ≤ length old
     → take end new ≡ take at old ++ piece → take (at + k) new ≡ take at old ++ take k piece
 front_behind old new piece at end n k is few low came =
@@ -69,7 +69,7 @@ next_of xs i j n is low =
     ap (take (suc n)) (drop-cons xs i 0 low)
     ∙ ap (λ k. get_or xs i 0 ∷ take n (drop k xs)) (sym (is ∙ add-one i))
 
--- four bytes of a list, and those behind them
+-- four bytes of a list, and those after them
 four_of : (xs : List ℕ) (i j k l m n : ℕ) → j ≡ i + 1 → k ≡ j + 1 → l ≡ k + 1 → m ≡ l + 1 → l < length xs
     → take (suc (suc (suc (suc n)))) (drop i xs)
     ≡ get_or xs i 0 ∷ get_or xs j 0 ∷ get_or xs k 0 ∷ get_or xs l 0 ∷ take n (drop m xs)

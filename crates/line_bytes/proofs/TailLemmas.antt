@@ -25,7 +25,7 @@ idle_tail names b tail n some is None d low =
     ap tail_bytes (get_or-replicate n 0 tail d some) ∙ is
 idle_tail names b tail n some is (Some vcpu) d low = absurd (omega arith)
 
--- and then one vCPU more
+-- idle cells and one vCPU more have their tails
 pub tail_more : (names : List (List ℕ)) (b : ℕ) (tails : List Tail) (vcpu : ℕ) (tail : Tail)
     → vcpu + 1 < length tails → AreTails names b vcpu tails → tail_bytes tail ≡ tail_text names b (Some vcpu)
     → AreTails names b (vcpu + 1) (set tails (vcpu + 1) tail)

@@ -11,7 +11,7 @@ pub const FULL: usize = 8192;
 /// A line takes up at most so many bytes.
 pub const LINE: usize = 128;
 
-/// How many bytes are gathered at most: a line comes behind fewer than `FULL`.
+/// How many bytes are gathered at most: a line comes after fewer than `FULL`.
 pub const BLOCK: usize = 8320;
 
 /// Of a block the first bytes are gathered, and the others mean nothing.
@@ -24,7 +24,7 @@ static PAIRS: [u8; 200] = *b"0001020304050607080910111213141516171819\
 6061626364656667686970717273747576777879\
 8081828384858687888990919293949596979899";
 
-/// Puts the byte behind the gathered ones, which end at `at` and don't fill the block, and answers where
+/// Puts the byte after the gathered ones, which end at `at` and don't fill the block, and answers where
 /// they end with it.
 #[tactic(auto, using(std::proofs::lemmas::List::take_more_set))]
 pub fn put_byte(block: &mut Block, at: usize, byte: u8) -> usize
@@ -61,7 +61,7 @@ fn put_first(block: &mut Block, at: usize, n: u32) -> usize
     put_pair(block, at, n)
 }
 
-/// Puts a number of at most six digits, as the ticks of a round have, behind the gathered bytes, which end
+/// Puts a number of at most six digits, as the ticks of a round have, after the gathered bytes, which end
 /// at `at`, and answers where they end with it. The block has room for six bytes there.
 pub fn put_six(block: &mut Block, at: usize, n: u32) -> usize
     requires short { n < 1000000 }
@@ -81,7 +81,7 @@ pub fn put_six(block: &mut Block, at: usize, n: u32) -> usize
     put_pair(block, middle, n % 10_000 % 100)
 }
 
-/// Puts a number behind the gathered bytes, which end at `at`, and answers where they end with it. The block
+/// Puts a number after the gathered bytes, which end at `at`, and answers where they end with it. The block
 /// has room for twelve bytes there.
 pub fn put_number(block: &mut Block, at: usize, n: u32) -> usize
     requires { at + 12 ≤ BLOCK }
@@ -110,8 +110,8 @@ fn put_four(block: &mut Block, at: usize, a: u8, b: u8, c: u8, d: u8) -> usize
     put_byte(block, fourth, d)
 }
 
-/// Puts a word, the first `len` of eight bytes, behind the gathered ones, which end at `at`, and answers
-/// where they end with it. What lies behind the word's end comes with it, and the next bytes are put over
+/// Puts a word, the first `len` of eight bytes, after the gathered ones, which end at `at`, and answers
+/// where they end with it. What lies after the word's end comes with it, and the next bytes are put over
 /// that. The block has room for all eight there.
 pub fn put_short(block: &mut Block, at: usize, word: &[u8; 8], len: usize) -> usize
     requires room { at + 8 ≤ BLOCK }
@@ -156,8 +156,8 @@ fn put_forty(block: &mut Block, at: usize, tail: &[u8; 40]) -> usize
     put_eight(block, fifth, tail, 32)
 }
 
-/// Puts a tail behind the gathered bytes, which end at `at`, and answers where they end with it. What lies
-/// behind the tail's end comes with it, and the next bytes are put over that. The block has room for forty
+/// Puts a tail after the gathered bytes, which end at `at`, and answers where they end with it. What lies
+/// after the tail's end comes with it, and the next bytes are put over that. The block has room for forty
 /// bytes there.
 pub fn put_tail(block: &mut Block, at: usize, tail: &Tail) -> usize
     requires { at + 40 ≤ BLOCK }

@@ -6,9 +6,9 @@ use crate::block::{Block, FULL};
 use tab_io::{Sink, WriteFault, write_all};
 
 /// Writes the gathered bytes, the first `count` of the block, where they are `FULL` or more, and answers how
-/// many are gathered then. Behind these a line has room.
+/// many are gathered then. After these a line has room.
 ///
-/// A fault leaves a front of them in the sink. Nothing is settled.
+/// A fault leaves a prefix of them in the sink. Nothing is settled.
 pub fn make_room<K: Sink>(sink: &mut K, block: &Block, count: usize) -> Result<usize, WriteFault>
     requires { count ≤ BLOCK }
     ensures room { IfOk result (λ left. left + LINE ≤ BLOCK) }

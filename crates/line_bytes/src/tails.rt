@@ -6,7 +6,7 @@ ghost use Rattle.line_bytes.specs.Tails.{AreTails, tail_bytes, tail_place, tail_
 use crate::tail::Tail;
 use tab_core::{MAX_VCPUS, Vcpu, VcpuNo};
 
-/// The tails of all owners, each at its place, with this byte behind the name. Idle cells have `-` for a
+/// The tails of all owners, each at its place, with this byte after the name. Idle cells have `-` for a
 /// name, and a number that no vCPU has an empty one.
 pub fn tails_of(vcpus: &[Vcpu], behind: u8) -> [Tail; 257]
     ensures { AreTails (names_of vcpus.now) behind MAX_VCPUS result }

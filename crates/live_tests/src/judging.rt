@@ -11,7 +11,7 @@ pub(crate) enum Broken {
     Counts,
     // counts fall
     Falls,
-    // a count lacks an event that is due, or has one that is too early
+    // a count leaves out an event that is due, or has one that is too early
     Stale,
     // the ticks of a core's account don't fill the run, or a vCPU ran longer in slots than the plans give it
     Account,

@@ -1,6 +1,6 @@
 //! The tests of plans that are made while the cores run: single steps, and whole runs by threads, whose used counts,
-//! accounts and plans are judged by plain rules. They stand apart since a crate with tests is proved twice, with them
-//! and without.
+//! accounts and plans are judged by plain rules. They are a crate of their own, since a crate with tests is proved
+//! twice, with them and without.
 #![tactic(auto)]
 
 #[cfg(test)]

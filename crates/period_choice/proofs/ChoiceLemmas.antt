@@ -30,7 +30,7 @@ NoneFrom r tick n = (k : ℕ) → n ≤ k → k < 65 → MeetsLatency r tick (ge
 abbrev pub IsBestSoFar : Reservation → ℕ → ℕ → Option Periodic → Type 0
 IsBestSoFar r tick n best = MatchOption best (NoneFrom r tick n) (λ task. IsBestFrom r tick n task)
 
--- what holds of an entry and of those behind it
+-- what holds of an entry and of those after it
 from_one : (P : ℕ → Type 0) (n : ℕ) → P n → ((k : ℕ) → n + 1 ≤ k → k < 65 → P k) → (k : ℕ) → n ≤ k → k < 65
     → P k
 from_one P n here later k le lt = elim (cases_eq k n) [
@@ -129,7 +129,7 @@ best_stays r tick n b lt h more =
           (λ w e. above) h.largest;
     }
 
--- the entry at n takes less than any behind it
+-- the entry at n takes less than any after it
 less_than_later : (r : Reservation) (tick : ℕ) (n : ℕ) (best : Option Periodic) (period : ℕ)
     → IsBestSoFar r tick (n + 1) best → IfSome best (λ b. demand_at r period < demand_at r b.period)
     → (k : ℕ) → n + 1 ≤ k → k < 65 → MeetsLatency r tick (get_or PERIODS k 0)
@@ -209,7 +209,7 @@ chosen_at_end r tick n None end h = tt
 chosen_at_end r tick n (Some task) end h = chosen_from_best r tick task
     (subst (λ (m : ℕ). IsBestFrom r tick m task) end h)
 
--- and where nothing was kept there is no choice
+-- where nothing was kept there is no choice
 pub none_at_end : (r : Reservation) (tick : ℕ) (n : ℕ) (best : Option Periodic) → n ≡ 0 → IsBestSoFar r tick n best
     → IfNone best (¬ (HasPeriod r tick))
 none_at_end r tick n None end h = none_from_all r tick (subst (λ (m : ℕ). NoneFrom r tick m) end h)

@@ -47,7 +47,7 @@ listed_divides ticks is =
     let facts = period_facts ticks is in
     record { long = facts.at_least; times = 102600 / ticks; whole = facts.whole }
 
--- and each is listed
+-- each long divisor of a round is listed
 pub divisor_listed : (ticks : ℕ) → IsLongDivisor ticks → IsPeriod ticks
 unfolding part_listed
 divisor_listed ticks is =

@@ -57,7 +57,8 @@ reserved_where None tick (Some task) is = absurd (cc)
 reserved_where (Some r) tick None is = absurd is
 reserved_where (Some r) tick (Some task) is = refl
 
--- so each vCPU of a host, which tables and texts of its plan rely on
+-- each vCPU of a host has a task exactly where it has a reservation, which tables and texts of its
+-- plan rely on
 pub tasks_where_reserved : (host : Host) (tasks : List (Option Periodic)) → AreTasksOf host tasks
     → (v : ℕ) (vcpu : Vcpu) (task : Option Periodic) → slice_get host.vcpus v ≡ Some vcpu
     → slice_get tasks v ≡ Some task → is_some task ≡ is_some vcpu.reservation

@@ -22,7 +22,7 @@ chosen_unique r tick a b of_a of_b =
     let period : a.period ≡ b.period = omega arith in
     same_budget a b (of_a.cost_is ∙ ap (cost r.share_ppm) period ∙ sym of_b.cost_is) period
 
--- so a vCPU has one task, with a reservation or without
+-- a vCPU has one task, with a reservation or without
 pub task_unique : (reservation : Option Reservation) (tick : ℕ) (a b : Option Periodic)
     → IsTaskOf reservation tick a → IsTaskOf reservation tick b → a ≡ b
 task_unique None tick a b of_a of_b = of_a ∙ sym of_b
@@ -30,7 +30,7 @@ task_unique (Some r) tick None b of_a of_b = absurd of_a
 task_unique (Some r) tick (Some a) None of_a of_b = absurd of_b
 task_unique (Some r) tick (Some a) (Some b) of_a of_b = ap Some (chosen_unique r tick a b of_a of_b)
 
--- and a host one list of them, entry by entry: its plan is one for this reason
+-- a host has one list of tasks, entry by entry: its plan is one for this reason
 pub tasks_unique : (host : Host) (a b : List (Option Periodic)) → AreTasksOf host a → AreTasksOf host b
     → a ≡ b
 tasks_unique host a b of_a of_b = same_lists a b (of_a.as_many ∙ sym of_b.as_many) (λ k d lt.

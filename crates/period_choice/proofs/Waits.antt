@@ -17,7 +17,7 @@ twice_slack : (r : Reservation) (tick : ℕ) (task : Periodic) → IsChosen r ti
 twice_slack r tick task is =
     subst (λ c. 2 * (task.period - c) * tick ≤ r.latency_ns) (sym is.cost_is) is.admissible.in_time
 
--- so a wait within two slacks is within the greater latency
+-- a wait within two slacks is within the greater latency
 pub within_latency : (r t : Reservation) (tick : ℕ) (first last : Periodic) (ticks : ℕ)
     → IsChosen r tick first → IsChosen t tick last → ticks ≤ slack_of first + slack_of last
     → tick * ticks ≤ max r.latency_ns t.latency_ns

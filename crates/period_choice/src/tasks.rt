@@ -24,8 +24,9 @@ pub fn tasks_of(alloc: Global, host: &Host) -> Result<Tasks, TaskFault>
     tasks_by(alloc, host, &[], &[])
 }
 
-/// The same, where the budgets are known that another host's vCPUs have with this tick: a vCPU whose
-/// reservation is that of its number there has its budget too, and only the others' periods are chosen.
+/// The budgets of a host's vCPUs, where those are known that another host's vCPUs have with this tick:
+/// a vCPU whose reservation is that of its number there has its budget too, and only the others'
+/// periods are chosen.
 pub fn tasks_after(
     alloc: Global,
     host: &Host,
@@ -43,7 +44,7 @@ pub fn tasks_after(
     tasks_by(alloc, host, before.vcpus.items(), known.items())
 }
 
-// The same, where some vCPUs' budgets with the host's tick are known, by their places.
+// The budgets of a host's vCPUs, where some with the host's tick are known, by their places.
 fn tasks_by(
     alloc: Global,
     host: &Host,

@@ -39,7 +39,7 @@ module _ (host : Host) (events : List Event) (book : BookView) (made : IsBookMad
   pub fits_of : (n : ℕ) (known : BookState) → IsKnownAfter host events n known → IsPlanFor known.host known.plan
   fits_of = fits_known host events made.so_far _ _ made.invariant
 
-  -- and has the tasks that are chosen for it
+  -- each known plan has the tasks that are chosen for its host
   pub chosen_of : (n : ℕ) (known : BookState) → IsKnownAfter host events n known
       → AreTasksOf known.host (plan_after book.course n).tasks
   chosen_of n known is =
@@ -52,7 +52,7 @@ module _ (host : Host) (events : List Event) (book : BookView) (made : IsBookMad
   vcpus_of n le = subst (λ (b : BookView). length (plan_after b.course n).tasks ≡ length host.vcpus) (sym made.is)
       (count_of_vcpus host events made.so_far _ _ made.invariant n le)
 
-  -- and a run that has the script's events has those of the course
+  -- a run that has the script's events has those of the course
   pub rounds_of : (rounds : ℕ) → 1 ≤ rounds → rounds ≤ MAX_ROUNDS → AreInRun rounds events
       → FitsRounds book.course rounds
   rounds_of rounds some few in_run = subst (λ (b : BookView). FitsRounds b.course rounds) (sym made.is)

@@ -46,7 +46,7 @@ ticks_rise events order i lt =
     let second = tick_is events (suc i) d lt in
     omega arith
 
--- the plan of a number that stands in the list is for the host's cores and vCPUs
+-- the plan of a number that is in the list is for the host's cores and vCPUs
 record IsPlanOf (host : Host) (plan : PlanView) : Type 0 where
   pub rows : length plan.rows ≡ host.cores
   pub tasks : length plan.tasks ≡ length host.vcpus
@@ -65,7 +65,7 @@ plan_of_recorded host events plans numbers runnable i kept k plan number at =
     subst (IsPlanOf host) plan_is
     (record { rows = kept.fits.rows ∙ shape.cores; tasks = kept.fits.vcpus ∙ shape.vcpus })
 
--- each plan of the list stands at some count, so each has them
+-- each plan of the list is at some count, so each has them
 plan_is_of : (host : Host) (events : List Event) (so_far : BookSoFar) (numbers : List ℕ)
     (runnable : List (List Bool)) → BookInvariant host events (length events) so_far numbers runnable →
     (k : ℕ) (plan : PlanView) → slice_get (map plan_view so_far.plans.items) k ≡ Some plan

@@ -30,7 +30,7 @@ same_vcpus (a ∷ us) (b ∷ ws) names runnable capped reservations =
     let rest = same_vcpus us ws names' runnable' capped' reservations' in
     cc
 
--- so edits make one host, and a book has one meaning
+-- edits make one host, and a book has one meaning
 pub edited_unique : (host : Host) (edits : List Edit) (a b : Host) → IsEdited host edits a
     → IsEdited host edits b → a ≡ b
 edited_unique host edits a b of_a of_b =
@@ -46,7 +46,7 @@ same_count host edits new of =
     sym (length-map new.vcpus (λ (vcpu : Vcpu). vcpu.name)) ∙ ap length of.names
     ∙ length-map host.vcpus (λ (vcpu : Vcpu). vcpu.name)
 
--- and its capped vCPUs
+-- the host keeps its capped vCPUs
 pub edited_capped : (host : Host) (edits : List Edit) (new : Host) → IsEdited host edits new
     → capped_of new.vcpus ≡ capped_of host.vcpus
 edited_capped host edits new of =

@@ -9,7 +9,7 @@ index_is [] k x at = absurd cc
 index_is (z ∷ zs) zero x at = cc
 index_is (z ∷ zs) (suc k) x at = index_is zs k x at
 
--- the same of any type
+-- an element read by index is the one at the place
 pub index_or_is : {X : Type 0} (xs : List X) (k : ℕ) (x d : X) → slice_get xs k ≡ Some x
     → slice_index_or xs k d ≡ x
 index_or_is [] k x d at = absurd cc

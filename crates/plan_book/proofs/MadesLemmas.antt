@@ -16,7 +16,7 @@ pub made_left : (host : Host) (events : List Event) (made left : List (Option (R
     → AreMadeOf host events made → AreLeft made left → AreMadeOf host events left
 made_left host events made left are from k m changed at is = are k m changed (from k m at) is
 
--- and what stands for the next event's change was made of the host that it makes
+-- what the next event's change stands for was made of the host that it makes
 pub next_made : (host : Host) (events : List Event) (n : ℕ) (event : Event) (so_far : BookSoFar)
     (made : List (Option (Result Plan Outcome))) → IsKnownAfter host events n (known_of so_far) → n < length events
     → event ≡ get_or events n event → AreMadeOf host events made → IsNextMade (known_of so_far) event.act made

@@ -69,7 +69,7 @@ known_first host so_far p same planned plans runnable outcomes = record {
   no_outcome = outcomes;
 }
 
--- and its plan is one for its host
+-- the plan of a change that is taken is one for its host
 pub fits_first : (host : Host) (so_far : BookSoFar) (p : Plan) → so_far.host ≡ host
     → IsPlanFor host (plan_view p) → so_far.plans.items ≡ p ∷ []
     → IsPlanFor so_far.host (known_of so_far).plan
@@ -91,7 +91,7 @@ known_taken old new edits p some edited planned plans runnable outcomes = record
   outcomes = outcomes;
 }
 
--- and its plan is one for its host
+-- the plan of a change that is taken is one for its host
 pub fits_taken : (old new : BookSoFar) (p : Plan) → new.plans.items ≡ old.plans.items ++ p ∷ []
     → IsPlanFor new.host (plan_view p) → IsPlanFor new.host (known_of new).plan
 fits_taken old new p plans fits = subst (IsPlanFor new.host) (sym (last_is new old.plans.items p plans)) fits
@@ -100,7 +100,7 @@ fits_taken old new p plans fits = subst (IsPlanFor new.host) (sym (last_is new o
 abbrev known_with : BookState → List Outcome → BookState
 known_with known outcomes = record known { outcomes = outcomes }
 
--- a refusal is told, and all else stays
+-- a refusal is noted, and all else stays
 pub known_refused : (old : BookSoFar) (edits : List Edit) (host : Host) (told : Outcome)
     → IsEdited old.host edits host → IsUnplanned host told → (new : BookSoFar)
     → known_of new ≡ record (known_of old) { outcomes = new.outcomes.items }

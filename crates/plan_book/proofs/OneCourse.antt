@@ -50,7 +50,7 @@ no_more_plans host events a b of_a of_b more =
     let within = of_b.form.planned used.0 (omega (arith, used.1)) in
     omega (arith, used.2)
 
--- so they have as many
+-- two courses of one script have as many plans
 as_many_plans : (host : Host) (events : List Event) (a b : CourseView) → IsFormedCourseOf host events a
     → IsFormedCourseOf host events b → length a.plans ≡ length b.plans
 as_many_plans host events a b of_a of_b = elim (cases_lt (length b.plans) (length a.plans)) [
@@ -61,7 +61,7 @@ as_many_plans host events a b of_a of_b = elim (cases_lt (length b.plans) (lengt
   ]
 ]
 
--- and these are the same plans
+-- two courses of one script have the same plans
 same_plans : (host : Host) (events : List Event) (a b : CourseView) → IsFormedCourseOf host events a
     → IsFormedCourseOf host events b → a.plans ≡ b.plans
 same_plans host events a b of_a of_b =
@@ -84,7 +84,7 @@ course_with cores lag quantum ticks plans numbers runnable = record {
   runnable = runnable;
 }
 
--- so the course is one, and what runs on it is told of one course
+-- the course of a script is one, and so is what runs on it
 pub one_course : (host : Host) (events : List Event) (a b : CourseView) → IsFormedCourseOf host events a
     → IsFormedCourseOf host events b → a ≡ b
 one_course host events a b of_a of_b =

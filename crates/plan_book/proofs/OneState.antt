@@ -54,7 +54,7 @@ outcome_unique host (NoRoom vcpu) (NoPeriod other) of_a of_b =
 outcome_unique host (NoRoom vcpu) (NoRoom other) of_a of_b =
     ap NoRoom (one_without_room host vcpu other of_a.0 of_b.0 of_a.1 of_b.1 of_a.2 of_b.2).0
 
--- and none where it has one
+-- a host doesn't have both a plan and an outcome without one
 pub planned_or_unplanned : (host : Host) (plan : PlanView) (outcome : Outcome) → IsPlanned host plan
     → IsUnplanned host outcome → ⊥
 planned_or_unplanned host plan Planned planned unplanned = unplanned
@@ -73,7 +73,7 @@ taken_unique known edits a b of_a of_b =
     same_known a b host plan (of_a.number ∙ sym of_b.number) (of_a.runnable ∙ sym of_b.runnable)
     (of_a.outcomes ∙ sym of_b.outcomes)
 
--- so does one that is refused
+-- a change that is refused leads to one state
 refused_unique : (known : BookState) (edits : List Edit) (a b : BookState) → IsChangeRefused known edits a
     → IsChangeRefused known edits b → a ≡ b
 refused_unique known edits a b of_a of_b =
@@ -93,7 +93,7 @@ taken_or_refused known edits a b taken refused =
     planned_or_unplanned refused.host a.plan refused.outcome
     (subst (λ h. IsPlanned h a.plan) host taken.planned) refused.unplanned
 
--- so a change leads to one state
+-- a change leads to one state
 changed_unique : (known : BookState) (edits : List Edit) (a b : BookState)
     → IsChangeTaken known edits a ⊎ IsChangeRefused known edits a
     → IsChangeTaken known edits b ⊎ IsChangeRefused known edits b → a ≡ b
@@ -102,7 +102,7 @@ changed_unique known edits a b (inl of_a) (inr of_b) = absurd (taken_or_refused 
 changed_unique known edits a b (inr of_a) (inl of_b) = absurd (taken_or_refused known edits b a of_b of_a)
 changed_unique known edits a b (inr of_a) (inr of_b) = refused_unique known edits a b of_a of_b
 
--- and each event does
+-- each event leads to one state
 applied_unique : (known : BookState) (act : Act) (a b : BookState)
     → Applies known act a → Applies known act b → a ≡ b
 applied_unique known (Wake vcpu) a b of_a of_b = of_a ∙ sym of_b

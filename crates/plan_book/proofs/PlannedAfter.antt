@@ -23,7 +23,7 @@ applied_planned before (Change edits) next planned (inl taken) = taken.planned
 applied_planned before (Change edits) next planned (inr refused) = rw refused.becomes planned
 applied_planned before (Burst vcpu work) next planned is = rw is planned
 
--- so each known state has its host's plan: the clause `planned_after` of `make_book`
+-- each known state has its host's plan: the clause `planned_after` of `make_book`
 pub known_planned : (host : Host) (events : List Event) (n : ℕ) (known : BookState)
     → IsKnownAfter host events n known → IsPlanned known.host known.plan
 known_planned host events zero known is = rw is.host_is is.planned
@@ -41,14 +41,14 @@ applied_capped before (Change edits) next (inr refused) =
     ap (λ (k : BookState). capped_of k.host.vcpus) refused.becomes
 applied_capped before (Burst vcpu work) next is = ap (λ (k : BookState). capped_of k.host.vcpus) is
 
--- so those of each known host are the first host's
+-- the capped vCPUs of each known host are the first host's
 known_capped : (host : Host) (events : List Event) (n : ℕ) (known : BookState)
     → IsKnownAfter host events n known → capped_of known.host.vcpus ≡ capped_of host.vcpus
 known_capped host events zero known is = ap (λ (h : Host). capped_of h.vcpus) is.host_is
 known_capped host events (suc n) known is =
     applied_capped is.0 is.1.act known is.4 ∙ known_capped host events n is.0 is.2
 
--- and so are those of each plan of a course
+-- the capped vCPUs of each plan of a course are the first host's
 pub course_capped : (host : Host) (events : List Event) (course : CourseView) (n : ℕ)
     → IsCourseOf host events course → n ≤ length events
     → (plan_after course n).capped ≡ capped_of host.vcpus

@@ -54,7 +54,7 @@ shape_applied known (Burst vcpu work) next applies =
       vcpus = ap (λ (k : BookState). length k.host.vcpus) applies;
     }
 
--- so each known host has those of the first
+-- each known host has the tick, the cores and the count of vCPUs of the first
 pub same_shape : (host : Host) (events : List Event) (n : ℕ) (known : BookState)
     → IsKnownAfter host events n known → SameShape known.host host
 same_shape host events zero known is =
@@ -133,7 +133,7 @@ changes_more events n event at =
         (ap (λ (e : Event). is_change e.act) here ∙ is) in
         rw is (omega (arith, more))
 
--- so after n events there are as many outcomes as changes among them
+-- after n events there are as many outcomes as changes among them
 pub has_outcomes_in : (host : Host) (events : List Event) (n : ℕ) (known : BookState)
     → IsKnownAfter host events n known → HasOutcomes (changes_in (take n events)) known
 has_outcomes_in host events zero known is =
@@ -145,7 +145,7 @@ has_outcomes_in host events (suc n) known is =
     (outcomes_applied is.0 is.1.act known (changes_in (take n events))
     (has_outcomes_in host events n is.0 is.2) is.4)
 
--- so there are at most as many as there are changes
+-- there are at most as many outcomes as changes
 pub few_outcomes : (host : Host) (events : List Event) (n : ℕ) (known : BookState)
     → IsKnownAfter host events n known
     → (length known.outcomes ≤ changes_in events) × (known.number ≤ changes_in events)
@@ -155,7 +155,7 @@ few_outcomes host events n known is =
     let whole = ap changes_in (take-append-drop n events) in
     (omega (arith, has.outcomes), omega (arith, has.number))
 
--- and after all events as many
+-- after all events there are as many outcomes as changes
 pub all_outcomes : (host : Host) (events : List Event) (known : BookState)
     → IsKnownAfter host events (length events) known → length known.outcomes ≡ changes_in events
 all_outcomes host events known is = (has_outcomes_in host events (length events) known is).outcomes

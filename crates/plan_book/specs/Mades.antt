@@ -33,7 +33,7 @@ pub record IsChangedTo (host : Host) (events : List Event) (k : ℕ) (changed : 
   pub act : event.act ≡ Change edits
   pub edited : IsEdited known.host edits changed
 
--- what stands at a change's place, if anything, was made of the host that the change makes
+-- what is at a change's place, if anything, was made of the host that the change makes
 abbrev pub AreMadeOf : Host → List Event → List (Option (Result Plan Outcome)) → Type 0
 AreMadeOf host events made = (k : ℕ) (m : Result Plan Outcome) (changed : Host) → slice_get made k ≡ Some (Some m)
     → IsChangedTo host events k changed → IsMadeOf changed m

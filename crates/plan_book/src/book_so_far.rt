@@ -159,7 +159,7 @@ impl BookSoFar {
     }
 }
 
-// What stands at a place, if anything, which is taken away.
+// What is at a place, if anything, which is taken away.
 fn taken(made: &mut [Option<Result<Plan, Outcome>>], place: usize) -> Option<Result<Plan, Outcome>>
     ensures taken { IfSome result (λ m. slice_get made.old place ≡ Some (Some m)) }
     ensures left { AreLeft made.old made.new }

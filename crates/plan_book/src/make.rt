@@ -34,9 +34,9 @@ use table_form::{Course, Plan};
 /// these, and otherwise nothing changes and the outcome tells why. An outcome names only a vCPU of
 /// the host.
 ///
-/// But for want of memory, `NoPeriod` comes exactly where a vCPU of the host itself has no period,
-/// and `NoRoom` exactly where each has one but one has no room. Want of memory in planning a change
-/// ends the whole call by `NoMemory`, and never refuses that change.
+/// But when memory runs out, `NoPeriod` comes exactly where a vCPU of the host itself has no
+/// period, and `NoRoom` exactly where each has one but one has no room. Running out of memory in
+/// planning a change ends the whole call by `NoMemory`, and never refuses that change.
 pub fn make_book<R: Threads + Sync>(
     rt: &R,
     alloc: Global,
@@ -79,11 +79,11 @@ pub fn make_book<R: Threads + Sync>(
     Ok(book_of(rt, alloc, host, script, first, &mut [])?)
 }
 
-/// The same book, where the host's plan is known, and of some changes what was made of them: the plan of the
-/// host that the change makes, or the outcome of its refusal, at the place of the change's number. Every other
-/// change is planned here. What is made use of is taken from its place.
+/// The book of a host and a script, where the host's plan is known, and of some changes what was made of them:
+/// the plan of the host that the change makes, or the outcome of its refusal, at the place of the change's
+/// number. Every other change is planned here. What is made use of is taken from its place.
 ///
-/// Fails only for want of memory.
+/// Fails only when memory runs out.
 pub fn make_book_with<R: Threads + Sync>(
     rt: &R,
     alloc: Global,
@@ -172,7 +172,7 @@ fn known_at_first(
     Ok((so_far, counts))
 }
 
-/// The ticks of the events, in their order. Fails only for want of memory.
+/// The ticks of the events, in their order. Fails only when memory runs out.
 pub fn ticks_in(alloc: Global, events: &[Event]) -> Result<Vec<u32>, NoMemory>
     ensures { IfOk result (λ ticks. ticks.items ≡ ticks_of events.now) }
 {

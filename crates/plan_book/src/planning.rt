@@ -17,7 +17,7 @@ use table_form::Plan;
 
 /// The plan of a host, or why it has none, as the outcome of a change that makes this host.
 ///
-/// Fails only for want of memory.
+/// Fails only when memory runs out.
 pub fn planned<R: Threads + Sync>(
     rt: &R,
     alloc: Global,
@@ -36,7 +36,8 @@ pub fn planned<R: Threads + Sync>(
     }
 }
 
-// The same, where the budgets of a host with this tick are known, as those of the host before a change.
+// The plan of a host after a change, where the budgets with this tick of the host before the change are
+// known.
 pub(crate) fn planned_after<R: Threads + Sync>(
     rt: &R,
     alloc: Global,
@@ -80,7 +81,7 @@ fn plan_after<R: Threads + Sync>(
     plan_with(rt, alloc, host, tasks)
 }
 
-// The outcome that a refusal of the host's plan is, but for want of memory.
+// The outcome that a refusal of the host's plan is, but when memory runs out.
 fn outcome_of(fault: &PlanFault) -> Option<Outcome>
     ensures { result ≡ outcome_of_fault fault.now }
 {

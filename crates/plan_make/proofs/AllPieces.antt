@@ -18,7 +18,7 @@ before [] core = 0
 before (ps ∷ cores) zero = 0
 before (ps ∷ cores) (suc core) = length ps + before cores core
 
--- where a piece of the list stands: on which core, and at which place there
+-- where a piece of the list is: on which core, and at which place there
 pub record IsStanding (cores : List (List Piece)) (i : ℕ) (p : Piece) : Type 0 where
   pub core : ℕ
   pub there : core < length cores
@@ -54,7 +54,7 @@ standing (ps ∷ cores) i p at = elim (cases_lt i (length ps)) [
       }
 ]
 
--- two that stand at one place are one
+-- two that are at one place are one
 pub same_number : (cores : List (List Piece)) (i j : ℕ) (p q : Piece) (a : IsStanding cores i p)
     (b : IsStanding cores j q)
     → a.core ≡ b.core → a.place ≡ b.place → i ≡ j
@@ -72,7 +72,7 @@ kept_all core (p ∷ ps) own =
     rw (eq-eqb p.core core (All-head On p ps own))
     (ap (λ qs. p ∷ qs) (kept_all core ps (All-tail On p ps own)))
 
--- and among another core's none
+-- among another core's pieces the filter for the core keeps none
 kept_none : (core other : ℕ) (ps : List Piece) → All (λ p. p.core ≡ other) ps → (other ≡ core → ⊥)
     → pieces_at ps core ≡ []
 kept_none core other [] own ne = refl
@@ -91,7 +91,7 @@ own_first : (first : ℕ) (ps : List Piece) (cores : List (List Piece)) → AreO
 own_first first ps cores own = let e : first + 0 ≡ first = omega arith in subst
     (λ n. All (λ (p : Piece). p.core ≡ n) ps) e (own 0)
 
--- the lists behind it are of the cores behind
+-- the lists after it are of the cores after
 own_later : (first : ℕ) (ps : List Piece) (cores : List (List Piece)) → AreOwnFrom first (ps ∷ cores)
     → AreOwnFrom (first + 1) cores
 own_later first ps cores own k =

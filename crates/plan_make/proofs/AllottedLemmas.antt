@@ -21,7 +21,7 @@ use Rattle.coalesce.proofs.Members.{slice_get-append_cases, slice_get-set_other}
 use Rattle.plan_make.proofs.ListMembers.{all_at, all_from_places}
 use Rattle.plan_make.proofs.SharesLemmas.{below_from_fit, cost_on_all, cost_on_none, costs_none, ends_before, some_piece}
 
--- the piece is one of the new ones, and stands on the core
+-- the piece is one of the new ones, and is on the core
 record IsNewOn (pieces : List Piece) (core : ℕ) (p : Piece) : Type 0 where
   pub on : p.core ≡ core
   pub place : ℕ
@@ -65,7 +65,7 @@ vcpu_of_new : (cores : List (List Piece)) (vcpu : ℕ) (task : Periodic) (pieces
 vcpu_of_new cores vcpu task pieces shares core p new = all_at
     (λ (q : Piece). (q.vcpu ≡ vcpu) × (q.period ≡ task.period)) pieces new.place p shares.are_of new.at
 
--- the pieces on a core that is one of them lack the vCPU
+-- the pieces on a core that is one of them are none of the vCPU
 lack_on : (cores : List (List Piece)) (vcpu core i : ℕ) (p : Piece) → All (LackVcpu vcpu) cores
     → slice_get (pieces_on cores core) i ≡ Some p → p.vcpu ≡ vcpu → ⊥
 lack_on cores vcpu core i p lack at = elim (cases_lt core (length cores)) [

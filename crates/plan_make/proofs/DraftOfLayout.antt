@@ -20,7 +20,7 @@ use Rattle.plan_make.proofs.AllPieces.{IsStanding, cost_of_all, pieces_at_core, 
 use Rattle.plan_make.proofs.ListMembers.{all_at}
 use Rattle.plan_make.proofs.TasksOfPlan.{all_cost, all_have_homes}
 
--- the core of a piece is the one on which it stands
+-- the core of a piece is the one on which it is
 core_of : (cores : List (List Piece)) (rows : List Row) (i : ℕ) (p : Piece) → AreRowsOf cores rows
     → (a : IsStanding cores i p) → p.core ≡ a.core
 core_of cores rows i p made a = all_at (λ (q : Piece). q.core ≡ a.core) (pieces_on cores a.core) a.place p
@@ -38,7 +38,7 @@ one_on_core cores rows i j p q made a b same one =
     let at = ap (λ c. slice_get (pieces_on cores c) b.place) same ∙ b.at in
     same_number cores i j p q a b same (made.distinct a.core a.place b.place p q a.at at one)
 
--- a draft asks that a vCPU's pieces stand on different cores
+-- a draft asks that a vCPU's pieces are on different cores
 own_cores : (cores : List (List Piece)) (rows : List Row) → AreRowsOf cores rows
     → HaveOwnCores (all_pieces cores)
 own_cores cores rows made i j p q at at' one on =
@@ -47,7 +47,7 @@ own_cores cores rows made i j p q at at' one on =
     one_on_core cores rows i j p q made a b (sym (core_of cores rows i p made a) ∙ on
     ∙ core_of cores rows j q made b) one
 
--- and that their windows don't meet
+-- a draft asks that the windows of a vCPU's pieces don't meet
 own_windows : (tasks : List (Option Periodic)) (cores : List (List Piece)) (homes : List (Option ℕ))
     (rows : List Row)
     → AreLaidOut tasks cores homes [] → AreRowsOf cores rows → HaveOwnWindows (all_pieces cores)
@@ -98,7 +98,7 @@ in_windows cores rows made vcpu tick core owned =
     ap (list_any (has_in_window vcpu tick)) (pieces_at_core cores core made.own)
     ∙ window_found (pieces_on cores core) vcpu tick inside
 
--- a piece of the vCPU on the core is one of the vCPU's pieces that stand there
+-- a piece of the vCPU on the core is one of the vCPU's pieces that are there
 piece_on_core : (vcpu core : ℕ) (ps : List Piece) → has_piece vcpu (pieces_at ps core) ≡ true
     → list_any (is_piece_on vcpu core) ps ≡ true
 piece_on_core vcpu core [] has = has
@@ -144,7 +144,7 @@ layout_is_draft tasks cores homes rows laid made = record {
   at_home = on_pieces tasks cores homes rows laid made;
 }
 
--- the same of what the calls gave
+-- a layout that the calls gave, with nobody left over, and rows of its pieces, are a draft
 pub made_draft : (tasks : List (Option Periodic)) (cores : List (List Piece)) (homes homes' : List (Option ℕ))
     (pieces : List Piece)
     (rows : List Row) → AreLaidOut tasks cores homes [] → AreRowsOf cores rows → pieces ≡ all_pieces cores

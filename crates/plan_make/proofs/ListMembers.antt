@@ -14,15 +14,15 @@ pub all_from_places : {X : Type 0} (P : X → Type 0) (xs : List X)
     → All P xs
 all_from_places P xs each k d lt = each k (get_or xs k d) (slice_get-get_or xs k d lt)
 
--- membership, with an element in front
+-- membership, with an element before the others
 pub contains_first : {X : Type 0} (x : X) (xs : List X) → Contains (x ∷ xs) x
 contains_first x xs = (0, omega arith, refl)
 
--- who is left over behind the next is left over
+-- who is left over after the next is left over
 pub contains_later : {X : Type 0} (y : X) (xs : List X) (x : X) → Contains xs x → Contains (y ∷ xs) x
 contains_later y xs x found = (suc found.0, omega (arith, found.1), found.2)
 
--- who is left over is the next or behind it
+-- who is left over is the next or after it
 pub contains_cases : {X : Type 0} (y : X) (xs : List X) (x : X) → Contains (y ∷ xs) x
     → (y ≡ x) ⊎ Contains xs x
 contains_cases {X = X} y xs x found = by_place found.0 found.1 found.2

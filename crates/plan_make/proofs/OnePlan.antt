@@ -100,7 +100,7 @@ same_pieces (p ∷ ps) (q ∷ qs) zip =
     let rest = same_pieces ps qs zip.1 in
     cc
 
--- the cores of those that stand unsplit are determined
+-- the cores of those that are unsplit are determined
 
 -- the pieces of a core are determined by their subtasks, in which the rules speak
 same_on_core : (core : ℕ) (ps qs : List Piece) → map subtask_of ps ≡ map subtask_of qs
@@ -117,7 +117,7 @@ same_on_core core (p ∷ ps) (q ∷ qs) same own own' =
     let rest = same_on_core core ps qs rest_subtasks (All-tail On p ps own) (All-tail On q qs own') in
     cc
 
--- so there is one start of splitting
+-- there is one start of splitting
 start_unique : (tasks : List (Option Periodic)) (core_of : List (Option ℕ)) (count : ℕ)
     (a b : List (List Piece))
     → StandUnsplit tasks core_of count a → StandUnsplit tasks core_of count b → a ≡ b
@@ -182,7 +182,7 @@ went_on tasks cores homes vcpu left ps qs end homes' same each =
     subst (λ rs. SplitsEach tasks (with_pieces cores rs)
     (set homes vcpu (Some (home_of rs))) left end homes') (sym same) each
 
--- so splitting in turn ends in one way
+-- splitting in turn ends in one way
 each_unique : (tasks : List (Option Periodic)) (cores : List (List Piece)) (homes : List (Option ℕ))
     (left : List ℕ)
     (end end' : List (List Piece)) (homes' homes'' : List (Option ℕ)) →
@@ -317,11 +317,11 @@ staying_unique old_homes host a b of_a of_b =
     (rows_unique (all_pieces of_b.cores) b.capped host.sliver rows a.rows b.rows alike.joined of_b.joined)
     alike.capped_same
 
--- so it has one plan
+-- a host has one plan
 pub planned_unique : (host : Host) (a b : PlanView) → IsPlanned host a → IsPlanned host b → a ≡ b
 planned_unique = staying_unique []
 
--- and none where a left-over vCPU can't be split
+-- a host has no plan from the same old homes where a left-over vCPU can't be split
 pub staying_or_refused : (old_homes : List (Option ℕ)) (host : Host) (a : PlanView) (vcpu rest : ℕ)
     (over : List Over) → IsStayingPlan old_homes host a
     → IsFirstStayingWithoutRoom old_homes host vcpu rest over → ⊥
@@ -342,12 +342,12 @@ staying_or_refused old_homes host a vcpu rest over planned first =
     planned.cores first.stuck.cores a.homes first.stuck.homes
     first.stuck.task rest over all first.stuck.split first.stuck.at first.stuck.refuses
 
--- the same, where no vCPU has an old home
+-- a host has no plan where a left-over vCPU can't be split and no vCPU has an old home
 pub planned_or_refused : (host : Host) (a : PlanView) (vcpu rest : ℕ) (over : List Over) → IsPlanned host a
     → IsFirstWithoutRoom host vcpu rest over → ⊥
 planned_or_refused = staying_or_refused []
 
--- so a host that has a plan is laid out but for want of memory
+-- a host that has a plan is laid out, except when memory runs out
 pub no_memory_for_layout : (old_homes : List (Option ℕ)) (host : Host) (a : PlanView) (fault : SplitFault)
     → IsStayingPlan old_homes host a → IsLayoutFault old_homes host fault
     → fault_of_split fault ≡ plan.NoMemory

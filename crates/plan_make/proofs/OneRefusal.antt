@@ -28,7 +28,7 @@ record Sticks (tasks : List (Option Periodic)) (cores : List (List Piece)) (home
   pub at : slice_get tasks vcpu ≡ Some (Some task)
   pub refuses : IsSplitRefused end vcpu task rest over
 
--- where one vCPU gets stuck first, none behind it can be the first
+-- where one vCPU gets stuck first, none after it can be the first
 sticks_later : (tasks : List (Option Periodic)) (cores : List (List Piece))
     (homes : List (Option ℕ)) (vcpu rest : ℕ) (over : List Over) (next : ℕ) (before : List ℕ)
     (other more : ℕ) (others : List Over) → Sticks tasks cores homes [] vcpu rest over
@@ -39,7 +39,7 @@ sticks_later tasks cores homes vcpu rest over next before other more others here
     each_or_refused tasks cores homes [] vcpu before later.end here.end later.homes' here.homes'
     here.task rest over split here.split here.at here.refuses
 
--- where both come to the next, so do they behind it
+-- where both come to the next, so do they after it
 next_sticks : (tasks : List (Option Periodic)) (cores : List (List Piece)) (homes : List (Option ℕ))
     (next : ℕ) (before : List ℕ) (vcpu rest : ℕ) (over : List Over) (pieces : List Piece)
     (is : Sticks tasks cores homes (next ∷ before) vcpu rest over) →
@@ -67,7 +67,7 @@ same_here tasks cores homes vcpu rest rest' over over' a b =
     (subst (λ (t : Periodic). IsSplitRefused a.end vcpu t rest' over') task
     (subst (λ cs. IsSplitRefused cs vcpu b.task rest' over') end b.refuses))
 
--- so two that stick first are
+-- two that stick first are one
 same_stuck : (tasks : List (Option Periodic)) (cores : List (List Piece)) (homes : List (Option ℕ))
     (before before' : List ℕ) (vcpu vcpu' rest rest' : ℕ) (over over' : List Over) (after after' : List ℕ) →
     before ++ vcpu ∷ after ≡ before' ++ vcpu' ∷ after' → Sticks tasks cores homes before vcpu rest over
@@ -126,13 +126,13 @@ one_staying_without_room old_homes host vcpu vcpu' rest rest' over over' a b =
     a.stuck.after b.stuck.after left
     moved (sticks_of old_homes host vcpu' rest' over' b)
 
--- the same, where no vCPU has an old home
+-- a host without a plan has one fault where no vCPU has an old home
 pub one_without_room : (host : Host) (vcpu vcpu' rest rest' : ℕ) (over over' : List Over)
     → IsFirstWithoutRoom host vcpu rest over → IsFirstWithoutRoom host vcpu' rest' over'
     → (vcpu ≡ vcpu') × (rest ≡ rest') × (over ≡ over')
 one_without_room = one_staying_without_room []
 
--- a reservation has an admissible period or lacks one, not both
+-- a reservation has an admissible period or has none, not both
 has_or_lacks : (reservation : Option Reservation) (tick : ℕ) → IfSome reservation (λ r. HasPeriod r tick)
     → LacksPeriod reservation tick → ⊥
 has_or_lacks None tick has lacks = lacks
@@ -152,32 +152,33 @@ one_without_period host vcpu vcpu' a b =
     let under = not_lower host vcpu' vcpu b a in
     omega arith
 
--- and then the host has no plan
+-- a host with a first vCPU without a period has no plan from old homes
 pub staying_or_without_period : (old_homes : List (Option ℕ)) (host : Host) (plan : PlanView) (vcpu : ℕ)
     → IsStayingPlan old_homes host plan → IsFirstWithoutPeriod host vcpu → ⊥
 staying_or_without_period old_homes host plan vcpu planned first =
     none_without_period host plan.tasks vcpu planned.layout.is_start.tasks_are first
 
--- the same, where no vCPU has an old home
+-- a host without a plan has one fault where no vCPU has an old home
 pub planned_or_without_period : (host : Host) (plan : PlanView) (vcpu : ℕ) → IsPlanned host plan
     → IsFirstWithoutPeriod host vcpu → ⊥
 planned_or_without_period = staying_or_without_period []
 
--- nor is one without room; the law's clause `apart`
+-- a host with a first vCPU without a period has none without room from old homes; the law's clause
+-- `apart`
 pub staying_room_or_without_period : (old_homes : List (Option ℕ)) (host : Host) (vcpu vcpu' rest : ℕ)
     (over : List Over) → IsFirstStayingWithoutRoom old_homes host vcpu' rest over
     → IsFirstWithoutPeriod host vcpu → ⊥
 staying_room_or_without_period old_homes host vcpu vcpu' rest over room first =
     none_without_period host room.tasks vcpu room.is_start.tasks_are first
 
--- the same, where no vCPU has an old home
+-- a host without a plan has one fault where no vCPU has an old home
 pub room_or_without_period : (host : Host) (vcpu vcpu' rest : ℕ) (over : List Over)
     → IsFirstWithoutRoom host vcpu' rest over → IsFirstWithoutPeriod host vcpu → ⊥
 room_or_without_period = staying_room_or_without_period []
 
 -- ---- one fault of planning
 
--- why a host has no plan from these old homes, in the form in which `plan_staying` says it; want of
+-- why a host has no plan from these old homes, in the form in which `plan_staying` says it; out of
 -- memory is no cause in the host
 abbrev pub HasStayingFault : List (Option ℕ) → Host → PlanFault → Type 0
 HasStayingFault old_homes host (plan.NoPeriod vcpu) = IsFirstWithoutPeriod host vcpu
@@ -185,7 +186,7 @@ HasStayingFault old_homes host (plan.NoRoom vcpu rest over) =
     IsFirstStayingWithoutRoom old_homes host vcpu rest over
 HasStayingFault old_homes host plan.NoMemory = ⊥
 
--- the same, where no vCPU has an old home
+-- a host without a plan has one fault where no vCPU has an old home
 abbrev pub HasPlanFault : Host → PlanFault → Type 0
 HasPlanFault = HasStayingFault []
 
@@ -198,12 +199,12 @@ staying_or_fault old_homes host p (plan.NoRoom vcpu rest over) planned lacks =
     staying_or_refused old_homes host p vcpu rest over planned lacks
 staying_or_fault old_homes host p plan.NoMemory planned lacks = lacks
 
--- the same, where no vCPU has an old home
+-- a host without a plan has one fault where no vCPU has an old home
 pub planned_or_fault : (host : Host) (p : PlanView) (fault : PlanFault) → IsPlanned host p
     → HasPlanFault host fault → ⊥
 planned_or_fault = staying_or_fault []
 
--- and one without has one fault
+-- a host without a plan from old homes has one fault
 pub one_staying_fault : (old_homes : List (Option ℕ)) (host : Host) (f g : PlanFault)
     → HasStayingFault old_homes host f → HasStayingFault old_homes host g → f ≡ g
 one_staying_fault old_homes host plan.NoMemory g of_f of_g = absurd of_f
@@ -221,6 +222,6 @@ one_staying_fault old_homes host (plan.NoRoom vcpu rest over) (plan.NoRoom other
     let intervals = one.2 in
     cc
 
--- the same, where no vCPU has an old home
+-- a host without a plan has one fault where no vCPU has an old home
 pub one_plan_fault : (host : Host) (f g : PlanFault) → HasPlanFault host f → HasPlanFault host g → f ≡ g
 one_plan_fault = one_staying_fault []

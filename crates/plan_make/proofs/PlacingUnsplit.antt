@@ -1,4 +1,4 @@
--- The vCPUs that stand unsplit, one after the other.
+-- The vCPUs that are unsplit, one after the other.
 use Rattle.std.proofs.Common.{◌≡◌, ℕ, ◌+◌, ◌<◌, cond, eqb, List, [], ◌∷◌, ◌++◌, length, get_or, slice_get, take, map, replicate, Option, None, Some, refl, ap, subst, sym, ◌∙◌, inl, inr, arith, length-set, length-take}
 use Rattle.std.proofs.lemmas.List.{length-replicate}
 use Rattle.std.specs.List.{All}
@@ -16,7 +16,7 @@ use Rattle.plan_make.specs.Unsplit.{StandUnsplit, unsplit, unsplit_at, unsplit_f
 use Rattle.plan_make.proofs.WithPieces.{pieces_on-with_piece, with_piece}
 use Rattle.plan_make.proofs.UnsplitLemmas.{All-from_map, IsUnsplitOn, all_unsplit_on, unsplit_fit, unsplit_from-none, unsplit_from-take_more}
 
--- the first vCPUs stand unsplit
+-- the first vCPUs are unsplit
 abbrev pub FirstStand : ℕ → List (Option Periodic) → List (Option ℕ) → ℕ → List (List Piece) → Type 0
 FirstStand n tasks homes count cores = StandUnsplit (take n tasks) (take n homes) count cores
 
@@ -59,7 +59,7 @@ next_has_room n tasks homes count cores task core p stand fits there at at' is =
     (stand_on_home n tasks homes count cores task core p stand there at at' is)
     (fits core there)
 
--- with its piece one vCPU more stands unsplit
+-- with its piece one vCPU more is unsplit
 pub next_stands : (n : ℕ) (tasks : List (Option Periodic)) (homes : List (Option ℕ)) (count : ℕ)
     (cores : List (List Piece)) (task : Periodic) (core : ℕ) (p : Piece) →
     FirstStand n tasks homes count cores → core < count → slice_get tasks n ≡ Some (Some task)
@@ -97,7 +97,7 @@ next_stands n tasks homes count cores task core p stand there at at' is on = rec
           | inr not ↦ rw not refl
         ])
 
--- a vCPU that stands on no core changes nothing
+-- a vCPU that is on no core changes nothing
 pub next_is_none : (n : ℕ) (tasks : List (Option Periodic)) (homes : List (Option ℕ)) (count : ℕ)
     (cores : List (List Piece)) (task : Option Periodic) (home : Option ℕ) →
     FirstStand n tasks homes count cores → slice_get tasks n ≡ Some task → slice_get homes n ≡ Some home →
@@ -111,7 +111,7 @@ next_is_none n tasks homes count cores task home stand at at' none = record {
       ∙ sym (unsplit_from-take_more core n tasks homes task home at at');
 }
 
--- at first nobody stands anywhere
+-- at first nobody is placed
 pub none_stand : (tasks : List (Option Periodic)) (homes : List (Option ℕ)) (count : ℕ)
     (cores : List (List Piece))
     → cores ≡ replicate count [] → FirstStand 0 tasks homes count cores

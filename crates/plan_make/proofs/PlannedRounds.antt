@@ -34,7 +34,7 @@ staying_rounds old_homes host plan is = all_from_places (λ (row : Row). length 
           omega arith)
     ])
 
--- the same, where no vCPU has an old home
+-- each row of a planned host is a round long where no vCPU has an old home
 pub planned_rounds : (host : Host) (plan : PlanView) → IsPlanned host plan
     → All (λ (row : Row). length row ≡ ROUND) plan.rows
 planned_rounds = staying_rounds []

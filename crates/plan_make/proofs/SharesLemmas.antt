@@ -90,7 +90,7 @@ begins_later (p ∷ ps) from to (suc n) q follow at =
     let later = begins_later ps p.to to n q follow.1 at in
     omega (arith, follow.0, p.begins)
 
--- so an earlier one ends before a later one begins
+-- an earlier piece ends before a later one begins
 pub ends_before : (ps : List Piece) (from to m n : ℕ) (p q : Piece) → HaveAdjacentWindows from to ps → m < n
     → slice_get ps m ≡ Some p → slice_get ps n ≡ Some q → p.to ≤ q.from
 ends_before [] from to m n p q follow lt at at' = absurd (cc)
@@ -112,7 +112,7 @@ cost_on_none vcpu ps lack =
     (λ k d lt. rw (ne_eqb (get_or ps k d).vcpu vcpu (lack k d lt)) (omega arith)) in
     omega arith
 
--- nor anywhere, where it has none
+-- a vCPU without a piece gets nothing anywhere
 pub costs_none : (vcpu : ℕ) (cores : List (List Piece)) → All (LackVcpu vcpu) cores
     → sum_by (cost_on vcpu) cores ≡ 0
 costs_none vcpu cores lack =
@@ -161,7 +161,7 @@ next_fits cores ps i p now added lt is apart fit =
     let before = next_as_before cores ps i p now added lt is apart fit in
     (subst (λ n. p.core < n) (sym count) fits.0, subst (λ qs. HaveRoomFor qs p) (sym before) fits.1)
 
--- and none of its vCPU is there
+-- none of the next piece's vCPU is on its core
 pub next_lacks : (cores : List (List Piece)) (ps : List Piece) (i : ℕ) (p : Piece) (now : List (List Piece)) →
     now ≡ with_pieces cores (take i ps) → i < length ps → p ≡ get_or ps i p → StandApart ps
     → FitTheirCores cores ps →

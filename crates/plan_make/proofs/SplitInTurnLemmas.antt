@@ -38,7 +38,7 @@ splits_each_push tasks cores homes (v ∷ left) end homes' vcpu pieces each spli
       (set homes v (Some (home_of each.0))) left end homes' vcpu pieces each.2 split,
 )
 
--- the same of what the loop's call gave
+-- one more vCPU is split, of what the loop's call gave
 pub splits_each_next : (tasks : List (Option Periodic)) (start : List (List Piece))
     (core_of : List (Option ℕ))
     (left : List ℕ) (cores : List (List Piece)) (homes : List (Option ℕ)) (vcpu : ℕ) (end : List (List Piece))
@@ -55,7 +55,7 @@ splits_each_next tasks start core_of left cores homes vcpu end homes' each next 
     (subst (λ cs. SplitsEach tasks start core_of (left ++ vcpu ∷ []) cs
     (set homes vcpu (Some (home_of pieces)))) (sym next.added.end_is) all)
 
--- and the vCPUs are laid out with it
+-- the vCPUs are laid out with the one that was split
 pub laid_out_next : (tasks : List (Option Periodic)) (cores : List (List Piece))
     (homes : List (Option ℕ)) (vcpu : ℕ)
     (left : List ℕ) (end : List (List Piece)) (homes' : List (Option ℕ)) →
@@ -172,7 +172,7 @@ first_stuck {tasks = tasks} {left = left} {n = n} {cores = cores} {homes = homes
           (sym named_is) refused.2.1;
     }
 
--- so the host has no plan
+-- a host with a first vCPU that can't be split has no plan
 pub layout_fault : (old_homes : List (Option ℕ)) (host : Host) (tasks : List (Option Periodic))
     (placed : Placed) (start : List (List Piece))
     (fault : SplitFault) → IsStayingStart old_homes host tasks placed start

@@ -1,4 +1,4 @@
--- The vCPUs that stand unsplit have their pieces.
+-- The vCPUs that are unsplit have their pieces.
 use Rattle.std.proofs.Common.{◌≡◌, ℕ, zero, suc, ◌+◌, ◌<◌, ◌≤◌, true, cond, eqb, List, [], ◌∷◌, length, get_or, set, slice_get, map, sum_by, Option, Some, None, refl, ap, subst, sym, ◌∙◌, inl, inr, arith, length-set, get_or-set_same, get_or-set_other}
 use Rattle.std.specs.List.{All}
 use Rattle.std.proofs.lemmas.Bool.{cases_Bool, cases_eq, cases_lt, eq-eqb, ne_eqb}
@@ -41,12 +41,12 @@ number_is : (core : ℕ) (tasks : List (Option Periodic)) (homes : List (Option 
     → p.vcpu ≡ w.number
 number_is core tasks homes p w = let e = ap (λ (s : Subtask). s.vcpu) w.is in omega arith
 
--- its home is the core on which it stands
+-- its home is the core on which it is
 home_is : (core : ℕ) (tasks : List (Option Periodic)) (homes : List (Option ℕ)) (p : Piece)
     → IsUnsplitOn core 0 tasks homes (subtask_of p) → slice_get homes p.vcpu ≡ Some (Some core)
 home_is core tasks homes p w = ap (slice_get homes) (number_is core tasks homes p w) ∙ w.home
 
--- what a vCPU gets where it stands unsplit
+-- what a vCPU gets where it is unsplit
 
 -- what a subtask gives the vCPU
 abbrev cost_of : ℕ → Subtask → ℕ
@@ -69,7 +69,7 @@ no_cost vcpu ss none =
     (λ k d lt. rw (ne_eqb (get_or ss k d).vcpu vcpu (none k d lt)) (omega arith)) in
     omega arith
 
--- nor do those of higher numbers
+-- subtasks of higher numbers give the vCPU nothing
 later_cost : (core first vcpu : ℕ) (tasks : List (Option Periodic)) (homes : List (Option ℕ)) → vcpu < first
     → sum_by (cost_of vcpu) (unsplit_from core first tasks homes) ≡ 0
 later_cost core first vcpu tasks homes lt = no_cost vcpu (unsplit_from core first tasks homes)
@@ -86,7 +86,7 @@ own_cost core vcpu task home = elim (cases_Bool (eqb home core)) [
   | inr not ↦ rw not refl
 ]
 
--- nor does another vCPU's own
+-- another vCPU's own subtasks give the vCPU nothing
 other_cost : (core vcpu other : ℕ) (task : Option Periodic) (home : Option ℕ) → (other ≡ vcpu → ⊥)
     → sum_by (cost_of vcpu) (unsplit_at core other task home) ≡ 0
 other_cost core vcpu other None home ne = refl
@@ -96,7 +96,7 @@ other_cost core vcpu other (Some task) (Some home) ne = elim (cases_Bool (eqb ho
   | inr not ↦ rw not refl
 ]
 
--- so a core gives an unsplit vCPU its cost or nothing
+-- a core gives an unsplit vCPU its cost or nothing
 cost_of_all_unsplit : (core first n : ℕ) (tasks : List (Option Periodic)) (homes : List (Option ℕ))
     (task : Periodic)
     (home : ℕ)
@@ -208,7 +208,7 @@ start_is_allotted tasks homes count cores stand there = record {
         → slice_get homes q.vcpu ≡ Some (Some other) → p.vcpu ≡ q.vcpu → core ≡ other
     same_home core other p q a b one = (let e = sym a ∙ ap (slice_get homes) one ∙ b in cc)
 
--- at first those that stand unsplit are laid out
+-- at first those that are unsplit are laid out
 pub start_is_laid_out : (tasks : List (Option Periodic)) (placed : Placed) (count : ℕ)
     (cores : List (List Piece))
     → PlacesEach tasks count placed → StandUnsplit tasks placed.core_of count cores →
@@ -219,7 +219,8 @@ start_is_laid_out tasks placed count cores places stand = record {
       (λ vcpu home at. (let on = places.on_core vcpu home at in (on.0, on.1)));
 }
 
--- the same, of what the calls gave: the tasks, homes and left-over vCPUs are read through references
+-- what the calls gave is laid out at first: the tasks, homes and left-over vCPUs are read through
+-- references
 pub record IsRead (tasks tasks' : List (Option Periodic)) (placed : Placed)
     (homes : List (Option ℕ)) (left : List ℕ) : Type 0 where
   pub tasks_are : tasks' ≡ tasks
@@ -237,7 +238,7 @@ read_is_laid_out tasks tasks' placed homes left count cores read places stand =
     (subst (AreLaidOut tasks cores placed.core_of) (sym read.left_is)
     (start_is_laid_out tasks placed count cores places stand)))
 
--- and its refusal, of what it was passed
+-- the refusal of `split_each`, of what it was passed
 pub read_is_stuck : (tasks tasks' : List (Option Periodic)) (placed : Placed)
     (homes : List (Option ℕ)) (left : List ℕ)
     (cores : List (List Piece)) (fault : SplitFault) → IsRead tasks tasks' placed homes left →

@@ -25,7 +25,8 @@ all_cost tasks cores homes laid vcpu task at = elim (laid.places.each vcpu (task
   | inr left ↦ absurd (contains_none vcpu left)
 ]
 
--- where each vCPU has its task, of the two refusals of the choice of periods only want of memory is left
+-- where each vCPU has its task, of the two refusals of the choice of periods only running out of memory
+-- is left
 pub no_memory_for_tasks : (host : Host) (tasks : List (Option Periodic)) (fault : TaskFault)
     → AreTasksOf host tasks → ((vcpu : ℕ) → fault ≡ NoPeriod vcpu → IsFirstWithoutPeriod host vcpu) →
     fault_of_tasks fault ≡ plan.NoMemory

@@ -1,4 +1,4 @@
--- The pieces of the vCPUs that stand unsplit on a core.
+-- The pieces of the vCPUs that are unsplit on a core.
 use Rattle.std.proofs.Common.{◌≡◌, ℕ, zero, suc, ◌+◌, ◌*◌, ◌/◌, ◌<◌, ◌≤◌, cond, eqb, List, [], ◌∷◌, ◌++◌, slice_get, take, zip, map, sum_by, Option, None, Some, refl, ap, subst, sym, ◌∙◌, inl, inr, arith}
 use Rattle.std.specs.List.{All}
 use Rattle.std.proofs.lemmas.Bool.{cases_Bool, eqb-true}
@@ -65,9 +65,9 @@ pub unsplit_from-none : (core : ℕ) → unsplit_from core 0 [] [] ≡ []
 unfolding unsplit_from
 unsplit_from-none core = refl
 
--- who stands there
+-- who is there
 
--- the subtask is all of a vCPU that stands on the core
+-- the subtask is all of a vCPU that is on the core
 pub record IsUnsplitOn (core first : ℕ) (tasks : List (Option Periodic)) (homes : List (Option ℕ))
     (s : Subtask) : Type 0 where
   pub number : ℕ
@@ -97,7 +97,7 @@ first_is_unsplit core first (Some task) tasks (Some home) homes = elim (cases_Bo
   | inr other ↦ rw other (All-nil (IsUnsplitOn core first (Some task ∷ tasks) (Some home ∷ homes)))
 ]
 
--- whatever stands on the core is all of a vCPU whose home it is
+-- whatever is on the core is all of a vCPU whose home it is
 pub all_unsplit_on : (core first : ℕ) (tasks : List (Option Periodic)) (homes : List (Option ℕ))
     → All (IsUnsplitOn core first tasks homes) (unsplit_from core first tasks homes)
 unfolding unsplit_from
@@ -163,13 +163,13 @@ unfolding load_on
 load_on-cons core t tasks h homes =
     sum_by-cons (λ vcpu. cond (is_on core vcpu.1) (task_demand vcpu.0) 0) (t, h) (zip tasks homes)
 
--- nor any load of vCPUs without a place
+-- vCPUs without a place add no load
 load_on-unplaced : (core : ℕ) (tasks : List (Option Periodic)) → load_on core tasks [] ≡ 0
 unfolding load_on
 load_on-unplaced core [] = refl
 load_on-unplaced core (t ∷ tasks) = refl
 
--- so the pieces' load is the one that worst fit has kept within a round
+-- the pieces' load is the one that worst fit has kept within a round
 load_of_all_unsplit : (core first : ℕ) (tasks : List (Option Periodic)) (homes : List (Option ℕ))
     → sum_by ticks_of (unsplit_from core first tasks homes) ≡ load_on core tasks homes
 unfolding unsplit_from
@@ -195,7 +195,7 @@ load_on-take-le core (suc n) (t ∷ tasks) (h ∷ homes) =
     let all = load_on-cons core t tasks h homes in
     omega arith
 
--- so they fit
+-- the unsplit pieces of a core fit
 
 -- the pieces fill their periods, and such pieces fit where their load does
 all_whole : (ps : List Piece) → All (λ (s : Subtask). (s.from ≡ 0) × (s.to ≡ s.period)) (map subtask_of ps)

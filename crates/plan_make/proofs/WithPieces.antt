@@ -34,7 +34,7 @@ length-with_pieces cores [] = refl
 length-with_pieces cores (p ∷ ps) = length-with_pieces (with_piece cores p) ps
     ∙ length-set cores p.core (pieces_on cores p.core ++ p ∷ [])
 
--- those of the pieces that stand on the core
+-- those of the pieces that are on the core
 abbrev pub of_core : ℕ → List Piece → List Piece
 of_core core ps = filter (λ q. eqb q.core core) ps
 
@@ -44,7 +44,7 @@ pub of_core-cons : (core : ℕ) (p : Piece) (ps : List Piece)
 of_core-cons core p ps = elim (cases_Bool (eqb p.core core))
     [ inl same ↦ rw same refl | inr other ↦ rw other refl ]
 
--- each of the pieces stands on one of so many cores
+-- each of the pieces is on one of so many cores
 abbrev pub StandBelow : ℕ → List Piece → Type 0
 StandBelow count ps = All (λ p. p.core < count) ps
 
@@ -83,7 +83,7 @@ costs-with_piece vcpu cores p there =
     let more = cost_on-append vcpu (pieces_on cores p.core) (p ∷ []) in
     omega arith
 
--- so a split gives its vCPU exactly the cost of the pieces
+-- a split gives its vCPU exactly the cost of the pieces
 pub costs-with_pieces : (vcpu : ℕ) (cores : List (List Piece)) (ps : List Piece)
     → StandBelow (length cores) ps →
     sum_by (cost_on vcpu) (with_pieces cores ps) ≡ sum_by (cost_on vcpu) cores + cost_on vcpu ps

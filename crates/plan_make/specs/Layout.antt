@@ -1,4 +1,4 @@
--- Where the vCPUs of a host stand: placed unsplit by worst fit, and then the left-over ones split.
+-- Where the vCPUs of a host are: placed unsplit by worst fit, and then the left-over ones split.
 -- Some may have homes from an earlier plan, at which they stay where they can.
 -- Source: the partitioning of M. Vanga, A. Gujarati, B. B. Brandenburg, "Tableau: a high-throughput
 -- and predictable VM scheduler for high-density workloads", EuroSys 2018. That vCPUs stay is this

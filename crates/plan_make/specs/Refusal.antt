@@ -2,7 +2,7 @@
 use Rattle.std.specs.Prelude.{ℕ, List, ◌++◌, codes, decimal, flat_map}
 use Rattle.tab_core.specs.declared.over.Over.{Over}
 
--- for want of a period for the vCPU of this name
+-- because a period is missing for the vCPU of this name
 unfoldable pub no_period_line : List ℕ → List ℕ
 no_period_line name = codes "refused: no period for " ++ (name ++ codes "\n")
 
@@ -18,7 +18,7 @@ unfoldable pub no_room_text : List ℕ → ℕ → List ℕ
 no_room_text name rest = codes "refused: no room for "
     ++ (name ++ (codes ", " ++ (decimal rest ++ codes " ticks left")))
 
--- for want of room for the vCPU of this name, of which so many ticks are left, with an interval for
--- each unused core
+-- because room is missing for the vCPU of this name, of which so many ticks are left, with an
+-- interval for each unused core
 abbrev pub no_room_line : List ℕ → ℕ → List Over → List ℕ
 no_room_line name rest over = no_room_text name rest ++ (flat_map over_text over ++ codes "\n")

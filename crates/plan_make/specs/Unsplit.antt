@@ -1,4 +1,4 @@
--- The vCPUs that stand on one core in one piece each, as worst fit has placed them.
+-- The vCPUs that are on one core in one piece each, as worst fit has placed them.
 use Rattle.std.specs.Prelude.{◌≡◌, ℕ, ◌+◌, ◌<◌, ◌==◌, if◌then◌else◌, List, [], ◌∷◌, ◌++◌, All, Option, None, Some, length, map}
 use Rattle.tab_core.specs.declared.periodic.Periodic.{Periodic}
 use Rattle.tab_core.specs.declared.piece.Piece.{Piece}
@@ -15,14 +15,14 @@ unsplit_at core vcpu None home = []
 unsplit_at core vcpu (Some task) None = []
 unsplit_at core vcpu (Some task) (Some home) = if home == core then unsplit vcpu task ∷ [] else []
 
--- the vCPUs that stand unsplit on a core, by rising number, of which the first is `vcpu`
+-- the vCPUs that are unsplit on a core, by rising number, of which the first is `vcpu`
 unfoldable pub unsplit_from : ℕ → ℕ → List (Option Periodic) → List (Option ℕ) → List Subtask
 unsplit_from core vcpu [] homes = []
 unsplit_from core vcpu (task ∷ tasks) [] = []
 unsplit_from core vcpu (task ∷ tasks) (home ∷ homes) =
     unsplit_at core vcpu task home ++ unsplit_from core (vcpu + 1) tasks homes
 
--- each core has the pieces of the vCPUs that stand unsplit there, and no other
+-- each core has the pieces of the vCPUs that are unsplit there, and no other
 pub record StandUnsplit (tasks : List (Option Periodic)) (core_of : List (Option ℕ)) (count : ℕ)
     (cores : List (List Piece)) : Type 0 where
   pub size : length cores ≡ count

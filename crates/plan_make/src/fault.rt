@@ -16,9 +16,9 @@ pub enum PlanFault {
     NoPeriod {
         vcpu: VcpuNo,
     },
-    /// This vCPU stands on no core and can't be split: the last `rest` ticks of each of its
-    /// periods have no room. It is the first such vCPU in the order of placement. `over` has for
-    /// each unused core, by rising number, the overloaded interval that they would make there.
+    /// This vCPU is on no core and can't be split: the last `rest` ticks of each of its periods
+    /// have no room. It is the first such vCPU in the order of placement. `over` has for each
+    /// unused core, by rising number, the overloaded interval that they would make there.
     NoRoom {
         vcpu: VcpuNo,
         rest: u32,

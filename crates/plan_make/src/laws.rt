@@ -10,8 +10,8 @@ pub fn a_host_has_one_plan()
     ensures { (host : Host) (p q : PlanView) → IsPlanned host p → IsPlanned host q → p ≡ q }
 {}
 
-/// A host has at most one refusal: one first vCPU without a period; or one without room, which lacks
-/// it for one number of ticks, with one list of overloaded intervals.
+/// A host has at most one refusal: one first vCPU without a period; or one without room, which is
+/// missing for one number of ticks, with one list of overloaded intervals.
 pub fn a_host_has_one_refusal()
     ensures without_period { (host : Host) (vcpu other : ℕ) → IsFirstWithoutPeriod host vcpu
         → IsFirstWithoutPeriod host other → vcpu ≡ other }

@@ -13,7 +13,7 @@ use std::alloc::Global;
 use tab_core::{CoreNo, Host, Tasks};
 use worst_fit::place_staying;
 
-// Where the vCPUs of a host stand: the pieces on each core, and the home of each vCPU.
+// Where the vCPUs of a host are: the pieces on each core, and the home of each vCPU.
 #[derive(Drop)]
 pub(crate) struct Layout {
     pub(crate) cores: CorePieces,

@@ -1,10 +1,10 @@
 //! The plan of a host: its vCPUs are placed unsplit, the left-over ones are split, and each core's
 //! row is made by earliest deadline first.
 //!
-//! Layers above may rely on `IsPlanned` and `IsFirstWithoutRoom` of `specs/Planned.antt`, which
-//! say what the plan of a host is and when it has none for want of room, and on `IsStayingPlan` and
-//! `IsFirstStayingWithoutRoom`, from given old homes. That the plan serves each
-//! vCPU and keeps it on one core at a time is part of its type, in table_form.
+//! Layers above may rely on `IsPlanned` and `IsFirstWithoutRoom` of `specs/Planned.antt`, which say
+//! what the plan of a host is and when it has none because room is missing, and on `IsStayingPlan`
+//! and `IsFirstStayingWithoutRoom`, from given old homes. That the plan serves each vCPU and keeps
+//! it on one core at a time is part of its type, in table_form.
 #![tactic(auto)]
 
 mod draft;

@@ -23,9 +23,9 @@ use table_form::Plan;
 /// are the host's. A host has at most one such plan.
 ///
 /// `NoPeriod` comes where an admitted vCPU has no admissible period, and `NoRoom` where each has
-/// one but a left-over vCPU can't be split: then and only then, but that want of memory may come
-/// in place of any answer. So a host that has a plan is refused for want of memory alone, and none
-/// within the bound of worst fit is without room.
+/// one but a left-over vCPU can't be split: then and only then, though `NoMemory` may come in place
+/// of any answer. So a host that has a plan is refused only when memory runs out, and none within
+/// the bound of worst fit is without room.
 ///
 /// All is made in the calling thread.
 ///
@@ -52,7 +52,7 @@ pub fn plan<R: Threads + Sync>(rt: &R, alloc: Global, host: &Host) -> Result<Pla
     plan_staying(rt, alloc, host, &[])
 }
 
-/// The same plan, where the budgets of the host's vCPUs are known. So `NoPeriod` never comes.
+/// The plan of a host, where the budgets of the host's vCPUs are known. So `NoPeriod` never comes.
 pub fn plan_with<R: Threads + Sync>(
     rt: &R,
     alloc: Global,
@@ -89,9 +89,9 @@ pub fn plan_with<R: Threads + Sync>(
 /// by worst fit beside these, and what is left over is split. From no old homes that is `plan`.
 ///
 /// `NoPeriod` comes as from `plan`, and `NoRoom` where a left-over vCPU can't be split beside those
-/// that stay: then and only then, but that want of memory may come in place of any answer. Within
-/// the bound of worst fit none is without room, as with `plan`. Beyond it, a host that has a plan
-/// may have none that moves nobody.
+/// that stay: then and only then, though `NoMemory` may come in place of any answer. Within the
+/// bound of worst fit none is without room, as with `plan`. Beyond it, a host that has a plan may
+/// have none that moves nobody.
 pub fn plan_staying<R: Threads + Sync>(
     rt: &R,
     alloc: Global,
@@ -124,7 +124,7 @@ pub fn plan_staying<R: Threads + Sync>(
     plan_staying_with(rt, alloc, host, tasks, old_homes)
 }
 
-// The same plan, where the budgets of the host's vCPUs are known. So `NoPeriod` never comes.
+// The plan of a host, where the budgets of the host's vCPUs are known. So `NoPeriod` never comes.
 fn plan_staying_with<R: Threads + Sync>(
     _rt: &R,
     alloc: Global,

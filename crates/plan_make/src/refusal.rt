@@ -6,9 +6,9 @@ use tab_core::Over;
 use tab_io::{Sink, WriteFault, write_all};
 use tab_words::{TextPiece, put_pieces};
 
-/// Writes the line of the refusal of a host for want of a period, for the vCPU of this name.
+/// Writes the line of the refusal of a host because a period is missing, for the vCPU of this name.
 ///
-/// A fault of the sink leaves a front of the line in it. Nothing is settled.
+/// A fault of the sink leaves a prefix of the line in it. Nothing is settled.
 #[tactic(auto, unfolding(crate::specs::Refusal::no_period_line))]
 pub fn put_no_period<K: Sink>(sink: &mut K, name: &[u8]) -> Result<(), WriteFault>
     ensures { Writes (K.state sink.old) (K.state sink.new) (no_period_line name.now) result }
@@ -23,10 +23,10 @@ pub fn put_no_period<K: Sink>(sink: &mut K, name: &[u8]) -> Result<(), WriteFaul
     )
 }
 
-/// Writes the line of the refusal of a host for want of room: for the vCPU of this name, of which so
-/// many ticks are left, and these overloaded intervals.
+/// Writes the line of the refusal of a host because room is missing: for the vCPU of this name, of
+/// which so many ticks are left, and these overloaded intervals.
 ///
-/// A fault of the sink leaves a front of the line in it. Nothing is settled.
+/// A fault of the sink leaves a prefix of the line in it. Nothing is settled.
 pub fn put_no_room<K: Sink>(
     sink: &mut K,
     name: &[u8],

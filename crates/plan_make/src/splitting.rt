@@ -19,7 +19,7 @@ fn home_in(pieces: &[Piece]) -> CoreNo
     pieces[pieces.len() - 1].core
 }
 
-// Adds the pieces of a split vCPU, each behind the others of its core.
+// Adds the pieces of a split vCPU, each after the others of its core.
 fn add_each(cores: &mut CorePieces, pieces: &[Piece]) -> Result<(), NoMemory>
     requires new { All (λ p. LackVcpu p.vcpu (pieces_on cores.old p.core)) pieces.now }
     requires fit { FitTheirCores cores.old pieces.now }

@@ -23,7 +23,7 @@ fn unsplit_piece(vcpu: VcpuNo, core: CoreNo, task: &Periodic) -> Piece
     }
 }
 
-// Adds the vCPU of this number to those of lower numbers that stand unsplit.
+// Adds the vCPU of this number to those of lower numbers that are unsplit.
 fn add_unsplit(
     cores: &mut CorePieces,
     tasks: &[Option<Periodic>],
@@ -49,7 +49,7 @@ fn add_unsplit(
     Ok(())
 }
 
-// The cores with the pieces of the vCPUs that stand unsplit there, by rising number.
+// The cores with the pieces of the vCPUs that are unsplit there, by rising number.
 pub(crate) fn place_unsplit(
     alloc: Global,
     tasks: &[Option<Periodic>],

@@ -90,7 +90,7 @@ none_offered : (b : Bool) → b ≡ false → one b ≡ 0
 none_offered true h = absurd cc
 none_offered false h = refl
 
--- so the vCPU's periods are blocks that each have the cost in offers
+-- the vCPU's periods are blocks that each have the cost in offers
 period_blocks : (plan : PlanView) (v top : ℕ) (task : Periodic)
     → ((k : ℕ) → task.cost ≤ offers_in plan v (k * task.period) task.period)
     → Blocks (λ x. one (is_offered_in plan v x)) (λ x. x / task.period * task.period)
@@ -119,7 +119,7 @@ period_blocks plan v top task each =
           ap (λ n. n * task.period) number ∙ (more ∙ sym is));
     }
 
--- and no wait has more ticks than the budget leaves out of two periods
+-- no wait has more ticks than the budget leaves out of two periods
 pub short_waits : (plan : PlanView) (v first last : ℕ) (task : Periodic)
     → ((k : ℕ) → task.cost ≤ offers_in plan v (k * task.period) task.period)
     → IsWait plan v first last → suc last - first ≤ slack_of task + slack_of task

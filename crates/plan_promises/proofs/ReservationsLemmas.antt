@@ -47,7 +47,7 @@ pub enough_cost : (reservation : Reservation) (tick : ℕ) (task : Periodic) →
     → reservation.share_ppm * task.period ≤ WHOLE_PPM * task.cost
 enough_cost reservation tick task is = (let cost = is.cost_is in omega arith)
 
--- and a wait within two slacks is within the latency
+-- a wait within two slacks is within the latency
 short_wait : (reservation : Reservation) (tick : ℕ) (task : Periodic) (ticks : ℕ)
     → IsChosen reservation tick task → ticks ≤ slack_of task + slack_of task
     → tick * ticks ≤ reservation.latency_ns
@@ -75,7 +75,7 @@ kept_by_rows host plan are serves apart = record {
       (λ k. period_offers plan v k has.task serves apart has.at) wait));
 }
 
--- so does the host's plan
+-- the host's plan keeps its reservations
 pub kept_by_plan : (host : Host) (plan : PlanView) → IsPlanned host plan → IsPlan plan
     → KeepsReservations host plan
 kept_by_plan host plan planned keeps =

@@ -24,8 +24,8 @@ pub fn a_plan_keeps_the_reservations()
         → KeepsReservations host plan }
 {}
 
-/// So do all rows that give the host's tasks their costs, with no vCPU in two rows at one place,
-/// whoever made them.
+/// Rows keep the reservations that give the host's tasks their costs, with no vCPU in two rows at
+/// one place, whoever made them.
 pub fn rows_that_serve_keep_the_reservations()
     ensures { (host : Host) (plan : PlanView) → AreTasksOf host plan.tasks
         → Serves plan.tasks plan.rows → Apart plan.rows → KeepsReservations host plan }

@@ -3,8 +3,8 @@
 //!
 //! `KeepsReservations` of `specs/Reservations.antt` is the record of a plan's promises, where the rows repeat
 //! round after round without end. `RunPromises` of `specs/RunPromises.antt` is that of a whole run, by the
-//! hosts of `specs/Histories.antt`; its shares and latencies stand in `specs/Runs.antt`. The crate has laws
-//! and no other code, so there is no body that a wrong edit could turn.
+//! hosts of `specs/Histories.antt`; its shares and latencies are in `specs/Runs.antt`. The crate has laws and
+//! no other code, so there is no body that a wrong edit could turn.
 #![tactic(auto)]
 
 mod laws;

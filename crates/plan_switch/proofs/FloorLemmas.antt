@@ -13,7 +13,7 @@ use Rattle.round_words.proofs.ListLemmas.{index_append, length_push}
 use Rattle.plan_switch.specs.declared.state.ControlState.{ControlState}
 use Rattle.plan_switch.specs.Controllers.{AreFloorsOf, HasPosted, IsNewPart, floor_of}
 
--- a number behind a list
+-- a number after a list
 index_new : (xs : List ℕ) (x : ℕ) → slice_index (xs ++ x ∷ []) (length xs) ≡ x
 index_new [] x = refl
 index_new (y ∷ ys) x = index_new ys x

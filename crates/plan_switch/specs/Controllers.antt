@@ -14,6 +14,7 @@ pub record ControllerView : Type 0 where
   pub course : CourseView
   pub state : ControlState
 
+-- the controller by its course and its state
 abbrev pub controller_view : CourseView → ControlState → ControllerView
 controller_view course state = record { course = course; state = state }
 

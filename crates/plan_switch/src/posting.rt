@@ -43,7 +43,7 @@ pub fn control_step(
     )
 }
 
-/// The same, of any controller of the outline's events.
+/// The controller's step, of any controller of the outline's events.
 pub fn post_step(
     board: &RoundBoard,
     seat: &mut RoundSeat,

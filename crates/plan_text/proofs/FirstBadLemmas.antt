@@ -24,7 +24,7 @@ first_is_bad Texts first (line ∷ back) begun bad none = record {
   number = omega arith;
 }
 
--- a text that goes wrong behind a line goes wrong with it in front
+-- a text that goes wrong after a line goes wrong with it before
 wrong_behind : (Texts More : List Line → Type 0) (line : Line) (front back : List Line)
     → ((rest : List Line) → Texts (line ∷ rest) → More rest) → GoesWrong More front back
     → GoesWrong Texts (line ∷ front) back
@@ -33,7 +33,7 @@ wrong_behind Texts More line front (next ∷ back) goes wrong =
     λ (b : IsBegun Texts ((line ∷ front) ++ next ∷ [])).
     wrong (record { rest = b.rest; text = goes ((front ++ next ∷ []) ++ b.rest) b.text })
 
--- the first line goes well, and behind it there are these texts
+-- the first line goes well, and after it there are these texts
 pub bad_behind : (Texts More : List Line → Type 0) (first : ℕ) (line : Line) (lines : List Line) (bad : ℕ)
     → ((rest : List Line) → More rest → Texts (line ∷ rest))
     → ((rest : List Line) → Texts (line ∷ rest) → More rest)
@@ -93,7 +93,7 @@ no_text Texts first lines bad is text = of_parts is.front is.back is.wrong (subs
     of_parts front (line ∷ back) wrong text =
         wrong (record { rest = back; text = subst Texts (sym (append_assoc front (line ∷ []) back)) text })
 
--- the front before the first bad line isn't longer than another that some text begins with
+-- the prefix before the first bad line isn't longer than another that some text begins with
 not_longer : (Texts : List Line → Type 0) (before front back longer rest : List Line)
     → front ++ back ≡ longer ++ rest
     → GoesWrong Texts (before ++ front) back → IsBegun Texts (before ++ longer) → length longer ≤ length front

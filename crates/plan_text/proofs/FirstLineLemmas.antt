@@ -5,7 +5,7 @@ use Rattle.tab_words.specs.Lines.{lines_of}
 use Rattle.tab_words.proofs.CutLemmas.{cut, front_lacks}
 use Rattle.tab_words.proofs.LineLemmas.{first_without_feed, lines_of-line, one_line, without_feed-other}
 
--- the bytes behind a place, as a range that ends with the bytes
+-- the bytes after a place, as a range that ends with the bytes
 pub behind : (bytes : List ℕ) (at : ℕ)
     → drop (suc at) bytes ≡ take (length bytes - (at + 1)) (drop (at + 1) bytes)
 behind bytes at =
@@ -30,7 +30,7 @@ ends_otherwise bytes none front is =
     none (length front) (omega arith)
     (ap (λ l. get_or l (length front) 0) is ∙ get_or-append_seam front 10 [] 0)
 
--- so they are one line
+-- bytes without a line feed are one line
 pub only_line : (bytes : List ℕ) → 0 < length bytes → ((k : ℕ) → k < length bytes → get_or bytes k 0 ≢ 10)
     → lines_of bytes ≡ bytes ∷ lines_of []
 only_line bytes some none =

@@ -10,7 +10,7 @@ abbrev pub GoesOn : List (List ℕ) → List TextPiece → List (List ℕ) → �
 GoesOn all pieces left at = (rest : List (List ℕ))
     → ((all ≡ map piece_text pieces ++ rest) ↔ (left ≡ map piece_text (drop at pieces) ++ rest))
 
--- a word is wanting
+-- a word is missing
 pub word_lacks : (all : List (List ℕ)) (pieces : List TextPiece) (at : ℕ) → at < length pieces
     → GoesOn all pieces [] at → (rest : List (List ℕ)) → all ≡ map piece_text pieces ++ rest → ⊥
 word_lacks all pieces at low goes rest e =
@@ -20,7 +20,7 @@ word_lacks all pieces at low goes rest e =
     let left = length-drop at pieces in
     absurd (omega arith)
 
--- the words behind a front are none exactly where the front is all
+-- the words after a prefix are none exactly where the prefix is all
 pub all_matched : (all front left : List (List ℕ)) (none : Bool) → all ≡ front ++ left
     → (IsTrue none → left ≡ []) → (left ≡ [] → IsTrue none) → (IsTrue none ↔ (all ≡ front))
 all_matched all front left none is empty fills = (

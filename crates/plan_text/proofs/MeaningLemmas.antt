@@ -32,7 +32,7 @@ plain_name_byte byte is =
     absurd (let no : is_byte_of_name 10 ≡ true = ap is_byte_of_name (sym same) ∙ is in cc) in
     grind (arith, nat_tests)
 
--- nor do such bytes in a row
+-- bytes of a name in a row part nothing
 plain_name : (bytes : List ℕ) → list_all is_byte_of_name bytes ≡ true → list_all is_plain bytes ≡ true
 plain_name [] all = refl
 plain_name (byte ∷ bytes) all =
@@ -157,7 +157,7 @@ plan_good names cores tasks raw good many few few_tasks fine =
     (both_good lines (end_words ∷ [])
     (cores_good names tasks 0 raw.rows good many (omega arith) fine.segments) refl))
 
--- so the text of such tables is one of them
+-- the text of such tables is one of the lines
 pub text_of_tables : (names : List (List ℕ)) (cores : ℕ) (tasks : List (Option Periodic)) (raw : RawTables)
     → AreHostNames names → length names ≡ length tasks → cores ≤ MAX_CORES → length tasks ≤ MAX_VCPUS
     → IsFine cores tasks raw

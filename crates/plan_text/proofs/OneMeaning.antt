@@ -102,7 +102,7 @@ row_same names tasks (s ∷ row) (t ∷ other) rest more many good all all' none
     (All-tail (IsFineSegment tasks) t other all') none none' tails in
     (ap (λ x. x ∷ row) first ∙ ap (λ xs. t ∷ xs) behind.0, behind.1)
 
--- behind a row there is no segment's line, so where it ends is fixed
+-- after a row there is no segment's line, so where it ends is fixed
 cores_first : (names : List (List ℕ)) (tasks : List (Option Periodic)) (core : ℕ) (rows : List (List Segment))
     → NoSegmentFirst names tasks (core_lines (segment_words names) core rows ++ end_words ∷ [])
 cores_first names tasks core [] s rest fine is = end_is_no_segment names s cc

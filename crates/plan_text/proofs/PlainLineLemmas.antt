@@ -14,7 +14,7 @@ use Rattle.tab_words.proofs.WordLemmas.{words_of-last, words_of-word}
 use Rattle.plan_text.specs.Meaning.{worded}
 use Rattle.plan_text.proofs.FirstLineLemmas.{behind}
 
--- digits lack a byte that is none
+-- digits have no byte that is none
 digits_lack : (bytes : List ℕ) (other : ℕ) → 10 ≤ digit_value other → AllDigits 10 bytes
     → All (λ byte. byte ≢ other) bytes
 digits_lack bytes other none all k d low is =
@@ -23,7 +23,7 @@ digits_lack bytes other none all k d low is =
     subst (λ b. digit_value b < 10) (get_or_default bytes k 0 d low ∙ is) digit in
     absurd (omega (arith, none, small))
 
--- the bytes before a line feed, each of which comes behind the space, are a word
+-- the bytes before a line feed, each of which comes after the space, are a word
 pub word_before_feed : (bytes rest : List ℕ) (end : ℕ) → bytes ≡ 32 ∷ rest → end < length rest
     → get_or rest end 0 ≡ 10 → 0 < end → ((k : ℕ) → k < end → 32 < get_or rest k 0)
     → (bytes ≡ 32 ∷ take end rest ++ 10 ∷ take (length rest - (end + 1)) (drop (end + 1) rest))

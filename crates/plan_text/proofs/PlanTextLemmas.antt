@@ -57,7 +57,7 @@ vcpus_left vcpus tasks homes v vcpu task home named tasked housed vcpu_is task_i
     (flat_map-append line_of (vcpu_part vcpu.name task home)
     (vcpu_lines (drop (v + 1) names) (drop (v + 1) tasks) (drop (v + 1) homes)))
 
--- behind the last task there is no line
+-- after the last task there is no line
 pub no_vcpus_left : (names : List (List ℕ)) (tasks : List (Option Periodic)) (homes : List (Option ℕ)) (v : ℕ)
     → length tasks ≤ v → text_of (vcpu_lines (drop v names) (drop v tasks) (drop v homes)) ≡ []
 no_vcpus_left names tasks homes v past =
@@ -81,7 +81,7 @@ cores_left names rows core row low is =
     (flat_map-append line_of (core_words core ∷ map (view_words names) (segments_from 0 row))
     (core_lines (view_words names) (core + 1) (map (segments_from 0) (drop (core + 1) rows))))
 
--- behind the last row there is no line
+-- after the last row there is no line
 pub no_cores_left : (names : List (List ℕ)) (rows : List Row) (core : ℕ) → length rows ≤ core
     → text_of (core_lines (view_words names) core (map (segments_from 0) (drop core rows))) ≡ []
 no_cores_left names rows core past = rw (drop_all core rows past) refl

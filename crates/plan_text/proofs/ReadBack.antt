@@ -37,7 +37,7 @@ record IsGoodView (tasks : List (Option Periodic)) (most : ℕ) (s : SegmentView
 abbrev IsOwned : List (Option Periodic) → Option ℕ → Type 0
 IsOwned tasks owner = ForSome owner (λ v. has_task tasks v ≡ true)
 
--- a good segment in front of good ones
+-- a good segment before good ones
 front_good : (tasks : List (Option Periodic)) (most : ℕ) (s : SegmentView) (ss : List SegmentView)
     → IsGoodView tasks most s → AllByRecursion (IsGoodView tasks most) ss
     → AllByRecursion (IsGoodView tasks most) (put_front s ss)
@@ -73,7 +73,7 @@ segments_of tasks most (s ∷ ss) few all =
     let more = segments_of tasks most ss few all.1 in
     (first ∷ more.0, ap (λ rest. s ∷ rest) more.1)
 
--- and so for all rows
+-- segments of all rows say these rows
 rows_of : (tasks : List (Option Periodic)) (rows : List Row) → length tasks ≤ MAX_VCPUS
     → All (λ (row : Row). length row ≡ ROUND) rows → All (λ row. All (IsOwned tasks) row) rows
     → (raw : List (List Segment)) × (map (λ row. map segment_view row) raw
@@ -127,7 +127,7 @@ same_words : (names : List (List ℕ)) (segments : List Segment)
 same_words names [] = refl
 same_words names (s ∷ segments) = ap (λ rest. segment_words names s ∷ rest) (same_words names segments)
 
--- so do cores
+-- cores have the lines of what they say
 view_lines : (names : List (List ℕ)) (core : ℕ) (raw : List (List Segment))
     → core_lines (view_words names) core (map (λ row. map segment_view row) raw)
     ≡ core_lines (segment_words names) core raw
@@ -138,7 +138,7 @@ view_lines names core (row ∷ raw) =
     (sym (same_words names row))
     ∙ ap (λ ls. (core_words core ∷ map (segment_words names) row) ++ ls) (view_lines names (core + 1) raw)
 
--- so the plan's text is that of the tables
+-- the plan's text is that of the tables
 text_of_plan : (names : List (List ℕ)) (plan : PlanView) (raw : List (List Segment))
     → map (λ row. map segment_view row) raw ≡ map (λ row. segments_from 0 row) plan.rows
     → plan_text names plan ≡ text_of (plan_lines (segment_words names) names plan.tasks plan.homes raw)

@@ -33,7 +33,7 @@ use Rattle.plan_text.proofs.ReadingVcpuLemmas.{vcpus_begun}
 
 -- ---- how many lines there are
 
--- a first line with its line feed and the lines behind it are no more than the bytes
+-- a first line with its line feed and the lines after it are no more than the bytes
 raw_first_and_rest : (bytes first : List ℕ) (rest : List (List ℕ)) → raw_lines_of bytes ≡ first ∷ rest
     → length first + length rest ≤ length bytes
 unfolding raw_lines_of
@@ -72,7 +72,7 @@ raw_first_and_rest (byte ∷ bytes) first rest is =
         omega arith
     by_end all false is = onto all (raw_lines_of bytes) refl is
 
--- there are fewer lines behind the first than bytes
+-- there are fewer lines after the first than bytes
 first_and_rest : (bytes first : List ℕ) (rest : List (List ℕ)) → lines_of bytes ≡ first ∷ rest
     → length first + length rest ≤ length bytes
 unfolding lines_of
@@ -113,7 +113,7 @@ long_line [] many = let none : length (words_of []) ≡ 0 = ap length words_of-n
 long_line (byte ∷ []) many = let few = one_byte byte (byte == 32) refl in absurd (omega arith)
 long_line (byte ∷ next ∷ line) many = omega arith
 
--- the lines behind a first one of several words
+-- the lines after a first one of several words
 pub few_behind : (bytes first : List ℕ) (rest : List (List ℕ)) (cores admitted : ℕ)
     → lines_of bytes ≡ first ∷ rest
     → words_of first ≡ head_words cores admitted
@@ -126,7 +126,7 @@ few_behind bytes first rest cores admitted is words =
 
 -- ---- the first line
 
--- the first line in front of the lines of vCPUs and cores
+-- the first line before the lines of vCPUs and cores
 head_back : (names : List (List ℕ)) (tasks : List (Option Periodic)) (cores : ℕ) (lines : List Line)
     → AreFromVcpu names tasks cores 0 lines
     → IsSomePlan names cores tasks (head_words cores (count_by is_admitted tasks) ∷ lines)
@@ -144,7 +144,7 @@ head_back names tasks cores lines are =
       };
     }
 
--- what a text has behind its first line
+-- what a text has after its first line
 record HeadGoes (names : List (List ℕ)) (tasks : List (Option Periodic)) (cores : ℕ) (line : Line)
     (lines : List Line) : Type 0 where
   is_head : line ≡ head_words cores (count_by is_admitted tasks)
@@ -195,7 +195,7 @@ head_is_bad names tasks cores lines some other =
     (at ∙ ap (λ l. l ∷ back) (head_goes names tasks cores line rest plan).is_head))
     (λ at plan. let is = plan.text.written in absurd (cc))
 
--- behind the first line, a bad line of the rest is the text's
+-- after the first line, a bad line of the rest is the text's
 pub bad_behind_head : (names : List (List ℕ)) (tasks : List (Option Periodic)) (cores : ℕ)
     (lines rest : List Line)
     (bad : ℕ)
@@ -264,7 +264,7 @@ refusal_is_due names tasks cores lines (Err (BadLine other)) ok bad line is =
     (one_bad (IsSomePlan names cores tasks) 1 lines other line (bad other refl) is))
 refusal_is_due names tasks cores lines (Err NoMemory) ok bad line is = inr refl
 
--- a bad line behind the first one
+-- a bad line after the first one
 pub bad_in_text : (names own : List (List ℕ)) (tasks these those : List (Option Periodic)) (cores number : ℕ)
     (bytes head : List ℕ) (rest : List (List ℕ)) (lines : List Line) (bad : ℕ)
     → own ≡ names → these ≡ tasks → those ≡ tasks → lines_of bytes ≡ head ∷ rest
@@ -303,7 +303,7 @@ host_names vcpus names is good distinct = record {
   ];
 }
 
--- the same where each name is known to be one, as it is of a host that was read
+-- the names of a host that was read, each of which is known to be a name
 pub names_of_host : (vcpus : List Vcpu)
     → ((v : ℕ) (vcpu : Vcpu) → slice_get vcpus v ≡ Some vcpu → IsName vcpu.name) → HaveDistinctNames vcpus
     → AreHostNames (names_of vcpus)

@@ -21,14 +21,14 @@ core_is_no_number n low is =
     subst (AllDigits 10) (sym is) (decimal_is_IsNumeral n low).0.1 in
     absurd (omega (arith, digits.0))
 
--- so a reader of segments stops at the next core
+-- a reader of segments stops at the next core
 pub core_is_no_segment : (names : List (List ℕ)) (tasks : List (Option Periodic)) (core : ℕ) (s : Segment)
     → IsFineSegment tasks s
     → core_words core ≡ segment_words names s → ⊥
 core_is_no_segment names tasks core s fine is =
     core_is_no_number s.end (let small = fine.small in omega arith) cc
 
--- and at the end
+-- a reader of segments stops at the end
 pub end_is_no_segment : (names : List (List ℕ)) (s : Segment) → end_words ≡ segment_words names s → ⊥
 end_is_no_segment names s is = absurd (cc)
 
@@ -45,12 +45,12 @@ empty_rows tasks (suc count) =
     All-cons (λ row. All (IsFineSegment tasks) row) [] (replicate count []) (All-nil (IsFineSegment tasks))
     (empty_rows tasks count)
 
--- and there are as many as are due
+-- rows without segments are as many as are due
 many_empty : (count : ℕ) → length (replicate {A = List Segment} count []) ≡ count
 many_empty zero = refl
 many_empty (suc count) = ap suc (many_empty count)
 
--- so with no line read some text is still possible
+-- with no line read some text is still possible
 pub rows_begun : (names : List (List ℕ)) (tasks : List (Option Periodic)) (core count : ℕ)
     → IsBegun (AreFromCore names tasks core count) []
 rows_begun names tasks core count = record {
@@ -63,7 +63,7 @@ rows_begun names tasks core count = record {
   };
 }
 
--- a core's line in front of its segments and of the cores behind it
+-- a core's line before its segments and of the cores after it
 pub rows_back : (names : List (List ℕ)) (tasks : List (Option Periodic)) (core count : ℕ) (lines : List Line)
     → AreFromSegment names tasks (core + 1) count lines
     → AreFromCore names tasks core (count + 1) (core_words core ∷ lines)
@@ -128,7 +128,7 @@ end_goes_parts : (names : List (List ℕ)) (core : ℕ) (lines : List Line) (row
 end_goes_parts names core lines [] many written = written
 end_goes_parts names core lines (row ∷ rows) many written = absurd (omega arith)
 
--- behind the last core there is the end alone
+-- after the last core there is the end alone
 pub end_goes : (names : List (List ℕ)) (tasks : List (Option Periodic)) (core : ℕ) (lines : List Line)
     → AreFromCore names tasks core 0 lines → lines ≡ end_words ∷ []
 end_goes names tasks core lines are = end_goes_parts names core lines are.rows are.many are.written
@@ -139,7 +139,7 @@ rows_some : (names : List (List ℕ)) (core : ℕ) (rows : List (List Segment))
 rows_some names core [] is = absurd (cc)
 rows_some names core (row ∷ rows) is = absurd (cc)
 
--- so no line at all is no text
+-- no line at all is no text
 pub no_lines_no_rows : (names : List (List ℕ)) (tasks : List (Option Periodic)) (core count : ℕ)
     → AreFromCore names tasks core count [] → ⊥
 no_lines_no_rows names tasks core count are = rows_some names core are.rows (sym are.written)
@@ -154,7 +154,7 @@ rows_lack names tasks core (row ∷ rows) s lines fine is = core_is_no_segment n
 
 -- ---- segments
 
--- behind a core's line some text is still possible
+-- after a core's line some text is still possible
 pub segments_begun : (names : List (List ℕ)) (tasks : List (Option Periodic)) (core count : ℕ)
     → IsBegun (AreFromSegment names tasks core count) []
 segments_begun names tasks core count =
@@ -172,7 +172,7 @@ segments_begun names tasks core count =
           };
     }
 
--- a segment's line in front of further ones
+-- a segment's line before further ones
 pub segment_back : (names : List (List ℕ)) (tasks : List (Option Periodic)) (core count : ℕ) (s : Segment)
     (lines : List Line) → IsFineSegment tasks s
     → AreFromSegment names tasks core count lines
@@ -201,7 +201,7 @@ segment_goes_parts names tasks core count s lines (t ∷ row) rest fine all rows
   written = cc;
 }
 
--- behind a segment's line the same may follow as before it
+-- after a segment's line the same may follow as before it
 pub segment_goes : (names : List (List ℕ)) (tasks : List (Option Periodic)) (core count : ℕ) (s : Segment)
     (lines : List Line) → IsFineSegment tasks s
     → AreFromSegment names tasks core count (segment_words names s ∷ lines)
@@ -209,7 +209,7 @@ pub segment_goes : (names : List (List ℕ)) (tasks : List (Option Periodic)) (c
 segment_goes names tasks core count s lines fine are =
     segment_goes_parts names tasks core count s lines are.row are.rest fine are.fine are.rows are.written
 
--- behind a line that is no segment's the row has ended
+-- after a line that is no segment's the row has ended
 no_more_segments : (names : List (List ℕ)) (tasks : List (Option Periodic)) (core count : ℕ) (line : Line)
     (lines : List Line) (row : List Segment) (rest : List Line)
     → ((s : Segment) → IsFineSegment tasks s → line ≡ segment_words names s → ⊥)
@@ -221,7 +221,7 @@ no_more_segments names tasks core count line lines [] rest none all rows written
 no_more_segments names tasks core count line lines (s ∷ row) rest none all rows written =
     absurd (none s (all 0 s (omega arith)) cc)
 
--- and where no line is left, too
+-- the row has ended where no line is left
 no_lines_left : (names : List (List ℕ)) (tasks : List (Option Periodic)) (core count : ℕ) (row : List Segment)
     (rest : List Line)
     → AreFromCore names tasks core count rest → [] ≡ map (segment_words names) row ++ rest
@@ -249,7 +249,7 @@ bad_behind_row names tasks core count first lines bad none is =
     (λ at are. no_lines_left names tasks core count are.row are.rest are.rows are.written)
     is
 
--- behind the segments of a row, at the line after them
+-- after the segments of a row, at the line after them
 pub bad_behind_segments : (names : List (List ℕ)) (tasks : List (Option Periodic)) (core count first : ℕ)
     (row : List Segment) (rest : List Line) (bad : ℕ)
     → All (IsFineSegment tasks) row → IsNoSegment names tasks rest
@@ -288,11 +288,11 @@ core_lines-last names core (first ∷ rows) row =
     (core_lines (segment_words names) (core + 1) rows)
     (core_words (core + length (first ∷ rows)) ∷ map (segment_words names) row))
 
--- and what holds of each row holds with the new one
+-- what holds of each row holds with the new one
 pub all_snoc : {X : Type 0} (P : X → Type 0) (xs : List X) (x : X) → All P xs → P x → All P (xs ++ x ∷ [])
 all_snoc P xs x all here = All-append P xs (x ∷ []) all (All-cons P x [] here (All-nil P))
 
--- the first bad line behind a core's line and its segments
+-- the first bad line after a core's line and its segments
 pub bad_behind_core : (names : List (List ℕ)) (tasks : List (Option Periodic))
     (core cores first second third : ℕ)
     (lines behind rest : List Line) (row : List Segment) (bad : ℕ)
@@ -345,7 +345,7 @@ end_is_bad names tasks core cores first lines past other =
     let same : line ≡ end_words = cc in other back (at ∙ ap (λ l. l ∷ back) same))
     (λ at are. no_lines_no_rows names tasks core 0 are))
 
--- a line behind the end
+-- a line after the end
 pub line_behind_end : (names : List (List ℕ)) (tasks : List (Option Periodic)) (core cores first second : ℕ)
     (lines behind : List Line) → cores ≤ core
     → lines ≡ end_words ∷ behind → second ≡ first + 1 → behind ≢ []

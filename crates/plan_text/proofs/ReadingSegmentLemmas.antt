@@ -46,7 +46,7 @@ idle_owner names tasks owner vcpu (Some v) same good name low here none owned is
     let one : vcpu ≡ v = good.distinct vcpu v low below (here ∙ is) in
     absurd (false≢true (sym none ∙ (ap (has_task tasks) one ∙ owned v refl)))
 
--- nor is one with the name of a vCPU without a task
+-- a line with the name of a vCPU without a task is no segment's
 pub owner_is_idle : (names : List (List ℕ)) (tasks : List (Option Periodic)) (words : Line)
     (end owner : List ℕ)
     (vcpu : ℕ) → length names ≡ length tasks

@@ -70,7 +70,7 @@ some_housed cores (None ∷ tasks) some = some_housed cores tasks some
 some_housed cores (Some task ∷ tasks) some =
     let low : nat_lt 0 cores ≡ true = grind (arith, nat_tests) in rw low (some_housed cores tasks some)
 
--- so with some vCPUs read some text is still possible
+-- with some vCPUs read some text is still possible
 pub vcpus_begun : (names : List (List ℕ)) (tasks : List (Option Periodic)) (cores v : ℕ) → 0 < cores
     → IsBegun (AreFromVcpu names tasks cores v) []
 vcpus_begun names tasks cores v some =
@@ -105,7 +105,7 @@ first_is names tasks v name task named tasked is_name is_task = (
       ∙ ap (λ k. task ∷ drop k tasks) (sym (add-one v))),
 )
 
--- a vCPU's line in front of those of the next
+-- a vCPU's line before those of the next
 vcpus_back : (names : List (List ℕ)) (tasks : List (Option Periodic)) (cores v : ℕ) (name : List ℕ)
     (task : Option Periodic) (home : Option ℕ) (lines : List Line)
     → FirstIs names tasks v name task → is_housed cores task home ≡ true
@@ -177,7 +177,7 @@ with_home names tasks cores v name task line lines (Some core) rest housed more 
     let same : rest ≡ lines = cc in
     (core, grind (arith, nat_tests), cc, subst (AreFromVcpu names tasks cores (v + 1)) same more)
 
--- behind the line of one vCPU, if it has one
+-- after the line of one vCPU, if it has one
 pub bad_behind_vcpu : (names : List (List ℕ)) (tasks : List (Option Periodic)) (cores v first number : ℕ)
     (name : List ℕ) (task : Option Periodic) (home : Option ℕ) (lines rest : List Line) (bad : ℕ)
     → v < length names → v < length tasks → name_at names v ≡ name → get_or tasks v task ≡ task
@@ -239,7 +239,7 @@ vcpu_is_bad names tasks cores v first name (Some task) lines some named tasked i
     (at ∙ (let l : line ≡ vcpu_words name task home = cc in ap (λ l. l ∷ back) l))) are)
     (λ at are. never [] (λ home low back' is. absurd (cc)) are)
 
--- behind the last vCPU there are the cores
+-- after the last vCPU there are the cores
 pub bad_behind_vcpus : (names : List (List ℕ)) (tasks : List (Option Periodic)) (cores v first : ℕ)
     (lines : List Line) (bad : ℕ) → v ≡ length tasks
     → IsFirstBadFor (AreFromCore names tasks 0 cores) first lines bad
@@ -302,7 +302,7 @@ lines_more names tasks v homes home name task all left rest many named tasked is
     ∙ ap (λ ls. ls ++ rest) (sym (vcpu_lines-last names tasks homes home task (omega arith) (omega arith)
     ∙ ap (λ ls. vcpu_lines names tasks homes ++ ls) part))))
 
--- behind the last vCPU all homes are where their tasks allow
+-- after the last vCPU all homes are where their tasks allow
 pub housed_whole : (cores : ℕ) (tasks : List (Option Periodic)) (v : ℕ) (homes : List (Option ℕ))
     → length tasks ≤ v
     → are_housed cores (take v tasks) homes ≡ true → are_housed cores tasks homes ≡ true

@@ -15,7 +15,7 @@ use Rattle.plan_text.specs.Inside.Reading.{AreFromCore, AreFromVcpu, IsReadTo, L
 use Rattle.plan_text.proofs.ReadingHeadLemmas.{bad_in_text, whole_read}
 use Rattle.plan_text.proofs.ReadingLemmas.{all_snoc, core_lines_more}
 
--- behind the lines of the vCPUs no row is read
+-- after the lines of the vCPUs no row is read
 pub front_read : (names own : List (List ℕ)) (tasks these those : List (Option Periodic)) (cores number : ℕ)
     (bytes head : List ℕ) (rest : List (List ℕ)) (lines : List Line) (homes : List (Option ℕ)) (left : Left)
     → own ≡ names → these ≡ tasks → those ≡ tasks → lines_of bytes ≡ head ∷ rest
@@ -68,7 +68,7 @@ bad_behind_front names cores tasks bytes homes left bad read is =
     all : cores ≡ cores - 0
     all = omega arith
 
--- a row behind those that were read
+-- a row after those that were read
 row_behind : (names : List (List ℕ)) (cores : ℕ) (tasks : List (Option Periodic)) (bytes : List ℕ)
     (homes : List (Option ℕ)) (rows : List (List Segment)) (row : List Segment) (core : ℕ) (old new : Left)
     → length rows ≡ core → core < cores → IsReadTo names cores tasks bytes homes rows old
@@ -126,7 +126,7 @@ bad_in_rows names cores tasks bytes rows core old bad many has is =
     (subst (λ n. IsFirstBadFor (AreFromCore names tasks n (cores - n)) old.left.number old.left.lines bad)
     (sym many) (rw (has.own_names, has.own_tasks) at is))
 
--- behind the rows of all cores the end alone is left: the text has these rows
+-- after the rows of all cores the end alone is left: the text has these rows
 pub rows_are_whole : (names : List (List ℕ)) (cores : ℕ) (tasks : List (Option Periodic)) (bytes : List ℕ)
     (rows : List (List Segment)) (reader : RowsLeft)
     → length rows ≡ cores → HasRead names cores tasks bytes rows reader → reader.left.lines ≡ end_words ∷ []

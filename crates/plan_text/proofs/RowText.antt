@@ -21,14 +21,14 @@ pub line_first : (names : List (List ℕ)) (ss : List Segment) (k : ℕ) (s : Se
     → lines_of_row names (drop k ss) ≡ segment_line names (segment_view s) ++ lines_of_row names (drop (k + 1) ss)
 line_first names ss k s low is = ap (lines_of_row names) (drop_next ss k s low is)
 
--- behind the last there is none
+-- after the last there is none
 pub no_line_left : (names : List (List ℕ)) (ss : List Segment) (k : ℕ) (gathered : List ℕ) → length ss ≤ k
     → gathered ++ lines_of_row names (drop k ss) ≡ gathered
 no_line_left names ss k gathered past = rw (drop_all k ss past) (append-nil gathered)
 
 -- ---- lines that are gathered
 
--- of the gathered bytes a front was written, and then a line was put behind those that were left
+-- of the gathered bytes a prefix was written, and then a line was put after those that were left
 pub line_behind : (s t v : SinkView) (text gathered still now line rest whole : List ℕ)
     → IsLeft s t text (gathered ++ whole) → whole ≡ line ++ rest → IsLeft t v gathered still
     → now ≡ still ++ line → IsLeft s v text (now ++ rest)
@@ -39,7 +39,7 @@ line_behind s t v text gathered still now line rest whole left parts room put =
     subst (IsLeft s v text) (ap (λ l. still ++ l) parts ∙ (sym (append_assoc still line rest)
     ∙ ap (λ l. l ++ rest) (sym put))) made
 
--- where that failed, a front of the row's text is out
+-- where that failed, a prefix of the row's text is out
 pub lines_torn : (s t v : SinkView) (text gathered rest : List ℕ) (e : WriteFault)
     → IsLeft s t text (gathered ++ rest) → Writes {U = ℕ} t v gathered (Err e)
     → Writes {U = Unit {0}} s v text (Err e)

@@ -14,7 +14,7 @@ pub line_parts : (names : List (List ℕ)) (s : SegmentView)
 unfolding segment_line line_of
 line_parts names s = sym (append_assoc (decimal s.end) (32 ∷ owner_word names s.owner) (codes "\n"))
 
--- what stands at an owner's place is its tail
+-- what is at an owner's place is its tail
 pub tail_found : (names : List (List ℕ)) (tails : List Tail) (owner : Option ℕ) (place : ℕ) (d : Tail)
     → AreTails names 10 MAX_VCPUS tails → place ≡ tail_place owner → place ≤ MAX_VCPUS
     → tail_bytes (get_or tails place d) ≡ tail_text names 10 owner

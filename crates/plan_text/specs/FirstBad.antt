@@ -7,7 +7,7 @@ pub record IsBegun (Texts : List Line → Type 0) (front : List Line) : Type 0 w
   pub rest : List Line
   pub text : Texts (front ++ rest)
 
--- behind the front no text goes on so: none has the next line there, or the lines end and are none
+-- after the prefix no text goes on so: none has the next line there, or the lines end and are none
 abbrev pub GoesWrong : (List Line → Type 0) → List Line → List Line → Type 0
 GoesWrong Texts front [] = Texts front → ⊥
 GoesWrong Texts front (line ∷ back) = IsBegun Texts (front ++ line ∷ []) → ⊥

@@ -9,7 +9,7 @@ use Rattle.plan_text.specs.PlanLines.{Line, owner_words, plan_lines}
 abbrev pub view_words : List (List ℕ) → SegmentView → Line
 view_words names s = owner_words names s.owner s.end
 
--- the same as it is written
+-- the line of a maximal segment, as it is written
 unfoldable pub segment_line : List (List ℕ) → SegmentView → List ℕ
 segment_line names s = line_of (view_words names s)
 

@@ -34,7 +34,7 @@ pub(crate) fn put_cores<K: Sink>(
     Ok(())
 }
 
-// Writes the lines of one core. What stands in the block means nothing.
+// Writes the lines of one core. What is in the block means nothing.
 fn put_core<K: Sink>(
     sink: &mut K,
     tails: &[Tail; 257],

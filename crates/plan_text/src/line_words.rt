@@ -14,7 +14,7 @@ pub(crate) fn has_words(line: &[u8], expected: &[TextPiece<'_>]) -> bool
     }
 }
 
-// The words behind these, where the line begins with them.
+// The words after these, where the line begins with them.
 pub(crate) fn words_behind<'a>(line: &'a [u8], expected: &[TextPiece<'_>]) -> Option<Words<'a>>
     ensures { MatchOption result
         ((rest : List (List ℕ)) → words_of line.now ≡ map piece_text expected.now ++ rest → ⊥)

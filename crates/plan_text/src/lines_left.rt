@@ -56,7 +56,7 @@ impl<'a> LinesLeft<'a> {
         }
     }
 
-    // The first line, and the bytes behind it.
+    // The first line, and the bytes after it.
     pub(crate) fn first(&self) -> Option<(&'a [u8], &'a [u8])>
         ensures { MatchOption result (self.now.lines ≡ [])
             (λ parts. self.now.lines ≡ words_of parts.0.now ∷ worded parts.1.now) }
@@ -64,7 +64,7 @@ impl<'a> LinesLeft<'a> {
         first_line(self.bytes)
     }
 
-    // Steps over the first line, behind which these bytes are.
+    // Steps over the first line, after which these bytes are.
     pub(crate) fn step_to(&mut self, behind: &'a [u8])
         requires { length self.old.lines ≡ length (worded behind.now) + 1 }
         ensures lines { self.new.lines ≡ worded behind.now }
@@ -74,7 +74,7 @@ impl<'a> LinesLeft<'a> {
         self.number += 1;
     }
 
-    // The fault of the first line, or of the place behind the last.
+    // The fault of the first line, or of the place after the last.
     pub(crate) fn bad_line(&self) -> ReadPlan
         ensures { result ≡ ReadPlan.BadLine self.now.number }
     {
@@ -99,7 +99,7 @@ impl<'a> LinesLeft<'a> {
     }
 }
 
-// The first line of the bytes, without the line feed that ends it, and the bytes behind that.
+// The first line of the bytes, without the line feed that ends it, and the bytes after that.
 pub(crate) fn first_line(bytes: &[u8]) -> Option<(&[u8], &[u8])>
     ensures { MatchOption result (lines_of bytes.now ≡ [])
         (λ parts. lines_of bytes.now ≡ parts.0.now ∷ lines_of parts.1.now) }

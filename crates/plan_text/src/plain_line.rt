@@ -11,11 +11,11 @@ pub(crate) struct PlainLine<'a> {
     // the number of the digits
     pub(crate) number: u32,
     pub(crate) word: &'a [u8],
-    // the bytes behind the line feed
+    // the bytes after the line feed
     pub(crate) behind: &'a [u8],
 }
 
-// Such a line at the front of the bytes, read in one pass; none where none is seen there.
+// Such a line at the start of the bytes, read in one pass; none where none is seen there.
 pub(crate) fn plain_line(bytes: &[u8]) -> Option<PlainLine<'_>>
     ensures { IfSome result (λ plain. worded bytes.now
         ≡ (decimal plain.number ∷ plain.word.now ∷ []) ∷ worded plain.behind.now) }
@@ -76,7 +76,7 @@ fn is_spelled_so(bytes: &[u8], count: usize) -> bool
     count == 1 || (count > 1 && bytes[0] != b'0')
 }
 
-// The word behind the space that the bytes begin with, and the bytes behind the line feed that ends
+// The word after the space that the bytes begin with, and the bytes after the line feed that ends
 // it. No byte of a word comes before the space in ASCII.
 fn word_behind(bytes: &[u8]) -> Option<(&[u8], &[u8])>
     ensures { IfSome result (λ parts. (bytes.now ≡ 32 ∷ parts.0.now ++ 10 ∷ parts.1.now)

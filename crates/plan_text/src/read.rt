@@ -20,7 +20,7 @@ use vcpu_names::Names;
 /// which it has one exactly for each admitted vCPU.
 ///
 /// Each line is words with one space or more between them, and no line is skipped. Segments are as
-/// they are written: neighbours may have one owner, and the ends may stand in any order below 2^32.
+/// they are written: neighbours may have one owner, and the ends may are in any order below 2^32.
 ///
 /// The text of a host and tasks stands for one pair of tables at most, and is read as that.
 /// `BadLine` comes exactly where the bytes are the text of none.
@@ -40,7 +40,7 @@ pub fn read_plan(
     ensures few { IfOk result (λ raw. length raw.rows ≤ MAX_CORES) }
     ensures housed { IfOk result (λ raw. IsTrue (are_housed (length raw.rows) tasks.now raw.homes)) }
     ensures fine { IfOk result (λ raw. AreFineRows tasks.now raw.rows) }
-    // The same the other way round: a text is read, and another is refused with its line.
+    // A text is read, and another is refused with its line.
     ensures read { (raw : RawTables) → IsPlanText
         (names_of host.now.vcpus) host.now.cores tasks.now bytes.now raw
         → (result ≡ Ok raw) ⊎ (result ≡ Err ReadPlan.NoMemory) }

@@ -80,7 +80,7 @@ pub(crate) fn read_row(
 }
 
 // Reads the lines of segments, up to the first that is none, and puts them into the row, which is empty.
-// What is left is held in a copy of its own, since a change behind the reference costs at each line.
+// What is left is held in a copy of its own, since a change after the reference costs at each line.
 fn read_segments(
     left: &mut LinesLeft<'_>,
     names: &Names<'_>,
@@ -105,7 +105,7 @@ fn read_segments(
     Ok(row)
 }
 
-// Reads the end, behind which there is no line.
+// Reads the end, after which there is no line.
 pub(crate) fn read_end(left: &mut LinesLeft<'_>) -> Result<(), ReadPlan>
     ensures ok { OnOk result (left.old.lines ≡ end_words ∷ []) }
     ensures bad_line { (bad : ℕ) → IsErrOf result (ReadPlan.BadLine bad)

@@ -17,7 +17,7 @@ use std::alloc::Global;
 use tab_core::{CoreNo, Host, Periodic, Tasks};
 use tab_words::TextPiece;
 
-// What stands before the cores: the homes, and the lines that are left behind them.
+// What is before the cores: the homes, and the lines that are left after them.
 #[derive(Drop)]
 pub(crate) struct Front<'a> {
     pub(crate) homes: Vec<Option<CoreNo>>,

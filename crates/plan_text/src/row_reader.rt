@@ -77,7 +77,7 @@ impl<'a> RowReader<'a> {
     /// Reads the row of the core with this number, the next of the host's, into `row` in place of what it
     /// held. Memory is allocated only where that of `row` doesn't suffice.
     ///
-    /// `BadLine` names the first bad line of the text. Behind a fault nothing is known of the reader and
+    /// `BadLine` names the first bad line of the text. After a fault nothing is known of the reader and
     /// the row.
     pub fn read_row(&mut self, core: u32, row: &mut Vec<Segment>) -> Result<(), ReadPlan>
         ensures ok { OnOk result ((names : List (List ℕ)) (cores : ℕ) (tasks : List (Option Periodic))
@@ -97,9 +97,9 @@ impl<'a> RowReader<'a> {
         Ok(())
     }
 
-    /// Reads the end, behind the rows of all cores.
+    /// Reads the end, after the rows of all cores.
     ///
-    /// `BadLine` names the first bad line of the text. Behind a fault nothing is known of the reader.
+    /// `BadLine` names the first bad line of the text. After a fault nothing is known of the reader.
     pub fn read_end(&mut self) -> Result<(), ReadPlan>
         ensures ok { OnOk result ((names : List (List ℕ)) (cores : ℕ) (tasks : List (Option Periodic))
             (bytes : List ℕ) (rows : List (List Segment)) → length rows ≡ cores

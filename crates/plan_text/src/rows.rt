@@ -12,7 +12,7 @@ use tab_io::{Sink, WriteFault, write_all};
 use table_form::Segment;
 
 // Writes the lines of a row's segments. They are gathered, since a plan has up to a million of them. What
-// stands in the block means nothing.
+// is in the block means nothing.
 pub(crate) fn put_row<K: Sink>(
     sink: &mut K,
     tails: &[Tail; 257],
@@ -32,7 +32,7 @@ pub(crate) fn put_row<K: Sink>(
     write_all(sink, &block[..count])
 }
 
-// Puts a segment's line behind the gathered bytes, and answers where they end with it.
+// Puts a segment's line after the gathered bytes, and answers where they end with it.
 fn put_segment(block: &mut Block, at: usize, tails: &[Tail; 257], segment: &Segment) -> usize
     requires room { at + LINE ≤ BLOCK }
     requires in_round { segment.now.end ≤ ROUND }

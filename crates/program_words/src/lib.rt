@@ -29,9 +29,9 @@ impl<R: Env> Env for Nameless<'_, R> {
     }
 }
 
-/// The words of the program, behind an empty one in the place of its name.
+/// The words of the program, after an empty one in the place of its name.
 ///
-/// The error's kind is `OutOfMemory` where memory is wanting; otherwise a word isn't text.
+/// The error's kind is `OutOfMemory` where memory ran out; otherwise a word isn't text.
 pub fn words<R: Env>(given: &R, alloc: Global) -> io::Result<Vec<String>> {
     let all = env::args(&(Nameless { given }, alloc))?;
     Ok(all.collect(alloc)?)

@@ -17,6 +17,6 @@ answer_text (Behind who tick) =
     codes ", " ++ (actor_text who ++ (codes " at tick " ++ (decimal tick ++ codes "\n")))
 answer_text (NotNow found) = codes " is not now\n"
 
--- the step stands on the line of this number
+-- the step is on the line of this number
 abbrev pub step_fault_line : ℕ → Answer → List ℕ
 step_fault_line line answer = codes "refused: step " ++ (decimal line ++ answer_text answer)

@@ -19,6 +19,7 @@ abbrev pub made_line : List (List ℕ) → CourseView → Made → List ℕ
 made_line names course (Entered c e) = entry_line c e
 made_line names course (Ran c s) = stint_line names course c s
 
+-- the last line, of the count of posted events
 unfoldable pub posted_line : ℕ → List ℕ
 posted_line posted = codes "posted " ++ (decimal posted ++ codes "\n")
 

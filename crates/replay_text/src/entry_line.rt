@@ -6,7 +6,7 @@ use stint_text::{Numbered, StintLines};
 use tab_core::{CoreNo, Entry};
 use tab_io::{Sink, WriteFault};
 
-// Puts the line of a core's entry into a round behind the gathered ones.
+// Puts the line of a core's entry into a round after the gathered ones.
 #[tactic(auto, unfolding(crate::specs::ReplayText::entry_line))]
 pub(crate) fn put_entry<K: Sink>(
     sink: &mut K,

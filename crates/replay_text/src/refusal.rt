@@ -7,10 +7,10 @@ use tab_core::Actor;
 use tab_io::{Sink, WriteFault};
 use tab_words::{TextPiece, put_numbered, put_pieces};
 
-/// Writes the line of the refusal of a replay, whose first step that isn't done stands on the line of
+/// Writes the line of the refusal of a replay, whose first step that isn't done is on the line of
 /// this number, from 1, and has this answer.
 ///
-/// A fault of the sink leaves a front of the line in it. Nothing is settled.
+/// A fault of the sink leaves a prefix of the line in it. Nothing is settled.
 pub fn put_step_fault<K: Sink>(sink: &mut K, line: u32, answer: &Answer) -> Result<(), WriteFault>
     ensures { Writes (K.state sink.old) (K.state sink.new) (step_fault_line line answer.now) result }
 {
@@ -21,7 +21,7 @@ pub fn put_step_fault<K: Sink>(sink: &mut K, line: u32, answer: &Answer) -> Resu
     }
 }
 
-// The line with this end behind the step's number.
+// The line with this end after the step's number.
 fn put_end<K: Sink>(sink: &mut K, line: u32, end: &[u8]) -> Result<(), WriteFault>
     ensures { Writes (K.state sink.old) (K.state sink.new)
         (codes "refused: step " ++ (decimal line ++ end.now)) result }
@@ -29,7 +29,7 @@ fn put_end<K: Sink>(sink: &mut K, line: u32, end: &[u8]) -> Result<(), WriteFaul
     put_numbered(sink, b"refused: step ", line, end)
 }
 
-// The same of a step that waits.
+// The line of a step that waits.
 fn put_behind<K: Sink>(sink: &mut K, line: u32, who: &Actor, tick: u32) -> Result<(), WriteFault>
     ensures { Writes (K.state sink.old) (K.state sink.new)
         (step_fault_line line (Answer.Behind who.now tick)) result }

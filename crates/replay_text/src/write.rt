@@ -18,7 +18,7 @@ use table_form::Course;
 /// Each entry and each stint in the trace has its line, in the order of the steps that made them.
 /// What the trace has is of the course.
 ///
-/// A fault leaves a front of the text in the sink. Nothing is settled, and nothing is allocated.
+/// A fault leaves a prefix of the text in the sink. Nothing is settled, and nothing is allocated.
 pub fn write_replay<K: Sink>(
     sink: &mut K,
     host: &Host,
@@ -55,7 +55,7 @@ fn put_all_made<K: Sink>(
     lines.write(sink)
 }
 
-// Puts the line behind the gathered ones.
+// Puts the line after the gathered ones.
 fn put_made<K: Sink>(
     sink: &mut K,
     lines: &mut StintLines<'_>,

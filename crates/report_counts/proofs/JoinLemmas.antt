@@ -1,4 +1,4 @@
--- What is told of two stretches tells of both together.
+-- What is counted of two stretches tells of both together.
 use Rattle.std.proofs.Common.{◌≡◌, ℕ, zero, suc, ◌+◌, ◌-◌, ◌<◌, ◌≤◌, inl, inr, Bool, true, false, cond, max, refl, ap, sym, subst, ◌∙◌, arith}
 use Rattle.std.specs.Prelude.{◌==◌, if◌then◌else◌}
 use Rattle.std.proofs.lemmas.Bool.{cases_lt, cases_eq}
@@ -71,7 +71,7 @@ at_end waits offered from w t n tells at all = elim (cases_lt w.tail n) [
       (omega arith) isnt)))
 ]
 
--- and one that begins it no longer than its lead
+-- a run that begins a stretch is no longer than its lead
 pub at_begin : (waits offered : ℕ → Bool) (from : ℕ) (w : Stretch) (n : ℕ) → Tells waits offered from w
     → n ≤ w.ticks → AllWait waits from n → n ≤ w.lead
 at_begin waits offered from w n tells within all = elim (cases_lt w.lead n) [
@@ -85,7 +85,7 @@ module _ (waits offered : ℕ → Bool) (from : ℕ) (a b : Stretch) (first : Te
   lead_of : Chosen a.lead a.ticks (a.ticks + b.lead) a.lead
   lead_of = chosen a.lead a.ticks (a.ticks + b.lead) a.lead
 
-  -- and of the tail
+  -- the two cases of the tail
   tail_of : Chosen b.tail b.ticks (a.tail + b.ticks) b.tail
   tail_of = chosen b.tail b.ticks (a.tail + b.ticks) b.tail
 
@@ -122,7 +122,7 @@ module _ (waits offered : ℕ → Bool) (from : ℕ) (a b : Stretch) (first : Te
     | inr part ↦ subst (AllWait waits from) (sym (lead_of.other part)) first.lead
   ]
 
-  -- and is followed by a tick that doesn't
+  -- the lead is followed by a tick that doesn't wait
   lead_ends : lead < a.ticks + b.ticks → waits (from + lead) ≡ false
   unfolding lead
   lead_ends lt = elim (cases_eq a.lead a.ticks) [
@@ -149,7 +149,7 @@ module _ (waits offered : ℕ → Bool) (from : ℕ) (a b : Stretch) (first : Te
         ]) (omega arith))
   ]
 
-  -- and comes after a tick that doesn't
+  -- the tail comes after a tick that doesn't wait
   tail_begins : (t : ℕ) → t + tail + 1 ≡ a.ticks + b.ticks → waits (from + t) ≡ false
   unfolding tail
   tail_begins t at = elim (cases_eq b.tail b.ticks) [
@@ -177,7 +177,7 @@ module _ (waits offered : ℕ → Bool) (from : ℕ) (a b : Stretch) (first : Te
     ]
   ]
 
-  -- where the greatest number of waiting ticks stands
+  -- where the greatest number of waiting ticks is
   record Place (most : ℕ) : Type 0 where
     place : ℕ
     inside : place + most ≤ a.ticks + b.ticks

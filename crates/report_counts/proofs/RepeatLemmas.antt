@@ -1,4 +1,4 @@
--- A stretch so many times in a row, told in one step.
+-- A stretch so many times in a row, counted in one step.
 use Rattle.std.proofs.Common.{◌≡◌, ℕ, zero, suc, ◌+◌, ◌*◌, ◌<◌, ◌≤◌, Bool, true, max, refl, ap, sym, ◌∙◌, arith}
 use Rattle.std.proofs.Math.Nat.{mul-suc}
 use Rattle.std.proofs.lemmas.Bool.Decides.{nat_tests}
@@ -28,7 +28,7 @@ tells_sound waits offered from w tells = record {
     same_tick : (t : ℕ) → waits (from + t) ≡ true → waits (from + 0 + t) ≡ true
     same_tick t h = ap waits (let e : from + 0 + t ≡ from + t = omega arith in e) ∙ h
 
--- so do those of what is told of a round
+-- the parts of what is counted of a round agree
 pub round_sound : (plan : PlanView) (v : ℕ) (w : Stretch) → IsToldRound plan v w → IsSound w
 round_sound plan v w told = tells_sound (waits_in plan v) (some_row_has plan.rows v) 0 w told.tells
 
@@ -48,7 +48,7 @@ small_joined a b first next = record {
   tail = grind (arith, nat_tests);
 }
 
--- so is a small one, repeated
+-- a small stretch repeated is a small one
 pub small_repeated : (s : Stretch) (n : ℕ) → IsSmall s → IsSmall (repeated s n)
 unfolding repeated
 small_repeated s zero small = record { offered = omega arith; lead = omega arith; tail = omega arith }
@@ -60,7 +60,7 @@ unfolding repeated
 ticks_repeated s zero = omega arith
 ticks_repeated s (suc n) = omega (arith, ticks_repeated s n, mul-suc s.ticks n)
 
--- and how many of them are offered
+-- how many ticks of a repeated stretch are offered
 offered_repeated : (s : Stretch) (n : ℕ) → (repeated s n).offered ≡ s.offered * n
 unfolding repeated
 offered_repeated s zero = omega arith
@@ -78,7 +78,7 @@ module _ (s : Stretch) (sound : IsSound s) (whole : s.lead ≡ s.ticks) where
       let more = mul-suc s.ticks n in
       grind (arith, nat_tests)
 
-  -- and up to the end
+  -- the repetition of a stretch that waits throughout waits up to the end
   tail_whole : (n : ℕ) → (repeated s n).tail ≡ s.ticks * n
   unfolding repeated
   tail_whole zero = omega arith
@@ -88,7 +88,7 @@ module _ (s : Stretch) (sound : IsSound s) (whole : s.lead ≡ s.ticks) where
       let more = mul-suc s.ticks n in
       grind (arith, nat_tests)
 
-  -- so that is the longest wait
+  -- the longest wait of a stretch that waits throughout is all of it
   most_whole : (n : ℕ) → (repeated s n).most ≡ s.ticks * n
   unfolding repeated
   most_whole zero = omega arith
@@ -106,7 +106,7 @@ module _ (s : Stretch) (sound : IsSound s) (part : s.lead ≡ s.ticks → ⊥) w
       let more = mul-suc s.ticks n in
       grind (arith, nat_tests)
 
-  -- and the tail that of the last
+  -- the tail of a repeated stretch is that of the last
   tail_part : (n : ℕ) → (repeated s (suc n)).tail ≡ s.tail
   unfolding repeated
   tail_part n =
@@ -118,7 +118,7 @@ module _ (s : Stretch) (sound : IsSound s) (part : s.lead ≡ s.ticks → ⊥) w
   unfolding repeated
   most_once = omega (arith, sound.lead_most)
 
-  -- and of several the longest may be that across a seam
+  -- the longest wait of several may be that across a seam
   most_part : (n : ℕ) → (repeated s (suc (suc n))).most ≡ max s.most (s.tail + s.lead)
   unfolding repeated
   most_part zero = omega (arith, most_once, tail_part 0)
@@ -142,7 +142,7 @@ repeated_once s sound part = same_parts s (repeated s 1) (omega (arith, ticks_re
     (omega (arith, offered_repeated s 1))
     (sym (lead_part s sound part 0)) (sym (tail_part s sound part 0)) (sym (most_once s sound part))
 
--- and several times
+-- a stretch that doesn't wait throughout, several times
 pub repeated_part : (s : Stretch) (n : ℕ) → IsSound s → (s.lead ≡ s.ticks → ⊥) → 1 < n
     → record {
       ticks = s.ticks * n;

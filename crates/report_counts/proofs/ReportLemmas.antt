@@ -1,4 +1,4 @@
--- What is told of all ticks of a run is its report.
+-- What is counted of all ticks of a run is its report.
 use Rattle.std.proofs.Common.{◌≡◌, ℕ, zero, suc, ◌+◌, ◌-◌, ◌*◌, ◌/◌, ◌<◌, ◌≤◌, inl, inr, Bool, true, false, not, List, length, Option, Some, None, is_some, refl, ap, sym, ◌∙◌, arith}
 use Rattle.std.specs.Prelude.{slice_get, ◌&&◌}
 use Rattle.std.proofs.lemmas.Bool.{and_parts, cases_eq, not-true, not_from_false}
@@ -79,7 +79,7 @@ module _ (course : CourseView) (decided : List ℕ) (v : ℕ) (s : Stretch)
     };
   }
 
--- what is told of all ticks is reported
+-- what is counted of all ticks is reported
 pub reported : (course : CourseView) (decided : List ℕ) (v : ℕ) (s : Stretch)
     → Tells (waits_at course decided v) (is_offered course decided v) 0 s
     → s.ticks ≡ length decided * ROUND → IsReported course decided v s.offered s.most

@@ -95,7 +95,7 @@ told_alike course decided v r q count other round at at' same is =
     ap (λ (k : ℕ). slice_index_or course.plans k no_plan) (same count other at at') in
     told_one course decided v q other round at' (subst (λ (p : PlanView). IsToldRound p v round) plan is)
 
--- what is told of the first r rounds can be lengthened
+-- what is counted of the first r rounds can be lengthened
 pub ends_run : (course : CourseView) (decided : List ℕ) (v r most : ℕ) (w : Stretch)
     → IsToldRun course decided v 0 r w → r ≤ most → EndsBy (most * ROUND) w
 ends_run course decided v r most w told le = record {
@@ -103,6 +103,6 @@ ends_run course decided v r most w told le = record {
   before = omega (arith, told.whole);
 }
 
--- and so can that of a round
+-- what is counted of a round can be lengthened
 pub ends_round : (plan : PlanView) (v : ℕ) (w : Stretch) → IsToldRound plan v w → EndsBy ROUND w
 ends_round plan v w told = record { small = told.tells.small; before = omega (arith, told.whole) }

@@ -1,4 +1,4 @@
--- Stretches that are alike throughout, and stretches told of by another test.
+-- Stretches that are alike throughout, and stretches counted by another test.
 use Rattle.std.proofs.Common.{◌≡◌, ℕ, zero, suc, ◌+◌, ◌-◌, ◌<◌, ◌≤◌, Bool, true, false, cond, refl, ap, sym, ◌∙◌, arith}
 use Rattle.report_counts.specs.declared.stretch.Stretch.{Stretch}
 use Rattle.report_counts.specs.Inside.Tells.{AllWait, Tells, passing}
@@ -107,7 +107,7 @@ pub tells_neither : (waits offered : ℕ → Bool) (from n : ℕ) → ((t : ℕ)
 tells_neither waits offered from n none no_offer =
     quiet waits offered from n 0 (omega arith) (sym (none_pass offered from n no_offer)) none
 
--- the same told of ticks that pass other tests in the same way
+-- what is counted of ticks is so of ticks that pass other tests in the same way
 pub tells_moved : (waits offered : ℕ → Bool) (from : ℕ) (waits' offered' : ℕ → Bool) (at : ℕ) (w : Stretch)
     → ((t : ℕ) → t < w.ticks → waits' (at + t) ≡ waits (from + t))
     → ((t : ℕ) → t < w.ticks → offered' (at + t) ≡ offered (from + t))

@@ -53,7 +53,7 @@ none_before rows k v place apart at = by_test (some_row_has (take k rows) v plac
         absurd (omega (arith, found.0, same))
     by_test false is = is
 
--- so they leave its stretch
+-- the rows before an owner's leave its stretch
 pub swept_before : (rows : List Row) (k v place end : ℕ) (s : Stretch) → Apart rows
     → owner_at rows k place ≡ Some v
     → swept (take k rows) v place end s ≡ s
@@ -70,7 +70,7 @@ swept_owner rows k v place end s lt at =
     ∙ or_right (some_row_has (take k rows) v place) (is_cell_of v (owner_at rows k place)) here in
     rw (e, is) refl
 
--- and leaves that of another vCPU
+-- a row leaves the stretch of another vCPU
 swept_other : (rows : List Row) (k v place end : ℕ) (s : Stretch) → k < length rows
     → owner_at rows k place ≢ Some v
     → swept (take (k + 1) rows) v place end s ≡ swept (take k rows) v place end s
@@ -101,7 +101,7 @@ steady_has (row ∷ rows) v x y same =
 and_yes : (a b : Bool) → b ≡ true → (a && not b) ≡ false
 and_yes a b h = and_right a (not b) (not_from_true b h)
 
--- nor does one without a task
+-- a vCPU without a task doesn't wait
 and_none : (a b : Bool) → a ≡ false → (a && not b) ≡ false
 and_none a b h = and_left a (not b) h
 
@@ -125,7 +125,7 @@ module _ (plan : PlanView) (v : ℕ) (owned : OwnersHaveTasks plan.tasks plan.ro
   unfolding held
   has_its_task x h = (let row = has_row plan.rows v x h in task_is plan.tasks v ∙ owned v x row.0 row.1)
 
-  -- at the round's begin nothing is told
+  -- at the round's begin nothing is counted
   told_start : IsToldTo plan v 0 no_ticks
   told_start = record {
     tells = tells_wait (waits_in plan v) (some_row_has plan.rows v) 0 0
@@ -195,7 +195,7 @@ module _ (plan : PlanView) (v : ℕ) (owned : OwnersHaveTasks plan.tasks plan.ro
           not_there x true h = absurd (let g = sym (task_is plan.tasks v) ∙ has_its_task x h in cc)
           not_there x false h = h
 
--- nothing is told of no ticks
+-- nothing is counted of no ticks
 pub start_told : (plan : PlanView) (v : ℕ) → OwnersHaveTasks plan.tasks plan.rows → IsToldTo plan v 0 no_ticks
 start_told plan v owned = told_start plan v owned
 
@@ -236,7 +236,7 @@ swept_with rows k v place end n was now old s apart lt owner within small before
     one_owner : (a b : ℕ) (o : Option ℕ) → o ≡ Some a → o ≡ Some b → a ≡ b
     one_owner a b o h g = cc
 
--- and where the row is idle none is
+-- no stretch is lengthened where the row is idle
 pub swept_without : (rows : List Row) (k place end n : ℕ) (was now old : List Stretch) → k < length rows
     → owner_at rows k place ≡ None
     → ((u : ℕ) → u < n → stretch_at was u ≡ swept (take k rows) u place end (stretch_at old u))

@@ -1,5 +1,5 @@
--- What is told of a stretch of ticks: how many wait in a row at its begin, at its end, and at most.
--- Two stretches that follow one another make one, in a few additions.
+-- What is counted of a stretch of ticks: how many wait in a row at its begin, at its end, and at
+-- most. Two stretches that follow one another make one, in a few additions.
 -- Source: the standard fold for a longest run; this project's own.
 use Rattle.std.specs.Prelude.{ℕ, ◌+◌, ◌-◌, ◌≤◌, ◌==◌, List, if◌then◌else◌, max, slice_index_or}
 use Rattle.report_counts.specs.declared.stretch.Stretch.{Stretch}

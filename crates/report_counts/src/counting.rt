@@ -12,7 +12,7 @@ use table_form::Course;
 /// Counts for each vCPU, by number, how many ticks of a run are offered to it, and its greatest gap in
 /// ticks: `offered` and `most` of its stretch in `run`. `used` has the count of each round.
 ///
-/// Takes no memory: `round` is room for what one round gives, and what stood in `run` is lost. The rules
+/// Takes no memory: `round` is room for what one round gives, and what was in `run` is lost. The rules
 /// of offers and gaps are this project's.
 pub fn count_waits(course: &Course, used: &[u32], round: &mut [Stretch], run: &mut [Stretch])
     requires counts { (r count : ℕ) → slice_get used.now r ≡ Some count → count ≤ length course.now.ticks }
@@ -34,7 +34,7 @@ pub fn count_waits(course: &Course, used: &[u32], round: &mut [Stretch], run: &m
     }
 }
 
-// The first round behind r that has another plan than r, or how many rounds there are.
+// The first round after r that has another plan than r, or how many rounds there are.
 fn plan_lasts_to(course: &Course, used: &[u32], r: usize) -> usize
     requires counts { (r count : ℕ) → slice_get used.now r ≡ Some count → count ≤ length course.now.ticks }
     requires within { r < length used.now }

@@ -12,8 +12,8 @@ ghost use Rattle.report_counts.specs.Stretches.{
 
 use std::cmp::max;
 
-/// What is told of a stretch of ticks for one vCPU. The vCPU waits at a tick where it has a task by the
-/// plan of the tick's round, and isn't offered the tick.
+/// What is counted of a stretch of ticks for one vCPU. The vCPU waits at a tick where it has a task by
+/// the plan of the tick's round, and isn't offered the tick.
 #[derive(Clone, Copy, Debug, PartialEq, Eq)]
 pub struct Stretch {
     /// How many ticks it has.

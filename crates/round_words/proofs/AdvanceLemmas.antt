@@ -52,7 +52,7 @@ stint_of p end ran s next later within =
       used = next.used;
     }
 
--- and goes on with the timeline
+-- a stint from the clock on goes on with the timeline
 timeline_stint : (p : Part) (end : ℕ) (ran : Option ℕ) (s : Stint) → IsStintAfter p end ran s → p.clock < end
     → end ≤ p.clock / ROUND * ROUND + ROUND → HasTimeline p.clock p.entries p.stints
     → HasTimeline s.end p.entries (p.stints ++ s ∷ [])
@@ -123,7 +123,7 @@ rises : (g : Board) (c end d : ℕ) → g.clocks c ≤ end → g.clocks d ≤ pu
 rises g c end d later = put_all (λ i x. g.clocks i ≤ x) g.clocks c end d
     (λ is. subst (λ (i : ℕ). g.clocks i ≤ end) (sym is) later) (λ _. le_refl (g.clocks d))
 
--- so what was heard isn't above it
+-- what was heard isn't above a clock that rises
 heard_rises : (g : Board) (c end : ℕ) (p : Part) → g.clocks c ≤ end → HeardFits g p
     → HeardFits (with_clock g c end) p
 heard_rises g c end p later heard = record {

@@ -84,7 +84,7 @@ timeline_entry k p e at long is t =
           };
     }
 
--- and the sights cover what was seen and used before it
+-- the sights cover what was seen and used before an entry of the clock's round
 own_entry : (k : ℕ) (p : Part) (e : Entry) → p.clock ≡ k * ROUND → length p.entries ≡ k → e.round ≡ k
     → IsCorePart p → IsCorePart (enters p e)
 own_entry k p e at long is own = record {
@@ -314,7 +314,7 @@ lost_keeps words views id c k d u v r at has core le heard floors f clock long i
 hit : (n old x : ℕ) → n ≡ old → either (eqb n old) x n ≡ x
 hit n old x is = ap (λ (b : Bool). either b x n) (eq-eqb n old is)
 
--- and one that doesn't stores nothing
+-- an exchange that finds something else stores nothing
 miss : (n old x : ℕ) → n ≢ old → either (eqb n old) x n ≡ n
 miss n old x away = ap (λ (b : Bool). either b x n) (ne_eqb n old away)
 
@@ -405,7 +405,8 @@ pub record MayEnter (v : View) (c : ℕ) : Type 0 where
   pub clock : (part v c).clock ≡ (part v c).clock / ROUND * ROUND
   pub new : All (λ (e : Entry). e.round ≢ (part v c).clock / ROUND) (part v c).entries
 
--- and what the seat's numbers know of it: round k is the next one, and d what the core saw last
+-- what the seat's numbers know of a core that enters next: round k is the next one, and d what the
+-- core saw last
 pub record EntersNext (v : View) (c k d : ℕ) : Type 0 where
   pub lag : 0 < v.lag
   pub small : c < 32

@@ -85,7 +85,7 @@ knows_heard known p d clock lt knows keeps k = dite (ℕ_discrete k d)
 heard_else : (p : Part) (d k clock : ℕ) → k ≢ d → last_heard (hears p d clock) k ≡ last_heard p k
 heard_else p d k clock away = ap last_of (get_or-set_other p.heard d k (heard_of p d ++ clock ∷ []) [] away)
 
--- and what it heard last never falls
+-- what an actor heard last never falls
 pub heard_rises : (p : Part) (d clock k : ℕ) → last_heard p d ≤ clock → last_heard p k ≤ last_heard (hears p d clock) k
 heard_rises p d clock k le = each_set (λ l. last_heard p k ≤ last_of l) p.heard d k (heard_of p d ++ clock ∷ []) []
     (λ e. let last = last_of-push (heard_of p d) clock in

@@ -144,7 +144,7 @@ here_long c least (suc d) p =
     long_case q d true = length-set q.heard d (heard_of q d ++ least ∷ [])
     long_case q d false = refl
 
--- nor does raising change that of numbers
+-- raising doesn't change the count of numbers
 pub raised_length : (c least n : ℕ) (known : List ℕ) → length (raised c least n known) ≡ length known
 raised_length c least zero known = refl
 raised_length c least (suc d) known =

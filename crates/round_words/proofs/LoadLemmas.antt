@@ -59,7 +59,7 @@ pub record Mine (words : List ℕ) (views : List View) (v : View) (a : ℕ)
   pub heard : HeardFits r.board (part v a)
   pub floors : a ≡ controller → (part v a).floors ≡ r.board.floors
 
--- and that it does
+-- the rule says it of each part that the seat's own view holds
 pub mine : (words : List ℕ) (views : List View) (id a : ℕ) (v : View) → 0 < v.lag
     → (r : IsRunning words views)
     → get_elem? views id ≡ some v → holds v a ≡ true → Mine words views v a r

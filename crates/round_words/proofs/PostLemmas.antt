@@ -46,7 +46,7 @@ counts_more n m p le h = record {
 abbrev with_floor : Board → ℕ → Board
 with_floor g floor = record g { floors = g.floors ++ floor ∷ [] }
 
--- a floor behind those before a count changes nothing for them
+-- a floor after those before a count changes nothing for them
 up_to_push : (floors : List ℕ) (floor count tick : ℕ) → count ≤ length floors → FloorsUpTo floors count tick
     → FloorsUpTo (floors ++ floor ∷ []) count tick
 up_to_push floors floor count tick le before i lt =

@@ -1,4 +1,4 @@
--- Words that stand apart in a table: what a change of one makes of the words at their places.
+-- Words that are apart in a table: what a change of one makes of the words at their places.
 use Rattle.std.proofs.Common.{◌≡◌, ◌≢◌, ℕ, zero, suc, ◌<◌, Bool, true, false, ◌&&◌, List, [], ◌∷◌, length, set, refl, sym, ap, ◌∙◌, subst, arith}
 use Rattle.std.specs.Prelude.{nat_lt, slice_index}
 use Rattle.std.proofs.lemmas.Bool.Decides.{nat_tests}
@@ -24,7 +24,7 @@ all_below n (x ∷ xs) = nat_lt x n && all_below n xs
 first_below : (x y : ℕ) (b : Bool) → (nat_lt x y && b) ≡ true → x < y
 first_below x y b is = grind (arith, nat_tests)
 
--- and the rest
+-- the second of two tests that both pass
 rest_is : (a b : Bool) → (a && b) ≡ true → b ≡ true
 rest_is true b is = is
 rest_is false b is = absurd (cc)
@@ -87,7 +87,7 @@ place_within i lt = below SPACE PLACES i refl lt
 pub word_is : (words : List ℕ) (i : ℕ) → i < 37 → slice_index (words_at PLACES words) i ≡ slice_index words (slice_index PLACES i)
 word_is words i lt = at_place PLACES words i lt
 
--- and that is written
+-- the word of the table that is written
 pub word_written : (words : List ℕ) (i n : ℕ) → length words ≡ SPACE → i < 37
     → words_at PLACES (set words (slice_index PLACES i) n) ≡ set (words_at PLACES words) i n
 word_written words i n long lt = place_written PLACES words i n refl lt
@@ -102,7 +102,7 @@ spaced_splits id v left right splits s ruled at = (
   splits (record { words = words_at PLACES s.words; homes = s.homes; views = s.views }) ruled.1 at,
 )
 
--- and as they come back
+-- the words stay as parts come back
 pub spaced_joins : (id : ℕ) (v : View) (other : ℕ) (u both spent : View)
     → Joins (λ (s : State (Unit {0}) View). KeepsRule s.words s.views) id v other u both spent
     → Joins (λ (s : State (Unit {0}) View). KeepsSpaced s.words s.views) id v other u both spent

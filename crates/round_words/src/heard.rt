@@ -58,7 +58,8 @@ impl HeardClocks {
         self.rise_each(actor, cores, tick);
     }
 
-    // The same, clock by clock. It stands apart, since its lists would be cleared on the usual way too.
+    // The actor has heard of the first so many other cores that they are at this tick, clock by clock.
+    // It is a function of its own, since its lists would be cleared on the usual way too.
     #[cold]
     #[inline(never)]
     fn rise_each(&mut self, actor: u32, cores: u32, tick: u32)

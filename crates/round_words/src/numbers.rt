@@ -9,7 +9,7 @@ ghost use Rattle.round_words.specs.Views.{both, controller, enters, hears, holds
 ghost use Rattle.round_words.specs.Shown.{IsHeardClock};
 ghost use Rattle.round_words.specs.declared.view.View.{View};
 
-/// What stands here of an actor whose part the seat doesn't hold means nothing, but for a core's clock.
+/// What is here of an actor whose part the seat doesn't hold means nothing, but for a core's clock.
 #[derive(Drop)]
 pub(crate) struct Numbers {
     /// A bit for each actor that the seat holds.
@@ -41,7 +41,8 @@ fn take_over(mine: &mut [u32; 32], theirs: &[u32; 32], held: u64)
     }
 }
 
-// The same, where each core has four numbers.
+// Takes over the numbers of those cores whose bit is not set in `held`, where each core has four
+// numbers.
 fn take_rows(mine: &mut [u32; 128], theirs: &[u32; 128], held: u64)
     ensures { (i : ℕ) → i < 128
         → slice_index mine.new i ≡ cond (names held (i / 4)) (slice_index mine.old i) (slice_index theirs.now i) }
@@ -83,7 +84,7 @@ fn lower_to(floor: &mut u32, tick: u32)
     }
 }
 
-// The clocks at the start: 0 for each of the first so many, and behind them what is above every clock, so that the
+// The clocks at the start: 0 for each of the first so many, and after them what is above every clock, so that the
 // least of all is the least of theirs.
 fn first_clocks(cores: u32) -> [u32; 32]
     ensures { (c : ℕ) → c < cores → slice_index result c ≡ 0 }

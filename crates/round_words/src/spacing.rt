@@ -1,4 +1,4 @@
-//! Where the words stand in the table.
+//! Where the words are in the table.
 ghost use Rattle.std.specs.Prelude.{◌≡◌, ◌<◌, slice_index};
 ghost use Rattle.round_words.specs.declared.spacing.TheConstants.{PLACES as THE_PLACES, SPACE as THE_SPACE};
 

@@ -63,13 +63,13 @@ runs_there s v x h =
       ran = cell_is v st.ran going.1;
     }
 
--- a capped vCPU that stands at a place owns it, since it is no sharer
+-- a capped vCPU that is at a place owns it, since it is no sharer
 capped_owns : (plan : PlanView) (c place v : ℕ) → IsTrue (has_vcpu plan.capped v) → Stands plan c place v
     → owner_at plan.rows c place ≡ Some v
 capped_owns plan c place v capped (owns o) = o
 capped_owns plan c place v capped (fills s) = absurd (both_ways (has_vcpu plan.capped v) s.uncapped capped)
 
--- so at a tick at which a capped vCPU runs, some row of its round's plan has it
+-- at a tick at which a capped vCPU runs, some row of its round's plan has it
 capped_offered : (course : CourseView) (rounds : ℕ) (s : State) (v x r count : ℕ)
     → StateInvariant course rounds s → x / ROUND ≡ r → slice_get s.decided r ≡ Some count
     → IsTrue (has_vcpu (plan_after course count).capped v) → runs_at s v x ≡ true

@@ -51,20 +51,20 @@ stint_within course c earlier s x f low lt =
     course.quantum x f.end low lt f.span.within in
     record { round = places.0; alike = f.span.alike (x % ROUND) places.1 places.2 }
 
--- so whoever is eligible at the one is so at the other
+-- whoever is eligible at the first of two alike ticks is so at the second
 pub eligible_alike : (plan : PlanView) (c x y : ℕ) (runnable : List Bool) (v : ℕ)
     → SameSpot plan c x y → IsEligible plan c x runnable v → IsEligible plan c y runnable v
 eligible_alike plan c x y runnable v alike e =
     record { number = e.number; ready = e.ready; sharer = sharer_moves plan c x y v alike e.sharer }
 
--- and the other way round
+-- whoever is eligible at the second of two alike ticks is so at the first
 pub eligible_back : (plan : PlanView) (c x y : ℕ) (runnable : List Bool) (v : ℕ)
     → SameSpot plan c x y → IsEligible plan c y runnable v → IsEligible plan c x runnable v
 eligible_back plan c x y runnable v alike e =
     eligible_alike plan c y x runnable v
     (record { owner = sym alike.owner; away = alike.back; back = alike.away }) e
 
--- who was picked last, behind one stint more
+-- who was picked last, after one stint more
 pub last_more : (course : CourseView) (c : ℕ) (stints : List Stint) (s : Stint)
     → last_shared course c (stints ++ s ∷ []) ≡ last_after course c (last_shared course c stints) s
 last_more course c stints s = fold_push (last_after course c) None stints s

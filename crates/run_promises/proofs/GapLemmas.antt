@@ -41,7 +41,7 @@ quotient t p q some low high =
       ]
     ]
 
--- and it is one of the round's periods
+-- the period that holds a place is one of the round's
 quotient_small : (t m p : ℕ) → 1 ≤ t → t * m ≡ ROUND → p < ROUND → p / t < m
 quotient_small t m p some whole lt = elim (cases_lt (p / t) m) [
   | inl less ↦ less

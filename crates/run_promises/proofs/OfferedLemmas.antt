@@ -1,5 +1,5 @@
--- The ticks that a plan offers in a period are at least its cells, since no vCPU stands in two rows
--- at one place.
+-- The ticks that a plan offers in a period are at least its cells, since no vCPU is in two rows at
+-- one place.
 use Rattle.std.proofs.Common.{◌≡◌, ℕ, zero, suc, ◌+◌, ◌-◌, ◌*◌, ◌/◌, ◌%◌, ◌≤◌, Bool, true, false, cond, List, [], ◌∷◌, take, drop, Option, Some, refl, ap, ◌∙◌, arith}
 use Rattle.std.specs.Prelude.{slice_get, count_by, ◌||◌}
 use Rattle.std.proofs.Math.Seq.{take-nil}
@@ -53,7 +53,7 @@ cells_step v row from n =
     (take n (drop from row)) + one (is_cell_of v (flat o)))
     (get-drop row from n (from + n) refl))
 
--- and an empty interval has none
+-- an empty interval has no cells
 no_cells : (v : ℕ) (row : Row) (from : ℕ) → cells_within v row from (from + 0) ≡ 0
 unfolding cells_within
 no_cells v row from = (let none : from + 0 - from ≡ 0 = omega arith in rw none refl)
@@ -142,7 +142,7 @@ offers_step : (course : CourseView) (decided : List ℕ) (v from n : ℕ)
 unfolding offers
 offers_step course decided v from n = refl
 
--- so in a round that was entered the offers are at least the supply of its plan
+-- in a round that was entered the offers are at least the supply of its plan
 pub offers_supply : (course : CourseView) (decided : List ℕ) (v r count start n : ℕ)
     → slice_get decided r ≡ Some count → Apart (plan_after course count).rows → start + n ≤ ROUND →
     supply v (plan_after course count).rows start (start + n) ≤ offers course decided v (r * ROUND + start) n

@@ -48,7 +48,7 @@ complete_counts course rounds s ok kept whole =
     let few = few_counts course rounds s kept in
     omega arith
 
--- so each round has one
+-- each round of a complete run has a count
 pub each_round : (course : CourseView) (rounds : ℕ) (s : State) → IsCourse course → StateInvariant course rounds s
     → IsComplete course rounds s → (r : ℕ) → r < rounds → (d : ℕ) × (slice_get s.decided r ≡ Some d)
 each_round course rounds s ok kept whole r lt =

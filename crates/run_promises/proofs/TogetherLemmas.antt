@@ -36,7 +36,7 @@ apart_stands plan c d place v apart (fills s) (fills s') =
     same_home : (a b : ℕ) (o : Option (Option ℕ)) → o ≡ Some (Some a) → o ≡ Some (Some b) → a ≡ b
     same_home a b o h g = cc
 
--- whom a stint runs stands there at each of its ticks
+-- whom a stint runs is there at each of its ticks
 pub stint_stands : (course : CourseView) (c : ℕ) (earlier : List Stint) (s : Stint) (x v : ℕ)
     → IsDispatch course c earlier s → s.from ≤ x → x < s.end → s.ran ≡ Some v
     → (s.from / ROUND ≡ x / ROUND) × Stands (plan_after course s.used) c (x % ROUND) v

@@ -1,5 +1,5 @@
-//! The tests of the crates that make a course and run it, which stand apart since a crate with
-//! tests is proved twice, with them and without.
+//! The tests of the crates that make a course and run it, in a crate of their own, since a crate
+//! with tests is proved twice, with them and without.
 #![tactic(auto)]
 
 #[cfg(test)]

@@ -23,7 +23,8 @@ fn idle_course(alloc: Global) -> Result<Course, NoMemory>
     Ok(Course::of(2, 102_600, 102_600, ticks, plans, numbers, runnable))
 }
 
-// A core sees, then enters its round, then runs; a step out of turn is told what comes first.
+// A core sees, then enters its round, then runs; a step out of turn is answered by what comes
+// first.
 #[test]
 fn a_core_sees_enters_and_runs(rt: HostRuntime) -> Result<(), Fail> {
     let course = idle_course(rt.alloc())?;

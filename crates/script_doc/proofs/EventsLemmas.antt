@@ -20,7 +20,7 @@ use Rattle.script_doc.specs.declared.event.Event.{Event}
 
 -- ---- names
 
--- names by which vCPUs are told apart
+-- names by which vCPUs are distinguished
 pub record AreDistinct (names : List (List ℕ)) : Type 0 where
   pub one : (v w : ℕ) → v < length names → w < length names → name_at names v ≡ name_at names w → v ≡ w
 
@@ -81,7 +81,7 @@ known_edits names (leaves n ∷ named) (Leave v ∷ edits) (inr unknown) within 
     known_edits names named edits unknown
     (All-tail (λ (e : Edit). vcpu_of e < length names) (Leave v) edits within) rest
 
--- the same of all that can happen
+-- an act of known vCPUs isn't written with an unknown name
 known_act : (names : List (List ℕ)) (named : NamedAct) (act : Act) → HasUnknown names named
     → IsActWithin (length names) act → act_words named ≡ act_words (named_act names act) → ⊥
 known_act names (wakes n) (Wake v) unknown within same =
@@ -106,7 +106,7 @@ known_act names (bursts n u) (Change edits) unknown within same = other_word _ _
 known_act names (bursts n u) (Burst v w) unknown within same =
     (let name : n ≡ name_at names v = cc in known_name names n v unknown within name)
 
--- so a line of an unknown name states no event
+-- a line of an unknown name states no event
 pub known_line : (names words : List (List ℕ)) (event : Event) → IsUnknownLine names words
     → IsEvent names words event → ⊥
 known_line names words event unknown is =

@@ -41,7 +41,7 @@ one_script names rounds statements events others distinct is also =
 
 -- ---- a script has no fault
 
--- the events of a script before, at and behind a statement
+-- the events of a script before, at and after a statement
 record Split (names : List (List ℕ)) (front : List Statement) (statement : Statement)
     (events : List Event) : Type 0 where
   pub before : List Event
@@ -70,7 +70,7 @@ split_at names (first ∷ front) statement back (event ∷ events) are =
       is = rest.is;
     }
 
--- ticks that never fall don't fall behind the first one
+-- ticks that never fall don't fall after the first one
 never_fall-tail : (event : Event) (events : List Event) → NeverFall (event ∷ events) → NeverFall events
 never_fall-tail event events order = λ i j d low high. order (suc i) (suc j) d (omega arith) (omega arith)
 
@@ -101,7 +101,7 @@ fewer_changes before event behind true is few real =
     omega arith
 fewer_changes before event behind false is few real = absurd (cc)
 
--- each event of a script is in the limits behind those before it
+-- each event of a script is in the limits after those before it
 each_in_limits : (rounds : ℕ) (before : List Event) (event : Event) (behind : List Event)
     → NeverFall (before ++ event ∷ behind) → AreInRun rounds (before ++ event ∷ behind)
     → length (before ++ event ∷ behind) ≤ MAX_EVENTS
@@ -113,7 +113,7 @@ each_in_limits rounds before event behind order in_time few few_changes = record
   few_changes = fewer_changes before event behind (is_change event.act) refl few_changes;
 }
 
--- so no event of a script breaks a limit
+-- no event of a script breaks a limit
 limit_or_script : (names : List (List ℕ)) (rounds : ℕ) (front : List Statement) (statement : Statement)
     (back : List Statement) (events others : List Event) (event : Event) (fault : ScriptFault)
     → AreDistinct names → IsScript names rounds (front ++ statement ∷ back) events
@@ -203,7 +203,7 @@ one_there names rounds statements fault other first also distinct fronts same =
     (subst (λ (es : List Event). HasFault names rounds es also.statement fault) events
     (subst (λ (s : Statement). HasFault names rounds first.events s fault) same first.here)) also.here
 
--- a text has one first fault at most, since what stands before a fault is a script
+-- a text has one first fault at most, since what is before a fault is a script
 pub one_fault : (names : List (List ℕ)) (rounds : ℕ) (statements : List Statement)
     (fault other : ScriptFault) → AreDistinct names → IsFirstFault names rounds statements fault
     → IsFirstFault names rounds statements other → fault ≡ other
@@ -230,7 +230,7 @@ pub known_vcpus : (vcpus : List Vcpu) (rounds : ℕ) (statements : List Statemen
 known_vcpus vcpus rounds statements (Ok events) is = script_within vcpus rounds statements events is
 known_vcpus vcpus rounds statements (Err fault) is = is
 
--- a text that states a script is read as it, but for want of memory
+-- a text that states a script is read as it, but when memory runs out
 pub script_is_read : (names : List (List ℕ)) (rounds : ℕ) (statements : List Statement)
     (result : Result (List Event) ScriptFault) (events : List Event) → AreDistinct names
     → IfOk result (IsScript names rounds statements)
@@ -243,7 +243,7 @@ script_is_read names rounds statements (Err refused) events distinct ok (inl mem
 script_is_read names rounds statements (Err refused) events distinct ok (inr first) is =
     absurd (fault_or_script names rounds statements refused events distinct first is)
 
--- a first fault is answered, but for want of memory
+-- a first fault is answered, but when memory runs out
 pub fault_is_answered : (names : List (List ℕ)) (rounds : ℕ) (statements : List Statement)
     (result : Result (List Event) ScriptFault) (fault : ScriptFault) → AreDistinct names
     → IfOk result (IsScript names rounds statements)

@@ -47,7 +47,7 @@ one_step cores (Run c) (Decide d) few of_a of_b same = absurd (other_word _ _ re
 one_step cores (Run c) (Run d) few of_a of_b same =
     (let words : decimal c ∷ [] ≡ decimal d ∷ [] = cc in ap Run (one_core cores c d [] [] few of_a of_b words))
 
--- so are lists of them
+-- two lists of steps that are written alike are one
 one_list : (cores : ℕ) (us ws : List Step) → cores ≤ MAX_CORES → All (IsStepWithin cores) us
     → All (IsStepWithin cores) ws → map step_words us ≡ map step_words ws → us ≡ ws
 one_list cores [] [] few of_us of_ws same = refl

@@ -23,7 +23,7 @@ unfolding words_of
 see_words word core low is =
     ap (λ ws. codes "see" ∷ ws) (ap words_of is ∙ number_alone core low)
 
--- and of one that runs
+-- the words of a line that runs
 pub run_words : (word : List ℕ) (core : ℕ) → core < 2 ^ 64 → word ≡ decimal core
     → words_of (codes "run " ++ word) ≡ codes "run" ∷ decimal core ∷ []
 unfolding words_of

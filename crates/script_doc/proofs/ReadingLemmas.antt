@@ -73,7 +73,7 @@ last_unknown : (names : List (List ℕ)) (edits : List NamedEdit) (edit : NamedE
 last_unknown names [] edit is = inl is
 last_unknown names (first ∷ edits) edit is = inr (last_unknown names edits edit is)
 
--- the words up to behind one more edit
+-- the words up to after one more edit
 written_more : (words rest after : List (List ℕ)) (named : List NamedEdit) (edit : NamedEdit)
     → words ≡ flat_map edit_words named ++ rest → rest ≡ edit_words edit ++ after
     → words ≡ flat_map edit_words (named ++ edit ∷ []) ++ after
@@ -136,7 +136,7 @@ none_of_none words is [] some good same = omega arith
 none_of_none words is (sets n s l ∷ edits) some good same = cc
 none_of_none words is (leaves n ∷ edits) some good same = cc
 
--- at the end nothing is left behind the edits
+-- at the end nothing is left after the edits
 whole : (words : List (List ℕ)) (named : List NamedEdit) → words ≡ flat_map edit_words named ++ []
     → words ≡ flat_map edit_words named
 whole words named written = written ∙ append-nil (flat_map edit_words named)

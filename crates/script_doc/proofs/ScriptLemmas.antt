@@ -27,7 +27,7 @@ use Rattle.script_doc.proofs.StatementLemmas.{statements_from-kept, statements_f
 
 -- ---- the limits
 
--- the event breaks no limit behind what these leave
+-- the event breaks no limit after what these leave
 pub record IsInLimits (rounds : ℕ) (before : Before) (event : Event) : Type 0 where
   pub order : before.tick ≤ event.tick
   pub in_time : event.tick < rounds * ROUND
@@ -52,7 +52,7 @@ unbroken rounds before line event limits =
     let changes = no_change_too_many (is_change event.act) before.changes limits.few_changes in
     rw (order, late, many, changes) refl
 
--- the same the other way round
+-- each of the four facts holds where none of the four faults does
 few_changes_of : (change : Bool) (changes : ℕ) → (change && nat_le MAX_CHANGES changes) ≡ false
     → IsTrue change → changes < MAX_CHANGES
 few_changes_of true changes none real = grind (arith, nat_tests)
@@ -91,7 +91,7 @@ in_limits rounds before line event none =
 
 -- ---- the events so far
 
--- one statement and its event behind the others
+-- one statement and its event after the others
 each_more : (names : List (List ℕ)) (statements : List Statement) (events : List Event) (statement : Statement)
     (event : Event) → AreEvents names statements events
     → IsEvent names statement.words event → AreEvents names (statements ++ statement ∷ []) (events ++ event ∷ [])
@@ -148,7 +148,7 @@ no_events_yet names rounds bytes = record {
   count = omega arith;
 }
 
--- behind a line that says nothing
+-- after a line that says nothing
 pub line_skipped : (names : List (List ℕ)) (rounds : ℕ) (bytes : List ℕ) (number tick changes : ℕ)
     (events : List Event) (line : List ℕ) (lines : List (List ℕ))
     → EventsSoFar names rounds bytes number tick changes events (line ∷ lines) → is_skipped line ≡ true
@@ -193,7 +193,7 @@ script_more names rounds tick front statement events event script highest is lim
       (changes_in events) script.few_changes limits.few_changes);
 }
 
--- behind a line that is an event
+-- after a line that is an event
 pub event_read : (names : List (List ℕ)) (rounds : ℕ) (bytes : List ℕ)
     (number tick changes after : ℕ) (events : List Event) (line : List ℕ) (lines : List (List ℕ))
     (event : Event)
@@ -275,7 +275,7 @@ limit_fault names rounds bytes number tick changes events line lines event fault
     (BreaksLimit event fault is
     (subst (λ (before : Before). broken_limit rounds before (number + 1) event ≡ Some fault) left broken))
 
--- behind the last line
+-- after the last line
 pub whole_script : (names : List (List ℕ)) (rounds : ℕ) (bytes : List ℕ) (number tick changes : ℕ)
     (events : List Event)
     → EventsSoFar names rounds bytes number tick changes events []

@@ -16,7 +16,7 @@ some_run byte [] = omega arith
 some_run byte (run ∷ runs) = let kept : not (length (byte ∷ run) == 0) ≡ true = grind (arith, nat_tests) in
     rw kept (omega arith)
 
--- so a line that begins with no space has a word
+-- a line that begins with no space has a word
 has_words : (byte : ℕ) (line : List ℕ) → (byte == 32) ≡ false → 0 < length (words_of (byte ∷ line))
 unfolding words_of
 has_words byte line other =
@@ -24,7 +24,7 @@ has_words byte line other =
     (sym (slice_split-cons_no (λ (b : ℕ). b == 32) byte line other))
     (some_run byte (slice_split (λ (b : ℕ). b == 32) line))
 
--- a line whose first byte comes behind `#` is not skipped
+-- a line whose first byte comes after `#` is not skipped
 pub said_by_first : (line : List ℕ) → 0 < length line → 35 < get_or line 0 0 → is_skipped line ≡ false
 said_by_first [] some high = absurd (omega arith)
 said_by_first (byte ∷ line) some high =

@@ -8,7 +8,7 @@ pub statements_from-nil : (number : ℕ) → statements_from number [] ≡ []
 unfolding statements_from
 statements_from-nil number = refl
 
--- a skipped line leaves the statements of the lines behind it
+-- a skipped line leaves the statements of the lines after it
 pub statements_from-skipped : (number : ℕ) (line : List ℕ) (lines : List (List ℕ)) → is_skipped line ≡ true
     → statements_from number (line ∷ lines) ≡ statements_from (number + 1) lines
 unfolding statements_from
@@ -21,12 +21,12 @@ pub statements_from-kept : (number : ℕ) (line : List ℕ) (lines : List (List 
 unfolding statements_from
 statements_from-kept number line lines kept = rw kept refl
 
--- the list begins with this front, this statement behind it, and more
+-- the list begins with this prefix, this statement after it, and more
 pub record BeginsWith (list front : List Statement) (statement : Statement) : Type 0 where
   pub more : List Statement
   pub whole : list ≡ front ++ statement ∷ more
 
--- two statements that part one list are one, or the front of the one has the other
+-- two statements that part one list are one, or the prefix of the one has the other
 pub splits : (front other : List Statement) (one two : Statement) (back rest : List Statement)
     → front ++ one ∷ back ≡ other ++ two ∷ rest
     → ((front ≡ other) × (one ≡ two)) ⊎ (BeginsWith other front one ⊎ BeginsWith front other two)

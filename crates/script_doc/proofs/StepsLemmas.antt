@@ -36,7 +36,7 @@ none_read cores bytes number steps numbers zero no_steps no_numbers =
       count = omega arith;
     })
 
--- behind a line that says nothing
+-- after a line that says nothing
 pub skipped_read : (cores : ℕ) (bytes : List ℕ) (number : ℕ) (steps : List Step) (numbers : List ℕ)
     (line : List ℕ) (lines : List (List ℕ))
     → AreRead cores bytes number steps numbers (line ∷ lines) → is_skipped line ≡ true
@@ -48,7 +48,7 @@ skipped_read cores bytes number steps numbers line lines read skipped = record {
   count = omega (arith, read.count);
 }
 
--- one more statement that is a step, behind the others
+-- one more statement that is a step, after the others
 step_read : (cores : ℕ) (front : List Statement) (statement : Statement) (steps : List Step) (step : Step) (numbers : List ℕ)
     → AreSteps cores front steps numbers → IsStep cores statement.words step
     → AreSteps cores (front ++ statement ∷ []) (steps ++ step ∷ []) (numbers ++ statement.number ∷ [])
@@ -66,7 +66,7 @@ step_read cores front statement steps step numbers are is = record {
       (All-one (IsStepWithin cores) step is.within);
 }
 
--- behind a line that is a step
+-- after a line that is a step
 pub more_read : (cores : ℕ) (bytes : List ℕ) (number : ℕ) (steps : List Step) (numbers : List ℕ)
     (line : List ℕ) (lines : List (List ℕ)) (step : Step)
     → AreRead cores bytes number steps numbers (line ∷ lines) → is_skipped line ≡ false
@@ -102,7 +102,7 @@ bad_line cores bytes number steps numbers line lines read kept none = record {
   number = refl;
 }
 
--- behind the last line
+-- after the last line
 pub all_read : (cores : ℕ) (bytes : List ℕ) (number : ℕ) (steps : List Step) (numbers : List ℕ)
     → AreRead cores bytes number steps numbers [] → AreSteps cores (statements_of bytes) steps numbers
 all_read cores bytes number steps numbers read =

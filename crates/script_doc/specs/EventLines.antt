@@ -33,8 +33,8 @@ IsGoodEdit (sets name share latency) = IsName name × (1 ≤ share) × (share �
     × (latency ≤ 1000000000000)
 IsGoodEdit (leaves name) = IsName name
 
--- the same of what happens; a change has one edit at least, and a burst no more work than the longest run
--- has ticks
+-- what happens is in its ranges: a change has one edit at least, and a burst no more work than the
+-- longest run has ticks
 abbrev pub IsGoodAct : NamedAct → Type 0
 IsGoodAct (wakes name) = IsName name
 IsGoodAct (blocks name) = IsName name

@@ -3,7 +3,7 @@ use Rattle.std.specs.Prelude.{ℕ, List, [], ◌++◌, codes, decimal}
 use Rattle.script_doc.specs.declared.script_fault.ScriptFault.{ScriptFault}
 use Rattle.script_doc.specs.declared.script_fault.ScriptFault.TheVariants as script
 
--- want of memory is no fault of the text, and has no line here
+-- out of memory is no fault of the text, and has no line here
 abbrev pub script_fault_line : ScriptFault → List ℕ
 script_fault_line (script.BadLine line) = codes "refused: script line " ++ (decimal line ++ codes "\n")
 script_fault_line (script.UnknownName line) =

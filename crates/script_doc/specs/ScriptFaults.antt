@@ -35,7 +35,7 @@ broken_limit rounds before line event =
     else (if is_change event.act && nat_le 15 before.changes then Some (TooManyChanges line)
     else None)))
 
--- the first fault of a statement behind these events: it is no event, a name of it is no vCPU's, or it is an
+-- the first fault of a statement after these events: it is no event, a name of it is no vCPU's, or it is an
 -- event that breaks a limit
 pub data HasFault (names : List (List ℕ)) (rounds : ℕ) (events : List Event) (statement : Statement)
     : ScriptFault → Type 0 where

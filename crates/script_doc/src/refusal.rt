@@ -6,9 +6,9 @@ use tab_io::{Sink, WriteFault};
 use tab_words::put_numbered;
 
 /// Writes the line of the refusal of a script: `refused: `, the fault as it is displayed, and a line
-/// feed. For want of memory, which is no fault of the script, it writes nothing.
+/// feed. For out of memory, which is no fault of the script, it writes nothing.
 ///
-/// A fault of the sink leaves a front of the line in it. Nothing is settled.
+/// A fault of the sink leaves a prefix of the line in it. Nothing is settled.
 pub fn put_script_fault<K: Sink>(sink: &mut K, fault: &ScriptFault) -> Result<(), WriteFault>
     ensures { Writes (K.state sink.old) (K.state sink.new) (script_fault_line fault.now) result }
 {
@@ -42,7 +42,7 @@ pub fn put_script_fault<K: Sink>(sink: &mut K, fault: &ScriptFault) -> Result<()
 /// Writes the line of the refusal of a list of steps, of which the line of this number, from 1, is
 /// no step.
 ///
-/// A fault of the sink leaves a front of the line in it. Nothing is settled.
+/// A fault of the sink leaves a prefix of the line in it. Nothing is settled.
 pub fn put_steps_fault<K: Sink>(sink: &mut K, line: u32) -> Result<(), WriteFault>
     ensures { Writes (K.state sink.old) (K.state sink.new) (steps_fault_line line) result }
 {

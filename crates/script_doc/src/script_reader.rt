@@ -37,7 +37,7 @@ pub fn read_script(
     ensures in_run { IfOk result (AreInRun rounds) }
     ensures fault { IfErr result (λ fault. (fault ≡ ScriptFault.NoMemory)
         ⊎ IsFirstFault (names_of host.now.vcpus) rounds (statements_of bytes.now) fault) }
-    // The same the other way round: a script is read, and a first fault is answered.
+    // A script is read, and a first fault is answered.
     ensures read { (events : List EventValue)
         → IsScript (names_of host.now.vcpus) rounds (statements_of bytes.now) events
         → (result ≡ Ok events) ⊎ (result ≡ Err ScriptFault.NoMemory) }
@@ -94,7 +94,7 @@ fn at_line(fault: LineFault, line: u32) -> ScriptFault
     }
 }
 
-// The limit that an event on this line breaks, behind events of which the last has this tick, which
+// The limit that an event on this line breaks, after events of which the last has this tick, which
 // are so many, and of which so many are changes.
 fn broken_limit(
     event: &Event,

@@ -62,7 +62,7 @@ impl LineNumbers {
     }
 }
 
-/// Steps, and for each the number of the line that it stands on.
+/// Steps, and for each the number of the line that it is on.
 #[derive(Drop)]
 pub struct StepList {
     pub steps: StepSequence,

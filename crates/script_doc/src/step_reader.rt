@@ -53,7 +53,7 @@ impl<T: Drop> From<AllocFailed<T>> for StepsFault {
 ///
 /// A line is `post`, or `see C`, `decide C` or `run C` with a core's number below the count of
 /// cores. A line without words and one whose first byte is `#` are skipped, and count as lines.
-/// `BadLine` comes exactly where another line stands there, and names the first.
+/// `BadLine` comes exactly where another line is there, and names the first.
 pub fn read_steps(alloc: Global, bytes: &[u8], cores: u32) -> Result<StepList, StepsFault>
     requires some_core { 1 ≤ cores }
     requires few_cores { cores ≤ MAX_CORES }
@@ -61,7 +61,7 @@ pub fn read_steps(alloc: Global, bytes: &[u8], cores: u32) -> Result<StepList, S
     ensures ok { IfOk result (λ list. AreSteps cores (statements_of bytes.now) list.steps list.lines) }
     ensures bad_line { (line : ℕ) → IsErrOf result (StepsFault.BadLine line)
         → IsFirstBadLine cores (statements_of bytes.now) line }
-    // The same the other way round: steps are read, and a first line that is none is answered.
+    // Steps are read, and a first line that is none is answered.
     ensures read { (list : StepList) → AreSteps cores (statements_of bytes.now) list.steps list.lines
         → (result ≡ Ok list) ⊎ (result ≡ Err StepsFault.NoMemory) }
     ensures due { (line : ℕ) → IsFirstBadLine cores (statements_of bytes.now) line

@@ -37,7 +37,7 @@ is_true : (b : Bool) → IsTrue b ⊎ (IsTrue b → ⊥)
 is_true true = inl refl
 is_true false = inr (λ h. absurd cc)
 
--- so can a vCPU's home
+-- whether a place is a vCPU's home can be tested
 is_home : (o : Option (Option ℕ)) (c : ℕ) → (o ≡ Some (Some c)) ⊎ (o ≢ Some (Some c))
 is_home None c = inr (λ e. absurd cc)
 is_home (Some None) c = inr (λ e. absurd cc)
@@ -110,7 +110,7 @@ is_sharer plan c place v = elim (is_home (slice_get plan.homes v) c) [
   ]
 ]
 
--- so who is eligible can be
+-- who is eligible can be tested
 is_eligible : (plan : PlanView) (c place : ℕ) (runnable : List Bool) (v : ℕ)
     → IsEligible plan c place runnable v ⊎ (IsEligible plan c place runnable v → ⊥)
 is_eligible plan c place runnable v = elim (cases_lt v MAX_VCPUS) [
@@ -163,7 +163,7 @@ some_pick P test n small last = elim (least_from P test (after_last last) n) [
   ]
 ]
 
--- so whom a core runs is settled
+-- whom a core runs is settled
 some_choice : (plan : PlanView) (c place : ℕ) (runnable : List Bool) (last : Option ℕ)
     → (ran : Option ℕ) × IsChoice plan c place runnable last ran
 some_choice plan c place runnable last = go (owner_runs (owner_at plan.rows c place) runnable) refl

@@ -68,7 +68,8 @@ pub fn next_stint(outline: &Outline, core: CoreNo, begin: &Begin, span: &Span<'_
     next_stint_in(outline, core, begin, start, span)
 }
 
-/// The same, for a caller that knows where the round begins in which the stint does: at `start`, in ticks of the run.
+/// `next_stint` for a caller that knows where the round begins in which the stint does: at `start`, in ticks of the
+/// run.
 #[inline(always)]
 pub fn next_stint_in(
     outline: &Outline,

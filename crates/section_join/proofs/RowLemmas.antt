@@ -29,7 +29,7 @@ lacks_none k d low is = absurd (omega (arith, low))
 is_feed : (byte : ℕ) → (byte ≡ 10) ⊎ (byte ≢ 10)
 is_feed byte = grind arith
 
--- another byte in front of a row
+-- another byte before a row
 row_more : (byte : ℕ) (row : List ℕ) → byte ≢ 10 → IsRow row → IsRow (byte ∷ row)
 unfolding without_feed
 row_more byte [] other is = absurd (omega (arith, is.0))

@@ -22,7 +22,7 @@ still_lacks line lacks =
       | false ↦ lacks
     ]
 
--- nor is it a separator, unless it was a cut
+-- a mended line is no separator, unless it was a cut
 no_separator : (text : List ℕ) → bytes_eq text (codes "%%") ≡ false → is_separator (text ++ 10 ∷ []) ≡ false
 no_separator text unlike = both _ _ (λ is. first is) (λ is. second is)
   where
@@ -58,7 +58,7 @@ first_none line lines none = split (is_cut line) (first_cut lines) none
     split false None is = (refl, refl)
     split false (Some k) is = absurd cc
 
--- mended lines stand in front of the first section of what follows
+-- mended lines are before the first section of what follows
 lines_extend : (lines : List (List ℕ)) (rest : List ℕ) → EachLacks lines → first_cut lines ≡ None
     → sections_of (flat_map mended_line lines ++ rest) ≡ behind (flat_map mended_line lines) (sections_of rest)
 lines_extend [] rest lack none = sections_of-behind rest
@@ -85,7 +85,7 @@ one_section text none =
     ∙ ap (behind front) sections_of-nil
     ∙ ap (λ first. first ∷ []) (append-nil front)
 
--- with a separator and more behind it, it is the first section
+-- with a separator and more after it, it is the first section
 first_section : (text rest : List ℕ) → first_cut (lines_of text) ≡ None
     → sections_of (mended text ++ (37 ∷ 37 ∷ 10 ∷ rest)) ≡ mended text ∷ sections_of rest
 unfolding mended

@@ -3,7 +3,7 @@ use Rattle.std.proofs.Common.{◌≡◌, ℕ, suc, ◌+◌, ap, true, false, Lis
 use Rattle.std.specs.Option.{option_map}
 use Rattle.section_join.specs.Mended.{first_cut, is_cut}
 
--- the first cut of the rest, counted behind so many lines
+-- the first cut of the rest, counted after so many lines
 abbrev pub behind : ℕ → Option ℕ → Option ℕ
 behind n found = option_map (λ k. k + n) found
 

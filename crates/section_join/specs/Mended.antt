@@ -25,7 +25,7 @@ mended bytes = flat_map mended_line (lines_of bytes)
 abbrev pub returns_in : List ℕ → ℕ
 returns_in bytes = count_by ends_in_return (lines_of bytes)
 
--- the text's last line lacks its line feed
+-- the text's last line has no line feed
 abbrev pub lacks_feed : List ℕ → Bool
 lacks_feed bytes = nat_lt 0 (length bytes) && not (slice_index bytes (length bytes - 1) == 10)
 

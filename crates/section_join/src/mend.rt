@@ -36,7 +36,7 @@ pub fn returns_in(bytes: &[u8]) -> u32
     count
 }
 
-/// Whether the last line of a text lacks its line feed.
+/// Whether the last line of a text has no line feed.
 pub fn lacks_feed(bytes: &[u8]) -> bool
     ensures { result ≡ lacks_feed bytes.now }
 {
@@ -46,7 +46,7 @@ pub fn lacks_feed(bytes: &[u8]) -> bool
 /// Writes a text with mended line ends: each line, the last one too, ends in a line feed, without the
 /// carriage return before it, if there is one.
 ///
-/// A fault leaves a front of the text in the sink. Nothing is settled.
+/// A fault leaves a prefix of the text in the sink. Nothing is settled.
 pub fn write_mended<K: Sink>(sink: &mut K, bytes: &[u8]) -> Result<(), WriteFault>
     ensures { Writes (K.state sink.old) (K.state sink.new) (mended bytes.now) result }
 {

@@ -16,7 +16,7 @@ use Rattle.size_fit.specs.Loads.{load_of, loads_of}
 abbrev pub rest_of : ℕ → List Segment → ℕ
 rest_of from ss = load_of (cells_from from ss)
 
--- so much is counted of the segments before this one, and the others rise from here
+-- this much is counted of the segments before this one, and the others rise from here
 pub record Counts (ss : List Segment) (place from load : ℕ) : Type 0 where
   pub rises : RisesTo from (drop place ss) ROUND
   pub low : load ≤ from

@@ -31,7 +31,7 @@ pub(crate) fn host_with(
     })
 }
 
-// The same vCPUs, each named by its number.
+// The vCPUs with more VMs of a size, each named by its number.
 fn renamed(alloc: Global, vcpus: &[Vcpu]) -> Result<Vec<Vcpu>, NoMemory>
     requires { length vcpus.now ≤ MAX_VCPUS }
     ensures same { IfOk result (λ renamed. map nameless renamed.items ≡ map nameless vcpus.now) }

@@ -27,7 +27,7 @@ no_point digits all k d low is =
     let range = digit_from_value (get_or digits k 0) (digit_below 10 digits k low all) in
     absurd (omega arith)
 
--- nor is one of a number's
+-- no byte of a number's digits is a point
 pub number_no_point : (n : ℕ) → n < 2 ^ 64 → All (λ byte. byte ≢ 46) (decimal n)
 number_no_point n fits = no_point (decimal n) (decimal_is_IsNumeral n fits).0.1
 

@@ -30,7 +30,7 @@ pub none_read : (bytes : List ℕ) (number : ℕ) (sizes : List Size) (lines : L
 none_read bytes number sizes lines zero no_sizes are =
     rw (zero, no_sizes, are) (record { front = []; whole = refl; are = tt; count = omega arith })
 
--- behind a line that says nothing
+-- after a line that says nothing
 pub skipped_read : (bytes : List ℕ) (number : ℕ) (sizes : List Size) (line : List ℕ) (lines : List (List ℕ))
     → AreRead bytes number sizes (line ∷ lines) → is_skipped line ≡ true
     → AreRead bytes (number + 1) sizes lines
@@ -41,7 +41,7 @@ skipped_read bytes number sizes line lines read skipped = record {
   count = omega (arith, read.count);
 }
 
--- one more statement that is a size, behind the others
+-- one more statement that is a size, after the others
 each_more : (statements : List Statement) (sizes : List Size) (statement : Statement) (size : Size)
     → AreSizes statements sizes → IsSizeLine statement size
     → AreSizes (statements ++ statement ∷ []) (sizes ++ size ∷ [])
@@ -51,7 +51,7 @@ each_more (first ∷ statements) (start ∷ sizes) statement size are is =
 each_more [] (start ∷ sizes) statement size are is = absurd are
 each_more (first ∷ statements) [] statement size are is = absurd are
 
--- behind a line that is a size
+-- after a line that is a size
 pub more_read : (bytes : List ℕ) (number : ℕ) (sizes : List Size) (line : List ℕ) (lines : List (List ℕ))
     (size : Size) → AreRead bytes number sizes (line ∷ lines) → is_skipped line ≡ false
     → size.line ≡ number + 1 → IsSize (words_of line) size
@@ -84,7 +84,7 @@ bad_line bytes number sizes line lines part read kept bad = record {
   told = refl;
 }
 
--- behind the last line
+-- after the last line
 pub all_read : (bytes : List ℕ) (number : ℕ) (sizes : List Size) → AreRead bytes number sizes []
     → AreSizes (statements_of bytes) sizes
 all_read bytes number sizes read =

@@ -59,11 +59,11 @@ length-machines size first (suc count) =
       suc-mul count size.vcpus,
     )
 
--- and all of a size
+-- how many vCPUs all VMs of a size have
 pub length-size : (size : Size) → length (size_vcpus size) ≡ size.machines * size.vcpus
 length-size size = length-machines size 0 size.machines
 
--- the sizes before one, that one, and those behind it
+-- the sizes before one, that one, and those after it
 pub parted : (sizes : List Size) (index : ℕ) (size : Size) → index < length sizes
     → size ≡ get_or sizes index size → sizes ≡ take index sizes ++ size ∷ drop (suc index) sizes
 parted [] index size within is = absurd (omega arith)

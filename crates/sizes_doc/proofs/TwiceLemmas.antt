@@ -32,7 +32,7 @@ none_new vcpus index texts first empty =
       distinct = subst HaveDistinctNames (sym none) (λ j k a b at_j at_k same. absurd cc);
     }
 
--- behind a vCPU of a new name
+-- after a vCPU of a new name
 pub more_new : (vcpus : List Vcpu) (index : ℕ) (texts more : BTreeSet (Bor (List ℕ))) (vcpu : Vcpu)
     → AreNew vcpus index texts → index < length vcpus → vcpu ≡ get_or vcpus index vcpu → IsName vcpu.name
     → has_text texts vcpu.name ≡ false
@@ -111,7 +111,7 @@ twice vcpus index texts vcpu new within is held =
       same = found.same;
     }
 
--- behind the last vCPU
+-- after the last vCPU
 pub all_new : (vcpus : List Vcpu) (index : ℕ) (texts : BTreeSet (Bor (List ℕ)))
     → AreNew vcpus index texts → length vcpus ≤ index → HaveGoodNames vcpus
 all_new vcpus index texts new past =

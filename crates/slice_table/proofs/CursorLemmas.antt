@@ -75,7 +75,7 @@ past_more row ss place number s are lt is ended past = record {
   ];
 }
 
--- the segment at the number ends behind the place, so it has the ticks from there to its end
+-- the segment at the number ends after the place, so it has the ticks from there to its end
 pub owner_here : (row : Row) (ss : List Segment) (place number x : ℕ) (s : Segment)
     → map segment_view ss ≡ segments_from 0 row → cells_from 0 ss ≡ row → RisesTo 0 ss ROUND
     → number < length ss → s ≡ get_or ss number s → place < s.end → IsPast row place number

@@ -11,7 +11,7 @@ use Rattle.slice_table.specs.Slices.{HoldsTick, IsShortest, MeetsTwo, begin_at}
 pub next_begin : (ends : List ℕ) (k : ℕ) → begin_at ends (k + 1) ≡ slice_index ends k
 next_begin ends k = rw add-one refl
 
--- behind a span that ends before the round does there is another
+-- after a span that ends before the round does there is another
 pub one_more : (ends : List ℕ) (k tick : ℕ) → AreEnds ends → k < length ends
     → slice_index ends k ≤ tick → tick < ROUND → k + 1 < length ends
 one_more ends k tick are there ended in_round = elim (cases_lt (k + 1) (length ends)) [
@@ -26,13 +26,13 @@ pub shortest_some : (ticks : ℕ) (ends : List ℕ) → AreEnds ends → IsShort
 shortest_some ticks ends are shortest =
     (let rise = are.rise shortest.number shortest.there in omega (arith, shortest.met))
 
--- and no other number is that of its ticks
+-- no other number is that of the shortest span's ticks
 pub shortest_one : (ticks other : ℕ) (ends : List ℕ) → IsShortest ticks ends → IsShortest other ends → ticks ≡ other
 shortest_one ticks other ends is too =
     (let here = is.least too.number too.there in let there = too.least is.number is.there in
     omega (arith, is.met, too.met))
 
--- so a slice has a tick
+-- a slice has a tick
 slice_some : (size : ℕ) (slices ends : List ℕ) → IsSliced size slices ends → 0 < size
 slice_some size slices ends sliced = shortest_some size ends sliced.are_ends sliced.shortest
 
@@ -56,7 +56,8 @@ held_first size slices ends tick number sliced in_round is before =
       before = before;
     }
 
--- and another by the next span, since that is no shorter than the slice
+-- a tick after the end of the span of its slice is held by the next span, since that is no shorter
+-- than the slice
 pub held_next : (size : ℕ) (slices ends : List ℕ) (tick number : ℕ) → IsSliced size slices ends → tick < ROUND
     → number ≡ slice_index slices (tick / size) → slice_index ends number ≤ tick
     → HoldsTick ends (number + 1) tick
@@ -73,7 +74,7 @@ held_next size slices ends tick number sliced in_round is ended =
       before = omega (arith, first.before);
     }
 
--- so each slice meets two spans at most
+-- each slice meets two spans at most
 pub meets_two : (size : ℕ) (slices ends : List ℕ) (tick : ℕ) → IsSliced size slices ends → tick < ROUND
     → MeetsTwo size slices ends tick
 meets_two size slices ends tick sliced in_round =

@@ -20,7 +20,7 @@ ends_above start end (s ∷ ss) (suc j) d rises lt =
     let parts = rises_parts start s ss end rises in
     let above = ends_above s.end end ss j d parts.1 (omega arith) in omega (arith, above, parts.0)
 
--- and above those before it
+-- each end is above those before it
 pub ends_apart : (start end : ℕ) (ss : List Segment) (i j : ℕ) (d : Segment) → RisesTo start ss end → i < j
     → j < length ss → (get_or ss i d).end < (get_or ss j d).end
 ends_apart start end [] i j d rises before lt = absurd (omega arith)

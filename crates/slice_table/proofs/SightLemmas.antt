@@ -17,7 +17,7 @@ use Rattle.slice_table.specs.declared.scope.Scope.{Scope}
 use Rattle.slice_table.specs.Inside.Sweeps.{ArePast, IsPast, IsScope, IsSightOf}
 use Rattle.slice_table.proofs.CursorLemmas.{past_later}
 
--- the number at which the sweep stands in a row
+-- the number at which the sweep is in a row
 pub past_at : (rows : List Row) (place : ℕ) (numbers : List ℕ) (d : ℕ) (row : Row)
     → ArePast rows place numbers
     → d < length rows → row ≡ get_or rows d row → IsPast row place (slice_index numbers d)
@@ -100,7 +100,7 @@ away_listed plan scope place x v spot is sight away =
     away.elsewhere away.home away.stands in
     (at.0, at.1, ap (λ (d : ℕ). owner_at plan.rows d x) at.2 ∙ away.stands)
 
--- so an owner there at one place of the span is owner at another
+-- an owner in another row at one place of the span is owner there at another
 away_moves : (plan : PlanView) (scope : Scope) (place x v k : ℕ) → IsScope plan scope
     → k < length scope.others.items
     → owner_at plan.rows (slice_index scope.others.items k) x ≡ Some v → IsAway plan scope.core place v

@@ -25,7 +25,7 @@ low_same p j d r le =
     ap (λ n. d * n) power ∙ sym (mul_assoc d (2 ^ (p - j)) (2 ^ j)) ∙ mul_comm (d * 2 ^ (p - j)) (2 ^ j) in
     ap (λ n. (n + r) % 2 ^ j) high ∙ mul-add-mod_self_left (2 ^ j) (d * 2 ^ (p - j)) r
 
--- and is counted with them
+-- a one that is put above lower bits is counted with them
 pub ones_more : (p d r : ℕ) → r < 2 ^ p → d ≤ 1 → count_ones (d * 2 ^ p + r) ≡ d + count_ones r
 ones_more p d r low one = ones_cat p d r low ∙ ap (λ n. n + count_ones r) (ones_bit d one)
   where
@@ -43,7 +43,7 @@ number_before blocks block slice lt =
     (div-lt_iff_lt-mul {k = 32} {x = slice} {y = length blocks} (omega arith)).1 lt in
     ap (λ (b : Block). number_in b (slice % 32)) (get_or_append_left blocks (block ∷ []) none (slice / 32) there)
 
--- and has its own behind them
+-- a block that is added has its own number after the others
 pub number_behind : (blocks : List Block) (block : Block) (slice place : ℕ) → slice ≡ length blocks * 32 + place
     → place < 32 → number_at (blocks ++ block ∷ []) slice ≡ number_in block place
 number_behind blocks block slice place is lt =
@@ -143,7 +143,7 @@ near_first ends size some are = record {
   soon = omega arith;
 }
 
--- the span that holds a tick is near the tick that is so many behind it
+-- the span that holds a tick is near the tick that is so many after it
 pub near_next : (ends : List ℕ) (size number tick : ℕ) → HoldsTick ends number tick
     → IsNear ends size number (tick + size)
 near_next ends size number tick holds = record {
@@ -227,7 +227,7 @@ block_more ends size slice first rises more place last next is from to grown hel
       ];
     }
 
--- no more slices than the round needs end behind it by less than one
+-- no more slices than the round needs end after it by less than one
 pub slices_fit : (size slices : ℕ) → 0 < size → slices ≤ 102599 / size + 1 → slices * size < ROUND + size
 slices_fit size slices some few =
     let most : slices * size ≤ (102599 / size + 1) * size = mul-le-mul_right size few in

@@ -18,7 +18,7 @@ entry_end shown [] k e lt is = absurd (omega arith)
 entry_end shown (x ∷ xs) zero e lt is = ap (λ (y : SpanEntry). y.end) is
 entry_end shown (x ∷ xs) (suc k) e lt is = entry_end shown xs k e (omega arith) is
 
--- so, where the entries are seen as these spans
+-- the end of an entry, where the entries are seen as these spans
 pub end_read : (shown : List Shown) (entries : List SpanEntry) (spans : List FullSpan) (k : ℕ)
     (e : SpanEntry)
     → map (span_of shown) entries ≡ spans → k < length spans → e ≡ get_or entries k e
@@ -40,11 +40,11 @@ entry_pushed shown shown' (x ∷ xs) e span small kept is =
     ap (λ (show : Shown). span_with x.end show ∷ map (span_of shown') (xs ++ e ∷ [])) (kept x.shown first)
     ∙ ap (λ (spans : List FullSpan). span_of shown x ∷ spans) rest
 
--- what is shown at the number behind all others
+-- what is shown at the number after all others
 pub shown_behind : (shown : List Shown) (show : Shown) → shown_at (shown ++ show ∷ []) (length shown) ≡ show
 shown_behind shown show = get_or-append_seam shown show [] (record { owner = None; away = []; sharers = [] })
 
--- and before it
+-- what is shown at a number before the pushed one
 pub shown_before : (shown : List Shown) (show : Shown) (k : ℕ) → k < length shown
     → shown_at (shown ++ show ∷ []) k ≡ shown_at shown k
 shown_before shown show k lt =

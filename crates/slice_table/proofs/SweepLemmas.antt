@@ -50,7 +50,7 @@ part_ends plan c from spot next was more other = record {
   ));
 }
 
--- and where the round ends
+-- a part that reaches the round's end is the whole span
 pub part_last : (plan : PlanView) (c from : ℕ) (spot : Spot) → IsPart plan c from spot → spot.end ≡ ROUND
     → IsSpanEnd plan c from spot.end
 part_last plan c from spot was last = record {
@@ -94,7 +94,7 @@ part_shown plan scope place spot span is part owner away sharers = record {
   );
 }
 
--- so it is the next span
+-- a spot with its sharers is the next span
 pub span_added : (plan : PlanView) (scope : Scope) (from : ℕ) (spans : List FullSpan) (spot : Spot)
     (span : FullSpan)
     → IsScope plan scope → AreSpansOf plan scope.core 0 spans from → IsPart plan scope.core from spot

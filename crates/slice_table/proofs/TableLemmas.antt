@@ -18,7 +18,7 @@ use Rattle.slice_table.specs.Slices.{AreSpansOf, HoldsTick, IsShown, IsTableOf, 
 same_back : (plan : PlanView) (c x y : ℕ) → SameSpot plan c x y → SameSpot plan c y x
 same_back plan c x y same = record { owner = sym same.owner; away = same.back; back = same.away }
 
--- so a span shows there what it shows here
+-- a span shows at one of two alike places what it shows at the other
 shown_moves : (plan : PlanView) (c x y : ℕ) (span : FullSpan) → SameSpot plan c x y → IsShown plan c x span
     → IsShown plan c y span
 shown_moves plan c x y span same shown = record {
@@ -74,7 +74,7 @@ ends_are : (plan : PlanView) (c from to : ℕ) (spans : List FullSpan) → AreSp
 ends_are plan c from to [] are = are
 ends_are plan c from to (s ∷ ss) are = (are.1, ends_are plan c s.end to ss are.2)
 
--- so the core has as many
+-- the core has as many spans as the table has ends
 pub spans_counted : (plan : PlanView) (c count : ℕ) (table : List FullSpan) → IsTableOf plan c table
     → count ≡ length table → HasSpans plan c ROUND count
 spans_counted plan c count table is counted = record {
@@ -90,7 +90,7 @@ spans_few plan c from to [] are = omega arith
 spans_few plan c from to (s ∷ ss) are =
     (let rest = spans_few plan c s.end to ss are.2 in let after = are.1.after in omega arith)
 
--- each ends behind its begin
+-- each ends after its begin
 spans_rise : (plan : PlanView) (c from to : ℕ) (spans : List FullSpan) → AreSpansOf plan c from spans to
     → (k : ℕ) → k < length (ends_of spans)
     → slice_index (from ∷ ends_of spans) k < slice_index (ends_of spans) k
@@ -106,7 +106,7 @@ spans_last plan c from to (s ∷ []) are zero last = are.2
 spans_last plan c from to (s ∷ t ∷ ss) are zero last = absurd (omega arith)
 spans_last plan c from to (s ∷ ss) are (suc k) last = spans_last plan c s.end to ss are.2 k (omega arith)
 
--- and none ends behind the round
+-- no span ends after the round
 spans_within : (plan : PlanView) (c from to : ℕ) (spans : List FullSpan) → AreSpansOf plan c from spans to
     → (k : ℕ) → k < length (ends_of spans) → slice_index (ends_of spans) k ≤ ROUND
 spans_within plan c from to [] are k lt = absurd (omega arith)
@@ -180,7 +180,7 @@ spot_of plan c tick span spot shows owner away end = record {
   span = subst (IsSpanEnd plan c tick) (sym end) shows.end;
 }
 
--- as a dispatcher is told
+-- as a dispatcher sees it
 pub span_of_table : (plan : PlanView) (c tick : ℕ) (span : FullSpan) (owner : Option ℕ) (sharers : List Bool)
     (end : ℕ) → ShowsAt plan c tick span → owner ≡ span.owner → sharers ≡ span.sharers → end ≡ span.end
     → IsSpan plan c tick owner sharers end

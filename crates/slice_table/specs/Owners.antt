@@ -18,7 +18,7 @@ pub record AreRowOwners (plan : PlanView) (sets : List (List Bool)) : Type 0 whe
   pub each : (d : ℕ) (row : Row) (set : List Bool) → slice_get plan.rows d ≡ Some row
       → slice_get sets d ≡ Some set → AreOwnersIn row set
 
--- and for each plan of the course
+-- for each plan of the course there is a set for each row of the plan
 pub record AreCourseOwners (course : CourseView) (owners : List (List (List Bool))) : Type 0 where
   pub count : length owners ≡ length course.plans
   pub each : (k : ℕ) (sets : List (List Bool)) → slice_get owners k ≡ Some sets

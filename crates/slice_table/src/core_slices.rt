@@ -33,7 +33,7 @@ impl Model for CoreSlices {
 }
 
 impl CoreSlices {
-    /// The core's tables of the course's plans. Fails only for want of memory.
+    /// The core's tables of the course's plans. Fails only when memory runs out.
     pub fn make(alloc: Global, course: &Course, core: CoreNo) -> Result<CoreSlices, NoMemory>
         requires { core < course.now.cores }
         ensures { IfOk result (λ slices. AreSlicesOf course.now core slices) }
@@ -42,7 +42,7 @@ impl CoreSlices {
         CoreSlices::make_with(alloc, course, &owners, core)
     }
 
-    /// The same, where the owners in the rows of the course's plans are known.
+    /// The core's tables of the course's plans, where the owners in the rows of these are known.
     pub fn make_with(
         alloc: Global,
         course: &Course,
@@ -86,9 +86,9 @@ impl SliceTable {
         self.numbered(number, tick)
     }
 
-    /// The same, for a caller that goes from span to span: `place` is a guess at the span's number, and afterwards a
-    /// guess for the next call. The span doesn't depend on it: where it is the guessed one or the one behind that, no
-    /// division is made.
+    /// `span_at`, for a caller that goes from span to span: `place` is a guess at the span's number, and afterwards
+    /// a guess for the next call. The span doesn't depend on it: where it is the guessed one or the one after that,
+    /// no division is made.
     pub fn span_near(&self, tick: u32, place: &mut u32) -> Span<'_>
         requires { tick < ROUND }
         ensures after { tick < result.end }
@@ -116,7 +116,7 @@ impl SliceTable {
         Some(self.numbered(number, tick))
     }
 
-    // The number of the span that holds the tick, sought at a guess and behind it first.
+    // The number of the span that holds the tick, sought at a guess and after it first.
     fn number_near(&self, tick: u32, guess: usize) -> usize
         requires tick { tick < ROUND }
         requires small { guess < 2 ^ 32 }
@@ -129,7 +129,8 @@ impl SliceTable {
         self.number_behind(tick, guess)
     }
 
-    // The same, where the span isn't the guessed one. It stands apart, so that the way of a right guess is short.
+    // The number of the span that holds the tick, where the guess is wrong. It is a function of its own, so that
+    // the way of a right guess is short.
     #[cold]
     #[inline(never)]
     fn number_behind(&self, tick: u32, guess: usize) -> usize
@@ -154,7 +155,7 @@ impl SliceTable {
     }
 }
 
-// The same, told to a counter that is made for this call.
+// The number of the span that holds the tick, with a counter of steps that is made for this call.
 fn number_by<L: Ledger>(table: &SliceTable, tick: u32, blank: Blank) -> usize
     requires tick { tick < ROUND }
     requires name { blank.name ≡ L.name }

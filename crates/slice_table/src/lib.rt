@@ -2,7 +2,7 @@
 //!
 //! A `SliceTable` is seen as the list of its spans. `specs/Slices.antt` says when they are those of a
 //! core's row in a plan; a look-up takes one division, one reading of a slice's entry and one
-//! comparison, each told to a counter of steps.
+//! comparison, each counted as a step.
 #![tactic(auto)]
 
 mod core_slices;

@@ -26,7 +26,7 @@ impl Model for RowOwners {
 }
 
 impl RowOwners {
-    /// Those of the plan, by one pass over its segments. Fails only for want of memory.
+    /// Those of the plan, by one pass over its segments. Fails only when memory runs out.
     pub fn of(alloc: Global, plan: &Plan) -> Result<RowOwners, NoMemory>
         ensures { IfOk result (λ owners. AreRowOwners (plan_view plan.now) owners) }
     {
@@ -54,7 +54,7 @@ impl RowOwners {
     }
 }
 
-/// The owners in the rows of each plan of the course. Fails only for want of memory.
+/// The owners in the rows of each plan of the course. Fails only when memory runs out.
 pub fn course_owners(alloc: Global, course: &Course) -> Result<Vec<RowOwners>, NoMemory>
     ensures { IfOk result (λ owners. AreCourseOwners course.now owners.items) }
 {

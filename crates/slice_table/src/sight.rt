@@ -21,7 +21,7 @@ pub(crate) fn first_numbers() -> [usize; ROWS]
     [0; ROWS]
 }
 
-/// What the place shows, up to the first end of a segment behind it in the rows that matter.
+/// What the place shows, up to the first end of a segment after it in the rows that matter.
 ///
 /// `numbers` has for each row the number of a segment from which the one of the place is sought.
 pub(crate) fn look(plan: &Plan, scope: &Scope, numbers: &mut [usize; ROWS], place: u32) -> Spot

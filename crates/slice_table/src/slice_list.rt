@@ -76,7 +76,7 @@ impl Block {
 }
 
 /// The rises up to the place, where those before it are known: `more` is 1 where the number of the slice
-/// behind the place is one more, else 0.
+/// after the place is one more, else 0.
 pub(crate) fn with_rise(rises: u32, place: u32, more: u32) -> u32
     requires place { place < 32 }
     requires before { rises < 2 ^ place }

@@ -52,7 +52,7 @@ impl SliceTable {
         SliceTable::build_with(alloc, plan, &owners, core)
     }
 
-    /// The same, where the owners in the plan's rows are known.
+    /// The table of the core's spans in the plan, where the owners in the plan's rows are known.
     pub fn build_with(
         alloc: Global,
         plan: &Plan,
@@ -83,7 +83,7 @@ impl SliceTable {
         self.spans.spot(number)
     }
 
-    /// The same look-up for a dispatcher, which asks who may share and not who is away.
+    /// `look_up` for a dispatcher, which asks who may share and not who is away.
     pub fn span_at<L: Ledger>(&self, tick: u32, steps: &mut Steps<L>) -> Span<'_>
         requires { tick < ROUND }
         ensures after { tick < result.end }

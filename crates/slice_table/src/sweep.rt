@@ -73,8 +73,8 @@ fn add(spans: &mut SpanList, last: &mut [u32; PLACES], span: FullSpan) -> Result
     Ok(())
 }
 
-// Where the number of what the last span with this owner shows stands, apart for spans with and
-// without vCPUs away.
+// The place in this list of the number of what the last span with this owner shows, apart for spans
+// with and without vCPUs away.
 fn place_of(span: &FullSpan) -> usize
     ensures { result < PLACES }
 {

@@ -20,19 +20,19 @@ use Rattle.tab_core.proofs.Lists.{same}
 use Rattle.step_machine.specs.declared.answer.Answer.TheVariants.{Done, Behind, NotNow}
 use Rattle.step_machine.proofs.StintLemmas.{one_next}
 
--- a clock is not both near enough and behind
+-- a clock is not both near enough and too slow
 low_or_near : (lag : ℕ) (cores : List CoreState) (skip : Option ℕ) (tick d clock : ℕ)
     → AreWithinLag lag cores skip tick → IsFirstBehind lag cores skip tick d clock → ⊥
 low_or_near lag cores skip tick d clock near low =
     (let le = near d low.other low.at low.not_skipped in let lt = low.low in absurd (omega arith))
 
--- for `one_low`: no core below the first one behind is behind
+-- for `one_low`: no core below the first one that is too slow is too slow
 not_lower : (lag : ℕ) (cores : List CoreState) (skip : Option ℕ) (tick d clock e clock' : ℕ)
     → IsFirstBehind lag cores skip tick d clock → IsFirstBehind lag cores skip tick e clock' → d < e → ⊥
 not_lower lag cores skip tick d clock e clock' a b lt =
     (let le = b.lowest d a.other lt a.at a.not_skipped in let low = a.low in absurd (omega arith))
 
--- the first core behind is one, and so is its clock
+-- the first core that is too slow is one, and so is its clock
 one_low : (lag : ℕ) (cores : List CoreState) (skip : Option ℕ) (tick d clock e clock' : ℕ)
     → IsFirstBehind lag cores skip tick d clock → IsFirstBehind lag cores skip tick e clock'
     → (d ≡ e) × (clock ≡ clock')
@@ -54,7 +54,7 @@ one_low lag cores skip tick d clock e clock' a b =
 behind_same : (d e t u : ℕ) → d ≡ e → t ≡ u → Behind (Core d) t ≡ Behind (Core e) u
 behind_same d e t u p q = cc
 
--- so they do here
+-- equal phases make equal answers
 not_now_same : (f g : Phase) → f ≡ g → NotNow f ≡ NotNow g
 not_now_same f g p = cc
 
@@ -135,7 +135,7 @@ one_first rounds c s n m p q =
     (subst (λ (x : CoreState). x.seen ≡ Some p.round.seen) is p.round.has_seen) q.round.has_seen in
     p.becomes ∙ (rw (is, seen) refl ∙ sym q.becomes)
 
--- and who enters after
+-- who enters after others leads to one state
 one_after : (rounds c : ℕ) (s n m : State) → EntersAfter rounds c s n → EntersAfter rounds c s m → n ≡ m
 one_after rounds c s n m p q =
     let is : p.round.core ≡ q.round.core = same (slice_get s.cores c) p.round.core q.round.core p.round.at q.round.at in
@@ -146,7 +146,7 @@ one_after rounds c s n m p q =
     q.count in
     p.becomes ∙ (rw (is, seen, used) refl ∙ sym q.becomes)
 
--- so Decide leads to one state
+-- Decide leads to one state
 one_entering : (rounds c : ℕ) (s n m : State) → Decides rounds c s n → Decides rounds c s m → n ≡ m
 one_entering rounds c s n m p q = elim p [
   | inl w ↦ elim q [ inl v ↦ one_first rounds c s n m w v | inr j ↦ absurd (first_or_after rounds c s n m w j) ]

@@ -18,7 +18,7 @@ names_core course cores (step.See c) same within = omega (arith, same, within)
 names_core course cores (step.Decide c) same within = omega (arith, same, within)
 names_core course cores (step.Run c) same within = omega (arith, same, within)
 
--- the same of each step of a list, as `replay` wants
+-- each step of a list within the host's cores names a core of the course, as `replay` wants
 pub each_names_core : (course : CourseView) (cores : ℕ) (all : List Step) → course.cores ≡ cores
     → All (IsStepWithin cores) all
     → (k : ℕ) (taken : Step) → slice_get all k ≡ Some taken → NamesCore course taken

@@ -35,7 +35,7 @@ stint_posted : (course : CourseView) (posted c : ℕ) (earlier : List Stint) (s 
 stint_posted course posted c earlier s k =
     record { seen_posted = omega (arith, k.seen_posted); fresh = k.fresh; dispatch = k.dispatch }
 
--- so does a last sight
+-- a last sight keeps what it keeps when more is posted
 sight_posted : (course : CourseView) (posted : ℕ) (decided : List ℕ) (core : CoreState) (n : ℕ)
     → SightInvariant course posted decided core n → SightInvariant course (posted + 1) decided core n
 sight_posted course posted decided core n k =
@@ -46,7 +46,7 @@ sight_posted course posted decided core n k =
       counts = k.counts;
     }
 
--- and a core, whose clock the posted event is not far ahead of
+-- a core keeps what it keeps when an event is posted that isn't far ahead of its clock
 core_posted : (course : CourseView) (rounds posted : ℕ) (decided : List ℕ) (c : ℕ)
     (core : CoreState) → CoreInvariant course rounds posted decided c core
     → tick_at course posted ≤ core.clock + course.lag →
@@ -168,7 +168,7 @@ core_grown course rounds posted decided more c core k counted back = record {
   });
 }
 
--- and it uses the counts as before
+-- a core uses the counts as before when a further round gets one
 uses_grown : (decided more : List ℕ) (core : CoreState) → UsesCounts decided core
     → ((r d : ℕ) → slice_get decided r ≡ Some d → slice_get more r ≡ Some d) → UsesCounts more core
 uses_grown decided more core uses stays = record {
@@ -200,7 +200,7 @@ timeline_entered core e t round clock =
       });
     }
 
--- and all else that it keeps
+-- a core keeps all else when it runs its next stint
 core_entered : (course : CourseView) (rounds posted : ℕ) (decided : List ℕ) (c : ℕ)
     (core : CoreState) (e : Entry) → CoreInvariant course rounds posted decided c core →
     e.round ≡ length core.entries → core.clock ≡ length core.entries * ROUND
@@ -353,7 +353,7 @@ table_entered old c seen core e k at used saw won first counts clock =
       ];
     }
 
--- and where it has none yet
+-- all cores still use one plan in a round where a core enters one that had a count
 pub enters_first_keeps : (course : CourseView) (rounds c : ℕ) (old new : State)
     → EntersFirst rounds c old new → StateInvariant course rounds old → StateInvariant course rounds new
 enters_first_keeps course rounds c old new p k =
@@ -421,7 +421,7 @@ timeline_ran course rounds c core s ok t next =
       ];
     }
 
--- and all else that it keeps
+-- a core keeps all else when it runs its next stint
 core_ran : (course : CourseView) (rounds posted : ℕ) (decided : List ℕ) (c : ℕ) (core : CoreState)
     (s : Stint) → IsCourse course → CoreInvariant course rounds posted decided c core
     → IsNextStint course rounds c core s →

@@ -23,7 +23,7 @@ log_at [] k core h = absurd cc
 log_at (log ∷ logs) zero core h = (log, refl, cc)
 log_at (log ∷ logs) (suc k) core h = log_at logs k core h
 
--- and a log for a core
+-- a log stands for a core
 pub core_at : (logs : List CoreLog) (k : ℕ) (log : CoreLog) → slice_get logs k ≡ Some log
     → slice_get (cores_of logs) k ≡ Some (core_of log)
 core_at [] k log h = absurd cc
@@ -37,7 +37,7 @@ pub cores_edited : (old new : List CoreLog) (c : ℕ) (before : CoreLog) (change
 cores_edited old new c before changed last e = ap cores_of e.becomes ∙ map-set core_of old c e.log
     ∙ ap (λ (x : CoreState). slice_set (cores_of old) c x) e.core
 
--- and leaves room for all steps but one
+-- an edited log leaves room for all steps but one
 pub rooms_edited : (rounds n : ℕ) (old new : List CoreLog) (c : ℕ) (before : CoreLog)
     (changed : CoreState) (last : Option ℕ) → slice_get old c ≡ Some before
     → Edits old new c before changed last → HaveRoom rounds (n + 1) old → HaveRoom rounds n new

@@ -83,7 +83,7 @@ entries_few course rounds p c log kept at due =
       | inr le ↦ le
     ]
 
--- and is at the round's start
+-- a core that is to enter a round is at its start
 pub starts_round : (course : CourseView) (rounds : ℕ) (p : MachineState) (c : ℕ) (log : CoreLog)
     → StateInvariant course rounds (state_of p) → slice_get p.logs.items c ≡ Some log
     → phase_of rounds (core_of log) ≡ to_decide →
@@ -116,7 +116,7 @@ round_small course rounds p c log kept at due =
     let low : log.clock < rounds * ROUND = omega (arith, k.clock.in_run) in
     omega arith
 
--- so the room is there
+-- a log has room for the entry of a core that is to enter a round
 pub entry_room : (course : CourseView) (rounds : ℕ) (p : MachineState) (c : ℕ) (log : CoreLog)
     → StateInvariant course rounds (state_of p) → HasSpare rounds 1 p → slice_get p.logs.items c ≡ Some log
     → phase_of rounds (core_of log) ≡ to_decide →

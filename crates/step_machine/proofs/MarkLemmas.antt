@@ -23,7 +23,7 @@ use Rattle.step_machine.specs.declared.mark.Mark.TheVariants as marks
 use Rattle.step_machine.specs.declared.trace.Made.{Made}
 use Rattle.step_machine.proofs.TraceLemmas.{core_there, ends_some}
 
--- a core with the entries and stints that it had, and perhaps some behind them
+-- a core with the entries and stints that it had, and perhaps some after them
 pub record Extends (core more : CoreState) : Type 0 where
   pub new_entries : List Entry
   pub new_stints : List Stint
@@ -59,7 +59,7 @@ extends_written (x ∷ xs) zero (suc d) core changed at more = extends_by_none _
 extends_written (x ∷ xs) (suc c) zero core changed at more = extends_by_none _ _ refl refl
 extends_written (x ∷ xs) (suc c) (suc d) core changed at more = extends_written xs c d core changed at more
 
--- so they are grown where that one is
+-- all cores are grown where the one that is written is
 grown_written : (cores : List CoreState) (c : ℕ) (core changed : CoreState) → slice_get cores c ≡ Some core
     → Extends core changed → AreGrown cores (slice_set cores c changed)
 grown_written cores c core changed at more = record {
@@ -118,7 +118,7 @@ stands_still old new (marks.Ran c place) grown is =
     let n = length-append (core_in old c).stints more.new_stints in
     (omega (arith, grown.size, is.0), omega (arith, ap length more.stints, n, is.1))
 
--- and is what it was
+-- what a mark refers to is what it was
 made_still : (old new : List CoreState) (m : Mark) → AreGrown old new → Stands old m
     → made_by new m ≡ made_by old m
 made_still old new (marks.Entered c place) grown is =
@@ -130,12 +130,12 @@ made_still old new (marks.Ran c place) grown is =
     ap (λ (ts : List Stint). stint_made c (slice_get ts place)) more.stints
     ∙ ap (stint_made c) (get_front (core_in old c).stints more.new_stints place is.1)
 
--- the same of all marks
+-- all marks refer to what is still there
 pub all_stand_still : (old new : List CoreState) (ms : List Mark) → AreGrown old new → AllStand old ms
     → AllStand new ms
 all_stand_still old new ms grown stand = λ k m lt. stands_still old new _ grown (stand k m lt)
 
--- and of what they refer to
+-- what all marks refer to is what it was
 pub all_made_still : (old new : List CoreState) (ms : List Mark) → AreGrown old new → AllStand old ms
     → all_made new ms ≡ all_made old ms
 all_made_still old new [] grown stand = refl
@@ -202,7 +202,7 @@ pub decide_there : (s : State) (c : ℕ) (made : List Made) → AreMadeBy (steps
 decide_there s c made by = (core_there s.cores c (λ is. ends_some (core_in s.cores c).entries by.0 by.1
     (ap (λ (x : CoreState). x.entries) is))).1
 
--- and so is one of which a Run made something
+-- a core of which a Run made something is there
 pub run_there : (s : State) (c : ℕ) (made : List Made) → AreMadeBy (steps.Run c) s made → c < length s.cores
 run_there s c made by = (core_there s.cores c (λ is. ends_some (core_in s.cores c).stints by.0 by.1
     (ap (λ (x : CoreState). x.stints) is))).1

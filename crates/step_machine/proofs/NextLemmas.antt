@@ -55,7 +55,7 @@ post_at_end course rounds s c core ends low clock phase due = record {
   changes = λ e. (let q = ap (λ (x : State). x.posted) e in omega arith);
 }
 
--- where a core lacks an event that it must have, that event is posted
+-- where a core hasn't seen an event that it must have, that event is posted
 pub post_for_see : (course : CourseView) (rounds : ℕ) (s : State) (c : ℕ) (core : CoreState)
     → IsCourse course → IsLeastClock s c core → phase_of rounds core ≡ to_see
     → (HasUpTo course s.posted core.clock → ⊥) →
@@ -93,7 +93,7 @@ see_cases false None e h = refl
 see_cases false (Some n) true h = absurd cc
 see_cases false (Some n) false h = absurd cc
 
--- where it lacks none it sees
+-- where a core has seen all that it must have, it sees
 pub see_now : (course : CourseView) (rounds : ℕ) (s : State) (c : ℕ) (core : CoreState)
     → IsLeastClock s c core → phase_of rounds core ≡ to_see → HasUpTo course s.posted core.clock
     → IsNextStep course rounds s (steps.See c)

@@ -35,7 +35,7 @@ one_last xs x y p q =
     let b = length-append q.0 (y ∷ []) in omega arith) in
     same (slice_get xs (length q.0)) x y (subst (λ i. slice_get xs i ≡ Some x) size at_x) at_y
 
--- so a step that led to a state made one list
+-- a step that led to a state made one list
 one_made : (step : Step) (s : State) (made others : List Made) → AreMadeBy step s made
     → AreMadeBy step s others → made ≡ others
 one_made steps.Post s made others p q = p ∙ sym q
@@ -99,7 +99,7 @@ not_allowed course rounds old first taken answer new is moves =
     is.not_done (one_answer course rounds old first answer Done old new
     (at_once course rounds old first taken answer is) moves).0
 
--- a refusal behind the first step is one from wherever that leads
+-- a refusal after the first step is one from wherever that leads
 behind_first : (course : CourseView) (rounds : ℕ) (old : State) (first : Step) (taken : List Step) (place : ℕ)
     (answer : Answer) (new : State) → IsRefusedFrom course rounds old (first ∷ taken) (suc place) answer
     → Moves course rounds old first new → IsRefusedFrom course rounds new taken place answer
@@ -124,7 +124,7 @@ leads_nowhere course rounds old (first ∷ taken) (suc place) answer new is lead
     leads_nowhere course rounds leads.0 taken place answer new
     (behind_first course rounds old first taken place answer leads.0 is leads.1) leads.2
 
--- and one place and one answer are refused
+-- steps are refused at one place with one answer
 one_from : (course : CourseView) (rounds : ℕ) (old : State) (taken : List Step) (place other : ℕ)
     (a b : Answer) → IsRefusedFrom course rounds old taken place a
     → IsRefusedFrom course rounds old taken other b → (place ≡ other) × (a ≡ b)
@@ -152,7 +152,7 @@ refused_or_leads course rounds taken place answer new is =
     leads_nowhere course rounds (opening course.cores) taken place answer new
     (from_opening course rounds taken place answer is)
 
--- and it is refused in one way
+-- a list of steps is refused in one way
 pub one_refused : (course : CourseView) (rounds : ℕ) (taken : List Step) (place other : ℕ) (a b : Answer)
     → IsRefused course rounds taken place a → IsRefused course rounds taken other b
     → (place ≡ other) × (a ≡ b)

@@ -41,7 +41,7 @@ deciding rounds core h =
     let f = decide_cases (core.clock == rounds * ROUND) core.seen (has_entered core) h in
     record { unfinished = differ _ _ f.0; not_entered = f.1 }
 
--- nor is one that is to run
+-- a core that is to run is not at the end
 pub running : (rounds : ℕ) (core : CoreState) → phase_of rounds core ≡ to_run → core.clock ≢ rounds * ROUND
 running rounds core h =
     (let f = run_cases (core.clock == rounds * ROUND) core.seen (has_entered core) h in differ _ _
@@ -61,7 +61,7 @@ pub entered_below : (es : List Entry) (r : ℕ)
 entered_below es r numbered lt =
     (let at = element_at es r lt in entered_at es r r at.0 at.1 (numbered r at.0 at.1))
 
--- and not otherwise
+-- a round isn't entered whose number is that of the entries or above
 none_from : (es : List Entry) (r n : ℕ)
     → ((k : ℕ) (e : Entry) → slice_get es k ≡ Some e → e.round ≡ n + k) → n + length es ≤ r
     → list_any (λ (x : Entry). x.round == r) es ≡ false

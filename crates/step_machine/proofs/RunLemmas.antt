@@ -25,7 +25,7 @@ same_core zero c x core h = absurd cc
 same_core (suc n) zero x core h = cc
 same_core (suc n) (suc c) x core h = same_core n c x core h
 
--- and they are as many as the course has
+-- the new cores are as many as the course has
 length-replicate_of : {X : Type 0} (n : ℕ) (x : X) → length (replicate n x) ≡ n
 length-replicate_of zero x = refl
 length-replicate_of (suc n) x = ap suc (length-replicate_of n x)
@@ -46,7 +46,7 @@ opening_core_kept course rounds c = record {
   sight = λ n h. absurd cc;
 }
 
--- and uses no count
+-- a core of the opening uses no count
 opening_core_uses : UsesCounts [] opening_core
 opening_core_uses = record { entries = λ r e h. absurd cc; stints = λ k s h. absurd cc }
 
@@ -76,7 +76,7 @@ answers_keep course rounds old step Done new ok moves kept =
 answers_keep course rounds old step (Behind who tick) new ok waits kept = rw waits.1 kept
 answers_keep course rounds old step (NotNow found) new ok waits kept = rw waits.1 kept
 
--- so does a list of steps
+-- a list of steps keeps the invariant
 pub leads_keep : (course : CourseView) (rounds : ℕ) (old : State) (steps : List Step) (new : State)
     → IsCourse course → Leads course rounds old steps new → StateInvariant course rounds old
     → StateInvariant course rounds new
@@ -127,7 +127,7 @@ new_know course count rounds turns logs new = λ k log h.
     let none = ap (λ (x : CoreState). x.stints) is.core in
     is.last ∙ sym (ap (λ (ss : List Stint). last_shared course k ss) none)
 
--- and have room for the steps that are to come
+-- new logs have room for the steps that are to come
 pub new_room : (count rounds turns : ℕ) (logs : List CoreLog) → AreNew count rounds turns logs
     → HaveRoom rounds turns logs
 new_room count rounds turns logs new = λ k log h. (new.new k log h).room

@@ -1,4 +1,4 @@
--- The phase behind the name that an answer gives it.
+-- The phase for the name that an answer gives it.
 use Rattle.std.proofs.Common.{◌≡◌, refl}
 use Rattle.table_form.specs.Running.Phases.{CorePhase, to_see, to_decide, to_run, at_end}
 use Rattle.step_machine.specs.declared.answer.Phase.TheVariants as phases
@@ -25,7 +25,7 @@ is_run to_decide h = absurd cc
 is_run to_run h = refl
 is_run at_end h = absurd cc
 
--- and Finished only of one at the end
+-- Finished only of a core at the end
 pub is_end : (p : CorePhase) → shown p ≡ phases.Finished → p ≡ at_end
 is_end to_see h = absurd cc
 is_end to_decide h = absurd cc

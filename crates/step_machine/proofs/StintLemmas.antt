@@ -23,7 +23,7 @@ one_least : (P Q : ℕ → Type 0) (above v w : ℕ) → ((u : ℕ) → P u → 
 one_least P Q above v w to back a b =
     (let le = a.first w (back w b.holds) b.high in let le' = b.first v (to v a.holds) a.high in omega arith)
 
--- so a pick is one
+-- a pick is one
 one_pick : (P Q : ℕ → Type 0) (last x y : Option ℕ) → ((u : ℕ) → P u → Q u) → ((u : ℕ) → Q u → P u)
     → IsPick P last x → IsPick Q last y → x ≡ y
 one_pick P Q last None None to back a b = refl
@@ -44,7 +44,7 @@ one_pick P Q last (Some v) (Some w) to back a b = elim a [
   ]
 ]
 
--- and a choice, since the test of the owner decides who is asked
+-- a choice is one, since the test of the owner decides who is asked
 one_choice : (plan : PlanView) (c place : ℕ) (runnable : List Bool) (last x y : Option ℕ)
     → IsChoice plan c place runnable last x → IsChoice plan c place runnable last y → x ≡ y
 one_choice plan c place runnable last x y f g = go (owner_runs (owner_at plan.rows c place) runnable) refl
@@ -55,7 +55,7 @@ one_choice plan c place runnable last x y f g = go (owner_runs (owner_at plan.ro
         (IsEligible plan c place runnable) last x y (λ u e. e) (λ u e. e) (f.shared is)
         (g.shared is)
 
--- the same counts and the same begin make the same stint
+-- counts and a begin make one stint
 pub one_follows : (course : CourseView) (c : ℕ) (earlier : List Stint) (s t : Stint)
     → s.from ≡ t.from → s.seen ≡ t.seen → s.used ≡ t.used → IsDispatch course c earlier s
     → IsDispatch course c earlier t → (s.ran ≡ t.ran) × (s.end ≡ t.end)

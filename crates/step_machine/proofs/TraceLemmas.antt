@@ -60,7 +60,7 @@ makes course rounds old (steps.Decide c) new (inr m) =
 makes course rounds old (steps.Run c) new m =
     (Ran c m.stint ∷ [], (m.stint, ran old new c m.core _ m.stint m.at (ap (λ (s : State). s.cores) m.becomes) refl, refl))
 
--- and so does one that the answer says is done
+-- a step that the answer says is done has made what its kind makes
 pub makes_done : (course : CourseView) (rounds : ℕ) (old : State) (step : Step) (answer : Answer)
     (new : State) → Answers course rounds old step answer new → answer ≡ Done
     → (made : List Made) × AreMadeBy step new made
@@ -128,7 +128,7 @@ made_of_course course rounds s (steps.Run c) made kept by =
     rw by.2 (only_one (IsOfCourse course) (Ran c by.0)
     (omega (arith, there.1, kept.size), omega (arith, posted, kept.posted_most)))
 
--- and so is all that a run made
+-- all that a run made is of the course
 pub trace_of_course : (course : CourseView) (rounds : ℕ) (old : State) (taken : List Step) (new : State)
     (made : List Made) → IsCourse course → StateInvariant course rounds old
     → IsTrace course rounds old taken new made → AreOfCourse course made

@@ -20,7 +20,7 @@ use Rattle.step_machine.specs.declared.answer.Answer.TheVariants.{Done, Behind, 
 use Rattle.step_machine.specs.declared.answer.Phase.{Phase}
 use Rattle.step_machine.specs.declared.answer.Phase.TheVariants as phases
 
--- the step is due, nothing lacks, and it leads from the one state to the other
+-- the step is due, nothing is missing, and it leads from the one state to the other
 abbrev pub Moves : CourseView → ℕ → State → Step → State → Type 0
 Moves course rounds old steps.Post new = Posts course old new
 Moves course rounds old (steps.See c) new = Sees course rounds c old new
@@ -41,6 +41,7 @@ pub record IsOtherPhase (rounds c : ℕ) (s : State) (wanted : CorePhase) (found
   pub found_is : found ≡ shown (phase_of rounds core)
   pub differs : phase_of rounds core ≢ wanted
 
+-- core c is at the end of the run, and this is the phase that is answered
 pub record HasFinished (rounds c : ℕ) (s : State) (found : Phase) : Type 0 where
   pub core : CoreState
   pub at : IsCore s c core

@@ -20,6 +20,7 @@ pub record IsRefused (course : CourseView) (rounds : ℕ) (steps : List Step) (p
   pub answered : Answers course rounds mid step answer mid
   pub not_done : answer ≢ Done
 
+-- the fault of a replay is the refusal of its steps; running out of memory says nothing of them
 abbrev pub IsFaultOf : CourseView → ℕ → List Step → ReplayFault → Type 0
 IsFaultOf course rounds steps (Refused place answer) = IsRefused course rounds steps place answer
 IsFaultOf course rounds steps NoMemory = Unit {0}

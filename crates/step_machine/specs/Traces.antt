@@ -44,5 +44,6 @@ abbrev pub IsOfCourse : CourseView → Made → Type 0
 IsOfCourse course (Entered c e) = c < course.cores
 IsOfCourse course (Ran c t) = (c < course.cores) × (t.used ≤ length course.ticks)
 
+-- all that the steps of a run made is of the course
 abbrev pub AreOfCourse : CourseView → List Made → Type 0
 AreOfCourse course made = All (IsOfCourse course) made

@@ -2,12 +2,12 @@
 //!
 //! `World::apply` is exactly the relation `Answers` of `specs/Answers.antt`, and every world keeps
 //! what `StateInvariant` of `table_form/specs/Running/Invariant.antt` lists. So after every list of
-//! steps the run keeps what `KeepsPromises` of `table_form/specs/Promises/Run.antt` says: all
-//! cores use one plan in a round, no vCPU runs on two cores at one tick, each is offered its cost in
-//! each of its periods and has no gap between offers that exceeds what its budgets leave out, no core
+//! steps the run keeps what `KeepsPromises` of `table_form/specs/Promises/Run.antt` says: all cores
+//! use one plan in a round, no vCPU runs on two cores at one tick, each is offered its cost in each
+//! of its periods and has no gap between offers that exceeds what its budgets leave out, no core
 //! idles while somebody may run there whom it has seen runnable, and a capped vCPU runs at no more
-//! ticks of a period than its cost. The entries and stints that the steps make stand in their order,
-//! as `IsTrace` of `specs/Traces.antt` says.
+//! ticks of a period than its cost. The entries and stints that the steps make are in their order, as
+//! `IsTrace` of `specs/Traces.antt` says.
 #![tactic(auto)]
 
 mod answer;

@@ -81,7 +81,7 @@ fn are_within(logs: &[CoreLog], lag: u32, tick: u32) -> bool
     true
 }
 
-// The same as `lowest_behind`, by a test of each core.
+// `lowest_behind` by a test of each core.
 #[inline(never)]
 fn first_behind(logs: &[CoreLog], lag: u32, skip: Option<u32>, tick: u32) -> Option<Low>
     requires few { length logs.now ≤ MAX_CORES }

@@ -21,7 +21,7 @@ use table_form::Course;
 ///
 /// The rounds are 1 to 10,000 and hold every event, and a core that a step names is below the
 /// course's cores. Each core gets room for as many stints as there are steps. For 2^32 steps or more
-/// memory is wanting.
+/// memory runs out.
 pub fn replay<'a>(
     alloc: Global,
     course: &'a Course,

@@ -65,7 +65,7 @@ impl<'a> Model for World<'a> {
 impl World<'_> {
     /// The opening state of a run of so many rounds, 1 to 10,000, with room for so many steps.
     ///
-    /// Each event's tick lies in the run. Fails only for want of memory.
+    /// Each event's tick lies in the run. Fails only when memory runs out.
     pub fn make(
         alloc: Global,
         course: &Course,
@@ -103,8 +103,8 @@ impl World<'_> {
         })
     }
 
-    /// Takes the step if it is due and nothing lacks, and answers `Done`. Otherwise it answers why
-    /// not, and leaves the state as it was.
+    /// Takes the step if it is due and nothing is missing, and answers `Done`. Otherwise it answers
+    /// why not, and leaves the state as it was.
     ///
     /// There is room for a step, and a core that the step names is below the course's cores. Each
     /// call lowers by one for how many more steps there is room. The answer is `NotNow`

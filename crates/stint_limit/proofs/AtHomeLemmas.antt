@@ -14,7 +14,7 @@ use Rattle.table_form.proofs.SegmentLemmas.{maximal_end}
 use Rattle.stint_limit.specs.Inside.Walks.{AreAtHome}
 use Rattle.stint_limit.proofs.WalkLemmas.{owner_of}
 
--- behind the cells of a run the others follow
+-- after the cells of a run the others follow
 cells_behind : (n t u : ℕ) (o : Option ℕ) (rest : Row) → t ≡ n + u
     → slice_get (replicate n o ++ rest) t ≡ slice_get rest u
 cells_behind zero t u o rest e = ap (slice_get rest) (e ∙ zero-add u)
@@ -45,7 +45,7 @@ cell_owner start (s ∷ ss) x c at =
 abbrev pub IsAhead : Row → ℕ → List Segment → Type 0
 IsAhead row start ss = (x : ℕ) → start ≤ x → slice_get row x ≡ slice_get (cells_from start ss) (x - start)
 
--- so the first of them has the row up to its end
+-- the first of the segments has the row up to its end
 first_owner : (row : Row) (start : ℕ) (s : Segment) (ss : List Segment) (x : ℕ) → IsAhead row start (s ∷ ss)
     → start ≤ x → x < s.end → slice_get row x ≡ Some s.owner
 first_owner row start s ss x ahead low lt =
@@ -53,7 +53,7 @@ first_owner row start s ss x ahead low lt =
     ∙ (ap (λ (cells : Row). slice_get cells (x - start)) (cells-cons start s ss)
     ∙ cell_here (s.end - start) (x - start) s.owner (cells_from s.end ss) (omega arith))
 
--- and the others have it behind that
+-- the other segments have the row after the first one's end
 ahead_next : (row : Row) (start : ℕ) (s : Segment) (ss : List Segment) → IsAhead row start (s ∷ ss)
     → start < s.end → IsAhead row s.end ss
 ahead_next row start s ss ahead less x low =
@@ -68,7 +68,7 @@ nobody_away plan c x v home away =
     let same : Some away.other ≡ Some c = same_Some {A = Option ℕ} (Some away.other) (Some c) (sym other ∙ away.home) in
     away.elsewhere (same_Some {A = ℕ} away.other c same)
 
--- so places with one owner are alike
+-- places with one owner are alike
 alike_owners : (plan : PlanView) (c x y : ℕ) → AreAtHome plan → owner_at plan.rows c x ≡ owner_at plan.rows c y
     → SameSpot plan c x y
 alike_owners plan c x y home same = record {
@@ -103,7 +103,7 @@ first_span plan c start row s ss home at maximal ahead =
         owner_of plan.rows c s.end row t.owner at (first_owner row s.end t ts s.end next (omega arith) begin) in
         most.1 (sym first ∙ (same.owner ∙ second))))
 
--- and so is each
+-- each segment is a span
 pub segments_are_spans : (plan : PlanView) (c start : ℕ) (row : Row) (ss : List Segment) → AreAtHome plan
     → slice_get plan.rows c ≡ Some row → AreMaximal start (map segment_view ss) ROUND → IsAhead row start ss
     → AreSpans plan c start (map (λ (s : Segment). s.end) ss) ROUND

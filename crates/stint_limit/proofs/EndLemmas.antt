@@ -22,7 +22,7 @@ one_of : (b : Bool) → b ≡ true → one_if b ≡ 1
 one_of true h = refl
 one_of false h = absurd cc
 
--- and one that fails doesn't
+-- a test that fails doesn't count
 none_of : (b : Bool) → b ≡ false → one_if b ≡ 0
 none_of true h = absurd cc
 none_of false h = refl

@@ -15,7 +15,7 @@ not_more course c m n a b =
     let same = one_count a.plan c ROUND found.0 m found.1 a.reached in
     omega (arith, found.2, same)
 
--- so they are the same
+-- two largest numbers of spans are the same
 pub one_largest : (course : CourseView) (c m n : ℕ) → IsLargestSpans course c m
     → IsLargestSpans course c n → m ≡ n
 one_largest course c m n a b =
@@ -36,7 +36,7 @@ same_sum f (x ∷ xs) (y ∷ ys) size each =
       same_sum f xs ys (omega (arith, size)) (λ k a b h g. each (suc k) a b h g),
     )
 
--- and so are the bounds
+-- two bounds are the same
 pub one_bound : (course : CourseView) (rounds a b : ℕ) → IsStintBound course rounds a
     → IsStintBound course rounds b → a ≡ b
 one_bound course rounds a b x y =

@@ -100,7 +100,7 @@ module _ (course : CourseView) (decided : List ℕ) (c most : ℕ) (ok : IsCours
         div_more course.quantum p ROUND ok.form.outline.some_quantum le,
       )
 
-  -- and begins with nothing
+  -- a round begins with nothing raised
   at_begin : (r : ℕ) → within_round r 0 ≡ 0
   unfolding within_round
   at_begin r = omega (arith, (e r).start, zero-div course.lag, zero-div course.quantum)
@@ -142,7 +142,7 @@ module _ (course : CourseView) (decided : List ℕ) (c most : ℕ) (ok : IsCours
         div_more course.lag p q ok.form.outline.some_lag (omega (arith, is)),
       )
 
-  -- so each stint does, within its round
+  -- each stint raises the number, within its round
   up_stint : (earlier : List Stint) (s : Stint) → IsDispatch course c earlier s
       → slice_get decided (s.from / ROUND) ≡ Some s.used
       → within_round (s.from / ROUND) (s.from % ROUND) + 1
@@ -172,7 +172,7 @@ module _ (course : CourseView) (decided : List ℕ) (c most : ℕ) (ok : IsCours
   unfolding raised
   raised_at x r p round place = rw (round, place) refl
 
-  -- and at its begin
+  -- the number at the begin of a round
   raised_begin : (x r : ℕ) → x ≡ r * ROUND → raised x ≡ r * stints_of_round course most
   raised_begin x r is =
       (let at = raised_at x r 0 (omega (arith, is)) (omega (arith, is)) in omega (arith, at, at_begin r))
@@ -194,7 +194,7 @@ module _ (course : CourseView) (decided : List ℕ) (c most : ℕ) (ok : IsCours
             omega (arith, up, from, to, share, suc-mul r (stints_of_round course most)))
       ]
 
-  -- so contiguous stints raise it by their count
+  -- contiguous stints raise the number by their count
   pub counts : (from to : ℕ) (ss : List Stint) → AreContiguous from ss to
       → ((k : ℕ) (s : Stint) → slice_get ss k ≡ Some s → raised s.from + 1 ≤ raised s.end)
       → raised from + length ss ≤ raised to

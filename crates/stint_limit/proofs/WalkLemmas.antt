@@ -45,20 +45,20 @@ held_steady rows place next owners ends held least d x low before = elim (cases_
   | inr past ↦ owner_beyond rows d place past ∙ sym (owner_beyond rows d x past)
 ]
 
--- at a later place a row whose end is behind it is still held
+-- at a later place a row whose end is after it is still held
 pub held_due : (rows : List Row) (from place : ℕ) (owners : List (Option ℕ)) (ends : List ℕ)
     → AreHeld rows from owners ends → from ≤ place → AreDue rows place owners ends
 held_due rows from place owners ends held le d row at behind =
     let h = held d row at in
     record { after = behind; within = h.within; cells = λ x low before. h.cells x (omega arith) before }
 
--- where all ends are behind the place each row is held
+-- where all ends are after the place each row is held
 pub due_held : (rows : List Row) (place : ℕ) (owners : List (Option ℕ)) (ends : List ℕ)
     → AreDue rows place owners ends → ((d : ℕ) → d < length rows → place < slice_index ends d)
     → AreHeld rows place owners ends
 due_held rows place owners ends due behind d row at = due d row at (behind d (slice_get_within rows d row at))
 
--- and where each row is held all ends are
+-- all ends are after the place where each row is held
 pub ends_behind : (rows : List Row) (place : ℕ) (owners : List (Option ℕ)) (ends : List ℕ)
     → AreHeld rows place owners ends → (d : ℕ) → d < length rows → place < slice_index ends d
 ends_behind rows place owners ends held d lt = (held d (get_or rows d []) (slice_get-get_or rows d [] lt)).after
@@ -132,7 +132,7 @@ is_away plan c x v owners are home there = record {
   stands = sym (are there.row there.there) ∙ there.has;
 }
 
--- and one that is away another row has
+-- a vCPU that is away another row has
 has_away : (plan : PlanView) (c x v : ℕ) (owners : List (Option ℕ)) → AreOwners plan.rows x owners
     → IsAway plan c x v → IsElsewhere owners (length plan.rows) c (Some v)
 has_away plan c x v owners are away =
@@ -154,13 +154,13 @@ missed_away plan c x y d o owners are is m moves =
     m.missed (subst (IsElsewhere owners (length plan.rows) c) (sym m.owner_is)
     (has_away plan c y m.vcpu owners are (moves m.vcpu away)))
 
--- so the core's spot is another one, where the vCPU went
+-- the core's spot is another one where the vCPU went
 pub went_unlike : (plan : PlanView) (c x y d : ℕ) (o : Option ℕ) (owners : List (Option ℕ))
     → AreOwners plan.rows y owners → o ≡ owner_at plan.rows d x
     → IsMissed plan.homes owners (length plan.rows) o d c → SameSpot plan c x y → ⊥
 went_unlike plan c x y d o owners are is m same = missed_away plan c x y d o owners are is m same.away
 
--- and where it came
+-- the core's spot is another one where the vCPU came
 pub came_unlike : (plan : PlanView) (c x y d : ℕ) (o : Option ℕ) (owners : List (Option ℕ))
     → AreOwners plan.rows x owners → o ≡ owner_at plan.rows d y
     → IsMissed plan.homes owners (length plan.rows) o d c → SameSpot plan c x y → ⊥
@@ -217,7 +217,7 @@ counted_more plan c place next begin count was less same steady = record {
   ];
 }
 
--- and another begins at one that doesn't
+-- a span begins at a place that shows something else
 counted_new : (plan : PlanView) (c place next begin count : ℕ) → IsCounted plan c place begin count
     → place < ROUND → place < next → (SameSpot plan c (place - 1) place → ⊥)
     → ((d x : ℕ) → place ≤ x → x < next → owner_at plan.rows d place ≡ owner_at plan.rows d x)
@@ -238,7 +238,7 @@ counted_new plan c place next begin count was in_round less unlike steady = reco
   alike = λ x low lt. same_spot plan c place x (λ d. steady d x low lt);
 }
 
--- so a step of the walk counts
+-- a step of the walk counts
 pub counted_step : (plan : PlanView) (c place next begin count begin' count' : ℕ)
     → IsCounted plan c place begin count → place < ROUND → place < next
     → ((d x : ℕ) → place ≤ x → x < next → owner_at plan.rows d place ≡ owner_at plan.rows d x)

@@ -28,7 +28,7 @@ pub(crate) fn first_holders(plan: &Plan) -> Holders
     holders
 }
 
-/// Goes on to a place: only a row whose end isn't behind it is looked at.
+/// Goes on to a place: only a row whose end isn't after it is looked at.
 pub(crate) fn move_on(plan: &Plan, holders: &mut Holders, place: u32)
     requires in_round { place < ROUND }
     requires due { AreDue plan.now.tables.rows place holders.old.owners holders.old.ends }

@@ -16,7 +16,7 @@ pub fn no_core_has_more_stints()
         → length core.stints ≤ rounds * stints_of_round course most }
 {}
 
-/// And all cores together have at most as many as the bound.
+/// All cores together have at most as many as the bound.
 pub fn all_stints_are_within_the_bound()
     ensures { (course : CourseView) (rounds bound : ℕ) (s : State) → IsCourse course
         → StateInvariant course rounds s → IsStintBound course rounds bound → stints_in s ≤ bound }

@@ -21,7 +21,7 @@ pub(crate) fn spans_of_rows(plan: &Plan) -> [u32; ROWS]
     walk(plan)
 }
 
-// The same, by one walk over the ends of all rows' segments.
+// How many spans each core's row has in the plan, by one walk over the ends of all rows' segments.
 fn walk(plan: &Plan) -> [u32; ROWS]
     ensures { (c : ℕ) → c < length plan.now.tables.rows
         → HasSpans (plan_view plan.now) c ROUND (slice_index result c) }

@@ -1,4 +1,4 @@
--- Lines that come one by one behind those that are gathered.
+-- Lines that come one by one after those that are gathered.
 use Rattle.std.proofs.Common.{◌≡◌, ℕ, ◌+◌, ◌<◌, ◌≤◌, List, ◌++◌, append-nil, drop, flat_map, get_or, length, Result, Ok, Err, ap, subst}
 use Rattle.std.proofs.lemmas.List.{drop_all}
 use Rattle.tab_core.proofs.Lists.{drop_next}
@@ -14,7 +14,7 @@ line_first : {X : Type 0} (f : X → List ℕ) (xs : List X) (k : ℕ) (x : X) �
     → flat_map f (drop k xs) ≡ f x ++ flat_map f (drop (k + 1) xs)
 line_first f xs k x low is = ap (flat_map f) (drop_next xs k x low is)
 
--- the next line came behind the gathered ones
+-- the next line came after the gathered ones
 pub next_gathered : {X : Type 0} (s t v : SinkView) (f : X → List ℕ) (xs : List X) (k : ℕ) (x : X)
     (text gathered behind : List ℕ) (r : Result (Unit {0}) WriteFault) (u : Unit {0})
     → k < length xs → x ≡ get_or xs k x → IsLeft s t text (gathered ++ flat_map f (drop k xs))
@@ -24,7 +24,7 @@ next_gathered s t v f xs k x text gathered behind r u low is left put done =
     left_gathered s t v text gathered (f x) (flat_map f (drop (k + 1) xs)) behind r u
     (subst (λ l. IsLeft s t text (gathered ++ l)) (line_first f xs k x low is) left) put done
 
--- where that fails, a front of the text is out
+-- where that fails, a prefix of the text is out
 pub next_torn : {X : Type 0} (s t v : SinkView) (f : X → List ℕ) (xs : List X) (k : ℕ) (x : X)
     (text gathered behind : List ℕ) (r : Result (Unit {0}) WriteFault) (e : WriteFault)
     → k < length xs → x ≡ get_or xs k x → IsLeft s t text (gathered ++ flat_map f (drop k xs))
@@ -33,7 +33,7 @@ next_torn s t v f xs k x text gathered behind r e low is left put failed =
     left_torn s t v text gathered (f x) (flat_map f (drop (k + 1) xs)) behind r e
     (subst (λ l. IsLeft s t text (gathered ++ l)) (line_first f xs k x low is) left) put failed
 
--- behind the last line the gathered ones are written
+-- after the last line the gathered ones are written
 pub gathered_last : {X : Type 0} (s t v : SinkView) (f : X → List ℕ) (xs : List X) (k : ℕ)
     (text gathered : List ℕ) (r : Result (Unit {0}) WriteFault)
     → length xs ≤ k → IsLeft s t text (gathered ++ flat_map f (drop k xs)) → Writes t v gathered r

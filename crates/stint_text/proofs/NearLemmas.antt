@@ -6,7 +6,7 @@ use Rattle.table_form.specs.Tables.Rows.{RisesTo}
 use Rattle.table_form.proofs.Search.{Parts, ends_rise, some_segment}
 use Rattle.stint_text.specs.Inside.Near.{Holds}
 
--- as ends rise, all segments before it end at or before the tick, and all others behind it
+-- as ends rise, all segments before it end at or before the tick, and all others after it
 pub parts_here : (ss : List Segment) (tick i : ℕ) → RisesTo 0 ss ROUND → Holds ss i tick → Parts ss tick i
 parts_here ss tick i rises here = record {
   at_most = (let lt = here.inside in omega arith);

@@ -14,7 +14,7 @@ in_a_row : (c s u e f core from end used seen name how : List ℕ)
     ≡ c ++ (core ++ (s ++ (from ++ (s ++ (end ++ (u ++ (used ++ (e ++ (seen ++ (s ++ (name ++ (s ++ (how ++ f)))))))))))))
 in_a_row c s u e f core from end used seen name how = simp append_assoc
 
--- and with what ends the line behind its last word
+-- a line in one row, with what ends it after its last word
 end_in_a_row : (c s u e f core from end used seen name how : List ℕ)
     → (c ++ (core ++ (s ++ (from ++ (s ++ (end ++ (u ++ (used ++ (e ++ (seen ++ (s ++ (name ++ (s ++ how))))))))))))) ++ f
     ≡ c ++ (core ++ (s ++ (from ++ (s ++ (end ++ (u ++ (used ++ (e ++ (seen ++ (s ++ (name ++ (s ++ (how ++ f)))))))))))))

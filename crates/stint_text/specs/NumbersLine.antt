@@ -1,4 +1,4 @@
--- A line of numbers, each behind its text.
+-- A line of numbers, each after its text.
 use Rattle.std.specs.Prelude.{ℕ, ◌++◌, List, codes, decimal}
 use Rattle.stint_text.specs.declared.numbered.Numbered.{Numbered}
 

@@ -7,7 +7,7 @@ ghost use Rattle.stint_text.specs.Inside.Near.{Holds};
 use tab_core::{CoreNo, ROUND, Stint, VcpuNo};
 use table_form::{Course, Segment};
 
-// An owner, and where in its row its segment stands.
+// An owner, and where in its row its segment is.
 #[derive(Drop)]
 pub(crate) struct Found {
     pub(crate) owner: Option<VcpuNo>,
@@ -15,7 +15,7 @@ pub(crate) struct Found {
 }
 
 // The owner of the stint's first tick in the plan that it used. It is looked for at the segment `near` and
-// the one behind it before all others.
+// the one after it before all others.
 pub(crate) fn first_owner(course: &Course, core: CoreNo, stint: &Stint, near: usize) -> Found
     requires core { core < course.now.cores }
     requires used { stint.now.used ≤ length course.now.ticks }
@@ -39,7 +39,7 @@ fn owner_near(segments: &[Segment], tick: u32, near: usize) -> Found
     }
 }
 
-// Where the segment that holds the tick stands.
+// The place in its row of the segment that holds the tick.
 fn place_near(segments: &[Segment], tick: u32, near: usize) -> usize
     requires rises { RisesTo 0 segments.now ROUND }
     requires in_round { tick < ROUND }

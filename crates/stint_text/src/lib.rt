@@ -1,7 +1,7 @@
 //! The line of a stint, as a trace has it and the text of a replay.
 //!
 //! It is the `stint_line` of `specs/StintLine.antt`. `StintLines` puts it, and other lines of a replay,
-//! behind those that it has gathered, and writes many at once.
+//! after those that it has gathered, and writes many at once.
 #![tactic(auto)]
 
 mod first_owner;

@@ -7,7 +7,7 @@ ghost use Rattle.line_bytes.specs.declared.block.TheConstants.{BLOCK, LINE};
 use line_bytes::{Block, Tail, put_byte, put_number, put_short, put_tail};
 use tab_core::{CoreNo, Stint, VcpuNo};
 
-// Puts the line of a core's stint behind the gathered bytes, which end at `at`, and answers where they end
+// Puts the line of a core's stint after the gathered bytes, which end at `at`, and answers where they end
 // with it. The owner is that of the stint's first tick, and the tail that of whoever ran.
 pub(crate) fn put_parts(
     block: &mut Block,
@@ -29,7 +29,7 @@ pub(crate) fn put_parts(
     put_how(block, how, owner, &stint.ran)
 }
 
-// The line's first two words, each with a space behind it.
+// The line's first two words, each with a space after it.
 fn put_core(block: &mut Block, at: usize, core: CoreNo) -> usize
     requires { at + 18 ≤ BLOCK }
     ensures end { result ≤ at + 18 }
@@ -51,7 +51,7 @@ fn put_ticks(block: &mut Block, at: usize, from: u32, end: u32) -> usize
     put_number(block, second, end)
 }
 
-// The two counts of events, each behind its word.
+// The two counts of events, each after its word.
 fn put_counts(block: &mut Block, at: usize, used: u32, seen: u32) -> usize
     requires { at + 36 ≤ BLOCK }
     ensures end { result ≤ at + 36 }

@@ -26,7 +26,7 @@ pub struct StintLines<'a> {
     // of the block the first `count` bytes are gathered
     block: Block,
     count: usize,
-    // for each core where the segment of its last stint's begin stands in its row
+    // for each core where the segment of its last stint's begin is in its row
     places: [usize; 32],
 }
 
@@ -61,10 +61,10 @@ impl<'a> StintLines<'a> {
         }
     }
 
-    /// Puts the line of a core's stint behind the gathered ones, of which a front may be written.
+    /// Puts the line of a core's stint after the gathered ones, of which a prefix may be written.
     ///
     /// The core is below the course's cores, and the stint has a count of the course's events. A fault
-    /// leaves a front of the lines in the sink. Nothing is settled.
+    /// leaves a prefix of the lines in the sink. Nothing is settled.
     pub fn put_stint<K: Sink>(
         &mut self,
         sink: &mut K,
@@ -86,10 +86,10 @@ impl<'a> StintLines<'a> {
         Ok(())
     }
 
-    /// Puts a line of three numbers, each behind its text, behind the gathered ones, of which a front may be
-    /// written.
+    /// Puts a line of three numbers, each after its text, after the gathered ones, of which a prefix may
+    /// be written.
     ///
-    /// A fault leaves a front of the lines in the sink. Nothing is settled.
+    /// A fault leaves a prefix of the lines in the sink. Nothing is settled.
     pub fn put_numbers<K: Sink>(
         &mut self,
         sink: &mut K,
@@ -108,7 +108,7 @@ impl<'a> StintLines<'a> {
 
     /// Writes the gathered lines.
     ///
-    /// A fault leaves a front of the lines in the sink. Nothing is settled.
+    /// A fault leaves a prefix of the lines in the sink. Nothing is settled.
     pub fn write<K: Sink>(&self, sink: &mut K) -> Result<(), WriteFault>
         ensures { Writes (K.state sink.old) (K.state sink.new) self.now.gathered result }
     {

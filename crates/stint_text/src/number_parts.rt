@@ -5,7 +5,7 @@ ghost use Rattle.line_bytes.specs.declared.block.TheConstants.{BLOCK, LINE};
 use crate::numbered::Numbered;
 use line_bytes::{Block, put_byte, put_number};
 
-// Puts the line of three of them behind the gathered bytes, which end at `at`, and answers where they end
+// Puts the line of three of them after the gathered bytes, which end at `at`, and answers where they end
 // with it.
 pub(crate) fn put_three(
     block: &mut Block,

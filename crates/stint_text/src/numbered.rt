@@ -1,6 +1,6 @@
 ghost use Rattle.std.specs.Prelude.{◌≤◌, length};
 
-/// A number behind a text of at most eight bytes.
+/// A number after a text of at most eight bytes.
 #[derive(Clone, Copy)]
 pub struct Numbered<'a> {
     pub text: &'a [u8],

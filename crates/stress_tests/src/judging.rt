@@ -9,7 +9,7 @@ use tab_core::{Periodic, ROUND, Stint};
 pub(crate) enum Broken {
     // the cores don't have one count for each round
     Counts,
-    // a round's count lacks an event that is due, or has one that is too early
+    // a round's count leaves out an event that is due, or has one that is too early
     StaleCount,
     // counts fall from round to round
     CountFalls,
@@ -21,7 +21,7 @@ pub(crate) enum Broken {
     OtherPlan,
     // what was seen falls, or is less than an earlier round's count
     SightFalls,
-    // what was seen lacks an event that is due, or has one that is too early
+    // what was seen leaves out an event that is due, or has one that is too early
     StaleSight,
     // another vCPU is due, or the core idles where somebody may run
     OtherVcpu,

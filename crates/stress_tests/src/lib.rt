@@ -1,5 +1,6 @@
 //! The stress test of running cores: short runs of many kinds, of which each is judged by plain rules and
-//! replayed step by step. It stands apart since a crate with tests is proved twice, with them and without.
+//! replayed step by step. It is a crate of its own, since a crate with tests is proved twice, with them
+//! and without.
 #![tactic(auto)]
 
 #[cfg(test)]

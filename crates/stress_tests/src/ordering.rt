@@ -111,7 +111,7 @@ fn step_core(
     Ok(moved)
 }
 
-// Posts the next event, if no core is too far behind it.
+// Posts the next event, if no core's clock is too low for it.
 fn step_controller(setting: &Setting, order: &mut Order) -> Result<bool, NoMemory> {
     let Some(tick) = setting.ticks.get(order.posted as usize) else {
         return Ok(false);

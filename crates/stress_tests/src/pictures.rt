@@ -22,7 +22,7 @@ pub(crate) struct Picture {
     pub(crate) tasks: Vec<Option<Periodic>>,
 }
 
-// What a core meets at a place: the cell's vCPU, and who of those at home there stands on another core.
+// What a core meets at a place: the cell's vCPU, and who of those at home there is on another core.
 #[derive(Clone, Copy, PartialEq, Eq)]
 pub(crate) struct Look {
     pub(crate) owner: u32,
@@ -47,7 +47,7 @@ impl Picture {
         Some(look)
     }
 
-    // Whether a vCPU stands in the rows of two cores.
+    // Whether a vCPU is in the rows of two cores.
     pub(crate) fn splits(&self) -> bool {
         let mut met = 0;
         for row in &self.rows {
@@ -86,7 +86,7 @@ impl Setting {
     }
 }
 
-// The capped vCPUs are told from outside, since the course's plans would be believed for them.
+// The capped vCPUs are given from outside, since the course's plans would be believed for them.
 pub(crate) fn setting_of(
     alloc: Global,
     course: &Course,

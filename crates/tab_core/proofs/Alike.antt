@@ -149,7 +149,7 @@ host_facts host = record {
   quantum_in_round = host.quantum_in_round;
 }
 
--- and these have one proof
+-- the facts of a host have one proof
 one_host_proof : (tick cores lag sliver quantum : ℕ) → IsProp (HostFacts tick cores lag sliver quantum)
 one_host_proof tick cores lag sliver quantum = hlevel props
 

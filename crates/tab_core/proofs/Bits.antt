@@ -45,7 +45,7 @@ members_by_bits words set size each =
 no_bit : (k : ℕ) → k < 256 → has_bit (0 ∷ 0 ∷ 0 ∷ 0 ∷ []) k ≡ false
 no_bit k lt = grind (arith, common_steps, nat_tests, bit_at-zero (k % 64))
 
--- so nobody is in it
+-- nobody is in the empty set, whose words have no bit
 pub empty_members : members_of (0 ∷ 0 ∷ 0 ∷ 0 ∷ []) ≡ replicate 256 false
 empty_members = members_by_bits _ _ (length-replicate 256 false)
     (λ k d lt. get_or-replicate 256 k false d lt ∙ sym (no_bit k lt))
@@ -100,7 +100,7 @@ members_put words v four lt =
     (λ i low other. bit_at_set_other w64 (get_or words (v / 64) 0) (v % 64)
     (omega arith) i other)
 
--- and the word with a bit less, for `take`
+-- `take` leaves the members of the word with a bit less
 pub members_take : (words : List ℕ) (v : ℕ) → length words ≡ 4 → v < 256
     → members_of
     (set words (v / 64) (bit_and (get_or words (v / 64) 0)
@@ -140,14 +140,14 @@ member_low words v is = elim (cases_lt v 256) [
       absurd (cc)
 ]
 
--- so members have a bit that is 1
+-- a member has a bit that is 1
 bit_of_member : (words : List ℕ) (v : ℕ) → IsTrue (has_vcpu (members_of words) v)
     → bit_at (get_or words (v / 64) 0) (v % 64) ≡ 1
 bit_of_member words v is =
     let bit = bits_below-at words 256 v false (member_low words v is) in
     grind (arith, nat_tests)
 
--- and whoever has one is a member
+-- whoever has a bit that is 1 is a member
 member_of_bit : (words : List ℕ) (v : ℕ) → v < 256 → bit_at (get_or words (v / 64) 0) (v % 64) ≡ 1
     → IsTrue (has_vcpu (members_of words) v)
 member_of_bit words v lt is = let bit = bits_below-at words 256 v false lt in grind (arith, nat_tests)
@@ -228,7 +228,7 @@ lowest_common a b from at both le some fits are below =
       ];
     }
 
--- and where none is 1, nobody is common up to the end of the word
+-- where no common bit is 1, nobody is common up to the end of the word
 pub none_common : (a b : List ℕ) (from at both v : ℕ) → both ≡ 0 → AreCommon a b at both
     → ((v : ℕ) → IsInBoth (members_of a) (members_of b) v → from ≤ v → v < at → ⊥)
     → IsInBoth (members_of a) (members_of b) v → from ≤ v → v < (at / 64 + 1) * 64 → ⊥
@@ -249,7 +249,7 @@ some_common a b at both some fits are =
     let lowest = bit_at-trailing_zeros w64 both some fits in
     (at + t, ((are t lowest.0).0 lowest.1).1)
 
--- so does what four words come to, if it isn't 0
+-- what four words come to names a common member, if it isn't 0
 pub common_of_words : (a b : List ℕ) (x y z w : ℕ) → x < 2 ^ 64 → y < 2 ^ 64 → z < 2 ^ 64 → w < 2 ^ 64
     → AreCommon a b 0 x → AreCommon a b 64 y → AreCommon a b 128 z → AreCommon a b 192 w
     → bit_or (bit_or x y) (bit_or z w) ≢ 0 → (v : ℕ) × IsInBoth (members_of a) (members_of b) v
@@ -268,7 +268,7 @@ common_of_words a b x y z w fits_x fits_y fits_z fits_w are_x are_y are_z are_w 
       ]
     ]
 
--- and where it is 0, nobody is common
+-- where what four words come to is 0, nobody is common
 pub none_of_words : (a b : List ℕ) (x y z w v : ℕ) → AreCommon a b 0 x → AreCommon a b 64 y
     → AreCommon a b 128 z → AreCommon a b 192 w → bit_or (bit_or x y) (bit_or z w) ≡ 0
     → IsInBoth (members_of a) (members_of b) v → ⊥
@@ -309,7 +309,8 @@ less_bit x y i fits low =
     let lt' = bit_at-lt y i in
     grind (arith, nat_tests)
 
--- so they are the set of the one's members that aren't the other's
+-- words with the bits of the one that the other hasn't are the set of the one's members that aren't
+-- the other's
 pub members_less : (a b : List ℕ) (v : ℕ) → ((i : ℕ) → get_or b i 0 < 2 ^ 64)
     → has_vcpu (members_of (less a b)) v ≡ (has_vcpu (members_of a) v && not (has_vcpu (members_of b) v))
 members_less a b v fits = elim (cases_lt v 256) [

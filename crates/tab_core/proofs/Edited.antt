@@ -34,7 +34,7 @@ distinct_names vcpus others same distinct = λ j k a b at_j at_k e.
     let second = named_at vcpus others k b same at_k in
     distinct j k first.0 second.0 first.1 second.1 (first.2 ∙ e ∙ sym second.2)
 
--- the loop over the edits makes one edit behind those before it
+-- the loop over the edits makes one edit after those before it
 edited-append : (rs : List (Option Reservation)) (edits : List Edit) (edit : Edit)
     → edited rs (edits ++ edit ∷ []) ≡ edited_once (edited rs edits) edit
 edited-append rs [] edit = refl

@@ -1,4 +1,4 @@
--- Lists read by index: after a push, after a write, behind a drop, one behind the other; and lists of
+-- Lists read by index: after a push, after a write, after a drop, one after the other; and lists of
 -- numbers in order.
 use Rattle.std.proofs.Common.{◌≡◌, ◌≢◌, ℕ, zero, suc, ◌+◌, ◌<◌, ◌⊎◌, inl, inr, List, [], ◌∷◌, ◌++◌, length, get_or, set, take, drop, replicate, Option, Some, None, refl, ap, sym, ◌∙◌, arith, add-one}
 use Rattle.std.proofs.Math.Seq.{drop-cons}
@@ -7,19 +7,19 @@ use Rattle.std.specs.Option.{option_flatten}
 use Rattle.std.specs.Prelude.{slice_get, slice_index_or}
 use Rattle.std.proofs.lemmas.List.FromFn.{get_or-range_with_len, length-range_with_len}
 
--- a push leaves what stood there before
+-- a push leaves what was there before
 pub push_old : {X : Type 0} (xs : List X) (k : ℕ) (x y : X) → slice_get xs k ≡ Some y
     → slice_get (xs ++ x ∷ []) k ≡ Some y
 push_old [] k x y at = absurd cc
 push_old (z ∷ zs) zero x y at = at
 push_old (z ∷ zs) (suc k) x y at = push_old zs k x y at
 
--- the pushed element stands behind them
+-- the pushed element is after them
 pub push_new : {X : Type 0} (xs : List X) (x : X) → slice_get (xs ++ x ∷ []) (length xs) ≡ Some x
 push_new [] x = refl
 push_new (z ∷ zs) x = push_new zs x
 
--- so what stands in a list after a push stood there before, or was pushed
+-- what is in a list after a push was there before, or was pushed
 pub push_split : {X : Type 0} (xs : List X) (k : ℕ) (x y : X) → slice_get (xs ++ x ∷ []) k ≡ Some y
     → (slice_get xs k ≡ Some y) ⊎ ((k ≡ length xs) × (x ≡ y))
 push_split [] zero x y at = inr (refl, cc)
@@ -34,7 +34,7 @@ set_here [] i x lt = absurd (omega arith)
 set_here (z ∷ zs) zero x lt = refl
 set_here (z ∷ zs) (suc i) x lt = set_here zs i x (omega arith)
 
--- and leaves the other elements
+-- a write leaves the other elements
 pub set_other : {X : Type 0} (xs : List X) (i k : ℕ) (x : X) → k ≢ i
     → slice_get (set xs i x) k ≡ slice_get xs k
 set_other [] i k x ne = refl
@@ -62,7 +62,7 @@ get_or-replicate_same zero (suc k) x = refl
 get_or-replicate_same (suc n) zero x = refl
 get_or-replicate_same (suc n) (suc k) x = get_or-replicate_same n k x
 
--- an entry of a list of options that is one, told from the entry that there may be
+-- an entry of a list of options that is one, known from the entry that there may be
 pub flatten_some : {X : Type 0} (o : Option (Option X)) (x : X) → option_flatten o ≡ Some x
     → o ≡ Some (Some x)
 flatten_some None x e = absurd cc
@@ -96,21 +96,21 @@ numbers_below n k d lt =
     let is = get_or-range_with_len 0 n k d (omega arith) in
     omega arith
 
--- what stands in a list stands there with more behind it
+-- what is in a list is there with more after it
 pub get_left : {X : Type 0} (xs ys : List X) (k : ℕ) (x : X) → slice_get xs k ≡ Some x
     → slice_get (xs ++ ys) k ≡ Some x
 get_left [] ys k x at = absurd cc
 get_left (z ∷ zs) ys zero x at = at
 get_left (z ∷ zs) ys (suc k) x at = get_left zs ys k x at
 
--- so the two lists together have at a place of the first what that has there
+-- two lists together have at a place of the first what that has there
 pub get_front : {X : Type 0} (xs ys : List X) (k : ℕ) → k < length xs
     → slice_get (xs ++ ys) k ≡ slice_get xs k
 get_front [] ys k lt = absurd (omega arith)
 get_front (z ∷ zs) ys zero lt = refl
 get_front (z ∷ zs) ys (suc k) lt = get_front zs ys k (omega arith)
 
--- and behind the first what the second has
+-- two lists together have after the first what the second has
 pub get_right : {X : Type 0} (xs ys : List X) (k : ℕ) → slice_get (xs ++ ys) (length xs + k) ≡ slice_get ys k
 get_right [] ys k = (let e : 0 + k ≡ k = omega arith in ap (slice_get ys) e)
 get_right (z ∷ zs) ys k =
@@ -123,7 +123,7 @@ take_push_old [] k x y at = absurd cc
 take_push_old (z ∷ zs) zero x y at = refl
 take_push_old (z ∷ zs) (suc k) x y at = ap (λ t. z ∷ t) (take_push_old zs k x y at)
 
--- and before what is pushed lies the whole list
+-- before a pushed element is the whole list
 pub take_push_new : {X : Type 0} (xs : List X) (x : X) → take (length xs) (xs ++ x ∷ []) ≡ xs
 take_push_new [] x = refl
 take_push_new (z ∷ zs) x = ap (λ t. z ∷ t) (take_push_new zs x)
@@ -150,7 +150,7 @@ pub only_one : {X : Type 0} (P : X → Type 0) (x : X) → P x → All P (x ∷ 
 only_one P x is zero d lt = is
 only_one P x is (suc k) d lt = absurd (omega arith)
 
--- lists that are the same behind a place are so behind the next
+-- lists that are the same after a place are so after the next
 pub rest_later : {X : Type 0} (old now : List X) (at : ℕ) → drop at now ≡ drop at old
     → drop (at + 1) now ≡ drop (at + 1) old
 rest_later {X} old now at rest =

@@ -14,7 +14,7 @@ use Rattle.tab_core.specs.Period.{is_period}
 unfoldable divides_round : ℕ → Bool
 divides_round n = leb 100 n && (leb n ROUND && eqb (n * (ROUND / n)) ROUND)
 
--- a test that each element passes is passed by each element that stands in the list
+-- a test that each element passes is passed by each element that is in the list
 passed_by_listed : (p : ℕ → Bool) (t : ℕ) (xs : List ℕ) → list_all p xs ≡ true
     → list_any (λ x. eqb x t) xs ≡ true → p t ≡ true
 passed_by_listed p t [] all any = grind arith
@@ -50,7 +50,7 @@ below_pass : (ℕ → Bool) → ℕ → Bool
 below_pass p zero = true
 below_pass p (suc n) = p n && below_pass p n
 
--- a quotient of the round that is at least 100 stands in the table
+-- a quotient of the round that is at least 100 is in the table
 quotient_listed : ℕ → Bool
 quotient_listed k = not (divides_round (102600 / k)) || is_period (102600 / k)
 
@@ -64,7 +64,7 @@ rises : List ℕ → Bool
 rises [] = true
 rises (x ∷ xs) = list_all (λ y. leb x y) xs && rises xs
 
--- and that it rises, over its entries
+-- the table rises, computed over its entries
 table_rises : rises PERIODS ≡ true
 unfolding rises
 table_rises = refl
@@ -76,7 +76,7 @@ first_is_least x [] k h lt = grind arith
 first_is_least x (y ∷ ys) zero h lt = grind (arith, nat_tests, common_steps)
 first_is_least x (y ∷ ys) (suc k) h lt = grind (arith, nat_tests, common_steps, first_is_least x ys k)
 
--- so is each entry, by induction over its place
+-- in a rising list each entry is at most each later one, by induction over its place
 rises_at : (xs : List ℕ) (j k : ℕ) → rises xs ≡ true → j ≤ k → k < length xs → get_or xs j 0 ≤ get_or xs k 0
 unfolding rises
 rises_at [] j k h le lt = grind arith
@@ -89,7 +89,7 @@ rises_at (x ∷ xs) (suc j) (suc k) h le lt = grind (arith, common_steps, rises_
 pub periods_rise : (j k : ℕ) → j ≤ k → k < 65 → get_or PERIODS j 0 ≤ get_or PERIODS k 0
 periods_rise j k le lt = rises_at PERIODS j k table_rises le lt
 
--- what stands in the table is a period
+-- what is in the table is a period
 pub period_at : (k : ℕ) → k < 65 → IsTrue (is_period (get_or PERIODS k 0))
 unfolding is_period
 period_at k lt = list_any_at (λ x. eqb x (get_or PERIODS k 0)) PERIODS k 0 lt (grind (arith, nat_tests))

@@ -6,11 +6,11 @@ use Rattle.tab_core.specs.declared.TheConstants.{MAX_VCPUS}
 use Rattle.tab_core.specs.declared.vcpu.Vcpu.{Vcpu}
 use Rattle.tab_core.specs.Vcpus.{set_where}
 
--- the first n vCPUs that have the property, and none behind them
+-- the first n vCPUs that have the property, and none after them
 abbrev pub first_where : (Vcpu → Bool) → List Vcpu → ℕ → List Bool
 first_where has vcpus n = map has (take n vcpus) ++ replicate (MAX_VCPUS - n) false
 
--- one flag set is one more in front of those that aren't
+-- one flag set is one more before those that aren't
 one_flag : (flags : List Bool) (n rest : ℕ) (flag : Bool) → length flags ≡ n
     → set (flags ++ replicate (suc rest) false) n flag
     ≡ (flags ++ flag ∷ []) ++ replicate rest false

@@ -23,11 +23,12 @@ abbrev pub edited_once : List (Option Reservation) → Edit → List (Option Res
 edited_once reservations (Set vcpu reservation) = slice_set reservations vcpu (Some reservation)
 edited_once reservations (Leave vcpu) = slice_set reservations vcpu None
 
--- the same of edits that apply one after the other
+-- what edits that apply one after the other make of the reservations by vCPU number
 abbrev pub edited : List (Option Reservation) → List Edit → List (Option Reservation)
 edited reservations [] = reservations
 edited reservations (edit ∷ edits) = edited (edited_once reservations edit) edits
 
+-- the reservations of vCPUs, by number
 abbrev pub reservations_of : List Vcpu → List (Option Reservation)
 reservations_of vcpus = map (λ vcpu. vcpu.reservation) vcpus
 

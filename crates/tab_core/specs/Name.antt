@@ -20,5 +20,6 @@ is_name bytes =
     ((nat_le 1 (length bytes) && nat_le (length bytes) MAX_NAME) && not (is_lone_dash bytes))
     && list_all is_byte_of_name bytes
 
+-- the bytes are a name
 abbrev pub IsName : List ℕ → Type 0
 IsName bytes = IsTrue (is_name bytes)

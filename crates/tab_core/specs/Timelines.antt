@@ -1,4 +1,4 @@
--- The time of one core: its stints, one behind the other, and its entries of rounds.
+-- The time of one core: its stints, one after the other, and its entries of rounds.
 -- Source: the rules of this project.
 use Rattle.std.specs.Prelude.{◌≡◌, ℕ, ◌+◌, ◌*◌, ◌/◌, ◌<◌, ◌≤◌, List, [], ◌∷◌, Some, length, slice_get}
 use Rattle.tab_core.specs.declared.TheConstants.{ROUND}

@@ -10,7 +10,7 @@ pub struct Over {
     pub core: CoreNo,
     /// The interval's first tick.
     pub from: u32,
-    /// The tick behind its last.
+    /// The tick after its last.
     pub to: u32,
     /// What the jobs inside it cost together, in ticks.
     pub demand: u64,

@@ -9,7 +9,7 @@ use std::marker::Model;
 /// What a vCPU gets of one core in each of its periods: `cost` ticks from `from` up to `to`.
 ///
 /// Period number `k` of the round has a job with the window `[k * period + from, k * period + to)`.
-/// A vCPU that stands whole on a core is the piece of `from` 0 and `to` the period.
+/// A vCPU that is whole on a core is the piece of `from` 0 and `to` the period.
 #[derive(Clone, Copy, PartialEq, Eq)]
 pub struct Piece {
     pub vcpu: VcpuNo,
@@ -56,7 +56,7 @@ impl Pieces {
         &self.items
     }
 
-    /// Adds a piece behind the others.
+    /// Adds a piece after the others.
     pub fn push(&mut self, piece: Piece) -> Result<(), NoMemory>
         ensures ok { OnOk result (self.new ≡ self.old ++ piece ∷ []) }
         ensures err { OnErr result (self.new ≡ self.old) }

@@ -3,8 +3,8 @@ ghost use Rattle.std.specs.Prelude.{ℕ, ◌≡◌, ◌+◌, ◌<◌};
 use std::marker::Model;
 use std::sync::ledger::{Blank, Book, Ledger, Share};
 
-/// How many steps an algorithm has told, as reads of a table or of an edge of a network. It takes no
-/// bytes, and only `tell` changes it.
+/// How many steps an algorithm has counted, as reads of a table or of an edge of a network. It takes
+/// no bytes, and only `tell` changes it.
 #[derive(Drop)]
 pub struct Steps<L: Ledger> {
     book: Book<L>,

@@ -10,7 +10,7 @@ use Rattle.tab_io.specs.declared.sink.WriteFault.{WriteFault}
 pub rose_since : (a b c : ℕ) → a ≤ b → Rose b c → Rose a c
 rose_since a b c h g = omega (arith, g)
 
--- and so is one in the first
+-- a fault in the first of two parts is a fault of both: the count didn't fall in the second
 pub rose_until : (a b c : ℕ) → Rose a b → b ≤ c → Rose a c
 rose_until a b c g h = omega (arith, g)
 

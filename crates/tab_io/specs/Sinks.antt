@@ -7,13 +7,13 @@ use Rattle.tab_io.specs.declared.sink.Put.{Put}
 use Rattle.tab_io.specs.declared.sink.Put.TheVariants as put
 use Rattle.tab_io.specs.declared.sink.WriteFault.{WriteFault}
 
--- as many bytes are settled as before, where that is told
+-- as many bytes are settled as before, where that is known
 abbrev pub StaysSettled : Option ℕ → Option ℕ → Type 0
 StaysSettled None new = ⊤
 StaysSettled (Some m) None = ⊥
 StaysSettled (Some m) (Some n) = n ≡ m
 
--- all that was taken is settled, where that is told
+-- all that was taken is settled, where that is known
 abbrev pub AllSettled : SinkView → Type 0
 AllSettled sink = IfSome sink.settled (λ n. IfSome sink.taken (λ bytes. n ≡ length bytes))
 
@@ -28,11 +28,11 @@ abbrev pub UsesRoom : SinkView → SinkView → Put → Type 0
 UsesRoom old new (put.Took n) = (m : ℕ) → old.room ≡ Some m → (n ≤ m) × (new.room ≡ Some (m - n))
 UsesRoom old new put.Failed = (m : ℕ) → old.room ≡ Some m → m ≡ 0
 
--- where room is told, `finish` leaves it as it is
+-- where room is known, `finish` leaves it as it is
 abbrev pub KeepsRoom : SinkView → SinkView → Type 0
 KeepsRoom old new = (m : ℕ) → old.room ≡ Some m → new.room ≡ Some m
 
--- where room is told, `finish` doesn't fail
+-- where room is known, `finish` doesn't fail
 abbrev pub FinishWorks : SinkView → Put → Type 0
 FinishWorks old (put.Took n) = ⊤
 FinishWorks old put.Failed = (m : ℕ) → old.room ≡ Some m → ⊥
@@ -42,22 +42,22 @@ abbrev pub Finished : SinkView → SinkView → Put → Type 0
 Finished old new (put.Took n) = (n ≡ 0) × AllSettled new
 Finished old new put.Failed = StaysSettled old.settled new.settled × Rose old.faults new.faults
 
--- some front of the text was taken
+-- some prefix of the text was taken
 pub record Begun (old new : Option (List ℕ)) (text : List ℕ) : Type 0 where
   pub front : List ℕ
   pub rest : List ℕ
   pub whole : text ≡ front ++ rest
   pub appends : Appends old new front
 
--- where room is told, the text had room and used it
+-- where room is known, the text had room and used it
 pub record HadRoom (old new : SinkView) (text : List ℕ) : Type 0 where
   pub uses : (m : ℕ) → old.room ≡ Some m → (length text ≤ m) × (new.room ≡ Some (m - length text))
 
--- where room is told, the text had none
+-- where room is known, the text had none
 pub record LacksRoom (old : SinkView) (text : List ℕ) : Type 0 where
   pub lacks : (m : ℕ) → old.room ≡ Some m → m < length text
 
--- a call wrote the text, or a front of it and the sink failed
+-- a call wrote the text, or a prefix of it and the sink failed
 pub record Writes {U : Type 0} (old new : SinkView) (text : List ℕ) (result : Result U WriteFault)
     : Type 0 where
   pub later : old.faults ≤ new.faults
@@ -66,7 +66,7 @@ pub record Writes {U : Type 0} (old new : SinkView) (text : List ℕ) (result : 
       (λ _. Begun old.taken new.taken text × Rose old.faults new.faults)
   pub fits : MatchResult result (λ _. HadRoom old new text) (λ _. LacksRoom old text)
 
--- a front of the text was written, and this is left
+-- a prefix of the text was written, and this is left
 pub record IsLeft (old new : SinkView) (text left : List ℕ) : Type 0 where
   pub front : List ℕ
   pub whole : text ≡ front ++ left

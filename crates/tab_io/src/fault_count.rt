@@ -3,7 +3,7 @@ ghost use Rattle.tab_io.specs.FaultCounts.{next_count};
 
 use std::marker::Model;
 
-// How often an end has failed. Contracts see it as that number, which stands at its last value.
+// How often an end has failed. Contracts see it as that number, which is at its last value.
 #[derive(Drop)]
 pub(crate) struct FaultCount {
     count: u64,

@@ -11,7 +11,7 @@ use std::io::Write;
 /// What a write took.
 #[derive(Clone, Copy, Debug, PartialEq, Eq)]
 pub enum Put {
-    /// So many bytes, from the front of the piece: of a write at least one, of `finish` none.
+    /// So many bytes, from the start of the piece: of a write at least one, of `finish` none.
     Took(usize),
     /// The sink failed, and its count of faults rose.
     Failed,
@@ -35,7 +35,7 @@ pub trait Sink {
     /// tells these, and how often it has failed.
     ghost state: { Self → SinkView };
 
-    /// Takes some bytes from the front of the piece, which must have one.
+    /// Takes some bytes from the start of the piece, which must have one.
     ///
     /// A fault takes none, and the count of faults rises with it. Where the sink tells its room, it
     /// fails only where no room is left.
@@ -60,7 +60,7 @@ pub trait Sink {
 
 /// Writes all the bytes, in as many writes as the sink needs.
 ///
-/// A fault leaves a front of the bytes in the sink. `finish` settles them.
+/// A fault leaves a prefix of the bytes in the sink. `finish` settles them.
 pub fn write_all<K: Sink>(sink: &mut K, bytes: &[u8]) -> Result<(), WriteFault>
     ensures { Writes (K.state sink.old) (K.state sink.new) bytes.now result }
 {

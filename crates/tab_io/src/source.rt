@@ -12,7 +12,7 @@ use std::io::Read;
 /// What a read gave.
 #[derive(Clone, Copy, Debug, PartialEq, Eq)]
 pub enum Got {
-    /// So many bytes, at least one, at the front of the room.
+    /// So many bytes, at least one, at the start of the room.
     Bytes(usize),
     /// No byte is left.
     End,
@@ -26,7 +26,7 @@ pub trait Source {
     /// how often it has failed.
     ghost state: { Self → SourceView };
 
-    /// Reads the next bytes into the front of `into`, which must have room for one.
+    /// Reads the next bytes into the start of `into`, which must have room for one.
     ///
     /// The end comes only where no byte is left. A fault takes no byte, and the count of faults
     /// rises with it. After either the source can be read again.

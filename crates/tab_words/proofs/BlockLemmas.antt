@@ -6,7 +6,7 @@ use Rattle.tab_io.specs.declared.sink.WriteFault.{WriteFault}
 use Rattle.tab_io.proofs.SinkLemmas.{left_behind, left_broken, left_last, writes_more}
 use Rattle.tab_words.specs.Blocks.{PutsBehind}
 
--- one more line came behind the gathered ones
+-- one more line came after the gathered ones
 pub left_gathered : (s t v : SinkView) (text gathered line rest behind : List ℕ) (r : Result (Unit {0}) WriteFault)
     (u : Unit {0})
     → IsLeft s t text (gathered ++ (line ++ rest)) → PutsBehind t v gathered behind line r → r ≡ Ok u
@@ -18,7 +18,7 @@ left_gathered s t v text gathered line rest behind r u is put done =
     (sym (append_assoc gathered line rest) ∙ (ap (λ l. l ++ rest) more.whole
     ∙ append_assoc more.front behind rest)) more.written refl
 
--- where that fails, a front of the row's text is out
+-- where that fails, a prefix of the row's text is out
 pub left_torn : (s t v : SinkView) (text gathered line rest behind : List ℕ) (r : Result (Unit {0}) WriteFault)
     (e : WriteFault)
     → IsLeft s t text (gathered ++ (line ++ rest)) → PutsBehind t v gathered behind line r → r ≡ Err e
@@ -29,7 +29,7 @@ left_torn s t v text gathered line rest behind r e is put failed =
     left_broken s t v text (gathered ++ (line ++ rest)) (gathered ++ line) rest (Err e) e is
     (sym (append_assoc gathered line rest)) torn refl
 
--- the gathered lines are written, and the line behind them
+-- the gathered lines are written, and the line after them
 pub put_at_once : (s t v : SinkView) (before line behind : List ℕ) (q r : Result (Unit {0}) WriteFault)
     (u : Unit {0})
     → Writes s t before q → q ≡ Ok u → Writes t v line r → behind ≡ [] → PutsBehind s v before behind line r

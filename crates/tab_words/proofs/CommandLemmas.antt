@@ -19,7 +19,7 @@ use Rattle.tab_words.proofs.NumberLemmas.{spelled_once}
 
 -- ---- any grammar
 
--- a front of words that begin a command begins it too
+-- a prefix of words that begin a command begins it too
 begun_front : (front back : List (List ℕ)) → IsBegun (front ++ back) → IsBegun front
 begun_front front back begun = record {
   command = begun.command;
@@ -27,7 +27,7 @@ begun_front front back begun = record {
   whole = subst (λ ws. IsCommand ws begun.command) (append_assoc front back begun.rest) begun.whole;
 }
 
--- each front of a command begins it
+-- each prefix of a command begins it
 begun_by_command : (words : List (List ℕ)) (command : Command) (n : ℕ) → IsCommand words command
     → IsBegun (take n words)
 begun_by_command words command n is = record {
@@ -46,11 +46,11 @@ no_fault words command place is fault =
           ends.1 command is
     ]
 
--- a fault stands at a word, or behind the last
+-- a fault is at a word, or after the last
 fault_within : (words : List (List ℕ)) (place : ℕ) → IsFaultAt words place → place ≤ length words
 fault_within words place fault = elim fault.fault [ inl stops ↦ omega arith | inr ends ↦ omega arith ]
 
--- no fault stands behind another: the words up to the later one begin a command
+-- no fault is after another: the words up to the later one begin a command
 not_before : (words : List (List ℕ)) (place later : ℕ) → IsFaultAt words place → IsFaultAt words later
     → place < later → ⊥
 not_before words place later fault other less =
@@ -66,14 +66,14 @@ not_before words place later fault other less =
       | inr ends ↦ absurd (omega arith)
     ]
 
--- so words have one fault at most
+-- words have one fault at most
 pub one_place : (words : List (List ℕ)) (a b : ℕ) → IsFaultAt words a → IsFaultAt words b → a ≡ b
 one_place words a b fault other =
     let no_less = not_before words a b fault other in
     let no_more = not_before words b a other fault in
     grind arith
 
--- no command goes on with this word behind these
+-- no command goes on with this word after these
 abbrev GoesNotOn : List (List ℕ) → List ℕ → Type 0
 GoesNotOn front word = (command : Command) (rest : List (List ℕ)) → IsCommand (front ++ word ∷ rest) command → ⊥
 
@@ -104,7 +104,8 @@ abbrev GoesOnWithNumber : List (List ℕ) → ℕ → ℕ → Type 0
 GoesOnWithNumber front least most = (command : Command) (rest : List (List ℕ))
     → IsCommand (front ++ rest) command → BeginsWithNumber least most rest
 
--- so where no such number follows, the fault is there
+-- where no number in the range follows words that only such a number goes on from, the fault is
+-- there
 fault_at_number : (front words : List (List ℕ)) (least most : ℕ) → IsBegun front
     → GoesOnWithNumber front least most → (BeginsWithNumber least most words → ⊥)
     → IsFaultAt (front ++ words) (length front)
@@ -128,7 +129,7 @@ pub begins_nothing : (least most : ℕ) (words : List (List ℕ)) → words ≡ 
     → BeginsWithNumber least most words → ⊥
 begins_nothing least most words none begins = omega (arith, ap length (sym begins.digits ∙ none))
 
--- nor do words of which the first spells none
+-- words of which the first spells no number begin with none
 pub begins_none : (least most : ℕ) (words : List (List ℕ)) (word : List ℕ) (rest : List (List ℕ))
     → words ≡ word ∷ rest → most < 2 ^ 64 → ((n : ℕ) → Spells word n → ⊥) → BeginsWithNumber least most words → ⊥
 begins_none least most words word rest is fits none begins =
@@ -182,7 +183,7 @@ name_of (Selftest seed) = codes "selftest"
 name_of Help = codes "--help"
 name_of Version = codes "--version"
 
--- and those behind it
+-- the words after a command's name
 abbrev arguments_of : Command → List (List ℕ)
 arguments_of Plan = []
 arguments_of PlanWhole = codes "whole" ∷ []
@@ -285,7 +286,7 @@ pub command_due : (words : List (List ℕ)) (r : Result Command Usage) → IsRea
 command_due words (Ok read) reading command is = ap Ok (same_command words read command reading is)
 command_due words (Err usage) reading command is = absurd (no_fault words command usage.place is reading)
 
--- the same for a fault
+-- a fault is due where the words have it
 pub fault_due : (words : List (List ℕ)) (r : Result Command Usage) → IsReading words r → (place : ℕ)
     → IsFaultAt words place → r ≡ Err (record { place = place })
 fault_due words (Ok read) reading place fault = absurd (no_fault words read place reading fault)
@@ -298,7 +299,7 @@ fault_due words (Err usage) reading place fault =
 nothing : IsNoCommand []
 nothing command is = omega (arith, ap length (named [] command is))
 
--- so their fault is at the word that is wanting
+-- the fault of no words is at the word that is missing
 pub fault_of_none : IsFaultAt [] 0
 fault_of_none = record {
   before = record { command = Plan; rest = codes "plan" ∷ []; whole = refl };
@@ -329,7 +330,7 @@ unknown name rest other (Selftest seed) is = absurd (other.no_selftest (cc is.0)
 unknown name rest other Help is = absurd (other.no_help cc)
 unknown name rest other Version is = absurd (other.no_version cc)
 
--- so the fault is at that name
+-- the fault of a name that no command has is at that name
 pub fault_of_name : (name : List ℕ) (rest : List (List ℕ)) → IsUnknown name → IsFaultAt (name ∷ rest) 0
 fault_of_name name rest other = record {
   before = record { command = Plan; rest = codes "plan" ∷ []; whole = refl };
@@ -349,7 +350,7 @@ reading_check rest r reads = reading_end (codes "check" ∷ []) Check rest r ref
   after word Check more is = omega (arith, ap length is)
   after word command more is = other_word (word ∷ more) (arguments_of command) refl (named _ command is)
 
--- so does that of `--help`
+-- the reader of `--help` answers by the grammar
 pub reading_help : (rest : List (String Global)) (r : Result Command Usage) → ReadsEnd Help 1 rest r
     → IsReading (codes "--help" ∷ texts rest) r
 reading_help rest r reads = reading_end (codes "--help" ∷ []) Help rest r refl after reads where
@@ -357,7 +358,7 @@ reading_help rest r reads = reading_end (codes "--help" ∷ []) Help rest r refl
   after word Help more is = omega (arith, ap length is)
   after word command more is = other_word (word ∷ more) (arguments_of command) refl (named _ command is)
 
--- so does that of `--version`
+-- the reader of `--version` answers by the grammar
 pub reading_version : (rest : List (String Global)) (r : Result Command Usage) → ReadsEnd Version 1 rest r
     → IsReading (codes "--version" ∷ texts rest) r
 reading_version rest r reads = reading_end (codes "--version" ∷ []) Version rest r refl after reads where
@@ -367,7 +368,7 @@ reading_version rest r reads = reading_end (codes "--version" ∷ []) Version re
 
 -- ---- `plan`, `plan whole` and `plan stay`
 
--- a plan of any kind has one word at most behind its name
+-- a plan of any kind has one word at most after its name
 plan_is_short : (rest : List (List ℕ)) (command : Command) → IsCommand (codes "plan" ∷ rest) command
     → length rest ≤ 1
 plan_is_short rest Plan is = omega (arith, ap length is)
@@ -375,7 +376,7 @@ plan_is_short rest PlanWhole is = omega (arith, ap length is)
 plan_is_short rest PlanStay is = omega (arith, ap length is)
 plan_is_short rest command is = absurd (other_word rest (arguments_of command) refl (named _ command is))
 
--- and that is its kind
+-- a word after `plan` that is no kind of plan begins no command
 no_other_kind : (word : List ℕ) (more : List (List ℕ)) → word ≢ codes "whole" → word ≢ codes "stay"
     → (command : Command) → IsCommand (codes "plan" ∷ word ∷ more) command → ⊥
 no_other_kind word more no_whole no_stay Plan is = omega (arith, ap length is)
@@ -384,7 +385,7 @@ no_other_kind word more no_whole no_stay PlanStay is = no_stay cc
 no_other_kind word more no_whole no_stay command is =
     other_word (word ∷ more) (arguments_of command) refl (named _ command is)
 
--- another word behind `plan`
+-- another word after `plan`
 pub fault_of_plan : (word : List ℕ) (rest : List (List ℕ)) → word ≢ codes "whole" → word ≢ codes "stay"
     → IsFaultAt (codes "plan" ∷ word ∷ rest) 1
 fault_of_plan word rest no_whole no_stay =
@@ -401,7 +402,7 @@ pub reading_whole : (rest : List (String Global)) (r : Result Command Usage) →
 reading_whole rest r reads =
     reading_end (codes "plan" ∷ codes "whole" ∷ []) PlanWhole rest r refl (kind_ends (codes "whole")) reads
 
--- so does that of `plan stay`
+-- the reader of `plan stay` answers by the grammar
 pub reading_stay : (rest : List (String Global)) (r : Result Command Usage) → ReadsEnd PlanStay 2 rest r
     → IsReading (codes "plan" ∷ codes "stay" ∷ texts rest) r
 reading_stay rest r reads =
@@ -438,7 +439,7 @@ fault_of_replay words none =
       few = replay.count.1;
     }) none
 
--- the reader of the words behind the count answers by the grammar
+-- the reader of the words after the count answers by the grammar
 pub reading_replay : (rounds : ℕ) (rest : List (String Global)) (r : Result Command Usage)
     → IsRoundCount rounds → ReadsEnd (Replay rounds) 2 rest r
     → IsReading (codes "replay" ∷ decimal rounds ∷ texts rest) r
@@ -484,7 +485,7 @@ pub reading_run : (rounds : ℕ) → IsRoundCount rounds
     → IsCommand (codes "run" ∷ decimal rounds ∷ []) (Run rounds Report)
 reading_run rounds count = (refl, count)
 
--- at most one word stands behind the count
+-- at most one word is after the count
 one_word : (mode : RunMode) (word : List ℕ) (more : List (List ℕ)) → word ∷ more ≡ mode_words mode
     → (mode_words mode ≡ word ∷ []) × (more ≡ [])
 one_word Report word more is = absurd (omega (arith, ap length is))
@@ -492,7 +493,7 @@ one_word Trace word more is = (cc, cc)
 one_word Burst word more is = (cc, cc)
 one_word Live word more is = (cc, cc)
 
--- another word behind the count
+-- another word after the count
 pub fault_of_mode : (rounds : ℕ) (word : List ℕ) (rest : List (List ℕ)) → IsRoundCount rounds
     → ((mode : RunMode) → mode_words mode ≡ word ∷ [] → ⊥)
     → IsFaultAt (codes "run" ∷ decimal rounds ∷ word ∷ rest) 2
@@ -503,7 +504,7 @@ fault_of_mode rounds word rest count other =
     let run = only_run (decimal rounds ∷ word ∷ more) command is in
     other run.mode (one_word run.mode word more (cc run.words)).0)
 
--- the reader of the words behind that for what is written answers by the grammar
+-- the reader of the words after that for what is written answers by the grammar
 pub reading_mode : (rounds : ℕ) (mode : RunMode) (word : List ℕ) (rest : List (String Global)) (r : Result Command Usage)
     → IsRoundCount rounds → mode_words mode ≡ word ∷ [] → ReadsEnd (Run rounds mode) 3 rest r
     → IsReading (codes "run" ∷ decimal rounds ∷ word ∷ texts rest) r
@@ -608,7 +609,7 @@ fault_of_vcpus seed cores words fits some few none =
       few = omega (arith, gen.fits.few_vcpus, gen.fits.roomy, same);
     }) none
 
--- the reader of the words behind the three numbers answers by the grammar
+-- the reader of the words after the three numbers answers by the grammar
 pub reading_gen : (seed cores vcpus : ℕ) (rest : List (String Global)) (r : Result Command Usage)
     → IsGenerable seed cores vcpus → ReadsEnd (Gen seed cores vcpus) 4 rest r
     → IsReading (codes "gen" ∷ decimal seed ∷ decimal cores ∷ decimal vcpus ∷ texts rest) r
@@ -649,7 +650,7 @@ fault_of_selftest words none =
       few = omega (arith, test.fits);
     }) none
 
--- the reader of the words behind the seed answers by the grammar
+-- the reader of the words after the seed answers by the grammar
 pub reading_selftest : (seed : ℕ) (rest : List (String Global)) (r : Result Command Usage) → seed < 2 ^ 64
     → ReadsEnd (Selftest seed) 2 rest r → IsReading (codes "selftest" ∷ decimal seed ∷ texts rest) r
 reading_selftest seed rest r fits reads =

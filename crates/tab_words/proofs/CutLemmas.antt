@@ -10,14 +10,14 @@ cut bytes at byte low is =
     sym (take-append-drop at bytes)
     ∙ ap (λ rest. take at bytes ++ rest) (drop-cons bytes at 0 low ∙ ap (λ b. b ∷ drop (suc at) bytes) is)
 
--- what no byte is before a place, no byte of the front up to it is
+-- what no byte is before a place, no byte of the prefix up to it is
 pub front_lacks : (bytes : List ℕ) (at byte : ℕ) → at ≤ length bytes
     → ((k : ℕ) → k < at → get_or bytes k 0 ≢ byte) → All (λ b. b ≢ byte) (take at bytes)
 front_lacks bytes at byte within before k d low is =
     let small : k < at = omega (arith, length-take at bytes) in
     before k small (get_or_default bytes k 0 d (omega arith) ∙ sym (get_or-take at bytes k d small) ∙ is)
 
--- the same for a text in which the byte was searched and not found
+-- no byte of a text in which a byte was searched and not found is that byte
 pub lacks : (bytes : List ℕ) (byte : ℕ) → ((k : ℕ) → k < length bytes → get_or bytes k 0 ≢ byte)
     → All (λ b. b ≢ byte) bytes
 lacks bytes byte none k d low is = none k low (get_or_default bytes k 0 d low ∙ is)

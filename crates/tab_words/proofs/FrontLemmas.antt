@@ -31,7 +31,8 @@ joined byte first row rows other plain =
     ∙ sym (behind-behind (byte ∷ []) (first ∷ row) (map concat parts))
     ∙ sym (ap (behind (byte ∷ [])) (map_concat-onto_first (first ∷ row) parts)))
 
--- the same where the lines behind are given by their first byte and what follows that
+-- a byte that joins a line, where the lines after it are given by their first byte and what follows
+-- that
 joined_onto : (byte first : ℕ) (rows : List (List ℕ)) → byte ≢ 37 → first ≢ 37
     → map concat (slice_split is_separator (onto_first byte (onto_first first rows)))
     ≡ behind (byte ∷ []) (map concat (slice_split is_separator (onto_first first rows)))
@@ -72,7 +73,7 @@ plain_byte byte [] false is other plain =
 plain_byte byte (first ∷ more) false is other plain =
     plain_next byte first more (eqb-false byte 10 is) other plain
 
--- a front without `%` belongs to the first section, where no `%` follows it
+-- a prefix without `%` belongs to the first section, where no `%` follows it
 plain_front : (front rest : List ℕ) → All (λ byte. byte ≢ 37) front → (0 < length front → get_or rest 0 0 ≢ 37)
     → sections_of (front ++ rest) ≡ behind front (sections_of rest)
 plain_front [] rest all follows = sections_of-behind rest
@@ -84,7 +85,7 @@ plain_front (byte ∷ next ∷ front) rest all follows =
     (λ some. follows (omega arith)))
     ∙ behind-behind (byte ∷ []) (next ∷ front) (sections_of rest)
 
--- the same of the front up to a place
+-- the prefix up to a place belongs to the first section, where it has no `%` and none follows it
 plain_take : (bytes : List ℕ) (n : ℕ) → n ≤ length bytes → ((k : ℕ) → k < n → get_or bytes k 0 ≢ 37)
     → (0 < n → get_or (drop n bytes) 0 0 ≢ 37)
     → sections_of bytes ≡ behind (take n bytes) (sections_of (drop n bytes))
@@ -109,7 +110,7 @@ plain_before bytes place first =
     plain_take bytes (place - 1) (omega (arith, first.high)) (λ k low. none k (omega (arith, low)))
     (λ some. rw (drop-cons bytes (place - 1) 0 (omega (arith, first.high))) (none (place - 1) (omega (arith, some))))
 
--- the loop goes on behind a line, and behind the plain bytes that follow it
+-- the loop goes on after a line, and after the plain bytes that follow it
 pub section_skip : (all bytes row rest : List ℕ) (at more : ℕ) → bytes ≡ drop at all → bytes ≡ row ++ rest
     → sections_of all ≡ behind (take (at + length row) all) (sections_of (drop (at + length row) all))
     → sections_of rest ≡ behind (take more rest) (sections_of (drop more rest))

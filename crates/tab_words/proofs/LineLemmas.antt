@@ -22,7 +22,7 @@ pub raw_lines_of-feed : (byte : ℕ) (bytes : List ℕ) → byte ≡ 10
 unfolding raw_lines_of
 raw_lines_of-feed byte bytes is = rw is refl
 
--- another byte belongs to the line behind it: their step elsewhere
+-- another byte belongs to the line after it: their step elsewhere
 raw_lines_of-byte : (byte : ℕ) (bytes : List ℕ) → byte ≢ 10
     → raw_lines_of (byte ∷ bytes) ≡ onto_first byte (raw_lines_of bytes)
 unfolding raw_lines_of
@@ -72,7 +72,7 @@ without_feed-feed [] = refl
 without_feed-feed (byte ∷ []) = refl
 without_feed-feed (byte ∷ next ∷ line) = ap (λ l. byte ∷ l) (without_feed-feed (next ∷ line))
 
--- where none stands there, all bytes stay
+-- where none is there, all bytes stay
 pub without_feed-other : (line : List ℕ) → ((front : List ℕ) → line ≢ front ++ 10 ∷ [])
     → without_feed line ≡ line
 unfolding without_feed
@@ -133,7 +133,7 @@ length-onto_first : (byte : ℕ) (lines : List (List ℕ)) → length (onto_firs
 length-onto_first byte [] = omega arith
 length-onto_first byte (line ∷ lines) = omega arith
 
--- the same with their line feeds
+-- lines with their line feeds are no more than the bytes
 pub length-raw_lines_of : (bytes : List ℕ) → length (raw_lines_of bytes) ≤ length bytes
 unfolding raw_lines_of
 length-raw_lines_of [] = omega arith

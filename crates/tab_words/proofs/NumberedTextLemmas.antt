@@ -12,17 +12,17 @@ pub texts_below-zero : (text : ℕ → List ℕ) → texts_below text 0 ≡ []
 unfolding texts_below
 texts_below-zero text = refl
 
--- the text behind those below a number is that of the number
+-- the text after those below a number is that of the number
 pub texts_below-suc : (text : ℕ → List ℕ) (n : ℕ) → texts_below text (suc n) ≡ texts_below text n ++ text n
 unfolding texts_below
 texts_below-suc text n = refl
 
--- the same as loops count: by one more
+-- the text after those below a number is that of the number, as loops count: by one more
 texts_below-more : (text : ℕ → List ℕ) (n : ℕ) → texts_below text (n + 1) ≡ texts_below text n ++ text n
 unfolding texts_below
 texts_below-more text n = ap (texts_below text) (add-one n)
 
--- the first text, and those behind it
+-- the first text, and those after it
 pub texts_below-shift : (text : ℕ → List ℕ) (n : ℕ)
     → texts_below text (suc n) ≡ text 0 ++ texts_below (λ k. text (suc k)) n
 unfolding texts_below
@@ -59,7 +59,7 @@ texts_from text n (suc k) =
           ∙ ap (λ rest. texts_below text n ++ rest) (append_assoc (text n) before.0 (text (suc n + k))))),
     )
 
--- where one fails, a front of all is out
+-- where one fails, a prefix of all is out
 pub next_broken : (s t v : SinkView) (text : ℕ → List ℕ) (n m : ℕ) (u : Unit {0})
     (r : Result (Unit {0}) WriteFault) (e : WriteFault)
     → n < m → Writes s t (texts_below text n) (Ok u) → Writes t v (text n) r → r ≡ Err e

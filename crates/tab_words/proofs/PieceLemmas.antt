@@ -7,7 +7,7 @@ use Rattle.tab_io.specs.Sinks.{Writes}
 use Rattle.tab_io.specs.declared.sink.WriteFault.{WriteFault}
 use Rattle.tab_io.proofs.SinkLemmas.{writes_more, writes_broken}
 
--- the pieces so far and the next one are the pieces so far behind it
+-- the pieces so far and the next one are the pieces so far after it
 pub front_more : {X : Type 0} (f : X → List ℕ) (xs : List X) (i : ℕ) (d : X) → i < length xs
     → flat_map f (take (i + 1) xs) ≡ flat_map f (take i xs) ++ f (get_or xs i d)
 front_more f xs i d low =

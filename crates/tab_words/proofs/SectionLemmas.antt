@@ -31,7 +31,7 @@ unfolding sections_of
 sections_of-separator bytes row rest rows is =
     ap (λ rs. map concat (slice_split is_separator rs)) rows ∙ rw is refl
 
--- another line belongs to the section behind it
+-- another line belongs to the section after it
 pub sections_of-row : (bytes row rest : List ℕ) → raw_lines_of bytes ≡ row ∷ raw_lines_of rest
     → is_separator row ≡ false → sections_of bytes ≡ behind row (sections_of rest)
 unfolding sections_of

@@ -37,7 +37,7 @@ lacks_space word all k d low is =
     let plain = AllPass-from_list_all is_plain word all k d low in
     let no : is_plain 32 ≡ true = ap is_plain (sym is) ∙ plain in absurd (cc)
 
--- nor has it a line feed
+-- a word has no line feed
 lacks_line_feed : (word : List ℕ) → list_all is_plain word ≡ true → All (λ byte. byte ≢ 10) word
 lacks_line_feed word all k d low is =
     let plain = AllPass-from_list_all is_plain word all k d low in
@@ -57,7 +57,7 @@ words_joined word (next ∷ words) all =
     (lacks_space word is.1)
     ∙ ap (λ ws. word ∷ ws) (words_joined next words parts.1)
 
--- what holds of a byte and of those behind it holds of all
+-- what holds of a byte and of those after it holds of all
 all_first : (P : ℕ → Type 0) (x : ℕ) (xs : List ℕ) → P x → All P xs → (k d : ℕ) → k < length (x ∷ xs)
     → P (get_or (x ∷ xs) k d)
 all_first P x xs here more zero d low = here
@@ -109,7 +109,7 @@ plain_digit byte low =
     absurd (let big : digit_value 10 < 10 = subst (λ b. digit_value b < 10) same low in omega (arith, big)) in
     grind (arith, nat_tests)
 
--- nor do digits in a row
+-- digits in a row part nothing
 plain_digits : (bytes : List ℕ) → AllDigits 10 bytes → list_all is_plain bytes ≡ true
 plain_digits [] all = refl
 plain_digits (byte ∷ bytes) all = rw (plain_digit byte all.0) (plain_digits bytes all.1)
@@ -123,13 +123,13 @@ decimal_word n low =
 
 -- ---- a line as its writer writes it
 
--- the writer writes the first word, and then each further one behind a space
+-- the writer writes the first word, and then each further one after a space
 joined_spaced : (word : TextPiece) (words : List TextPiece)
     → join_with_byte 32 (map piece_text (word ∷ words)) ≡ piece_text word ++ flat_map spaced words
 joined_spaced word [] = sym (append-nil (piece_text word))
 joined_spaced word (next ∷ words) = ap (λ rest. piece_text word ++ 32 ∷ rest) (joined_spaced next words)
 
--- and then the line feed
+-- the writer ends the words with the line feed
 pub line_spaced : (word : TextPiece) (words : List TextPiece)
     → line_of (map piece_text (word ∷ words)) ≡ piece_text word ++ (flat_map spaced words ++ codes "\n")
 unfolding line_of

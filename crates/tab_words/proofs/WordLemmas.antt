@@ -60,7 +60,7 @@ pub one_word : (line : List ℕ) → 0 < length line → ((k : ℕ) → k < leng
 one_word line some none =
     words_of-last line some (lacks line 32 none) ∙ ap (λ r. line ∷ r) (sym words_of-nil)
 
--- spaces at the front part no words
+-- spaces at the start part no words
 pub words_after_spaces : (line : List ℕ) (start : ℕ) → start ≤ length line
     → ((k : ℕ) → k < start → get_or line k 0 ≡ 32) → words_of (drop start line) ≡ words_of line
 words_after_spaces [] zero low before = refl

@@ -4,7 +4,7 @@ use Rattle.tab_io.specs.Sinks.{IsLeft, Writes}
 use Rattle.tab_io.specs.Views.{SinkView}
 use Rattle.tab_io.specs.declared.sink.WriteFault.{WriteFault}
 
--- a line came behind the gathered ones, of which a front may have been written, or the sink failed
+-- a line came after the gathered ones, of which a prefix may have been written, or the sink failed
 -- within these and the line
 abbrev pub PutsBehind : SinkView → SinkView → List ℕ → List ℕ → List ℕ → Result (Unit {0}) WriteFault → Type 0
 PutsBehind old new before behind line result = MatchResult result

@@ -23,7 +23,7 @@ pub record IsGenerable (seed cores vcpus : ℕ) : Type 0 where
   pub few_vcpus : vcpus ≤ MAX_VCPUS
   pub roomy : vcpus ≤ 99 * cores + 1
 
--- the words behind a count of rounds
+-- the words after a count of rounds
 abbrev pub mode_words : RunMode → List (List ℕ)
 mode_words Report = []
 mode_words Trace = codes "trace" ∷ []

@@ -3,7 +3,7 @@
 use Rattle.std.specs.Prelude.{ℕ, List, [], ◌∷◌, ◌==◌, if◌then◌else◌, map}
 use Rattle.std.specs.List.{onto_first}
 
--- the lines, each with the line feed that ends it, which the last one may lack
+-- the lines, each with the line feed that ends it, which the last one need not have
 unfoldable pub raw_lines_of : List ℕ → List (List ℕ)
 raw_lines_of [] = []
 raw_lines_of (byte ∷ bytes) =

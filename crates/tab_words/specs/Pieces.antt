@@ -9,6 +9,6 @@ piece_text (Text bytes) = bytes.now
 piece_text (Number n) = decimal n
 piece_text (Wide n) = decimal n
 
--- a piece behind a space
+-- a piece after a space
 abbrev pub spaced : TextPiece → List ℕ
 spaced word = 32 ∷ piece_text word

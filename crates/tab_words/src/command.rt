@@ -110,7 +110,7 @@ fn read_end(command: Command, rest: &[String], place: u32) -> Result<Command, Us
     }
 }
 
-// The number from `least` to `most` that the first word spells, and the words behind it.
+// The number from `least` to `most` that the first word spells, and the words after it.
 fn read_first(words: &[String], least: u64, most: u64) -> Option<(u64, &[String])>
     ensures some { IfSome result (λ read. (texts words.now ≡ decimal read.0 ∷ texts read.1.now)
         × (least ≤ read.0) × (read.0 ≤ most)) }
@@ -129,7 +129,7 @@ fn read_first(words: &[String], least: u64, most: u64) -> Option<(u64, &[String]
     }
 }
 
-// What stands behind `plan`: nothing, `whole` or `stay`.
+// What is after `plan`: nothing, `whole` or `stay`.
 fn read_plan(rest: &[String]) -> Result<Command, Usage>
     ensures { IsReading (codes "plan" ∷ texts rest.now) result }
 {
@@ -143,7 +143,7 @@ fn read_plan(rest: &[String]) -> Result<Command, Usage>
     }
 }
 
-// The count of rounds behind `replay`, after which nothing stands.
+// The count of rounds after `replay`, after which nothing follows.
 fn read_replay(rest: &[String]) -> Result<Command, Usage>
     ensures { IsReading (codes "replay" ∷ texts rest.now) result }
 {
@@ -154,7 +154,7 @@ fn read_replay(rest: &[String]) -> Result<Command, Usage>
     read_end(Command::Replay { rounds }, more, 2)
 }
 
-// The count of rounds behind `run`, after which nothing or a word for what is written stands.
+// The count of rounds after `run`, which is followed by nothing, or by a word for what is written.
 fn read_run(rest: &[String]) -> Result<Command, Usage>
     ensures { IsReading (codes "run" ∷ texts rest.now) result }
 {
@@ -174,7 +174,7 @@ fn read_run(rest: &[String]) -> Result<Command, Usage>
     }
 }
 
-// What the word behind the count of rounds asks for.
+// What the word after the count of rounds asks for.
 fn mode_of(word: &str) -> Option<RunMode>
     ensures { IsModeOf word.now result }
 {
@@ -186,7 +186,7 @@ fn mode_of(word: &str) -> Option<RunMode>
     }
 }
 
-// The three numbers behind `gen`, after which nothing stands.
+// The three numbers after `gen`, after which nothing follows.
 fn read_gen(rest: &[String]) -> Result<Command, Usage>
     ensures { IsReading (codes "gen" ∷ texts rest.now) result }
 {
@@ -204,7 +204,7 @@ fn read_gen(rest: &[String]) -> Result<Command, Usage>
     read_end(Command::Gen { seed, cores, vcpus }, more, 4)
 }
 
-// The seed behind `selftest`, after which nothing stands.
+// The seed after `selftest`, after which nothing follows.
 fn read_selftest(rest: &[String]) -> Result<Command, Usage>
     ensures { IsReading (codes "selftest" ∷ texts rest.now) result }
 {

@@ -73,7 +73,8 @@ pub(crate) fn first_line(bytes: &[u8]) -> (&[u8], &[u8])
     }
 }
 
-// The same, where the line is likely to be long: the line feed is sought in many bytes at a time.
+// The first line with the line feed that ends it, and what follows, where the line is likely to be
+// long: the line feed is sought in many bytes at a time.
 fn long_line(bytes: &[u8]) -> (&[u8], &[u8])
     requires { 0 < length bytes.now }
     ensures lines { raw_lines_of bytes.now ≡ result.0.now ∷ raw_lines_of result.1.now }

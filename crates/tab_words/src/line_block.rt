@@ -38,10 +38,10 @@ impl<const N: usize> LineBlock<N> {
         }
     }
 
-    /// Puts a line of these words behind those in the block: one space between each two, and a line
+    /// Puts a line of these words after those in the block: one space between each two, and a line
     /// feed. Where it has no room there, all are written, and the block is left empty.
     ///
-    /// A fault leaves a front of the lines in the sink. Nothing is settled.
+    /// A fault leaves a prefix of the lines in the sink. Nothing is settled.
     pub fn put_line<K: Sink>(
         &mut self,
         sink: &mut K,
@@ -60,7 +60,7 @@ impl<const N: usize> LineBlock<N> {
 
     /// Writes the lines in the block.
     ///
-    /// A fault leaves a front of the lines in the sink. Nothing is settled.
+    /// A fault leaves a prefix of the lines in the sink. Nothing is settled.
     pub fn write<K: Sink>(&self, sink: &mut K) -> Result<(), WriteFault>
         ensures { Writes (K.state sink.old) (K.state sink.new) self.now result }
     {
@@ -70,7 +70,7 @@ impl<const N: usize> LineBlock<N> {
 
 /// Writes a line of these words: one space between each two, and a line feed.
 ///
-/// A line of up to 128 bytes is written at once. A fault leaves a front of the line in the sink.
+/// A line of up to 128 bytes is written at once. A fault leaves a prefix of the line in the sink.
 /// Nothing is settled.
 pub fn put_line<K: Sink>(sink: &mut K, words: &[TextPiece<'_>]) -> Result<(), WriteFault>
     ensures { Writes (K.state sink.old) (K.state sink.new) (line_of (map piece_text words.now)) result }
@@ -96,7 +96,7 @@ fn append<const N: usize>(
     appended
 }
 
-// Appends the line, or a front of it where there is no room.
+// Appends the line, or a prefix of it where there is no room.
 fn gather<const N: usize>(
     bytes: &mut ArrayVec<u8, N>,
     words: &[TextPiece<'_>],
@@ -112,7 +112,7 @@ fn gather<const N: usize>(
     gather_byte(bytes, b'\n')
 }
 
-// Appends the words, each behind a space, or a front of that where there is no room.
+// Appends the words, each after a space, or a prefix of that where there is no room.
 fn gather_spaced<const N: usize>(
     bytes: &mut ArrayVec<u8, N>,
     words: &[TextPiece<'_>],
@@ -194,7 +194,7 @@ fn put_words<K: Sink>(sink: &mut K, words: &[TextPiece<'_>]) -> Result<(), Write
     write_all(sink, b"\n")
 }
 
-// Writes the words, each behind a space.
+// Writes the words, each after a space.
 fn put_spaced<K: Sink>(sink: &mut K, words: &[TextPiece<'_>]) -> Result<(), WriteFault>
     ensures { Writes (K.state sink.old) (K.state sink.new) (flat_map spaced words.now) result }
 {

@@ -85,7 +85,7 @@ fn first_section(bytes: &[u8]) -> (&[u8], Option<&[u8]>)
     (bytes, None)
 }
 
-// How many bytes at the front begin no separator: all but the byte before the first `%`, and what
+// How many bytes at the start begin no separator: all but the byte before the first `%`, and what
 // follows. They belong to the first section.
 fn plain_length(bytes: &[u8]) -> usize
     ensures within { result ≤ length bytes.now }

@@ -12,13 +12,13 @@ pub enum TextPiece<'a> {
     Text(&'a [u8]),
     /// The number's decimal digits.
     Number(u32),
-    /// The same of a wide number.
+    /// The decimal digits of a wide number.
     Wide(u64),
 }
 
 /// Writes the pieces, one after the other, with nothing between them.
 ///
-/// A fault leaves a front of the text in the sink. Nothing is settled.
+/// A fault leaves a prefix of the text in the sink. Nothing is settled.
 pub fn put_pieces<K: Sink>(sink: &mut K, pieces: &[TextPiece<'_>]) -> Result<(), WriteFault>
     ensures { Writes (K.state sink.old) (K.state sink.new) (flat_map piece_text pieces.now) result }
 {
@@ -40,7 +40,7 @@ pub(crate) fn put_piece<K: Sink>(sink: &mut K, piece: &TextPiece<'_>) -> Result<
 
 /// Writes a number between two texts.
 ///
-/// A fault leaves a front of the three in the sink. Nothing is settled.
+/// A fault leaves a prefix of the three in the sink. Nothing is settled.
 pub fn put_numbered<'a, K: Sink>(
     sink: &mut K,
     before: &'a [u8],
@@ -62,7 +62,7 @@ pub fn put_numbered<'a, K: Sink>(
 
 /// Writes the number's decimal digits: no sign, and no leading zero but in `0` itself.
 ///
-/// A fault leaves a front of the digits in the sink. Nothing is settled.
+/// A fault leaves a prefix of the digits in the sink. Nothing is settled.
 pub fn put_number<K: Sink>(sink: &mut K, n: u64) -> Result<(), WriteFault>
     ensures { Writes (K.state sink.old) (K.state sink.new) (decimal n) result }
 {

@@ -8,7 +8,7 @@ pub width_below-zero : (names : List (List ℕ)) → width_below names 0 ≡ 4
 unfolding width_below
 width_below-zero names = refl
 
--- and with one more
+-- the width with one more name
 pub width_below-more : (names : List (List ℕ)) (v : ℕ)
     → width_below names (v + 1) ≡ max (width_below names v) (length (name_at names v))
 unfolding width_below

@@ -18,7 +18,7 @@ right width text = spaces (width - length text) ++ text
 unfoldable pub count_cell : ℕ → ℕ → List ℕ
 count_cell width n = right width (decimal n)
 
--- a number below 1000 as three digits behind a point, and one below 10000 as four
+-- a number below 1000 as three digits after a point, and one below 10000 as four
 unfoldable pub three_behind : ℕ → List ℕ
 three_behind n = codes "." ++ (decimal (n / 100) ++ (decimal (n / 10 % 10) ++ decimal (n % 10)))
 
@@ -26,12 +26,12 @@ unfoldable pub four_behind : ℕ → List ℕ
 four_behind n = codes "." ++ (decimal (n / 1000) ++ (decimal (n / 100 % 10)
     ++ (decimal (n / 10 % 10) ++ decimal (n % 10))))
 
--- parts per million as percent with four digits behind the point, which is exact; the width is that of
--- what stands before it
+-- parts per million as percent with four digits after the point, which is exact; the width is that of
+-- what is before it
 unfoldable pub percent_cell : ℕ → ℕ → List ℕ
 percent_cell width ppm = count_cell width (ppm / 10000) ++ four_behind (ppm % 10000)
 
--- nanoseconds as milliseconds with three digits behind the point, rounded down
+-- nanoseconds as milliseconds with three digits after the point, rounded down
 unfoldable pub millis_cell : ℕ → ℕ → List ℕ
 millis_cell width ns = count_cell width (ns / 1000000) ++ three_behind (ns / 1000 % 1000)
 

@@ -18,9 +18,9 @@ pub enum Cell<'a> {
     Right(usize, &'a [u8]),
     /// A whole number.
     Count(usize, u64),
-    /// Parts per million as percent with four digits; the width is that of what stands before the point.
+    /// Parts per million as percent with four digits; the width is that of what is before the point.
     Percent(usize, u64),
-    /// Nanoseconds as milliseconds with three digits, rounded down; the width is that of what stands before the point.
+    /// Nanoseconds as milliseconds with three digits, rounded down; the width is that of what is before the point.
     Millis(usize, u64),
 }
 

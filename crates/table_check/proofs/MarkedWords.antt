@@ -32,7 +32,7 @@ ones_inside from to i rises within high low =
     ∙ bit_at_ones (64 - (64 - to)) i (omega arith) in
     omega (arith, both, one, other)
 
--- and from their end on none is
+-- the ones are none from their end on
 pub ones_above : (from to i : ℕ) → from < to → to ≤ 64 → to ≤ i → bit_at (ones from to) i ≡ 0
 ones_above from to i rises within high =
     let both = bit_at_and ((2 ^ 64 - 1) * 2 ^ from % 2 ^ 64) ((2 ^ 64 - 1) / 2 ^ (64 - to)) i in
@@ -62,7 +62,7 @@ elsewhere marks place ticks v x other =
     ap (λ w. eqb (bit_at w (x % 64)) 1)
     (get_or-set_other marks place (v * WORDS + x / 64) (bit_or (get_or marks place 0) ticks) 0 other)
 
--- so is one of that word that isn't among the ticks
+-- a tick of the word that isn't among the ticks is marked as before
 pub left_out : (marks : List ℕ) (place ticks v x : ℕ) → place < length marks → v * WORDS + x / 64 ≡ place
     → bit_at ticks (x % 64) ≡ 0 → is_marked (with_ticks marks place ticks) v x ≡ is_marked marks v x
 left_out marks place ticks v x lt here none =
@@ -85,7 +85,7 @@ keeps_marks marks place ticks lt v x was = elim (cases_eq (v * WORDS + x / 64) p
   | inr other ↦ elsewhere marks place ticks v x other ∙ was
 ]
 
--- and one of the ticks, of which none was marked, is marked now
+-- one of the ticks, of which none was marked, is marked now
 pub newly_marked : (marks : List ℕ) (place ticks v x : ℕ) → place < length marks
     → v * WORDS + x / 64 ≡ place → bit_and (get_or marks place 0) ticks ≡ 0 → bit_at ticks (x % 64) ≡ 1
     → IsNewMark marks (with_ticks marks place ticks) v x
@@ -122,7 +122,7 @@ no_run marks v from = record {
   marked = λ x high low. absurd (omega arith);
 }
 
--- and then those of a word up to an end there
+-- the marks of a word up to an end there are added
 pub run_more : (old marks : List ℕ) (v from tick end place ticks : ℕ) → v * WORDS + tick / 64 ≡ place
     → place < length marks → tick < end → end ≤ (tick / 64 + 1) * 64
     → ((i : ℕ) → tick - tick / 64 * 64 ≤ i → i < end - tick / 64 * 64 → bit_at ticks i ≡ 1)

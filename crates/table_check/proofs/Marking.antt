@@ -99,7 +99,7 @@ core_more raw core ss marks new rises lt is below kept row =
       ];
     }
 
--- behind the last core all rows are apart
+-- after the last core all rows are apart
 pub apart_rows : (raw : List (List Segment)) (count : ℕ) (marks : List ℕ) → length raw ≤ count
     → AreApartBelow (rows_of raw) count marks → Apart (rows_of raw)
 apart_rows raw count marks all below v x c d here there =

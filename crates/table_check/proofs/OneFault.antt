@@ -36,7 +36,7 @@ one_bad_core raw c p d q a b = elim (cases_lt d c) [
   | inr le ↦ le
 ]
 
--- so it is one, and so is its place
+-- two lowest cores with a bad shape are one, and so are the places
 one_bad : (raw : List (List Segment)) (c p d q : ℕ) → IsFirstBad raw c p → IsFirstBad raw d q
     → BadShape c p ≡ BadShape d q
 one_bad raw c p d q a b =

@@ -12,7 +12,7 @@ use Rattle.table_form.proofs.RowLemmas.{cells-cons, cells-nil, cell_here}
 use Rattle.table_form.proofs.SpotLemmas.{flat_some}
 use Rattle.table_check.specs.Shapes.{AreOfTasks, AreOwnedByTasks, rows_of}
 
--- a cell behind a run is one of the rest
+-- a cell after a run is one of the rest
 get_back : (n t : ℕ) (o : Option ℕ) (cells : Row) → n ≤ t
     → slice_get (replicate n o ++ cells) t ≡ slice_get cells (t - n)
 get_back zero t o cells le = ap (slice_get cells) (omega arith)
@@ -47,7 +47,7 @@ all_at P (y ∷ ys) (suc c) x all at = all_at P ys c x (All-tail P y ys all) at
 OwnedByTask : List (Option Periodic) → Segment → Type 0
 OwnedByTask tasks s = ForSome s.owner (λ v. has_task tasks v ≡ true)
 
--- so an owner in a core's row has a task, if the core has one
+-- an owner in a core's row has a task, if the core has one
 row_has_tasks : (tasks : List (Option Periodic)) (place v : ℕ) (row : Option (List Segment))
     → ((ss : List Segment) → row ≡ Some ss → AreOfTasks tasks ss)
     → cell_of (option_map (cells_from 0) row) place ≡ Some v → has_task tasks v ≡ true
@@ -57,7 +57,7 @@ row_has_tasks tasks place v (Some ss) owned at = cell_owner (λ w. has_task task
     (λ k w s here is. all_at (OwnedByTask tasks) ss k s (owned ss refl) here w is)
     (flat_some (slice_get (cells_from 0 ss) place) v at)
 
--- so the rows are of tasks, as a plan's type asks
+-- the rows are of tasks, as a plan's type asks
 pub owners_have_tasks : (tasks : List (Option Periodic)) (raw : List (List Segment))
     → AreOwnedByTasks tasks raw
     → OwnersHaveTasks tasks (rows_of raw)

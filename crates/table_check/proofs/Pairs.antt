@@ -48,7 +48,7 @@ low_core : (core other c d : ℕ) → IsEarlierPair core other c d → c ≤ cor
 low_core core other c d (inl lt) = omega arith
 low_core core other c d (inr both) = omega (arith, both.0)
 
--- and with the same first core its second is lower
+-- an earlier pair with the same first core has a lower second
 low_other : (core other c d : ℕ) → IsEarlierPair core other c d → c ≡ core → d < other
 low_other core other c d (inl lt) e = absurd (omega arith)
 low_other core other c d (inr both) e = both.1
@@ -215,7 +215,7 @@ before_all rows count v x c d all clash = record {
   earlier = inl (let within = owner_within rows c x v clash.here in omega arith);
 }
 
--- behind the last pair no clash means that the rows are apart
+-- after the last pair no clash means that the rows are apart
 pub apart_if_none : (rows : List Row) (count : ℕ) → length rows ≤ count
     → IsFirstBefore rows count 0 None → Apart rows
 apart_if_none rows count all none v place c d here there = elim (cases_eq c d) [
@@ -228,7 +228,7 @@ apart_if_none rows count all none v place c d here there = elim (cases_eq c d) [
   ]
 ]
 
--- and a first one is the first of all
+-- a first clash of the pairs is the first of all
 pub first_of_all : (rows : List Row) (count : ℕ) (first : Clash) → length rows ≤ count
     → IsFirstBefore rows count 0 (Some first)
     → IsFirstClash rows first.vcpu first.tick first.core first.other
@@ -256,7 +256,7 @@ are_pair rows core other a b x y lower there at_x at_y is_a is_b = record {
   lower = lower;
 }
 
--- so what the sweep says of the rows is said of the cores: no clash
+-- where the sweep finds no clash of two rows, their cores have none
 pub no_clash : (rows : List Row) (core other : ℕ) (a b : Row) → ArePair rows core other a b
     → ((v x : ℕ) → MeetsAt a b v x → ⊥)
     → (v x : ℕ) → IsClash rows v x core other → ⊥
@@ -270,7 +270,7 @@ pub first_clash : (rows : List Row) (core other tick : ℕ) (a b : Row) → AreP
 first_clash rows core other tick a b pair none v x clash = none v x
     (meets_from_clash rows core other v x a b pair.here pair.there clash)
 
--- and a clash where they meet
+-- where the sweep finds a clash of two rows, their cores have it there
 pub is_clash : (rows : List Row) (core other v x : ℕ) (a b : Row) → ArePair rows core other a b
     → MeetsAt a b v x
     → IsClash rows v x core other

@@ -67,6 +67,6 @@ shared_elsewhere from tick end period p k rises holds within other = elim (cases
 pub shared_within : (from to begin over : ℕ) → ticks_shared from to begin over ≤ to - from
 shared_within from to begin over = omega arith
 
--- and an empty one shares nothing
+-- an empty interval shares nothing
 pub shared_none : (from begin over : ℕ) → ticks_shared from from begin over ≡ 0
 shared_none from begin over = omega arith

@@ -19,7 +19,7 @@ good_more raw core segments at good before lower lt = elim (cases_eq lower core)
   | inr other ↦ before lower (omega arith)
 ]
 
--- behind the last core all shapes are good
+-- after the last core all shapes are good
 pub good_all : (raw : List (List Segment)) (count : ℕ) → length raw ≤ count
     → ((lower : ℕ) → lower < count → bad_at raw lower ≡ None) → HaveGoodShapes raw
 good_all raw count all good core = elim (cases_lt core count) [

@@ -37,7 +37,7 @@ none_seen tasks m n = record {
   counted = supplied_none tasks [] n;
 }
 
--- what stands before the pushed element stood there before
+-- what is before the pushed element was there before
 push_before : {X : Type 0} (xs : List X) (x : X) (k : ℕ) → k < length xs
     → slice_get (xs ++ x ∷ []) k ≡ slice_get xs k
 push_before [] x k lt = absurd (omega arith)
@@ -128,7 +128,7 @@ room_if_few tasks count counters few room v k period of =
     let most = room.most v k period of in
     omega arith
 
--- and with it the counters have no more than one row more can give
+-- the counters have no more than one row more can give
 pub room_more : (tasks : List (Option Periodic)) (count : ℕ) (row : Row) (old new : List ℕ)
     → length new ≡ length old → GrowBy tasks (λ v. cells_within v row) old new
     → HaveRoom tasks count old → HaveRoom tasks (count + 1) new
@@ -151,7 +151,7 @@ served_rows tasks raw seen serves rows = record {
   serves = subst (λ (ts : List (Option Periodic)). Serves ts (rows_of raw)) rows.for_tasks serves;
 }
 
--- and nowhere else
+-- rows that were seen are not good where the counters show a shortage
 short_rows : (tasks : List (Option Periodic)) (raw : List (List Segment)) (seen : Seen) (short : Shortage)
     → IsShortageOf seen.tasks (rows_of raw) (Some short) → HaveSeen tasks raw seen → AreGood tasks raw → ⊥
 short_rows tasks raw seen short first rows good =
@@ -161,7 +161,7 @@ short_rows tasks raw seen short first rows good =
       subst (λ (ts : List (Option Periodic)). IsShortageOf ts (rows_of raw) (Some short)) rows.for_tasks first,
     )
 
--- so whether none was found tells whether they are good
+-- whether no shortage was found says whether the rows are good
 pub good_if_none_short : (tasks : List (Option Periodic)) (raw : List (List Segment)) (seen : Seen)
     (short : Option Shortage) (none : Bool) → is_some short ≡ not none
     → IsShortageOf seen.tasks (rows_of raw) short → HaveSeen tasks raw seen

@@ -51,7 +51,7 @@ room_for_row tasks rows i counters few so_far v k period of =
     {m₂ = ROUND} (omega arith) (omega (arith, of.period_is)) in
     omega (arith, so_far v k period of, most, product)
 
--- behind the last row the counters have what all rows give
+-- after the last row the counters have what all rows give
 pub supplied_all : (tasks : List (Option Periodic)) (rows : List Row) (i : ℕ) (counters : List ℕ)
     → length rows ≤ i
     → CountSupply tasks (take i rows) counters → CountSupply tasks rows counters
@@ -75,7 +75,7 @@ served_if_none_low tasks counters v task at none other other_at k lt =
     subst (λ (t : Periodic). t.cost ≤ count_at counters v k) same
     (none k (subst (λ (t : Periodic). k < ROUND / t.period) (sym same) lt))
 
--- and so is one without a task
+-- a vCPU without a task is served
 pub served_if_no_task : (tasks : List (Option Periodic)) (counters : List ℕ) (v : ℕ)
     → slice_get tasks v ≡ Some None
     → IsServedBy tasks counters v

@@ -22,7 +22,7 @@ count_replicate : (v n : ℕ) (o : Option ℕ)
     → count_by (λ cell. is_cell_of v cell) (replicate n o) ≡ n * cond (is_cell_of v o) 1 0
 count_replicate v n o = sum_by-replicate (λ cell. cond (is_cell_of v cell) 1 0) n o
 
--- behind a row's cells stand some more of one owner
+-- after a row's cells there are some more of one owner
 before_more : (v : ℕ) (row : Row) (n to : ℕ) (o : Option ℕ)
     → cells_before v (row ++ replicate n o) to ≡ cells_before v row to + min (to - length row) n * cond
     (is_cell_of v o) 1 0
@@ -161,7 +161,7 @@ counts_more tasks ss from place s old mid new on lt at whole so_far grown v k pe
     let to_end = ap (λ row. cells_within v row begin over) (cells_to_end ss from place s on lt at) in
     omega (arith, so_far v k period of, grown v k period of, more, run, to_end)
 
--- behind the last segment the counters have grown by the row's cells
+-- after the last segment the counters have grown by the row's cells
 pub counts_all : (tasks : List (Option Periodic)) (ss : List Segment) (from : ℕ) (old new : List ℕ)
     → RisesTo 0 ss ROUND → ROUND ≤ from
     → CountsTo tasks ss from old new → GrowBy tasks (λ v. cells_within v (cells_from 0 ss)) old new

@@ -37,7 +37,7 @@ some_left ss tick place on lt = elim (cases_lt place (length ss)) [
       omega arith)
 ]
 
--- behind the last segment is the round's end
+-- after the last segment is the round's end
 pub at_end : (ss : List Segment) (tick place : ℕ) → GoesOnFrom ss tick place → length ss ≤ place
     → ROUND ≤ tick
 at_end ss tick place on past = elim (cases_lt tick ROUND) [

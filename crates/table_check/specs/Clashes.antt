@@ -1,9 +1,9 @@
--- Where a vCPU stands in the rows of two cores at one tick.
+-- Where a vCPU is in the rows of two cores at one tick.
 use Rattle.std.specs.Prelude.{◌≡◌, ℕ, ◌<◌, ◌≤◌, List, Some}
 use Rattle.table_form.specs.Tables.Rows.{Row}
 use Rattle.table_form.specs.Tables.Serves.{owner_at}
 
--- the vCPU stands at the tick in the rows of both cores, the lower one first
+-- the vCPU is at the tick in the rows of both cores, the lower one first
 pub record IsClash (rows : List Row) (v tick core other : ℕ) : Type 0 where
   pub here : owner_at rows core tick ≡ Some v
   pub there : owner_at rows other tick ≡ Some v

@@ -7,8 +7,8 @@ use Rattle.table_check.specs.Inside.Counters.{CountSupply}
 use Rattle.table_check.specs.Inside.Marks.{AreMarked}
 use Rattle.table_check.specs.Shapes.{HaveGoodShapes, rows_of}
 
--- what is kept of the rows: marks of the ticks at which each vCPU stands in one of them, and counters
--- of what each gets in each of its periods
+-- what is kept of the rows: marks of the ticks at which each vCPU is in one of them, and counters of
+-- what each gets in each of its periods
 pub record Seen : Type 0 where
   pub tasks : List (Option Periodic)
   pub marks : List ℕ

@@ -32,6 +32,6 @@ pub record IsFirstBad (raw : List (List Segment)) (core place : ℕ) : Type 0 wh
 abbrev pub AreOfTasks : List (Option Periodic) → List Segment → Type 0
 AreOfTasks tasks segments = All (λ s. ForSome s.owner (λ v. has_task tasks v ≡ true)) segments
 
--- the same of each core's segments
+-- each segment of each core is idle or of a vCPU that has a task
 abbrev pub AreOwnedByTasks : List (Option Periodic) → List (List Segment) → Type 0
 AreOwnedByTasks tasks raw = All (AreOfTasks tasks) raw

@@ -17,7 +17,7 @@ use table_form::{Homes, Plan, RawTables, Segments, Tables};
 /// vCPU on two cores at one tick. No table is copied.
 ///
 /// `BadShape` comes exactly where the segments of a core make no row, `Twice` exactly where they all do
-/// and a vCPU stands on two cores at one tick, and `Short` exactly where none does and a vCPU gets less
+/// and a vCPU is on two cores at one tick, and `Short` exactly where none does and a vCPU gets less
 /// than its cost in one of its periods. Neighbouring segments may have one owner.
 pub fn first_fault(
     alloc: Global,
@@ -44,9 +44,8 @@ pub fn first_fault(
 /// The plan of these tasks with these tables, in which no vCPU is capped, or the first fault of the
 /// tables, as `first_fault` tells it.
 ///
-/// There are at most 32 rows, each task has one home below their count and no other vCPU has one,
-/// and each owner of a segment has a task. Tables that are a plan are refused for nothing but want of
-/// memory.
+/// There are at most 32 rows, each task has one home below their count and no other vCPU has one, and
+/// each owner of a segment has a task. Tables that are a plan are refused only when memory runs out.
 pub fn check(alloc: Global, tasks: &Tasks, raw: &RawTables) -> Result<Plan, CheckFault>
     requires few { length raw.now.rows ≤ MAX_CORES }
     requires housed { IsTrue (are_housed (length raw.now.rows) tasks.now raw.now.homes) }

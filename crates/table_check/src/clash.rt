@@ -15,7 +15,7 @@ use std::alloc::Global;
 use tab_core::{CoreNo, VcpuNo, VcpuSet};
 use table_form::Segments;
 
-// A vCPU that stands in the rows of two cores at one tick, of which `core` is the lower one.
+// A vCPU that is in the rows of two cores at one tick, of which `core` is the lower one.
 #[derive(Clone, Copy)]
 pub(crate) struct Clash {
     pub(crate) vcpu: VcpuNo,

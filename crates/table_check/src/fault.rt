@@ -17,8 +17,8 @@ pub enum CheckFault {
         core: CoreNo,
         place: u32,
     },
-    /// This vCPU stands at one tick on the two cores, of which `core` is the lower one. The tick is
-    /// the least at which this is so of a vCPU, and of its pairs of cores it is the first.
+    /// This vCPU is at one tick on the two cores, of which `core` is the lower one. The tick is the
+    /// least at which this is so of a vCPU, and of its pairs of cores it is the first.
     Twice {
         vcpu: VcpuNo,
         tick: u32,

@@ -17,9 +17,9 @@ const MANY_SEGMENTS: usize = 40_000;
 // How many words of 64 bits have one for each tick of a round.
 pub(crate) const WORDS: usize = 1604;
 
-// Whether the rows are seen to be apart, by marks of the ticks at which each vCPU stands in a row.
-// Where they have few segments, an owner isn't below the count of vCPUs or memory is wanting,
-// nothing is seen.
+// Whether the rows are seen to be apart, by marks of the ticks at which each vCPU is in a row.
+// Where they have few segments, an owner isn't below the count of vCPUs or memory runs out, nothing
+// is seen.
 pub(crate) fn seem_apart(alloc: Global, vcpus: usize, raw: &[Segments]) -> bool
     requires few { vcpus ≤ MAX_VCPUS }
     requires good { HaveGoodShapes raw.now }

@@ -6,7 +6,7 @@ ghost use Rattle.table_check.specs.Inside.Meetings.{IsFirstMeeting};
 use tab_core::{ROUND, VcpuNo};
 use table_form::Segment;
 
-// A vCPU that stands in two rows at one tick.
+// A vCPU that is in two rows at one tick.
 #[derive(Clone, Copy)]
 pub(crate) struct Meeting {
     pub(crate) vcpu: VcpuNo,

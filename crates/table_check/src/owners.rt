@@ -10,7 +10,7 @@ use std::alloc::Global;
 use tab_core::{NoMemory, VcpuNo, VcpuSet};
 use table_form::{Segment, Segments};
 
-// The vCPUs that stand in each of the rows, or no sets where memory is wanting.
+// The vCPUs that are in each of the rows, or no sets where memory runs out.
 pub(crate) fn owners_of(alloc: Global, raw: &[Segments]) -> Vec<VcpuSet>
     ensures { HaveOwners (rows_of raw.now) result.items }
 {
@@ -20,7 +20,7 @@ pub(crate) fn owners_of(alloc: Global, raw: &[Segments]) -> Vec<VcpuSet>
     }
 }
 
-// The same, by one pass over the segments.
+// The vCPUs that are in each of the rows, by one pass over the segments.
 fn sets_of(alloc: Global, raw: &[Segments]) -> Result<Vec<VcpuSet>, NoMemory>
     ensures { IfOk result (λ sets. HaveOwners (rows_of raw.now) sets.items) }
 {
@@ -31,7 +31,7 @@ fn sets_of(alloc: Global, raw: &[Segments]) -> Result<Vec<VcpuSet>, NoMemory>
     Ok(sets)
 }
 
-// The vCPUs that stand in the row of these segments.
+// The vCPUs that are in the row of these segments.
 fn owners_in(segments: &[Segment]) -> VcpuSet
     ensures { HasOwners (cells_from 0 segments.now) result }
 {
@@ -53,7 +53,7 @@ fn put_owner(owners: &mut VcpuSet, owner: Option<VcpuNo>)
     }
 }
 
-// Whether a vCPU may stand in the rows of both cores. Where one of the sets isn't there, nothing is seen.
+// Whether a vCPU may are in the rows of both cores. Where one of the sets isn't there, nothing is seen.
 pub(crate) fn may_meet(raw: &[Segments], owners: &[VcpuSet], core: usize, other: usize) -> bool
     requires { HaveOwners (rows_of raw.now) owners.now }
     ensures { result ≡ false → (v x : ℕ) → IsClash (rows_of raw.now) v x core other → ⊥ }

@@ -9,10 +9,10 @@ use tab_words::{TextPiece, put_pieces};
 use vcpu_names::name_in;
 
 /// Writes the line that says why tables are no plan: `no: `, the fault as it is displayed but with the
-/// name of its vCPU, which is one of these, and a line feed. For want of memory, which is no fault of
+/// name of its vCPU, which is one of these, and a line feed. For out of memory, which is no fault of
 /// the tables, it writes nothing.
 ///
-/// A fault of the sink leaves a front of the line in it. Nothing is settled.
+/// A fault of the sink leaves a prefix of the line in it. Nothing is settled.
 pub fn put_check_fault<K: Sink>(
     sink: &mut K,
     fault: &CheckFault,

@@ -13,8 +13,8 @@ use std::marker::Model;
 use tab_core::{MAX_CORES, NoMemory, Periodic};
 use table_form::{Segment, first_bad_place};
 
-/// What is seen of rows as they come, of which none is kept: the ticks at which each vCPU stands in one
-/// of them, and how many ticks each gets in each of its periods. That takes 17 KB for each vCPU, however
+/// What is seen of rows as they come, of which none is kept: the ticks at which each vCPU is in one of
+/// them, and how many ticks each gets in each of its periods. That takes 17 KB for each vCPU, however
 /// many segments the rows have.
 #[derive(Drop)]
 pub struct RowChecks<'a> {
@@ -51,9 +51,9 @@ impl<'a> RowChecks<'a> {
 
     /// Takes the row that these segments make.
     ///
-    /// False where they make none, or a vCPU stands in it at a tick at which it stands in a row that was
-    /// taken; false too at an owner that isn't below the count of the tasks, and behind 32 rows. The row
-    /// isn't taken then, but some of its ticks may stay marked, so that a later row is refused for them.
+    /// False where they make none, or a vCPU is in it at a tick at which it is in a row that was taken;
+    /// false too at an owner that isn't below the count of the tasks, and after 32 rows. The row isn't
+    /// taken then, but some of its ticks may stay marked, so that a later row is refused for them.
     pub fn take_row(&mut self, segments: &[Segment]) -> bool
         ensures taken { result ≡ true → (tasks : List (Option Periodic)) (raw : List (List Segment))
             → HaveSeen tasks raw self.old → HaveSeen tasks (raw ++ segments.now ∷ []) self.new }

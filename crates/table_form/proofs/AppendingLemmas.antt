@@ -1,4 +1,4 @@
--- Segments in front of others, and the last of a list of segments.
+-- Segments before others, and the last of a list of segments.
 use Rattle.std.proofs.Common.{◌≡◌, ◌≢◌, ℕ, ◌+◌, ◌-◌, ◌<◌, ◌≤◌, List, [], ◌∷◌, ◌++◌, length, map, set, replicate, Option, refl, ap, subst, sym, ◌∙◌, ◌⊎◌, inl, inr, arith, append_assoc, length-append}
 use Rattle.std.proofs.Math.Seq.{set-append_seam}
 use Rattle.std.proofs.lemmas.List.{append-nil, length-map, map-append}
@@ -15,14 +15,14 @@ before_last [] t rest = refl
 before_last (x ∷ []) t rest = refl
 before_last (x ∷ y ∷ xs) t rest = ap (λ ts. x ∷ ts) (before_last (y ∷ xs) t rest)
 
--- so the one before the last keeps its place, as a swap of the last two needs
+-- the segment before the last keeps its place, as a swap of the last two needs
 pub before_last_two : (xs : List SegmentView) (u t : SegmentView) (rest : List SegmentView) → put_before
     (xs ++ u ∷ t ∷ []) rest ≡ xs ++ u ∷ put_front t rest
 before_last_two [] u t rest = refl
 before_last_two (x ∷ []) u t rest = refl
 before_last_two (x ∷ y ∷ xs) u t rest = ap (λ ts. x ∷ ts) (before_last_two (y ∷ xs) u t rest)
 
--- with nothing behind them they are as they were, as at the end of a pass
+-- with nothing after them they are as they were, as at the end of a pass
 pub before_nothing : (xs : List SegmentView) → put_before xs [] ≡ xs
 before_nothing [] = refl
 before_nothing (x ∷ []) = refl
@@ -54,7 +54,7 @@ before_one_more (t ∷ u ∷ ts) s rest = some_more (put_before (u ∷ ts) (s �
     some_more ys some e = ap (λ zs. put_before (t ∷ zs) rest) some.2 ∙ ap (λ zs. t ∷ zs)
         (ap (λ zs. put_before zs rest) (sym some.2) ∙ e)
 
--- the rest behind some segments
+-- the rest after it some segments
 pub maximal_append : (start : ℕ) (xs : List SegmentView) (middle : ℕ) (ts : List SegmentView) (end : ℕ)
     → AreMaximal start xs middle → AreMaximal middle ts end → AreMaximal start (put_before xs ts) end
 maximal_append start [] middle ts end m m' = subst (λ n. AreMaximal n ts end) (sym m) m'
@@ -109,7 +109,7 @@ pub record LastOne (ss : List Segment) (xs : List SegmentView) (t : SegmentView)
   pub first : map segment_view front ≡ xs
   pub last : segment_view b ≡ t
 
--- the same where one is last
+-- segments that end with one, where it is last
 pub last_one : (ss : List Segment) (xs : List SegmentView) (t : SegmentView)
     → map segment_view ss ≡ xs ++ t ∷ []
     → LastOne ss xs t
@@ -152,7 +152,7 @@ appends (o ∷ out) s other =
     by_front xs t is (inr with) = absurd (other
         (record { before = xs; last = t; is = is; same = same_first t.owner s [] with }))
 
--- and otherwise takes its place
+-- the next segment takes the last one's place where the two have one owner
 pub replaces : (out : List SegmentView) (s : SegmentView) (with : EndsWith out s.owner)
     → with.before ++ s ∷ [] ≡ put_before out (s ∷ [])
 replaces out s with =
@@ -190,7 +190,7 @@ cells_put start (t ∷ u ∷ ts) end n s m some e =
     ∙ sym (append_assoc (replicate (t.end - start) t.owner) (cells_of t.end (u ∷ ts)) (replicate n s.owner))
     ∙ ap (λ cells. cells ++ replicate n s.owner) (sym (cells_of-cons start t (u ∷ ts)))
 
--- so a run of cells is appended to those of the segments
+-- a run of cells is appended to those of the segments
 pub cells_appended : (old new : List Segment) (end n : ℕ) (o : Option ℕ)
     → AreMaximal 0 (map segment_view old) end
     → 0 < n
@@ -201,7 +201,7 @@ cells_appended old new end n o m some is =
     ∙ cells_put 0 (map segment_view old) end n (record { owner = o; end = end + n }) m some refl
     ∙ ap (λ cells. cells ++ replicate n o) (sym (segments_are 0 old))
 
--- and the segments stay maximal
+-- appended segments stay maximal
 pub maximal_appended : (old new : List Segment) (end n : ℕ) (o : Option ℕ)
     → AreMaximal 0 (map segment_view old) end → 0 < n
     → map segment_view new ≡ put_before (map segment_view old) (record { owner = o; end = end + n } ∷ [])

@@ -33,7 +33,7 @@ segment_ends start s (t ∷ ss) end rises other =
     (segments_from s.end (cells_from s.end (t ∷ ss)))
     (subst (BeginsOther s.owner) (sym (next ∙ with.is)) (λ same. other (same ∙ sym with.same)))
 
--- and goes on with the next one otherwise
+-- a segment that the next one continues ends no segment
 pub segment_goes_on : (start : ℕ) (s : Segment) (ss : List Segment) (end : ℕ) → RisesTo start (s ∷ ss) end →
     (BeginsOther s.owner (map segment_view ss) → ⊥)
     → segments_from start (cells_from start (s ∷ ss)) ≡ segments_from s.end (cells_from s.end ss)
@@ -130,7 +130,7 @@ one_passed old now kept at s is goes_on so_far =
           ∙ segment_goes_on so_far.start s ss ROUND rises with)) ∙ so_far.leads;
     }
 
--- and one that ends a maximal segment is
+-- a segment that ends a maximal one is kept
 pub one_kept : (old now : List Segment) (kept at : ℕ) (s : Segment) → slice_get now at ≡ Some s
     → BeginsOther s.owner (map segment_view (drop (at + 1) now))
     → HasJoined old now kept at → HasJoined old (set now kept s) (kept + 1) (at + 1)
@@ -159,7 +159,7 @@ one_kept old now kept at s is other so_far =
           ∙ segment_ends so_far.start s ss ROUND rises ends)) ∙ so_far.leads;
     }
 
--- behind the last one they are those of the cells
+-- after the last one they are those of the cells
 pub all_joined : (old now : List Segment) (kept at : ℕ) → length now ≤ at → HasJoined old now kept at
     → map segment_view (take kept now) ≡ segments_from 0 (cells_from 0 old)
 all_joined old now kept at past so_far =

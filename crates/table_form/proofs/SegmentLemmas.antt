@@ -14,7 +14,7 @@ pub same_as_itself : (o : Option ℕ) → option_eq eqb o o ≡ true
 same_as_itself None = refl
 same_as_itself (Some v) = eq-eqb v v refl
 
--- a segment in front of one of another owner stays
+-- a segment before one of another owner stays
 pub front_stays : (s : SegmentView) (ts : List SegmentView) → BeginsOther s.owner ts → put_front s ts ≡ s ∷ ts
 front_stays s [] other = refl
 front_stays s (t ∷ ts) other = by_test (option_eq eqb s.owner t.owner) refl
@@ -23,7 +23,7 @@ front_stays s (t ∷ ts) other = by_test (option_eq eqb s.owner t.owner) refl
     by_test true same = absurd (other (same_owner s.owner t.owner same))
     by_test false differ = rw differ refl
 
--- and in front of one of its owner it joins that
+-- a segment before one of its owner joins that
 pub front_joins : (s t : SegmentView) (ts : List SegmentView) → s.owner ≡ t.owner
     → put_front s (t ∷ ts) ≡ t ∷ ts
 front_joins s t ts same = rw same (rw (same_as_itself t.owner) refl)
@@ -56,7 +56,7 @@ pub same_first : (o : Option ℕ) (t : SegmentView) (ts : List SegmentView) → 
 unfolding owner_at_front
 same_first o t ts with = with.same ∙ ap owner_at_front (sym with.is)
 
--- what stands in front begins with its owner
+-- what comes first begins with its owner
 pub front_begins : (s : SegmentView) (ts : List SegmentView) → BeginsWith s.owner (put_front s ts)
 front_begins s ts = elim (front_cases s.owner ts) [
   | inl other ↦ record { first = s; rest = ts; is = front_stays s ts other; same = refl }
@@ -76,7 +76,7 @@ front_twice s t ts same =
     let with = front_begins t ts in
     ap (put_front s) with.is ∙ front_joins s with.first with.rest (same ∙ with.same) ∙ sym with.is
 
--- in front of a segment of another owner it stays, whatever that one joins
+-- before a segment of another owner it stays, whatever that one joins
 pub front_differs : (s t : SegmentView) (ts : List SegmentView) → s.owner ≢ t.owner → put_front s
     (put_front t ts) ≡ s ∷ put_front t ts
 front_differs s t ts differ =
@@ -90,7 +90,7 @@ pub maximal_end : (start : ℕ) (ts : List SegmentView) (end : ℕ) → AreMaxim
 maximal_end start [] end m = omega (arith, m)
 maximal_end start (t ∷ ts) end m = let rest = maximal_end t.end ts end m.2 in omega (arith, m.0, rest)
 
--- a segment in front keeps them maximal
+-- a segment before them keeps them maximal
 pub maximal_front : (start : ℕ) (s : SegmentView) (ts : List SegmentView) (end : ℕ) → start < s.end
     → AreMaximal s.end ts end
     → AreMaximal start (put_front s ts) end
@@ -106,14 +106,14 @@ pub segments_from-nil : (at : ℕ) → segments_from at [] ≡ []
 unfolding segments_from
 segments_from-nil at = refl
 
--- and each cell of the row is put in front of the segments behind it
+-- each cell of a row is put before the segments after it
 pub segments_from-cons : (at : ℕ) (cell : Option ℕ) (cells : Row)
     → segments_from at (cell ∷ cells)
     ≡ put_front (record { owner = cell; end = at + 1 }) (segments_from (at + 1) cells)
 unfolding segments_from
 segments_from-cons at cell cells = refl
 
--- so n + 1 cells of one owner in front of others are one segment
+-- n + 1 cells of one owner before others are one segment
 pub segments_from-replicate : (n at end : ℕ) (o : Option ℕ) (cells : Row) → end ≡ at + (n + 1)
     → segments_from at (replicate (suc n) o ++ cells)
     ≡ put_front (record { owner = o; end = end }) (segments_from end cells)
@@ -128,7 +128,7 @@ segments_from-replicate (suc n) at end o cells e =
     ∙ front_twice (record { owner = o; end = at + 1 }) (record { owner = o; end = end })
     (segments_from end cells) refl
 
--- and a segment's cells in front of others are that segment in front of theirs
+-- a segment's cells before others are that segment before theirs
 pub segments_from-segment : (start : ℕ) (s : Segment) (ss : List Segment) → start < s.end
     → segments_from start (cells_from start (s ∷ ss))
     ≡ put_front (segment_view s) (segments_from s.end (cells_from s.end ss))
@@ -162,7 +162,7 @@ pub cells_of-nil : (start : ℕ) → cells_of start [] ≡ []
 unfolding cells_of
 cells_of-nil start = refl
 
--- the cells of the first, and those behind it
+-- the cells of the first, and those after it
 pub cells_of-cons : (start : ℕ) (t : SegmentView) (ts : List SegmentView)
     → cells_of start (t ∷ ts) ≡ replicate
     (t.end - start) t.owner ++ cells_of t.end ts
@@ -209,7 +209,7 @@ cells_of_segments at (cell ∷ cells) =
     ∙ ap (λ n. replicate n cell ++ cells_of (at + 1) (segments_from (at + 1) cells)) one
     ∙ ap (λ rest. cell ∷ rest) (cells_of_segments (at + 1) cells)
 
--- and maximal segments are those of their cells
+-- maximal segments are those of their cells
 pub segments_of_cells : (at : ℕ) (ts : List SegmentView) (end : ℕ) → AreMaximal at ts end → segments_from at
     (cells_of at ts) ≡ ts
 segments_of_cells at [] end m = ap (segments_from at) (cells_of-nil at) ∙ segments_from-nil at
@@ -243,7 +243,7 @@ pub segments_rise : (start : ℕ) (ss : List Segment) (end : ℕ) → AreMaximal
 segments_rise start [] end m = rises_here start end m
 segments_rise start (s ∷ ss) end m = rises_from_parts start s ss end m.0 (segments_rise s.end ss end m.2)
 
--- so they make a row
+-- maximal segments make a row
 pub no_bad_place : (start : ℕ) (ss : List Segment) → AreMaximal start (map segment_view ss) ROUND
     → bad_place start ss ≡ None
 unfolding bad_place
@@ -253,7 +253,7 @@ no_bad_place start (s ∷ ss) m =
     rw (and_from (ltb start s.end) (leb s.end ROUND) (lt-ltb start s.end m.0) (le-leb s.end ROUND le))
     (rw (no_bad_place s.end ss m.2) refl)
 
--- so they have a cell for each tick up to their end
+-- maximal segments have a cell for each tick up to their end
 pub maximal_length : (ss : List Segment) (end : ℕ) → AreMaximal 0 (map segment_view ss) end
     → length (cells_from 0 ss) ≡ end
 maximal_length ss end m = let size = length-cells_from 0 ss end (segments_rise 0 ss end m) in omega arith
@@ -264,7 +264,7 @@ pub maximal_are : (ss : List Segment) → AreMaximal 0 (map segment_view ss) ROU
 maximal_are ss m =
     sym (ap (segments_from 0) (segments_are 0 ss) ∙ segments_of_cells 0 (map segment_view ss) ROUND m)
 
--- and segments that are those of a row's cells stand for them
+-- segments that are those of a row's cells stand for them
 pub cells_are : (ss : List Segment) (row : Row) → map segment_view ss ≡ segments_from 0 row
     → cells_from 0 ss ≡ row
 cells_are ss row is = segments_are 0 ss ∙ ap (cells_of 0) is ∙ cells_of_segments 0 row

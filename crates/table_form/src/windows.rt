@@ -1,7 +1,7 @@
 ghost use Rattle.std.specs.Prelude.{◌≡◌, ◌⊎◌, ℕ, ◌+◌, ◌*◌, ◌<◌, ◌≤◌};
 ghost use Rattle.tab_core.specs.declared.TheConstants.{ROUND};
 
-/// The least tick after `tick` that is `offset` ticks behind a multiple of the period, as the begins
+/// The least tick after `tick` that is `offset` ticks after a multiple of the period, as the begins
 /// and the ends of a piece's windows are. It may be beyond the round.
 pub fn next_at(offset: u32, period: u32, tick: u32) -> u32
     requires some { 0 < period }
@@ -18,7 +18,7 @@ pub fn next_at(offset: u32, period: u32, tick: u32) -> u32
     }
 }
 
-/// The greatest tick below `tick` that is `offset` ticks behind a multiple of the period, else 0.
+/// The greatest tick below `tick` that is `offset` ticks after a multiple of the period, else 0.
 pub fn last_before(offset: u32, period: u32, tick: u32) -> u32
     requires some { 0 < period }
     requires later { 0 < tick }

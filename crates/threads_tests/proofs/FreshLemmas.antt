@@ -22,7 +22,7 @@ kept_part m v a held = kept_by (names m a) refl
     kept_by true on = absurd (true≢false (sym held ∙ without_named m v a on))
     kept_by false off = without_others m v a off
 
--- and so is one that is given
+-- a part that is given is as it was
 given_part : (m : ℕ) (v : View) (a : ℕ) → holds (only m v) a ≡ true → IsSamePart v (only m v) a
 given_part m v a held = given_by (names m a) refl
   where
@@ -45,7 +45,7 @@ fresh_kept course m v fresh = record {
       subst controllers.IsNewPart (sym same.1) (fresh.control (sym same.0 ∙ has)));
 }
 
--- nor to those that are given
+-- nothing has happened to the parts that are given
 fresh_given : (course : CourseView) (m : ℕ) (v : View) → IsFresh course v → IsFresh course (only m v)
 fresh_given course m v fresh = record {
   started = record {

@@ -1,5 +1,5 @@
-//! The tests of the crates by which threads share the work of a run, which stand apart since a crate
-//! with tests is proved twice, with them and without.
+//! The tests of the crates by which threads share the work of a run, in a crate of their own, since
+//! a crate with tests is proved twice, with them and without.
 #![tactic(auto)]
 
 #[cfg(test)]

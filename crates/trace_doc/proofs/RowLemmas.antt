@@ -3,12 +3,12 @@ use Rattle.std.proofs.Common.{◌≡◌, ℕ, ◌+◌, Bool, true, false, List, 
 use Rattle.trace_doc.specs.TraceLines.{AreMarks, IsMarkOf, Row, is_passed_over, rows_from}
 use Rattle.trace_doc.specs.declared.mark.Mark.{Mark}
 
--- behind the last line there are no rows
+-- after the last line there are no rows
 pub rows_from-nil : (number : ℕ) → rows_from number [] ≡ []
 unfolding rows_from
 rows_from-nil number = refl
 
--- a line that is passed over leaves the rows of the lines behind it
+-- a line that is passed over leaves the rows of the lines after it
 pub rows_from-passed : (number : ℕ) (line : List ℕ) (lines : List (List ℕ)) → is_passed_over line ≡ true
     → rows_from number (line ∷ lines) ≡ rows_from (number + 1) lines
 unfolding rows_from
@@ -20,7 +20,7 @@ pub rows_from-kept : (number : ℕ) (line : List ℕ) (lines : List (List ℕ)) 
 unfolding rows_from
 rows_from-kept number line lines kept = rw kept refl
 
--- the rows of lines and of more behind them: the step at a line
+-- the rows of lines and of more after them: the step at a line
 rows_behind : (number : ℕ) (line : List ℕ) (lines more : List (List ℕ)) (passed : Bool)
     → is_passed_over line ≡ passed
     → rows_from (number + 1) (lines ++ more)
@@ -37,7 +37,7 @@ rows_behind number line lines more false is rest =
     rw (rows_from-kept number line (lines ++ more) is, rows_from-kept number line lines is)
     (ap (λ rows. row ∷ rows) (rest ∙ ap (λ n. rows_from (number + 1) lines ++ rows_from n more) count))
 
--- the rows of lines and of more behind them
+-- the rows of lines and of more after them
 pub rows_from-append : (number : ℕ) (lines more : List (List ℕ))
     → rows_from number (lines ++ more) ≡ rows_from number lines ++ rows_from (number + length lines) more
 rows_from-append number [] more =
@@ -46,7 +46,7 @@ rows_from-append number [] more =
 rows_from-append number (line ∷ lines) more =
     rows_behind number line lines more (is_passed_over line) refl (rows_from-append (number + 1) lines more)
 
--- one more row that says something, behind the others
+-- one more row that says something, after the others
 pub marks_more : (names : List (List ℕ)) (rows : List Row) (marks : List Mark) (row : Row) (mark : Mark)
     → AreMarks names rows marks → IsMarkOf names row mark
     → AreMarks names (rows ++ row ∷ []) (marks ++ mark ∷ [])

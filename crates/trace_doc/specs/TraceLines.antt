@@ -1,6 +1,6 @@
 -- The lines of a host's trace: what one of them says, and what those of a text say.
 -- Source: the form is this project's own. Its lines are those of RFC 4180 with three or four fields, none of which
--- stands in quotes.
+-- is in quotes.
 use Rattle.std.specs.Prelude.{◌≡◌, ℕ, ◌+◌, ◌<◌, ◌^◌, ◌==◌, ◌||◌, Bool, if◌then◌else◌, List, [], ◌∷◌, ◌++◌, codes, decimal, length, Option, Some, None}
 use Rattle.std.specs.List.{slice_split}
 use Rattle.std.specs.Option.{option_to_list}
@@ -15,11 +15,11 @@ use Rattle.trace_doc.specs.declared.mark.State.TheVariants.{Run, Wait, Block}
 
 -- ---- one line
 
--- the fields: the bytes before, between and behind the commas
+-- the fields: the bytes before, between and after the commas
 unfoldable pub fields_of : List ℕ → List (List ℕ)
 fields_of line = slice_split (λ byte. byte == 44) line
 
--- the fields of a line of a trace, the last of which it may lack
+-- the fields of a line of a trace, the last of which it need not have
 pub record Fields : Type 0 where
   pub time : List ℕ
   pub name : List ℕ
@@ -88,7 +88,7 @@ pub record IsMarkOf (names : List (List ℕ)) (row : Row) (mark : Mark) : Type 0
   pub placed : mark.line ≡ row.number
   pub says : Says names row.text mark
 
--- each row says what stands at its place
+-- each row says what is at its place
 abbrev pub AreMarks : List (List ℕ) → List Row → List Mark → Type 0
 AreMarks names [] [] = Unit {0}
 AreMarks names (row ∷ rows) (mark ∷ marks) = IsMarkOf names row mark × AreMarks names rows marks

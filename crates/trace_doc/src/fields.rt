@@ -45,7 +45,7 @@ pub(crate) fn written_in(line: &[u8]) -> Option<Written<'_>>
     }
 }
 
-// The bytes before the line's first comma, and those behind it where it has one.
+// The bytes before the line's first comma, and those after it where it has one.
 fn first_field(line: &[u8]) -> (&[u8], Option<&[u8]>)
     ensures { MatchOption result.1 (fields_of line.now ≡ result.0.now ∷ [])
         (λ rest. fields_of line.now ≡ result.0.now ∷ fields_of rest.now) }

@@ -17,9 +17,9 @@ pub struct Mark {
     /// The number of the line, from 1.
     pub line: u64,
     pub time_ns: u64,
-    /// The vCPU's number, or none where the host has none of the name that stands there.
+    /// The vCPU's number, or none where the host has none of the name that is there.
     pub vcpu: Option<VcpuNo>,
     pub state: State,
-    /// The CPU where one stands there.
+    /// The CPU where one is there.
     pub cpu: Option<u32>,
 }

@@ -1,4 +1,4 @@
--- Where vCPUs run, with one more mark behind.
+-- Where vCPUs run, with one more mark at the end.
 use Rattle.std.proofs.Common.{◌≡◌, ◌≢◌, ℕ, ◌<◌, ◌==◌, ◌&&◌, Bool, true, false, not, if◌then◌else◌, List, [], ◌∷◌, ◌++◌, length, get_or, reverse, set, Option, Some, None, ap, refl, sym, ◌∙◌, ⊎_elim, arith, subst}
 use Rattle.std.proofs.lemmas.Bool.{and_from, and_left, and_parts, both_ways, cases_Bool, cases_eq, cases_lt, eq-eqb, eqb-true, ne_eqb, not-true}
 use Rattle.std.proofs.lemmas.List.{append-nil, get_or-set_other, get_or-set_same, get_or_default, get_or_past, length-set}
@@ -63,14 +63,14 @@ none_on (cpu ∷ cpus) = rw (same_none cpu) (none_on cpus)
 
 -- ---- where a vCPU runs
 
--- behind a mark of it
+-- after a mark of it
 cpu_by-own : (marks : List Mark) (mark : Mark) (vcpu : Option ℕ) → are_same mark.vcpu vcpu ≡ true
     → cpu_by (marks ++ mark ∷ []) vcpu ≡ runs_on mark
 cpu_by-own marks mark vcpu own =
     ap (option_and_then runs_on) (last_that-push (λ m. are_same m.vcpu vcpu) marks mark
     ∙ ap (λ b. if b then Some mark else last_that (λ m. are_same m.vcpu vcpu) marks) own)
 
--- and of another
+-- the CPU after a mark of another vCPU
 cpu_by-other : (marks : List Mark) (mark : Mark) (vcpu : Option ℕ) → are_same mark.vcpu vcpu ≡ false
     → cpu_by (marks ++ mark ∷ []) vcpu ≡ cpu_by marks vcpu
 cpu_by-other marks mark vcpu other =
@@ -141,7 +141,7 @@ listed_shows marks cpus vcpu mark is are low any =
     (ap not (ne_eqb found.0 vcpu other)) on_cpu)) on_cpu)
     (cases_eq found.0 vcpu)
 
--- a mark of another vCPU, which stands in the list
+-- a mark of another vCPU, which is in the list
 shown_listed : (marks : List Mark) (cpus : List (Option ℕ)) (vcpu : ℕ) (mark : Mark) → mark.vcpu ≡ Some vcpu
     → AreCpus marks cpus → is_shared marks mark ≡ true
     → list_any (λ other. are_same other (runs_on mark)) (set cpus vcpu None) ≡ true
@@ -183,7 +183,7 @@ pub counted_next : (test : List Mark → Mark → Bool) (marks : List Mark) (mar
 counted_next test marks mark old new one is next counted =
     rw (lines_where-push test [] marks mark, is) (next (lines_where test [] marks) counted)
 
--- the list behind a mark
+-- the list after a mark
 cpus_next : (marks : List Mark) (cpus : List (Option ℕ)) (vcpu : ℕ) (mark : Mark) → mark.vcpu ≡ Some vcpu
     → AreCpus marks cpus → vcpu < length cpus
     → AreCpus (marks ++ mark ∷ []) (set (set cpus vcpu None) vcpu (runs_on mark))
@@ -200,7 +200,7 @@ cpus_next marks cpus vcpu mark is are low v = ⊎_elim
     ∙ get_or-set_other cpus vcpu v None None other))
     (cases_eq v vcpu)
 
--- behind a mark of a vCPU that the host has
+-- after a mark of a vCPU that the host has
 pub clashes_known : (marks : List Mark) (mark : Mark) (old new : Clashes) (vcpu : ℕ) (from to : Option ℕ)
     (others : List (Option ℕ)) (one two : Bool) → HasClashes marks old → mark.vcpu ≡ Some vcpu
     → vcpu < length old.cpus.items → from ≡ get_or old.cpus.items vcpu None → to ≡ runs_on mark
@@ -253,7 +253,7 @@ stays_counted : (test : List Mark → Mark → Bool) (marks : List Mark) (mark :
 stays_counted test marks mark count isnt counted =
     counted_next test marks mark count count false isnt (λ lines is. rw (append-nil lines) is) counted
 
--- behind a mark of another
+-- after a mark of another
 pub clashes_unknown : (marks : List Mark) (mark : Mark) (clashes : Clashes) → mark.vcpu ≡ None
     → HasClashes marks clashes → HasClashes (marks ++ mark ∷ []) clashes
 clashes_unknown marks mark clashes is has = record {

@@ -1,4 +1,4 @@
--- What is kept of a trace, with one more mark behind.
+-- What is kept of a trace, with one more mark at the end.
 use Rattle.std.proofs.Common.{arith, ◌≡◌, ℕ, ◌<◌, true, false, if◌then◌else◌, List, [], ◌∷◌, ◌++◌, length, map, max, get_or, nat_lt, Some, None, Result, Ok, Err, OnOk, set, ap, refl, sym, subst, ◌∙◌, ⊎_elim}
 use Rattle.std.proofs.lemmas.Bool.{cases_eq, eq-eqb, ne_eqb}
 use Rattle.std.proofs.lemmas.List.{get_or-map, get_or-set_other, get_or-set_same, length-set, map-set, set-get_or}
@@ -20,12 +20,12 @@ use Rattle.trace_judge.proofs.TraceLemmas.{latest-push, marks_of-other, marks_of
 own_vcpu : (vcpu : ℕ) (mark : Mark) → mark.vcpu ≡ Some vcpu → is_vcpu vcpu mark.vcpu ≡ true
 own_vcpu vcpu mark is = rw is (eq-eqb vcpu vcpu refl)
 
--- and no other
+-- another vCPU isn't the mark's
 other_vcpu : (vcpu other : ℕ) (mark : Mark) → mark.vcpu ≡ Some vcpu → (other ≡ vcpu → ⊥)
     → is_vcpu other mark.vcpu ≡ false
 other_vcpu vcpu other mark is differs = rw is (ne_eqb vcpu other (λ same. differs (sym same)))
 
--- the vCPUs behind a mark of one of them
+-- the vCPUs after a mark of one of them
 pub each_more : (trace : List Mark) (mark : Mark) (old new : List Tracker) (vcpu : ℕ) (more : Tracker)
     → mark.vcpu ≡ Some vcpu → vcpu < length old → new ≡ set old vcpu more
     → IsTracked (marks_of vcpu trace ++ mark ∷ []) more
@@ -53,7 +53,7 @@ each_more trace mark old new vcpu more is low put tracked each v tracker at = �
     rw (marks_of-other v trace mark (other_vcpu vcpu v mark is other)) (each v tracker (same ∙ found)))
     (cases_eq v vcpu)
 
--- the vCPUs behind a mark of none
+-- the vCPUs after a mark of none
 pub each_same : (trace : List Mark) (mark : Mark) (trackers : List Tracker) → mark.vcpu ≡ None
     → ((v : ℕ) (tracker : Tracker) → slice_get trackers v ≡ Some tracker → IsTracked (marks_of v trace) tracker)
     → (v : ℕ) (tracker : Tracker) → slice_get trackers v ≡ Some tracker
@@ -76,7 +76,7 @@ trace_more : (marks : List Mark) (mark : Mark) (top : ℕ) → top ≡ end_of ma
 trace_more marks mark top is =
     risen-push 0 marks mark ∙ ap (λ t. trace_of marks ++ risen_mark t mark ∷ []) (sym is)
 
--- behind a mark
+-- after a mark
 judged_by : (marks : List Mark) (mark : Mark) (old new : Judge) → HasJudged marks old
     → new.end_ns ≡ max old.end_ns mark.time_ns → CountsNext old mark new
     → HasClashes (marks ++ mark ∷ []) new.clashes
@@ -96,7 +96,7 @@ judged_by marks mark old new has top counts clashes each =
       each = rw more each;
     }
 
--- behind a mark of a vCPU that the host has
+-- after a mark of a vCPU that the host has
 pub judged_known : (marks : List Mark) (mark : Mark) (old new : Judge) (vcpu : ℕ) (before more : Tracker)
     → HasJudged marks old → new.end_ns ≡ max old.end_ns mark.time_ns → CountsNext old mark new
     → (HasClashes marks old.clashes → HasClashes (marks ++ mark ∷ []) new.clashes) → mark.vcpu ≡ Some vcpu → vcpu < length old.trackers.items
@@ -110,7 +110,7 @@ judged_known marks mark old new vcpu before more has top counts clashes is low r
     (each_more (trace_of marks) (risen_mark old.end_ns mark) old.trackers.items new.trackers.items vcpu more is low put
     (next (marks_of vcpu (trace_of marks)) (has.each vcpu before there)) has.each)
 
--- behind a mark of another
+-- after a mark of another
 pub judged_unknown : (marks : List Mark) (mark : Mark) (old new : Judge) → HasJudged marks old
     → new.end_ns ≡ max old.end_ns mark.time_ns → CountsNext old mark new → mark.vcpu ≡ None
     → new.clashes ≡ old.clashes → new.trackers.items ≡ old.trackers.items → HasJudged (marks ++ mark ∷ []) new

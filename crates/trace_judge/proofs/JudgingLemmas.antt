@@ -156,7 +156,7 @@ ended_come first old new vcpus window held into reading reads (Err fault) come g
   told = fault_of first new vcpus come.bytes fault (told come.bytes come.read);
 }
 
--- what is told in both cases
+-- what holds in both cases
 pub in_both : {T E : Type 0} (result : Result T E) (A : T → Type 0) (B : E → Type 0) → IfOk result A
     → IfErr result B → MatchResult result A B
 in_both (Ok value) A B one two = one

@@ -31,7 +31,7 @@ some_lines (byte ∷ front) =
       | false ↦ some_line byte (raw_lines_of (front ++ 10 ∷ []))
     ]
 
--- behind a line feed the lines begin anew
+-- after a line feed the lines begin anew
 raw_ended : (front more : List ℕ)
     → raw_lines_of ((front ++ 10 ∷ []) ++ more) ≡ raw_lines_of (front ++ 10 ∷ []) ++ raw_lines_of more
 unfolding raw_lines_of
@@ -59,7 +59,7 @@ none_behind : (more : List ℕ) → lines_of ([] ++ more) ≡ lines_of [] ++ lin
 unfolding lines_of raw_lines_of
 none_behind more = refl
 
--- the lines of a text that ends with its last line, and of more behind
+-- the lines of a text that ends with its last line, and of more after it
 pub lines_behind : (whole more : List ℕ) → IsEnded whole → lines_of (whole ++ more) ≡ lines_of whole ++ lines_of more
 lines_behind whole more ended = ⊎_elim
     (λ none. rw none (none_behind more))
@@ -77,7 +77,7 @@ piece_parts bytes whole held piece front back end are is behind =
     ap (λ b. b ++ piece) are ∙ ap (λ p. (whole ++ held) ++ p) cut
     ∙ sym (append_assoc (whole ++ held) front back) ∙ ap (λ w. w ++ back) (append_assoc whole held front)
 
--- what was read behind a piece that has a line feed
+-- what was read after a piece that has a line feed
 pub piece_read : (bytes held piece front back : List ℕ) (end : ℕ) (old new : Reading)
     → HasReadBytes bytes held old → end < length piece → get_or piece end 0 ≡ 10 → front ≡ take (end + 1) piece
     → back ≡ drop (end + 1) piece
@@ -117,7 +117,7 @@ piece_fault bytes held piece front back end names fault old has low at is behind
     rw lines (fault_more names (lines_of has.whole ++ lines_of (held ++ front)) (lines_of back) fault
     (bad (lines_of has.whole) has.read))
 
--- what is held behind the last piece are its last lines
+-- what is held after the last piece are its last lines
 pub rest_read : (bytes held : List ℕ) (old new : Reading) → HasReadBytes bytes held old
     → ((lines : List (List ℕ)) → HasRead lines old → HasRead (lines ++ lines_of held) new)
     → HasRead (lines_of bytes) new

@@ -12,7 +12,7 @@ use Rattle.trace_judge.specs.Inside.Judged.{HasJudged}
 use Rattle.trace_judge.specs.Inside.Readings.{HasRead}
 use Rattle.trace_judge.specs.declared.reading.Reading.{Reading}
 
--- the rows behind a line that is passed over
+-- the rows after a line that is passed over
 rows_passed : (lines : List (List ℕ)) (line : List ℕ) → is_passed_over line ≡ true
     → rows_from 1 (lines ++ line ∷ []) ≡ rows_from 1 lines
 rows_passed lines line passed =
@@ -21,7 +21,7 @@ rows_passed lines line passed =
     (rows_from-passed (1 + length lines) line [] passed ∙ rows_from-nil (1 + length lines + 1))
     ∙ append-nil (rows_from 1 lines)
 
--- and behind another
+-- the rows after a line that is another
 rows_kept : (lines : List (List ℕ)) (line : List ℕ) (number : ℕ) → is_passed_over line ≡ false
     → number ≡ length lines + 1 → rows_from 1 (lines ++ line ∷ []) ≡ rows_from 1 lines ++ row_of number line ∷ []
 rows_kept lines line number kept is =
@@ -84,7 +84,7 @@ bad_told names lines line number NoMemory is bad = tt
 bad_told names lines line number ReadFault is bad = absurd is
 bad_told names lines line number TooLong is bad = absurd is
 
--- a fault of lines is one of these and more behind them
+-- a fault of lines is one of these and more after them
 pub fault_more : (names lines more : List (List ℕ)) (fault : JudgeFault) → IsFaultIn names lines fault
     → IsFaultIn names (lines ++ more) fault
 fault_more names lines more (BadLine at text) bad = record {
@@ -102,7 +102,7 @@ fault_more names lines more NoMemory bad = tt
 fault_more names lines more ReadFault bad = absurd bad
 fault_more names lines more TooLong many = omega (arith, many, length-append lines more)
 
--- the lines of a text up to these have been read behind others
+-- the lines of a text up to these have been read after others
 pub record GoesOn (text : List ℕ) (old new : Reading) (rest : List (List ℕ)) : Type 0 where
   pub front : List (List ℕ)
   pub whole : lines_of text ≡ front ++ rest
@@ -117,7 +117,7 @@ begins text old rest is = record {
   read = λ lines read. rw (append-nil lines) read;
 }
 
--- behind one more
+-- after one more
 pub goes_on : (text : List ℕ) (old now new : Reading) (line : List ℕ) (rest : List (List ℕ))
     → GoesOn text old now (line ∷ rest)
     → ((lines : List (List ℕ)) → HasRead lines now → HasRead (lines ++ line ∷ []) new) → GoesOn text old new rest
@@ -129,7 +129,7 @@ goes_on text old now new line rest on more = record {
       (more (lines ++ on.front) (on.read lines read));
 }
 
--- behind the last
+-- after the last
 pub ends : (text : List ℕ) (old new : Reading) → GoesOn text old new []
     → (lines : List (List ℕ)) → HasRead lines old → HasRead (lines ++ lines_of text) new
 ends text old new on lines read =

@@ -1,4 +1,4 @@
--- What is told of vCPUs.
+-- What is reported of vCPUs.
 use Rattle.std.proofs.Common.{arith, ◌≡◌, ◌↔◌, ℕ, ◌+◌, ◌*◌, ◌<◌, ◌≤◌, List, [], ◌∷◌, ◌++◌, length, map, take, get_or, append_assoc, length-append, Option, Some, None, ap, refl, sym, ◌∙◌, ⊎_elim, subst}
 use Rattle.std.proofs.Math.Nat.{mul-le-mul_left}
 use Rattle.std.proofs.lemmas.Bool.{and_from, and_parts, cases_lt, le-leb, leb-true}
@@ -109,7 +109,7 @@ share_is course window time (Some least) is = record {
   share = ap (λ run. share_of run window) is.run;
 }
 
--- what is told of a vCPU at the end
+-- what is reported of a vCPU at the end
 pub report_told : (marks : List Mark) (old new : Tracker) (reservation : Option Reservation) (time : ℕ)
     (window : ℕ) (report : VcpuReport) → IsTracked marks old → CountsOn old time new
     → terms_of old ≡ (latency_in reservation, window) → terms_of new ≡ terms_of old → report.run_ns ≡ new.times.run_ns
@@ -163,7 +163,7 @@ terms_more window trackers vcpus i vcpu one low is sold same =
     ∙ ap (λ n. map (sold_terms window) (take i vcpus) ++ n ∷ []) (sold ∙ ap (sold_terms window) is)
     ∙ sym (map_more (sold_terms window) vcpus i vcpu low)
 
--- one more is told of
+-- one more vCPU is reported
 pub reports_more : (window : ℕ) (trackers : List Tracker) (vcpus : List Vcpu) (time : ℕ) (reports : List VcpuReport) (v : ℕ)
     (tracker : Tracker) (vcpu : Vcpu) (one : VcpuReport) → length reports ≡ v
     → AreReports window trackers vcpus time reports → v < length trackers → v < length vcpus
@@ -215,7 +215,7 @@ pub same_length : (window : ℕ) (trackers : List Tracker) (vcpus : List Vcpu)
 same_length window trackers vcpus same =
     sym (length-map trackers terms_of) ∙ ap length same ∙ length-map vcpus (sold_terms window)
 
--- what is told of one of them
+-- what is reported of one of them
 each_told : (window : ℕ) (vcpus : List Vcpu) (trackers : List Tracker) (reports : List VcpuReport) (time : ℕ) (trace : List Mark)
     (ends : ℕ) → time ≡ ends → AreReports window trackers vcpus time reports
     → ((v : ℕ) (tracker : Tracker) → slice_get trackers v ≡ Some tracker → IsTracked (marks_of v trace) tracker)
@@ -233,7 +233,7 @@ each_told window vcpus trackers reports time trace ends is are each same v vcpu 
     absurd (let beyond = past.0 in omega arith))
     (slice_get_cases trackers v).1
 
--- what is told of a host at the end
+-- what is reported of a host at the end
 pub told_of : (window : ℕ) (vcpus : List Vcpu) (bytes : List ℕ) (reading : Reading) (report : Report)
     → HasRead (lines_of bytes) reading → reading.names ≡ names_of vcpus
     → map terms_of reading.judge.trackers.items ≡ map (sold_terms window) vcpus

@@ -1,4 +1,4 @@
--- A trace with one more mark behind.
+-- A trace with one more mark at the end.
 use Rattle.std.proofs.Common.{◌≡◌, ℕ, Bool, true, false, if◌then◌else◌, List, [], ◌∷◌, ◌++◌, max, ap, refl, sym, ◌∙◌, append_assoc}
 use Rattle.std.proofs.lemmas.List.{append-nil}
 use Rattle.std.proofs.lemmas.List.Elements.{filter-append}
@@ -45,7 +45,7 @@ marks_of-own vcpu marks mark own =
     filter-append (λ m. is_vcpu vcpu m.vcpu) marks (mark ∷ [])
     ∙ ap (λ b. marks_of vcpu marks ++ (if b then mark ∷ [] else [])) own
 
--- and of another
+-- the marks of another vCPU
 pub marks_of-other : (vcpu : ℕ) (marks : List Mark) (mark : Mark) → is_vcpu vcpu mark.vcpu ≡ false
     → marks_of vcpu (marks ++ mark ∷ []) ≡ marks_of vcpu marks
 marks_of-other vcpu marks mark other =

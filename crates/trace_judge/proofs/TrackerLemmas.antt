@@ -9,7 +9,7 @@ use Rattle.trace_judge.specs.Traces.{state_at, told_at}
 use Rattle.trace_judge.specs.declared.tracker.Tracker.{Tracker}
 use Rattle.trace_judge.proofs.MarkLemmas.{state_at-before, state_at-later, told_at-before, told_at-later}
 
--- behind the vCPU's next mark
+-- after the vCPU's next mark
 pub tracked_more : (marks : List Mark) (mark : Mark) (old settled new : Tracker) → old.since_ns ≤ mark.time_ns
     → IsTracked marks old → CountsOn old mark.time_ns settled → new.times ≡ settled.times
     → new.waits ≡ settled.waits → new.windows ≡ settled.windows → new.since_ns ≡ mark.time_ns → new.state ≡ Some mark.state

@@ -32,7 +32,7 @@ waited_on course from (suc ns) held =
     let last = waited_next course (from + ns) (held.held (from + ns) (omega arith) (omega arith)) in
     rw add-suc (omega (arith, rest, last))
 
--- the same at each time within it
+-- a wait that goes on, at each time within it
 pub waited_in : (course : Course) (from to t : ℕ) → IsHeld course (Some Wait) from to → from ≤ t → t ≤ to
     → waited course t ≡ waited course from + (t - from)
 waited_in course from to t held low high =
@@ -40,7 +40,7 @@ waited_in course from to t held low high =
     sym (ap (waited course) whole)
     ∙ waited_on course from (t - from) (record { held = λ k least most. held.held k least (omega arith) })
 
--- no wait goes on behind a ns in which it doesn't wait
+-- no wait goes on after a ns in which it doesn't wait
 pub waited_stopped : (course : Course) (state : Option State) (from to t : ℕ) → is_in Wait state ≡ false
     → IsHeld course state from to → from < t → t ≤ to → waited course t ≡ 0
 waited_stopped course state from to zero isnt held low high = absurd (omega arith)

@@ -500,7 +500,7 @@ windows_begun course windows some opened since ran none least = record {
   least = rw least (λ s one. absurd (omega (arith, one.within, some)));
 }
 
--- behind a time in which the vCPU is runnable
+-- after a time in which the vCPU is runnable
 pub windows_more : (course : Course) (state : Option State) (from to : ℕ) (old new : Windows) → from < to
     → HasWindows course from old → IsHeld course state from to → is_runnable state ≡ true
     → new.window_ns ≡ old.window_ns → new.open_ns ≡ old.open_ns
@@ -525,7 +525,7 @@ windows_more course state from to old new order has held is window opened trail 
   least = rw window least;
 }
 
--- behind one in which it isn't
+-- after one in which it isn't
 pub windows_stopped : (course : Course) (state : Option State) (from to ran : ℕ) (old new : Windows) → from < to
     → HasWindows course from old → IsHeld course state from to → is_runnable state ≡ false
     → ran ≡ ran_by course from → 0 < old.window_ns → new.window_ns ≡ old.window_ns → new.open_ns ≡ to
@@ -583,7 +583,7 @@ same_trail course to time old new begin paused runs has = record {
   stretches = rw (paused, runs) has.stretches;
 }
 
--- no window is whole behind a wait
+-- no window is whole after a wait
 pub wait_few : (course : Course) (from to : ℕ) (windows : Windows) → from < to → HasWindows course from windows
     → IsHeld course (Some Wait) from to → to - windows.open_ns < windows.window_ns → HasWindows course to windows
 wait_few course from to windows order has held few =
@@ -594,7 +594,7 @@ wait_few course from to windows order has held few =
     (λ above. (let by = has.passed above in omega arith))
     (wait_none course from to windows (omega arith) has few)
 
--- behind a wait
+-- after a wait
 pub wait_more : (course : Course) (from to ran run : ℕ) (old passed new : Windows) (pause : Pause) → from < to
     → HasWindows course from old → IsHeld course (Some Wait) from to → ran ≡ ran_by course from
     → old.window_ns ≤ to - old.open_ns → passed.window_ns ≡ old.window_ns → passed.open_ns ≡ old.open_ns
@@ -618,7 +618,7 @@ wait_more course from to ran run old passed new pause order has held is whole wi
     (λ above. omega arith)
     (rw (least, same) (wait_last course from to ran run pause old order has held whole began is value))
 
--- behind a time in which it runs
+-- after a time in which it runs
 pub run_more : (course : Course) (from to time : ℕ) (old pushed new : Windows) (one : Stretch) → from < to
     → HasWindows course from old → IsHeld course (Some Run) from to → one.ran_ns ≡ ran_by course from
     → one.from_ns ≡ from → one.to_ns ≡ to → pushed.window_ns ≡ old.window_ns → pushed.open_ns ≡ old.open_ns

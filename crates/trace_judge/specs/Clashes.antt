@@ -9,7 +9,7 @@ use Rattle.trace_judge.specs.Courses.{is_same}
 use Rattle.trace_judge.specs.Traces.{end_of, last_that}
 use Rattle.trace_judge.specs.declared.report.LineCount.{LineCount}
 
--- the numbers of the lines that pass a test, which also sees the marks before; these stand before the first
+-- the numbers of the lines that pass a test, which also sees the marks before; these are before the first
 abbrev pub lines_where : (List Mark → Mark → Bool) → List Mark → List Mark → List ℕ
 lines_where test before [] = []
 lines_where test before (mark ∷ marks) =
@@ -40,7 +40,7 @@ abbrev pub are_two : Option ℕ → Option ℕ → Bool
 are_two (Some one) (Some two) = not (one == two)
 are_two _ _ = false
 
--- the CPU on which the vCPU of a mark runs from then on, if it runs and its CPU is told
+-- the CPU on which the vCPU of a mark runs from then on, if it runs and its CPU is named
 abbrev pub runs_on : Mark → Option ℕ
 runs_on mark = if is_same Run mark.state then mark.cpu else None
 

@@ -15,7 +15,7 @@ IsFaultIn names lines TooLong = 2 ^ 64 ≤ length lines
 IsFaultIn names lines ReadFault = ⊥
 IsFaultIn names lines NoMemory = Unit {0}
 
--- the fault of a bad line, or want of memory
+-- the fault of a bad line, or out of memory
 abbrev pub IsBadLine : ℕ → List ℕ → JudgeFault → Type 0
 IsBadLine line bytes (BadLine number text) = (number ≡ line) × (text.items ≡ bytes)
 IsBadLine line bytes NoMemory = Unit {0}

@@ -19,7 +19,8 @@ HasFault old new vcpus bytes (BadLine number text) = IsFaultIn (names_of vcpus) 
 HasFault old new vcpus bytes TooLong = 2 ^ 64 ≤ length bytes + 1
 HasFault old new vcpus bytes NoMemory = Unit {0}
 
--- the source gave these bytes, which are all, and this is told of them; or a fault came behind them
+-- the source gave these bytes, which are all, and this is reported of them; or a fault came after
+-- them
 pub record JudgesTrace (old new : SourceView) (vcpus : List Vcpu) (window : ℕ) (result : Result Report JudgeFault)
     : Type 0 where
   pub bytes : List ℕ

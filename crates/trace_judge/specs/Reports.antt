@@ -1,4 +1,4 @@
--- What is told of a host by its trace.
+-- What is reported of a host by its trace.
 use Rattle.std.specs.Prelude.{◌≡◌, ℕ, ◌*◌, ◌≤◌, ◌↔◌, [], IsTrue, List, length, Option, Some, None, slice_get}
 use Rattle.tab_core.specs.declared.TheConstants.{WHOLE_PPM}
 use Rattle.tab_core.specs.declared.reservation.Reservation.{Reservation}
@@ -33,7 +33,8 @@ abbrev pub KeepsPromise : Option Reservation → ℕ → Course → ℕ → Type
 KeepsPromise None window course time = Unit {0}
 KeepsPromise (Some reservation) window course time = KeepsReservation reservation window course time
 
--- a vCPU of this reservation did this up to a time, with windows of so many ns, and so much of its CPUs was told
+-- a vCPU of this reservation did this up to a time, with windows of so many ns, and so much of its CPUs was
+-- named
 pub record IsVcpuReport (reservation : Option Reservation) (window : ℕ) (course : Course) (told : ℕ → Option ℕ)
     (time : ℕ) (report : VcpuReport) : Type 0 where
   pub run : report.run_ns ≡ time_before course state.Run time
@@ -58,7 +59,7 @@ pub record IsReportOfMarks (window : ℕ) (vcpus : List Vcpu) (marks : List Mark
       → IsVcpuReport vcpu.reservation window (state_at (marks_of v (trace_of marks)))
       (told_at (marks_of v (trace_of marks))) (end_of marks) one
 
--- the bytes are a trace of which this is told
+-- the bytes are a trace of which this is reported
 pub record IsReportOf (window : ℕ) (vcpus : List Vcpu) (bytes : List ℕ) (report : Report) : Type 0 where
   pub marks : List Mark
   pub said : AreMarks (names_of vcpus) (rows_from 1 (lines_of bytes)) marks

@@ -10,7 +10,7 @@ use Rattle.trace_judge.specs.Courses.{Course}
 abbrev pub latest : ℕ → List Mark → ℕ
 latest time marks = fold (λ top mark. max top mark.time_ns) time marks
 
--- the marks behind a time, of which none is before another that it stands behind: one whose time falls is taken at the
+-- the marks after a time, of which none is before another that it comes after: one whose time falls is taken at the
 -- latest time before it
 abbrev pub risen : ℕ → List Mark → List Mark
 risen time [] = []
@@ -43,7 +43,7 @@ last_that test marks = find test (reverse marks)
 abbrev pub state_at : List Mark → Course
 state_at marks t = option_map (λ mark. mark.state) (last_that (λ mark. nat_le mark.time_ns t) marks)
 
--- the CPU that was told last up to a time
+-- the CPU that was named last up to a time
 abbrev pub told_at : List Mark → ℕ → Option ℕ
 told_at marks t =
     option_and_then (λ mark. mark.cpu) (last_that (λ mark. nat_le mark.time_ns t && is_some mark.cpu) marks)

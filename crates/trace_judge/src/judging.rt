@@ -104,7 +104,7 @@ fn trackers_of(alloc: Global, vcpus: &[Vcpu], window_ns: u64) -> Result<Vec<Trac
     Ok(trackers)
 }
 
-// Reads what is held behind the last piece, and tells of all.
+// Reads what is held after the last piece, and tells of all.
 fn finish(
     alloc: Global,
     mut reading: Reading<'_>,

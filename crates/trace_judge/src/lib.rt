@@ -1,10 +1,10 @@
 //! A judge of what ran on a host: it takes the marks of a trace one after the other, and keeps of each vCPU what is
-//! told of it.
+//! reported of it.
 //!
-//! `specs/Traces.antt` says what the marks of a trace say of the vCPUs over time, `specs/Courses.antt` how long a vCPU
-//! is in a state, `specs/Waits.antt` what its waits are, `specs/Windows.antt` what its share is in windows of time,
-//! `specs/Clashes.antt` which lines can't be, and `specs/Reports.antt` what is told. Each number is that of these
-//! definitions over the whole trace.
+//! `specs/Traces.antt` says what the marks of a trace say of the vCPUs over time, `specs/Courses.antt` how long a
+//! vCPU is in a state, `specs/Waits.antt` what its waits are, `specs/Windows.antt` what its share is in windows of
+//! time, `specs/Clashes.antt` which lines can't be, and `specs/Reports.antt` what is reported. Each number is that of
+//! these definitions over the whole trace.
 #![tactic(auto)]
 
 mod clashes;

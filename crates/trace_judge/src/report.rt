@@ -4,7 +4,7 @@ pub struct LongestWait {
     pub ns: u64,
     /// The time when it began.
     pub at_ns: u64,
-    /// The CPU that had been told last of the vCPU by then.
+    /// The CPU that had been named last of the vCPU by then.
     pub cpu: Option<u32>,
 }
 
@@ -24,7 +24,7 @@ pub struct LineCount {
     pub first: Option<u64>,
 }
 
-/// What is told of a vCPU. Times are in ns.
+/// What is reported of a vCPU. Times are in ns.
 #[derive(Clone, Copy)]
 pub struct VcpuReport {
     pub run_ns: u64,
@@ -41,7 +41,7 @@ pub struct VcpuReport {
     pub kept: bool,
 }
 
-/// What is told of a host by its trace.
+/// What is reported of a host by its trace.
 #[derive(Drop)]
 pub struct Report {
     /// The time of the last line, which ends the trace.

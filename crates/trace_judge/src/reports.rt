@@ -8,7 +8,7 @@ use crate::tracker::Tracker;
 use std::alloc::Global;
 use tab_core::{NoMemory, Reservation, Vcpu, WHOLE_PPM};
 
-// What is told of the vCPUs at the end of the trace.
+// What is reported of the vCPUs at the end of the trace.
 pub(crate) fn reports_of(
     alloc: Global,
     trackers: Vec<Tracker>,
@@ -34,7 +34,7 @@ pub(crate) fn reports_of(
     Ok(reports)
 }
 
-// What is told of one.
+// What is reported of one vCPU.
 fn report_of(
     mut tracker: Tracker,
     reservation: &Option<Reservation>,

@@ -11,7 +11,7 @@ impl<'a> Reading<'a> {
     ghost use Rattle.trace_judge.specs.Inside.Judged.{terms_of};
     ghost use Rattle.trace_judge.specs.Inside.Readings.{HasReadBytes};
 
-    // Reads the next piece of the trace's bytes, before which these were held, and holds those behind its last line
+    // Reads the next piece of the trace's bytes, before which these were held, and holds those after its last line
     // feed.
     pub(crate) fn take_piece(
         &mut self,
@@ -48,7 +48,7 @@ impl<'a> Reading<'a> {
     }
 }
 
-// Where the last line feed stands.
+// Where the last line feed is.
 fn last_feed(bytes: &[u8]) -> Option<usize>
     ensures { MatchOption result ⊤ (λ end. (end < length bytes.now) × (slice_index bytes.now end ≡ 10)) }
 {

@@ -12,7 +12,7 @@ use trace_doc::{Mark, State};
 pub(crate) struct Tracker {
     pub(crate) state: Option<State>,
     pub(crate) since_ns: u64,
-    // the CPU that was told last
+    // the CPU that was named last
     pub(crate) cpu: Option<u32>,
     pub(crate) times: Times,
     pub(crate) waits: Waits,

@@ -8,7 +8,7 @@ ghost use Rattle.trace_judge.specs.Inside.Settled.{BeginsOrGoesOn, HasWaits, lon
 use crate::report::LongestWait;
 use trace_doc::State;
 
-// A wait that goes on, and the CPU that was told last when it began.
+// A wait that goes on, and the CPU that was named last when it began.
 #[derive(Clone, Copy)]
 pub(crate) struct Begun {
     pub(crate) at_ns: u64,
@@ -41,7 +41,8 @@ pub(crate) fn no_waits(latency_ns: u64) -> Waits
     }
 }
 
-// The waits behind a later time, up to which the state stays the same; this CPU was told last before.
+// The waits after a later time, up to which the state stays the same; this CPU was named last
+// before.
 pub(crate) fn waits_behind(
     waits: &Waits,
     state: Option<State>,

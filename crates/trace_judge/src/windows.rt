@@ -111,7 +111,7 @@ impl Windows {
         Ok(())
     }
 
-    // The least behind that, for which only a first whole window counts.
+    // The least after that, for which only a first whole window counts.
     fn least_running(&self, from: u64, to: u64, ran: u64) -> Option<Least>
         requires order { from < to }
         requires opened { self.now.open_ns ≤ from }

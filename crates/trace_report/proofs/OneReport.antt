@@ -8,7 +8,7 @@ use Rattle.trace_report.specs.ReportViews.{ReportView, no_vcpu_ticks, vcpu_at}
 use Rattle.trace_report.specs.RunReports.{IsReportOf, IsVcpuTold}
 use Rattle.trace_report.specs.declared.ticks.VcpuTicks.{VcpuTicks}
 
--- what is told of a vCPU, by its four numbers
+-- what is reported of a vCPU, by its four numbers
 told_of : ℕ → ℕ → ℕ → ℕ → VcpuTicks
 told_of offered slots shared gap = record { offered = offered; slots = slots; shared = shared; gap = gap }
 

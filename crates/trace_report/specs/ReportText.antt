@@ -22,16 +22,16 @@ outcome_text names Planned = codes "planned"
 outcome_text names (NoPeriod vcpu) = codes "no period for " ++ name_at names vcpu
 outcome_text names (NoRoom vcpu) = codes "no room for " ++ name_at names vcpu
 
--- the line of change k of the script, which stands at this tick and of which this is told
+-- the line of change k of the script, which is at this tick and of which this is reported
 unfoldable pub line_of_change : ℕ → ℕ → List ℕ → List ℕ
 line_of_change k tick told = codes "change "
     ++ (decimal k ++ (codes " at " ++ (decimal tick ++ (codes ": " ++ (told ++ codes "\n")))))
 
--- the line of change k of the script, which stands at this tick
+-- the line of change k of the script, which is at this tick
 abbrev pub change_line : List (List ℕ) → ℕ → ℕ → Outcome → List ℕ
 change_line names k tick outcome = line_of_change k tick (outcome_text names outcome)
 
--- the same out of a list of changes, each with its tick
+-- the line of change k out of a list of changes, each with its tick
 abbrev pub change_at : List (List ℕ) → List (ℕ × Outcome) → ℕ → List ℕ
 change_at names changes k =
     (let change = slice_index_or changes k (0, Planned) in change_line names k change.0 change.1)

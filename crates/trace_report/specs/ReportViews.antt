@@ -4,8 +4,8 @@ use Rattle.report_counts.specs.declared.round_plan.RoundPlan.{RoundPlan}
 use Rattle.trace_report.specs.declared.ticks.VcpuTicks.{VcpuTicks}
 use Rattle.trace_report.specs.declared.ticks.CoreTicks.{CoreTicks}
 
--- the rounds that begin with another plan, what is told of each vCPU and each core by number, how many
--- rounds there is room for, and how many cores' accounts were added since the report was filled
+-- the rounds that begin with another plan, what is reported of each vCPU and each core by number, how
+-- many rounds there is room for, and how many cores' accounts were added since the report was filled
 pub record ReportView : Type 0 where
   pub plans : List RoundPlan
   pub vcpus : List VcpuTicks
@@ -31,10 +31,10 @@ no_vcpu_ticks = record { offered = 0; slots = 0; shared = 0; gap = 0 }
 abbrev pub no_core_ticks : CoreTicks
 no_core_ticks = record { slots = 0; shared = 0; idle = 0 }
 
--- what is told of a vCPU, in a list by vCPU number
+-- what is reported of a vCPU, in a list by vCPU number
 abbrev pub vcpu_at : List VcpuTicks → ℕ → VcpuTicks
 vcpu_at vcpus v = slice_index_or vcpus v no_vcpu_ticks
 
--- what is told of a core, in a list by core number
+-- what is reported of a core, in a list by core number
 abbrev pub core_at : List CoreTicks → ℕ → CoreTicks
 core_at cores c = slice_index_or cores c no_core_ticks

@@ -20,7 +20,7 @@ pub record HasRoom (course : CourseView) (rounds : ℕ) (report : ReportView) : 
   pub each_vcpu : length report.vcpus ≡ vcpus_of course
   pub each_core : length report.cores ≡ course.cores
 
--- nothing is told yet
+-- nothing is reported yet
 pub record IsEmpty (report : ReportView) : Type 0 where
   pub plans : report.plans ≡ []
   pub vcpus : report.vcpus ≡ replicate (length report.vcpus) no_vcpu_ticks
@@ -29,8 +29,8 @@ pub record IsEmpty (report : ReportView) : Type 0 where
 
 -- ---- what `fill` sets
 
--- what is told of a vCPU once the rounds are counted: `offered` is the number of ticks that they offer to
--- it, `gap` its greatest gap, and it ran nothing yet
+-- what is reported of a vCPU once the rounds are counted: `offered` is the number of ticks that they
+-- offer to it, `gap` its greatest gap, and it ran nothing yet
 pub record IsVcpuCounted (course : CourseView) (used : List ℕ) (v : ℕ) (t : VcpuTicks) : Type 0 where
   pub counted : IsReported course used v t.offered t.gap
   pub no_slots : t.slots ≡ 0
@@ -51,7 +51,8 @@ unfoldable pub sum_below : List ℕ → ℕ → ℕ
 sum_below ticks zero = 0
 sum_below ticks (suc n) = sum_below ticks n + slice_index ticks n
 
--- what is told of a core with this account: its sums over all vCPUs, and the ticks that it idled
+-- what is reported of a core with this account: its sums over all vCPUs, and the ticks that it
+-- idled
 abbrev pub core_ticks : CoreAccount → CoreTicks
 core_ticks a = record {
   slots = sum_below a.slots MAX_VCPUS;
@@ -59,7 +60,7 @@ core_ticks a = record {
   idle = a.idle;
 }
 
--- what is told of a vCPU, and what one more account has of it
+-- what is reported of a vCPU, and what one more account has of it
 abbrev pub with_account : VcpuTicks → CoreAccount → ℕ → VcpuTicks
 with_account t a v = record t {
   slots = t.slots + slice_index a.slots v;
@@ -77,8 +78,9 @@ pub record IsAdded (core : ℕ) (account : CoreAccount) (old new : ReportView) :
 
 -- ---- what a report is
 
--- what is told of a vCPU of a run: `offered` is the number of ticks that its rounds offer to the vCPU, `gap`
--- the vCPU's greatest gap, and `slots` and `shared` are the sums of what the cores' accounts have of it
+-- what is reported of a vCPU of a run: `offered` is the number of ticks that its rounds offer to the vCPU,
+-- `gap` the vCPU's greatest gap, and `slots` and `shared` are the sums of what the cores' accounts have of
+-- it
 pub record IsVcpuTold (course : CourseView) (used : List ℕ) (accounts : List CoreAccount) (v : ℕ)
     (t : VcpuTicks) : Type 0 where
   pub counted : IsReported course used v t.offered t.gap

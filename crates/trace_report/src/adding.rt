@@ -25,7 +25,7 @@ pub(crate) fn add_vcpus(vcpus: &mut [VcpuTicks], account: &CoreAccount)
     }
 }
 
-// What is told of a core with this account.
+// What is reported of a core with this account.
 pub(crate) fn core_ticks(account: &CoreAccount) -> CoreTicks
     requires { IsWithin account.now (MAX_ROUNDS * ROUND) }
     ensures { result ≡ core_ticks account.now }

@@ -9,7 +9,7 @@ use tab_io::{Sink, WriteFault};
 use tab_words::{TextPiece, put_pieces};
 use vcpu_names::name_in;
 
-// Writes the line of what became of change k, which stands at this tick.
+// Writes the line of what became of change k, which is at this tick.
 pub(crate) fn put_change<K: Sink>(
     sink: &mut K,
     vcpus: &[Vcpu],
@@ -31,7 +31,7 @@ pub(crate) fn put_change<K: Sink>(
     }
 }
 
-// The line with these words behind the tick, and then this name.
+// The line with these words after the tick, and then this name.
 #[tactic(auto, unfolding(crate::specs::ReportText::line_of_change))]
 fn put_change_words<'a, K: Sink>(
     sink: &mut K,

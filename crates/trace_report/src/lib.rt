@@ -1,5 +1,5 @@
-//! What is told of a run of threads: the report of what each vCPU and each core got, and the trace of
-//! its stints.
+//! What is reported of a run of threads: the report of what each vCPU and each core got, and the
+//! trace of its stints.
 //!
 //! `specs/RunReports.antt` says which numbers a report has, in the words of offers, gaps, rounds' plans and
 //! accounts. `write_report` writes the `report_text` of `specs/ReportText.antt`, and `write_trace` the

@@ -44,7 +44,7 @@ impl Model for Report {
 impl Report {
     /// An empty report with room for so many rounds and for the vCPUs and cores of the course.
     ///
-    /// Fails only for want of memory.
+    /// Fails only when memory runs out.
     pub fn room(alloc: Global, course: &Course, rounds: u32) -> Result<Report, NoMemory>
         ensures room { IfOk result (λ report. HasRoom course.now rounds report) }
         ensures empty { IfOk result (λ report. IsEmpty report) }
@@ -106,14 +106,14 @@ impl Report {
         &self.plans
     }
 
-    /// What is told of each vCPU, by number.
+    /// What is reported of each vCPU, by number.
     pub fn vcpus(&self) -> &[VcpuTicks]
         ensures { result.now ≡ self.now.vcpus }
     {
         &self.vcpus
     }
 
-    /// What is told of each core, by number.
+    /// What is reported of each core, by number.
     pub fn cores(&self) -> &[CoreTicks]
         ensures { result.now ≡ self.now.cores }
     {

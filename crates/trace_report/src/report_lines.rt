@@ -17,8 +17,8 @@ use tab_words::{TextPiece, put_line};
 /// Writes the report of a run of so many rounds and events, for the names of a host. `changes` has for
 /// each change of the script its tick and what became of it.
 ///
-/// The report tells of each vCPU and each core of the host. A fault leaves a front of the text in the
-/// sink. Nothing is settled, and nothing is allocated.
+/// The report tells of each vCPU and each core of the host. A fault leaves a prefix of the text in
+/// the sink. Nothing is settled, and nothing is allocated.
 pub fn write_report<K: Sink>(
     sink: &mut K,
     host: &Host,

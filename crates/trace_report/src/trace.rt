@@ -11,7 +11,7 @@ use table_form::Course;
 
 /// Writes the trace of a core: the lines of its stints, for the names of a host.
 ///
-/// Each stint has counts of the course. A fault leaves a front of the text in the sink. Nothing is
+/// Each stint has counts of the course. A fault leaves a prefix of the text in the sink. Nothing is
 /// settled, and nothing is allocated.
 pub fn write_trace<K: Sink>(
     sink: &mut K,

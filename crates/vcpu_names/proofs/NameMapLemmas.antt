@@ -25,7 +25,7 @@ number_at-added numbers more key vcpu updates name =
 at_last : (names : List (List ℕ)) (name : List ℕ) → get_or (names ++ name ∷ []) (length names) [] ≡ name
 at_last names name = grind (arith, common_steps)
 
--- and the names before it stay at theirs
+-- the names before a new one stay at their numbers
 at_before : (names : List (List ℕ)) (name : List ℕ) (vcpu : ℕ) → vcpu < length names
     → get_or (names ++ name ∷ []) vcpu [] ≡ get_or names vcpu []
 at_before names name vcpu low = grind (arith, common_steps)
@@ -51,7 +51,7 @@ known_more names name other vcpu before false known good is at =
     let size = longer names name in
     (omega arith, at_before names name vcpu old.0 ∙ old.1, old.2)
 
--- and what isn't found is no name
+-- what isn't found after an insertion is no name
 unknown_more : (names : List (List ℕ)) (name other : List ℕ) (before : Option ℕ) (same : Bool)
     → (before ≡ None → IsUnknown names other) → bytes_eq name other ≡ same
     → cond same (Some (length names)) before ≡ None → IsUnknown (names ++ name ∷ []) other

@@ -33,7 +33,7 @@ impl<'a> Model for Names<'a> {
 
 impl<'a> Names<'a> {
     /// The names of these vCPUs, of which there are at most 256, each with the form of a name. Fails
-    /// only for want of memory.
+    /// only when memory runs out.
     pub fn of(alloc: Global, vcpus: &'a [Vcpu]) -> Result<Names<'a>, AllocError>
         requires { length vcpus.now ≤ MAX_VCPUS }
         ensures names { IfOk result (λ names. names ≡ names_of vcpus.now) }
@@ -73,7 +73,8 @@ impl<'a> Names<'a> {
         self.found_in_map(name)
     }
 
-    // The same by the map alone. It stays out of the look-up, since most names are found by a hint.
+    // The number of the vCPU of this name, by the map alone. It stays out of the look-up, since
+    // most names are found by a hint.
     #[inline(never)]
     fn found_in_map(&self, name: &[u8]) -> Option<VcpuNo>
         ensures known { IfSome result (λ vcpu. (vcpu < length self.now) × (name_at self.now vcpu ≡ name.now)

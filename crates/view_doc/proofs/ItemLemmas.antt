@@ -1,4 +1,4 @@
--- Words that stand rightly, one by one.
+-- Words that fit their form, one by one.
 use Rattle.std.proofs.Common.{ℕ, ◌<◌, List, [], ◌∷◌, length, map, drop, zero, suc, arith}
 use Rattle.view_doc.specs.Inside.Statements.{blank_of}
 use Rattle.view_doc.specs.Items.{Fits}

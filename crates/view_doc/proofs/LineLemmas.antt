@@ -18,7 +18,7 @@ use Rattle.view_doc.specs.declared.statement.Statement.{Statement}
 abbrev pub IsAnswer : Type 0 → Line → Option Statement → Type 0
 IsAnswer none words answer = MatchOption answer none (λ s. (all : Line) → Says words (told_by all s))
 
--- where nothing of one form stands, and no other form may, nothing is said
+-- where there is nothing of one form, and no other form may be, nothing is said
 pub nothing_said : (none : Type 0) (words : Line) (answer : Option Statement)
     → (none → SaysNoPlain words) → IsAnswer none words answer → IsAnswer (SaysNoPlain words) words answer
 nothing_said none words None says is = says is
@@ -28,7 +28,7 @@ nothing_said none words (Some s) says is = is
 first_same : (a b : List ℕ) (rest more : Line) → a ∷ rest ≡ b ∷ more → a ≡ b
 first_same a b rest more is = ap (λ (l : Line). get_or l 0 []) is
 
--- and so are the words behind them
+-- the words after the first of equal lines are equal
 rest_same : (a b : List ℕ) (rest more : Line) → a ∷ rest ≡ b ∷ more → rest ≡ more
 rest_same a b rest more is = ap (λ (l : Line). drop 1 l) is
 
@@ -45,7 +45,7 @@ no_digit word n low none is =
     none (subst (λ (w : List ℕ). digit_value (get_or w 0 0) < 10) (sym is)
     (digit_below 10 (decimal n) 0 (decimal_nonempty n low) all))
 
--- ---- behind `core`
+-- ---- after `core`
 
 pub core_told : (rest : Line) (told : Told) → IsPlain told → Says (codes "core" ∷ rest) told
     → ((d : ℕ) → IsGood (core d) → rest ≡ decimal d ∷ [] → ⊥)
@@ -78,7 +78,7 @@ core_told rest (posted n) plain says no_core no_entry no_stint =
 core_told rest done plain says no_core no_entry no_stint =
     other_first (codes "core") (codes "done") _ _ refl says.written
 
--- no core's number stands there
+-- no core's number is there
 pub no_core : (rest : Line) → ((n : ℕ) (more : Line) → n < MAX_CORES → rest ≡ decimal n ∷ more → ⊥)
     → SaysNoPlain (codes "core" ∷ rest)
 no_core rest none told plain says = core_told rest told plain says
@@ -87,7 +87,7 @@ no_core rest none told plain says = core_told rest told plain says
     (λ d f t u v held good is. none d (decimal f ∷ decimal t ∷ codes "used" ∷ decimal u ∷ codes "seen"
     ∷ decimal v ∷ owner_word held ∷ how_word held ∷ []) good.0 is)
 
--- behind a core's number and `round` stands no entry
+-- after a core's number and `round` there is no entry
 abbrev pub NoEntry : Line → Type 0
 NoEntry rest = (r n : ℕ) → r < 2 ^ 32 → n < 2 ^ 32
     → rest ≡ decimal r ∷ codes "count" ∷ decimal n ∷ [] → ⊥
@@ -100,7 +100,7 @@ no_entry c rest none told plain says = core_told (decimal c ∷ codes "round" �
     (λ d f t u v held good is. no_digit (codes "round") f (let low = good.1 in omega arith)
     (λ low. absurd (omega arith)) (first_same _ _ _ _ (rest_same _ _ _ _ is)))
 
--- behind a core's number and a first tick stands no stint
+-- after a core's number and a first tick there is no stint
 abbrev pub NoStint : Line → Type 0
 NoStint rest = (t u v : ℕ) (held : Holder) → t < 2 ^ 32 → u < 2 ^ 32 → v < 2 ^ 32 → IsGoodHolder held
     → rest ≡ decimal t ∷ codes "used" ∷ decimal u ∷ codes "seen" ∷ decimal v
@@ -115,9 +115,9 @@ no_stint c from rest low none told plain says = core_told (decimal c ∷ decimal
     (λ d f t u v held good is. none t u v held good.2 good.3 good.4 good.5
     (rest_same _ _ _ _ (rest_same _ _ _ _ is)))
 
--- ---- behind the other first words
+-- ---- after the other first words
 
--- behind `vcpu` stands no vCPU's line
+-- after `vcpu` there is no vCPU's line
 abbrev pub NoTask : Line → Type 0
 NoTask rest = (name : List ℕ) (t n h : ℕ) → IsName name → t < 2 ^ 32 → n < 2 ^ 32 → h < MAX_CORES
     → rest ≡ name ∷ codes "period" ∷ decimal t ∷ codes "cost" ∷ decimal n
@@ -141,7 +141,7 @@ no_task rest none cut plain says = other_first (codes "vcpu") (codes "%%") _ _ r
 no_task rest none (posted n) plain says = other_first (codes "vcpu") (codes "posted") _ _ refl says.written
 no_task rest none done plain says = other_first (codes "vcpu") (codes "done") _ _ refl says.written
 
--- behind `plan` stands no head
+-- after `plan` there is no head
 abbrev pub NoHead : Line → Type 0
 NoHead rest = (m k : ℕ) → 1 ≤ m → m ≤ MAX_CORES → k ≤ MAX_VCPUS
     → rest ≡ codes "cores" ∷ decimal m ∷ codes "vcpus" ∷ decimal k ∷ [] → ⊥
@@ -165,7 +165,7 @@ no_head rest none cut plain says = other_first (codes "plan") (codes "%%") _ _ r
 no_head rest none (posted n) plain says = other_first (codes "plan") (codes "posted") _ _ refl says.written
 no_head rest none done plain says = other_first (codes "plan") (codes "done") _ _ refl says.written
 
--- behind `posted` stands no end of a replay
+-- after `posted` there is no end of a replay
 abbrev pub NoPosted : Line → Type 0
 NoPosted rest = (n : ℕ) → n < 2 ^ 32 → rest ≡ decimal n ∷ [] → ⊥
 
@@ -188,7 +188,7 @@ no_posted rest none end plain says = other_first (codes "posted") (codes "end") 
 no_posted rest none cut plain says = other_first (codes "posted") (codes "%%") _ _ refl says.written
 no_posted rest none done plain says = other_first (codes "posted") (codes "done") _ _ refl says.written
 
--- what is left behind six words
+-- what is left after six words
 pub behind_six : (a b c d e f : List ℕ) (u v w x y z : List ℕ) (all one two three four five six rest : Line)
     → all ≡ a ∷ one → one ≡ b ∷ two → two ≡ c ∷ three → three ≡ d ∷ four → four ≡ e ∷ five → five ≡ f ∷ six
     → all ≡ u ∷ v ∷ w ∷ x ∷ y ∷ z ∷ rest → six ≡ rest

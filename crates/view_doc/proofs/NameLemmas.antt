@@ -43,7 +43,7 @@ found names numbers name None has is = tt
 found names numbers name (Some vcpu) has is =
     let at = has.known name vcpu (sym is) in (at.0, at.1, known_at names name vcpu at.0 at.1)
 
--- and where it finds nothing
+-- what a look-up finds nothing for
 pub not_found : (names : List (List ℕ)) (numbers : BTreeMap (Bor (List ℕ)) ℕ) (name : List ℕ)
     (result : Option ℕ) → HasNumbers names numbers → result ≡ number_at numbers name
     → IfNone result (is_known names name ≡ false)

@@ -23,7 +23,7 @@ word k line = get_or line k []
 abbrev is_word : ℕ → Line → List ℕ → Bool
 is_word k line other = bytes_eq (word k line) other
 
--- the kind of a line behind `vcpu`, and of one behind `core`
+-- the kind of a line after `vcpu`, and of one after `core`
 abbrev vcpu_kind : Line → ℕ
 vcpu_kind line = if is_word 2 line (codes "offered") then 7 else 8
 
@@ -46,7 +46,7 @@ kind_of line =
     else (if is_word 0 line (codes "round") then 7
     else (if is_word 0 line (codes "change") then 7 else 12)))))))))
 
--- the kind of what is told
+-- the kind of what is said
 abbrev kind : Told → ℕ
 kind (head m k) = 1
 kind (posted n) = 2
@@ -110,7 +110,7 @@ item_kind words (inr (inr (inl fits))) = core_item_kind words fits
 item_kind words (inr (inr (inr (inl fits)))) = planned_kind words fits
 item_kind words (inr (inr (inr (inr fits)))) = refused_kind words fits
 
--- what is told is told by words of its kind
+-- what is said is said by words of its kind
 kind_told : (told : Told) → IsGood told → kind_of (told_words told) ≡ kind told
 kind_told (head m k) good = refl
 kind_told (posted n) good = refl
@@ -150,7 +150,7 @@ kind_told (segment to held) good =
 same_word : (k : ℕ) (line other : Line) → line ≡ other → word k line ≡ word k other
 same_word k line other is = ap (λ (l : Line). get_or l k []) is
 
--- so are numbers that are written alike
+-- numbers that are written alike are one
 same_number : (m n : ℕ) → m < 2 ^ 32 → n < 2 ^ 32 → decimal m ≡ decimal n → m ≡ n
 same_number m n low less is = decimal_injective m n (omega arith) (omega arith) is
 
@@ -183,7 +183,7 @@ same_holder (in_unused name) (in_unused other) good fine is how = ap in_unused i
 same_holder (in_slot name) (in_unused other) good fine is how = absurd (no_slot how)
 same_holder (in_unused name) (in_slot other) good fine is how = absurd (no_slot (sym how))
 
--- two things of one kind that are told by the same words are one
+-- two things of one kind that are said by the same words are one
 same_kind : (a b : Told) → IsGood a → IsGood b → kind a ≡ kind b → told_words a ≡ told_words b → a ≡ b
 same_kind (head m k) (head n l) good fine same is =
     let a = same_number m n (let h = good in omega arith) (let h = fine in omega arith) (same_word 2 _ _ is) in
@@ -232,7 +232,7 @@ one_told a b good fine is =
 
 -- ---- what a text tells
 
--- the same lines, as far as the shorter list of what is told goes
+-- the lines of what is said are the same, as far as the shorter list goes
 pub front_told : (some all : List Told) (back : List Line) → All IsGood some → All IsGood all
     → map told_words some ++ back ≡ map told_words all
     → (rest : List Told) × (all ≡ some ++ rest) × (back ≡ map told_words rest)
@@ -245,7 +245,7 @@ front_told (t ∷ some) (u ∷ all) back good fine is =
     let more = front_told some all back (All-tail IsGood t some good) (All-tail IsGood u all fine) rest in
     (more.0, ap (λ (x : Told). x ∷ all) (sym first) ∙ ap (λ ts. t ∷ ts) more.1, more.2)
 
--- it leaves one front
+-- what is said leaves one prefix
 pub one_front : (front : Front) (tolds : List Told) (last other : Front) → IsLed front tolds last
     → IsLed front tolds other → last ≡ other
 one_front front [] last other led is = sym led ∙ is
@@ -253,7 +253,7 @@ one_front front (told ∷ tolds) last other led is =
     let next : led.0 ≡ is.0 = let a = led.1 in let b = is.1 in cc in
     one_front is.0 tolds last other (subst (λ (f : Front). IsLed f tolds last) next led.2) is.2
 
--- what is told behind a front is told from where that is
+-- what is said after a prefix is said from where that is
 led_behind : (front : Front) (some rest : List Told) (middle last : Front) → IsLed front some middle
     → IsLed front (some ++ rest) last → IsLed middle rest last
 led_behind front [] rest middle last led is = subst (λ (f : Front). IsLed f rest last) led is
@@ -279,7 +279,7 @@ one_text bytes tolds others front last text other =
     no_told [] is = refl
     no_told (t ∷ rest) is = absurd (cc)
 
--- a text goes on behind its front
+-- a text goes on after its prefix
 goes_right : (front last : Front) (rest : List Told) (back : List Line) → All IsGood rest
     → back ≡ map told_words rest → IsLed front rest last → may_end last.place ≡ true → GoesWrong front back → ⊥
 goes_right front last [] [] good is led whole wrong =
@@ -300,7 +300,7 @@ goes_right front last (t ∷ rest) (line ∷ back) good is led whole (inr mispla
     let some = led.1 in
     absurd (let no : None ≡ Some led.0 = sym none ∙ some in cc)
 
--- and has no bad line
+-- a text that goes on after its prefix has no bad line
 pub no_bad_line : (bytes : List ℕ) (tolds : List Told) (front : Front) (bad : ℕ) → IsText bytes tolds front
     → IsFirstBad bytes bad → ⊥
 no_bad_line bytes tolds front bad text is =

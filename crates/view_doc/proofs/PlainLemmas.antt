@@ -33,13 +33,13 @@ plain_parts line front rest end number low at before first behind small is =
     ap words_of whole ∙ words_of-word (decimal number) (drop (end + 1) line) some lacks
     ∙ ap (λ bytes. decimal number ∷ words_of bytes) (sym (behind ∙ take_rest line (end + 1)))
 
--- a name lacks spaces
+-- a name has no spaces
 lacks_space : (name : List ℕ) → list_all is_byte_of_name name ≡ true → All (λ byte. byte ≢ 32) name
 lacks_space name all k d low is =
     let good = AllPass-from_list_all is_byte_of_name name all k d low in
     absurd (let no : is_byte_of_name 32 ≡ true = ap is_byte_of_name (sym is) ∙ good in cc)
 
--- so it is one word
+-- a name is one word
 name_alone : (name : List ℕ) → IsName name → words_of name ≡ name ∷ []
 name_alone name good =
     let parts =

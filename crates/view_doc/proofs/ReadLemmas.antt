@@ -24,7 +24,7 @@ use Rattle.view_doc.specs.declared.view.View.{View}
 
 -- ---- stretches that are appended
 
--- where nothing is told nothing is appended
+-- where nothing is said nothing is appended
 pub none_appended : (names : List (List ℕ)) (old : List Stretch) (tolds : List Told) → tolds ≡ []
     → AreAppended names old old tolds
 none_appended names old tolds none = record { more = []; appended = sym (append-nil old); told = sym none }
@@ -34,9 +34,9 @@ pub one_appended : (names : List (List ℕ)) (old new : List Stretch) (s : Stret
     → new ≡ old ++ s ∷ [] → tolds ≡ stretch_told names s ∷ [] → AreAppended names old new tolds
 one_appended names old new s tolds is told = record { more = s ∷ []; appended = is; told = sym told }
 
--- ---- fronts
+-- ---- prefixes
 
--- the parts of a front that was reached
+-- the parts of a prefix that was reached
 record AreParts (place : Option Place) (names : Option (List (List ℕ))) (ends : Option (List ℕ))
     (front : Front) : Type 0 where
   on_place : place ≡ Some front.place
@@ -59,7 +59,7 @@ parts : (front : Front) (told : Told) (next : Front) → front_behind front told
 parts front told next is = parts_of (place_behind front.place told) (names_behind front.names told)
     (ends_behind front.ends told) next is
 
--- one line more may stand behind the others
+-- one line more may are after the others
 pub led_more : (front : Front) (tolds : List Told) (last : Front) (told : Told) (next : Front)
     → IsLed front tolds last → front_behind last told ≡ Some next → IsLed front (tolds ++ told ∷ []) next
 led_more front [] last told next led is =
@@ -101,7 +101,7 @@ within [] vcpu good = absurd (cc)
 within (name ∷ names) zero good = omega arith
 within (name ∷ names) (suc vcpu) good = let low = within names vcpu good in omega arith
 
--- and it stays that name's where more come
+-- a number stays that name's where more names come
 name_stays : (names more : List (List ℕ)) (vcpu : ℕ) → vcpu < length names
     → name_at (names ++ more) vcpu ≡ name_at names vcpu
 name_stays names more vcpu low = grind (arith, common_steps)
@@ -135,7 +135,7 @@ stretches_stay names more (s ∷ ss) (told ∷ tolds) is have =
     ∙ (ap (λ t. t ∷ map (stretch_told (names ++ more)) ss) first
     ∙ ap (λ ts. told ∷ ts) (stretches_stay names more ss tolds rest have.1))
 
--- names only come behind the others
+-- names only come after the others
 record AreMore (names next : List (List ℕ)) : Type 0 where
   more : List (List ℕ)
   is : next ≡ names ++ more
@@ -319,7 +319,7 @@ told_more before tolds line told are says = record {
       (λ k d low. let first : k ≡ 0 = omega arith in rw first says.good);
 }
 
--- behind a line that was read
+-- after a line that was read
 pub more_read : (bytes : List ℕ) (number : ℕ) (old new : Reading) (line : List ℕ) (left : List (List ℕ))
     (told : Told) → AreRead bytes number old (line ∷ left) → Says (words_of line) told → IsTaken told old new
     → AreRead bytes (number + 1) new left
@@ -334,7 +334,7 @@ more_read bytes number old new line left told read says taken = record {
   count = let count = read.count in omega arith;
 }
 
--- a line that says nothing, or what may not stand there, is the first bad one
+-- a line that says nothing, or what may not are there, is the first bad one
 pub bad_line : (bytes : List ℕ) (number : ℕ) (read : Reading) (line : List ℕ) (left : List (List ℕ))
     → AreRead bytes number read (line ∷ left)
     → (SaysNothing (words_of line) ⊎ IsMisplaced read.front (words_of line)) → IsFirstBad bytes (number + 1)
@@ -350,7 +350,7 @@ bad_line bytes number read line left are wrong = record {
   number = let many = are.many in omega arith;
 }
 
--- the place behind the last line is, where the text may not end
+-- the place after the last line is, where the text may not end
 pub bad_end : (bytes : List ℕ) (number : ℕ) (read : Reading) → AreRead bytes number read []
     → may_end read.front.place ≡ false → IsFirstBad bytes (number + 1)
 bad_end bytes number read are wrong = record {

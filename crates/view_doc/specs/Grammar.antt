@@ -8,14 +8,14 @@ use Rattle.view_doc.specs.Lines.{in_slot, in_unused, Told, head, task, core, seg
 use Rattle.view_doc.specs.declared.place.Place.{Place}
 use Rattle.view_doc.specs.declared.place.Place.TheVariants.{Start, Tasks, Row, Planned, Running, Reporting, Closed}
 
--- what the lines so far leave to those behind them: the place in the text, the names of the vCPUs in the
+-- what the lines so far leave to those after them: the place in the text, the names of the vCPUs in the
 -- order in which they came first, and for each core where its last stint ended
 pub record Front : Type 0 where
   pub place : Place
   pub names : List (List ℕ)
   pub ends : List ℕ
 
--- nothing was told yet
+-- nothing was said yet
 abbrev pub start : Front
 start = record { place = Start; names = []; ends = replicate MAX_CORES 0 }
 
@@ -25,9 +25,9 @@ start = record { place = Start; names = []; ends = replicate MAX_CORES 0 }
 abbrev pub goes_on : Bool → Place → Option Place
 goes_on test place = if test then Some place else None
 
--- the place behind what is told at a place, if it may be told there: a plan has a head, so many vCPUs
+-- the place after what is said at a place, if it may be said there: a plan has a head, so many vCPUs
 -- whose homes are below its count of cores, and for each core by number segments whose ends rise to the
--- round's; a run has entries and stints; a report stands last
+-- round's; a run has entries and stints; a report is last
 abbrev pub place_behind : Place → Told → Option Place
 place_behind Start (head cores vcpus) = Some (Tasks cores vcpus)
 place_behind Start (entry c round count) = Some Running
@@ -69,7 +69,7 @@ with_name names name =
     if is_known names name then Some names
     else if nat_lt (length names) MAX_VCPUS then Some (names ++ name ∷ []) else None
 
--- the names behind what is told: a vCPU's line names a new one, a segment's owner is known, and a stint
+-- the names after what is said: a vCPU's line names a new one, a segment's owner is known, and a stint
 -- may name a new one
 abbrev pub names_behind : List (List ℕ) → Told → Option (List (List ℕ))
 names_behind names (task name period cost home) =
@@ -95,12 +95,12 @@ front_of (Some place) (Some names) (Some ends) =
     Some (record { place = place; names = names; ends = ends })
 front_of _ _ _ = None
 
--- what is left to the lines behind this one, if it may stand here
+-- what is left to the lines after this one, if it may be here
 abbrev pub front_behind : Front → Told → Option Front
 front_behind front told =
     front_of (place_behind front.place told) (names_behind front.names told) (ends_behind front.ends told)
 
--- each may stand where it stands, and the last leaves this
+-- each may be where it is, and the last leaves this
 abbrev pub IsLed : Front → List Told → Front → Type 0
 IsLed front [] last = front ≡ last
 IsLed front (told ∷ tolds) last = (next : Front) × (front_behind front told ≡ Some next) × IsLed next tolds last

@@ -7,7 +7,7 @@ use Rattle.tab_words.specs.Numbers.{Spells}
 abbrev pub Line : Type 0
 Line = List (List ℕ)
 
--- what stands at a place of a report's line: this word, a number, a name, or any word
+-- what is at a place of a report's line: this word, a number, a name, or any word
 pub data Blank : Type 0 where
   this : List ℕ → Blank
   a_number : Blank
@@ -19,14 +19,14 @@ pub record IsNumber (word : List ℕ) : Type 0 where
   pub value : ℕ
   pub spelled : Spells word value
 
--- the word stands there rightly
+-- the word is there rightly
 abbrev pub Fills : List ℕ → Blank → Type 0
 Fills word (this other) = word ≡ other
 Fills word a_number = IsNumber word
 Fills word a_name = IsName word
 Fills word any_word = Unit {0}
 
--- each of the words stands rightly
+-- each of the words fits its form
 abbrev pub Fits : Line → List Blank → Type 0
 Fits [] [] = Unit {0}
 Fits (word ∷ words) (blank ∷ form) = Fills word blank × Fits words form

@@ -30,7 +30,7 @@ pub data Told : Type 0 where
   -- a core, the ticks from the first number up to the second, the counts of events that its plan and
   -- its runnable set include, and the holder
   stint : ℕ → ℕ → ℕ → ℕ → ℕ → Holder → Told
-  -- a replay ends, behind so many events
+  -- a replay ends, after so many events
   posted : ℕ → Told
   -- a report begins, goes on, and ends
   report : Line → Told

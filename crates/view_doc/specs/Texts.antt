@@ -22,13 +22,13 @@ pub record IsText (bytes : List ℕ) (tolds : List Told) (front : Front) : Type 
   pub led : IsLed start tolds front
   pub whole : may_end front.place ≡ true
 
--- what the line says may not stand behind this front
+-- what the line says may not be after this prefix
 pub record IsMisplaced (front : Front) (line : Line) : Type 0 where
   pub told : Told
   pub says : Says line told
   pub wrong : front_behind front told ≡ None
 
--- behind this front no text goes on as these lines do: the first says nothing, or what may not stand
+-- after this prefix no text goes on as these lines do: the first says nothing, or what may not be
 -- there, or there is none and the text may not end
 abbrev pub GoesWrong : Front → List Line → Type 0
 GoesWrong front [] = may_end front.place ≡ false

@@ -7,7 +7,7 @@ use crate::numbers::is_number;
 use tab_core::Name;
 use tab_words::Words;
 
-// What stands at a place of a report's line.
+// What is at a place of a report's line.
 #[derive(Clone, Copy, PartialEq, Eq)]
 pub(crate) enum Blank {
     // This word.
@@ -132,7 +132,7 @@ fn is_refused_item(line: &[u8]) -> bool
     )
 }
 
-// Whether each of the words stands rightly.
+// Whether each of the words fits its form.
 fn fits(line: &[u8], form: &[Blank]) -> bool
     ensures { IsTrue result ↔ Fits (words_of line.now) (map blank_of form.now) }
 {
@@ -148,7 +148,7 @@ fn fits(line: &[u8], form: &[Blank]) -> bool
     words.next().is_none()
 }
 
-// Whether the word stands there rightly.
+// Whether the word is there rightly.
 fn fills(word: &[u8], blank: &Blank) -> bool
     ensures { IsTrue result ↔ Fills word.now (blank_of blank.now) }
 {

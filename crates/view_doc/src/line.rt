@@ -51,7 +51,7 @@ fn plain_of<'a>(line: &'a [u8]) -> Option<Statement<'a>>
     }
 }
 
-// What the words say behind `core`.
+// What the words say after `core`.
 fn behind_core<'a>(words: &mut Words<'a>) -> Option<Statement<'a>>
     ensures { MatchOption result (SaysNoPlain (codes "core" ∷ words.old))
         (λ s. (all : Line) → Says (codes "core" ∷ words.old) (told_by all s)) }
@@ -60,7 +60,7 @@ fn behind_core<'a>(words: &mut Words<'a>) -> Option<Statement<'a>>
     behind_number(core, words)
 }
 
-// What the words say behind `core` and a core's number.
+// What the words say after `core` and a core's number.
 fn behind_number<'a>(core: CoreNo, words: &mut Words<'a>) -> Option<Statement<'a>>
     ensures { MatchOption result (SaysNoPlain (codes "core" ∷ decimal core ∷ words.old))
         (λ s. (all : Line) → Says (codes "core" ∷ decimal core ∷ words.old) (told_by all s)) }
@@ -76,7 +76,7 @@ fn behind_number<'a>(core: CoreNo, words: &mut Words<'a>) -> Option<Statement<'a
     }
 }
 
-// The entry that the words are behind `core`, the core's number and `round`.
+// The entry that the words are after `core`, the core's number and `round`.
 fn entry_of<'a>(core: CoreNo, words: &mut Words<'a>) -> Option<Statement<'a>>
     ensures { MatchOption result ((r n : ℕ) → r < 2 ^ 32 → n < 2 ^ 32
         → words.old ≡ decimal r ∷ codes "count" ∷ decimal n ∷ [] → ⊥)
@@ -90,7 +90,7 @@ fn entry_of<'a>(core: CoreNo, words: &mut Words<'a>) -> Option<Statement<'a>>
     Some(Statement::Entry { core, round, count })
 }
 
-// The stint that the words are behind `core`, the core's number and the first tick.
+// The stint that the words are after `core`, the core's number and the first tick.
 fn stint_of<'a>(core: CoreNo, from: u32, words: &mut Words<'a>) -> Option<Statement<'a>>
     requires core { core < MAX_CORES }
     requires from { from < 2 ^ 32 }
@@ -156,7 +156,7 @@ fn holder_of<'a>(name: &'a [u8], how: &[u8]) -> Option<Holder<'a>>
     }
 }
 
-// The vCPU's line that the words are behind `vcpu`.
+// The vCPU's line that the words are after `vcpu`.
 fn behind_vcpu<'a>(words: &mut Words<'a>) -> Option<Statement<'a>>
     ensures { MatchOption result ((name : List ℕ) (t n h : ℕ)
         → IsName name → t < 2 ^ 32 → n < 2 ^ 32 → h < MAX_CORES
@@ -180,7 +180,7 @@ fn behind_vcpu<'a>(words: &mut Words<'a>) -> Option<Statement<'a>>
     })
 }
 
-// The plan's head that the words are behind `plan`.
+// The plan's head that the words are after `plan`.
 fn behind_plan<'a>(words: &mut Words<'a>) -> Option<Statement<'a>>
     ensures { MatchOption result ((m k : ℕ) → 1 ≤ m → m ≤ MAX_CORES → k ≤ MAX_VCPUS
         → words.old ≡ codes "cores" ∷ decimal m ∷ codes "vcpus" ∷ decimal k ∷ [] → ⊥)
@@ -198,7 +198,7 @@ fn behind_plan<'a>(words: &mut Words<'a>) -> Option<Statement<'a>>
     }
 }
 
-// The end of a replay that the words are behind `posted`.
+// The end of a replay that the words are after `posted`.
 fn behind_posted<'a>(words: &mut Words<'a>) -> Option<Statement<'a>>
     ensures { MatchOption result ((n : ℕ) → n < 2 ^ 32 → words.old ≡ decimal n ∷ [] → ⊥)
         (λ s. (all : Line) → Says (codes "posted" ∷ words.old) (told_by all s)) }
@@ -208,7 +208,7 @@ fn behind_posted<'a>(words: &mut Words<'a>) -> Option<Statement<'a>>
     Some(Statement::Posted { count })
 }
 
-// What the words say behind one that begins no longer line.
+// What the words say after one that begins no longer line.
 fn alone_or_segment<'a>(first: &'a [u8], words: &mut Words<'a>) -> Option<Statement<'a>>
     requires no_core { first.now ≢ codes "core" }
     requires no_vcpu { first.now ≢ codes "vcpu" }

@@ -68,7 +68,7 @@ impl<'a> NameTable<'a> {
         self.found_in_map(name)
     }
 
-    // The same by the map alone.
+    // The number of the vCPU of this name, by the map alone.
     fn found_in_map(&self, name: &[u8]) -> Option<VcpuNo>
         ensures known { IfSome result (λ vcpu. (vcpu < length self.now) × (name_at self.now vcpu ≡ name.now)
             × (is_known self.now name.now ≡ true)) }

@@ -16,21 +16,21 @@ use tab_core::{CoreNo, ROUND};
 pub enum Place {
     /// Before the first line.
     Start,
-    /// Behind a plan's head: of its vCPUs so many are left.
+    /// After a plan's head: of its vCPUs so many are left.
     Tasks { cores: u32, left: u32 },
     /// In the row of a core, whose segments end at `from` so far.
     Row { cores: u32, core: CoreNo, from: u32 },
-    /// Behind a plan.
+    /// After a plan.
     Planned,
     /// Among the entries and stints of a run.
     Running,
     /// Among the lines of a report.
     Reporting,
-    /// Behind the last line.
+    /// After the last line.
     Closed,
 }
 
-// The place behind the statement, if it may stand at this one.
+// The place after the statement, if it may are at this one.
 pub(crate) fn place_behind(place: &Place, statement: &Statement<'_>) -> Option<Place>
     ensures { (words : Line) → result ≡ place_behind place.now (told_by words statement.now) }
 {
@@ -63,7 +63,7 @@ pub(crate) fn row_at(place: &Place) -> Option<(CoreNo, u32)>
     }
 }
 
-// The place behind a segment that ends at this tick, if the place is in a row and it may stand there.
+// The place after a segment that ends at this tick, if the place is in a row and it may are there.
 pub(crate) fn row_behind(place: &Place, end: u32) -> Option<Place>
     ensures { IfSome result (λ next. (held : Held) → place_behind place.now (segment end held) ≡ Some next) }
 {
@@ -100,7 +100,7 @@ fn behind_start(statement: &Statement<'_>) -> Option<Place>
     }
 }
 
-// A run goes on behind a stint of these ticks, if there is one.
+// A run goes on after a stint of these ticks, if there is one.
 fn run_with(from: u32, end: u32) -> Option<Place>
     ensures { result ≡ goes_on (nat_lt from end) Running }
 {

@@ -3,8 +3,8 @@ ghost use Rattle.tab_words.specs.Words.{words_of};
 
 use crate::numbers::small_number;
 
-// The number below 2^32 that the line spells before its first space, and what stands behind that. Most lines of a
-// plan begin so.
+// The number below 2^32 that the line spells before its first space, and what is after that. Most lines of a plan
+// begin so.
 pub(crate) fn plain_line(line: &[u8]) -> Option<(u32, &[u8])>
     ensures { IfSome result (λ parts. (parts.0 < 2 ^ 32)
         × (words_of line.now ≡ decimal parts.0 ∷ words_of parts.1.now)) }

@@ -10,8 +10,8 @@ use tab_words::Lines;
 
 /// What a text of less than 2^31 bytes shows.
 ///
-/// The text is a plan's, a replay's, or the stints of a trace with or without the report behind them, or
-/// a plan and one of the others with a line `%%` between them. Each line is words with one space or more
+/// The text is a plan's, a replay's, or the stints of a trace with or without the report after them, or a
+/// plan and one of the others with a line `%%` between them. Each line is words with one space or more
 /// between them, and no line is skipped. vCPUs are numbered by the `vcpu` lines, then as they come first.
 ///
 /// `BadLine` comes exactly where the bytes are no such text, and names the first bad line.

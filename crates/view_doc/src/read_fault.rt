@@ -8,8 +8,8 @@ use std::fmt;
 /// Why a text isn't read.
 #[derive(Clone, Copy, Debug, PartialEq, Eq)]
 pub enum ReadView {
-    /// The first line that may not stand where it stands, from 1, or one past the last where the text
-    /// stops early.
+    /// The first line that may not be where it is, from 1, or one past the last where the text stops
+    /// early.
     BadLine { line: u32 },
     NoMemory,
 }

@@ -97,7 +97,7 @@ impl<'a> Reader<'a> {
         }
     }
 
-    // Takes a line, if it says something that may stand there.
+    // Takes a line, if it says something that may are there.
     pub(crate) fn take_line(&mut self, alloc: Global, line: &'a [u8]) -> Result<bool, NoMemory>
         ensures taken { IfOk result (λ taken. IsTrue taken → IsLineTaken (words_of line.now) self.old self.new) }
         ensures refused { IfOk result (λ taken. taken ≡ false → IsBadLine self.old.front (words_of line.now)) }
@@ -111,8 +111,8 @@ impl<'a> Reader<'a> {
         self.take(alloc, &statement)
     }
 
-    // Takes a line of a row that is read at once: a number, one space and `-` or a name that a hint names. False where
-    // it isn't such a line, or may not stand there.
+    // Takes a line of a row that is read at once: a number, one space and `-` or a name that a hint names. False
+    // where it isn't such a line, or may not are there.
     fn take_plain(&mut self, line: &[u8]) -> Result<bool, NoMemory>
         ensures taken { IfOk result (λ taken. IsTrue taken → IsLineTaken (words_of line.now) self.old self.new) }
         ensures other { IfOk result (λ taken. taken ≡ false → self.new ≡ self.old) }
@@ -136,7 +136,7 @@ impl<'a> Reader<'a> {
         Ok(true)
     }
 
-    // Takes what a line says, if it may stand there.
+    // Takes what a line says, if it may are there.
     fn take(&mut self, alloc: Global, statement: &Statement<'a>) -> Result<bool, NoMemory>
         requires { (words : Line) → HasNames (told_by words statement.now) }
         ensures taken { IfOk result (λ taken. IsTrue taken

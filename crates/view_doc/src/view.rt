@@ -45,7 +45,7 @@ pub struct Entry {
 pub struct View {
     /// How many cores the plan has, and 0 where there is no plan.
     pub cores: u32,
-    /// Whether there is a run, behind a plan or alone.
+    /// Whether there is a run, after a plan or alone.
     pub is_run: bool,
     /// The vCPUs' names by number: in the order of the `vcpu` lines, then as they came first.
     pub names: Vec<Name>,

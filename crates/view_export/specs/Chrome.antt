@@ -14,7 +14,7 @@ use Rattle.view_export.specs.Shown.{holder_name, how_text, lanes_in, shown_in}
 unfoldable pub three_digits : ℕ → List ℕ
 three_digits n = decimal (n / 100) ++ (decimal (n / 10 % 10) ++ decimal (n % 10))
 
--- nanoseconds as microseconds with three digits behind the point
+-- nanoseconds as microseconds with three digits after the point
 unfoldable pub micros : ℕ → List ℕ
 micros ns = decimal (ns / 1000) ++ (codes "." ++ three_digits (ns % 1000))
 

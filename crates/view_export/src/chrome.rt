@@ -16,7 +16,7 @@ use view_doc::{Entry, Stretch, Use, View};
 /// core's, with the ticks and the counts of events as arguments; each entry into a round is an instant
 /// event. Times are microseconds with three digits, which is exact. Idle time isn't written.
 ///
-/// A fault leaves a front of the text in the sink. Nothing is settled, and nothing is allocated.
+/// A fault leaves a prefix of the text in the sink. Nothing is settled, and nothing is allocated.
 pub fn write_chrome<K: Sink>(sink: &mut K, view: &View, tick_ns: u32) -> Result<(), WriteFault>
     requires { tick_ns ≤ MAX_TICK_NS }
     ensures { Writes (K.state sink.old) (K.state sink.new) (chrome_text tick_ns view.now) result }

@@ -9,11 +9,11 @@ use tab_words::{TextPiece, put_pieces};
 use view_doc::{Stretch, View};
 
 /// Writes a view as comma-separated values: a line for each segment of a plan, or each stint of a run,
-/// in the order of the text that was read, behind a line with the columns' names.
+/// in the order of the text that was read, after a line with the columns' names.
 ///
 /// Ticks are whole numbers. Where nobody has the ticks, the vCPU's field is empty.
 ///
-/// A fault leaves a front of the text in the sink. Nothing is settled, and nothing is allocated.
+/// A fault leaves a prefix of the text in the sink. Nothing is settled, and nothing is allocated.
 pub fn write_csv<K: Sink>(sink: &mut K, view: &View) -> Result<(), WriteFault>
     ensures { Writes (K.state sink.old) (K.state sink.new) (csv_text view.now) result }
 {

@@ -16,7 +16,7 @@ use view_doc::{Entry, Stretch, Task, Use, View};
 /// Ticks are whole numbers. A vCPU without a `vcpu` line has null for its period, cost and home, and
 /// where nobody has the ticks, the vCPU is null.
 ///
-/// A fault leaves a front of the text in the sink. Nothing is settled, and nothing is allocated.
+/// A fault leaves a prefix of the text in the sink. Nothing is settled, and nothing is allocated.
 pub fn write_json<K: Sink>(sink: &mut K, view: &View, tick_ns: u32) -> Result<(), WriteFault>
     ensures { Writes (K.state sink.old) (K.state sink.new) (json_text tick_ns view.now) result }
 {

@@ -24,7 +24,7 @@ abbrev pub window_cell : Option LeastShare → List ℕ
 window_cell None = right 12 (codes "-")
 window_cell (Some least) = millis_cell 8 least.at_ns
 
--- the longest wait, when it begins, and the CPU that was told last by then
+-- the longest wait, when it begins, and the CPU that was named last by then
 abbrev pub longest_cell : Option LongestWait → List ℕ
 longest_cell None = right 11 (codes "-")
 longest_cell (Some wait) = millis_cell 7 wait.ns

@@ -1,4 +1,4 @@
--- What a judge says of a trace as JSON: an object, in which the host's vCPUs stand in their order.
+-- What a judge says of a trace as JSON: an object, in which the host's vCPUs are in their order.
 -- Source: RFC 8259. Names need no escape.
 use Rattle.std.specs.Prelude.{◌==◌, ℕ, Bool, true, false, if◌then◌else◌, ◌++◌, List, [], codes, decimal, length, Option, Some, None, slice_get}
 use Rattle.tab_core.specs.declared.vcpu.Vcpu.{Vcpu}
@@ -67,7 +67,7 @@ object_of (Some vcpu) report = said_of vcpu.name report
 abbrev pub comma_before : ℕ → List ℕ
 comma_before v = if v == 0 then [] else codes ","
 
--- what stands there for the vCPU of a number
+-- what is there for the vCPU of a number
 abbrev pub entry_text : List Vcpu → List VcpuReport → ℕ → List ℕ
 entry_text vcpus reports v = comma_before v ++ object_of (slice_get vcpus v) (slice_get reports v)
 

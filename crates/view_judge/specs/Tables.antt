@@ -121,7 +121,7 @@ abbrev pub rows_text : ℕ → List Vcpu → List VcpuReport → List ℕ
 rows_text width vcpus reports = share_head width ++ (texts_below (share_row width vcpus reports) (length reports)
     ++ (wait_head width ++ texts_below (wait_row width vcpus reports) (length reports)))
 
--- what stands behind them
+-- what is after them
 abbrev pub end_text : Bool → Report → List ℕ
 end_text kept report = verdict_text report.end_ns report.window_ns (kept_word kept) ++ lines_text report
 

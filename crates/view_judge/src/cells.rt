@@ -79,7 +79,7 @@ pub(crate) fn begin_cell(longest: &Option<LongestWait>) -> Cell<'static>
     }
 }
 
-// The CPU that was told last by then.
+// The CPU that was named last by then.
 pub(crate) fn cpu_cell(longest: &Option<LongestWait>) -> Cell<'static>
     ensures { cell_text result ≡ cpu_cell longest.now }
 {

@@ -12,7 +12,8 @@ use trace_judge::{LeastShare, LongestWait, Report, VcpuReport};
 /// Writes what is said of the vCPUs of a host as JSON, in one line: the length of a window in ns, whether the host kept
 /// its promises, and an object for each vCPU in the host's order.
 ///
-/// Times are in ns and shares in parts per million. Where there is no wait, no window or no reservation, null stands.
+/// Times are in ns and shares in parts per million. Where there is no wait, no window or no reservation, there is
+/// null.
 ///
 /// A fault leaves a prefix of the text in the sink. Nothing is settled, and nothing is allocated.
 pub fn write_json<K: Sink>(sink: &mut K, vcpus: &[Vcpu], report: &Report) -> Result<(), WriteFault>
@@ -84,7 +85,7 @@ fn put_entries<K: Sink>(
     Ok(())
 }
 
-// Writes what stands there for the vCPU of a number.
+// Writes what is there for the vCPU of a number.
 fn put_entry<K: Sink>(
     sink: &mut K,
     vcpus: &[Vcpu],

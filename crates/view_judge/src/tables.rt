@@ -16,10 +16,10 @@ use trace_judge::{LineCount, Report, VcpuReport};
 
 /// Writes what is said of the vCPUs of a host as tables.
 ///
-/// The first has how long each vCPU ran, waited and was blocked, and its least share of a window beside the share that
-/// it has reserved. The second has its longest wait beside the latency that it was promised, how many waits were longer,
-/// and whether both promises were kept. Behind them stand whether all was kept, and which lines of the trace can't be.
-/// Times are in milliseconds with three digits, rounded down, and shares in percent with four.
+/// The first has how long each vCPU ran, waited and was blocked, and its least share of a window beside the share
+/// that it has reserved. The second has its longest wait beside the latency that it was promised, how many waits were
+/// longer, and whether both promises were kept. After them is whether all was kept, and which lines of the trace
+/// can't be. Times are in milliseconds with three digits, rounded down, and shares in percent with four.
 ///
 /// A fault leaves a prefix of the text in the sink. Nothing is settled, and nothing is allocated.
 pub fn write_tables<K: Sink>(
@@ -60,7 +60,7 @@ fn put_rows<K: Sink>(
     put_waits(sink, width, vcpus, reports)
 }
 
-// Writes what stands behind them.
+// Writes what is after them.
 fn put_end<K: Sink>(sink: &mut K, kept: bool, report: &Report) -> Result<(), WriteFault>
     ensures { Writes (K.state sink.old) (K.state sink.new) (end_text kept report.now) result }
 {

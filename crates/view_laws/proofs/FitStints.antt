@@ -16,7 +16,7 @@ use Rattle.run_promises.proofs.TogetherLemmas.{Stands, owns, fills, stint_stands
 use Rattle.view_laws.specs.ShownRuns.{IsHostWithCourse}
 use Rattle.view_laws.proofs.RunLed.{IsFitStint}
 
--- whoever stands at a place of a plan is one of its vCPUs
+-- whoever is at a place of a plan is one of its vCPUs
 stands_within : (plan : PlanView) (c place v : ℕ) → IsPlan plan → Stands plan c place v → v < length plan.tasks
 stands_within plan c place v keeps (owns is) = task_within plan.tasks v (keeps.owned v place c is)
 stands_within plan c place v keeps (fills sharer) =

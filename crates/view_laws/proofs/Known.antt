@@ -68,7 +68,7 @@ room_at_first names few = record { left = names; few = omega arith; each = λ v 
     among (one ∷ all) zero low = inl refl
     among (one ∷ all) (suc v) low = inr (among all v (omega arith))
 
--- the names behind a line, among which there is room again
+-- the names after a line, among which there is room again
 pub record Meets (names known : List (List ℕ)) (behind : Option (List (List ℕ))) : Type 0 where
   pub next : List (List ℕ)
   pub is : behind ≡ Some next
@@ -79,7 +79,7 @@ stays_known : (known : List (List ℕ)) (one name : List ℕ) → is_known known
     → is_known (known ++ one ∷ []) name ≡ true
 stays_known known one name is = list_any-append (λ (k : List ℕ). bytes_eq k name) known (one ∷ []) ∙ rw is refl
 
--- and one that came is known
+-- a name that came is known
 now_known : (known : List (List ℕ)) (name : List ℕ) → is_known (known ++ name ∷ []) name ≡ true
 now_known known name =
     list_any-append (λ (k : List ℕ). bytes_eq k name) known (name ∷ [])

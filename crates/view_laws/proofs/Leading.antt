@@ -1,15 +1,15 @@
--- Lines that lead from one front to another, with the segments that they show.
+-- Lines that lead from one prefix to another, with the segments that they show.
 use Rattle.std.proofs.Common.{◌≡◌, ℕ, List, [], ◌∷◌, ◌++◌, map, Option, Some, None, refl, sym, ap, ◌∙◌, subst, append_assoc}
 use Rattle.view_doc.specs.Grammar.{Front, IsLed, ends_behind, front_behind, front_of, names_behind, place_behind}
 use Rattle.view_doc.specs.Lines.{Told}
 use Rattle.view_doc.specs.Views.{slots_from, slots_in}
 use Rattle.view_doc.specs.declared.place.Place.{Place}
 
--- a front by its parts
+-- a prefix by its parts
 abbrev pub front_at : Place → List (List ℕ) → List ℕ → Front
 front_at place names ends = record { place = place; names = names; ends = ends }
 
--- the lines lead from one front to the other, and have these segments
+-- the lines lead from one prefix to the other, and have these segments
 pub record Leads (front : Front) (tolds : List Told) (last : Front) (slots : List Told) : Type 0 where
   pub led : IsLed front tolds last
   pub shown : slots_from (Some front.place) tolds ≡ slots
@@ -46,7 +46,7 @@ goes_once front told place names ends on_place on_names on_ends none =
     subst (λ ss. Leads front (told ∷ []) last (ss ++ [])) none
     (goes front told [] place names ends last [] on_place on_names on_ends (stays last))
 
--- a front that was reached has the place
+-- a prefix that was reached has the place
 on_place : (place : Option Place) (names : Option (List (List ℕ))) (ends : Option (List ℕ)) (next : Front)
     → front_of place names ends ≡ Some next → place ≡ Some next.place
 on_place (Some p) (Some n) (Some e) next is = cc
@@ -58,7 +58,7 @@ on_place None (Some n) None next is = absurd (cc)
 on_place None None (Some e) next is = absurd (cc)
 on_place None None None next is = absurd (cc)
 
--- lines behind lines
+-- lines after lines
 pub goes_on_by : (front : Front) (some more : List Told) (middle last : Front) (slots others : List Told)
     → Leads front some middle slots → Leads middle more last others
     → Leads front (some ++ more) last (slots ++ others)

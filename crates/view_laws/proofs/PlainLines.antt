@@ -105,7 +105,7 @@ plain_line (report words) plain good = absurd plain
 plain_line (item words) plain good = absurd plain
 plain_line done plain good = refl
 
--- so can all of them
+-- lines that aren't a report's can all be read
 pub plain_lines : (tolds : List Told) → All IsPlain tolds → All IsGood tolds
     → list_all is_line (map told_words tolds) ≡ true
 plain_lines [] kinds good = refl

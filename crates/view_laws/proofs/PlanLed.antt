@@ -31,7 +31,7 @@ AreNew known names = (v : ℕ) → v < length names → is_known known (name_at 
 abbrev pub AreApart : List (List ℕ) → Type 0
 AreApart names = (v w : ℕ) → v < length names → w < length names → name_at names v ≡ name_at names w → v ≡ w
 
--- names that differ are told apart
+-- names that differ are distinguished
 differ : (a b : List ℕ) → (a ≡ b → ⊥) → bytes_eq a b ≡ false
 differ a b other = by_test (bytes_eq a b) refl
   where
@@ -45,7 +45,7 @@ not_in_both : (known : List (List ℕ)) (one name : List ℕ) → is_known known
 not_in_both known one name not_known other =
     list_any-append (λ (k : List ℕ). bytes_eq k name) known (one ∷ []) ∙ rw (not_known, other) refl
 
--- the names behind the first aren't known with it
+-- the names after the first aren't known with it
 new_behind : (known : List (List ℕ)) (name : List ℕ) (names : List (List ℕ)) → AreNew known (name ∷ names)
     → AreApart (name ∷ names) → AreNew (known ++ name ∷ []) names
 new_behind known name names new apart v low =
@@ -58,7 +58,7 @@ apart_behind : (name : List ℕ) (names : List (List ℕ)) → AreApart (name �
 apart_behind name names apart v w low less same =
     let next : suc v ≡ suc w = apart (suc v) (suc w) (omega arith) (omega arith) same in omega arith
 
--- behind a vCPU's line one less is left
+-- after a vCPU's line one less is left
 task_place : (cores left count home : ℕ) → left ≡ count + 1 → ltb home cores ≡ true
     → goes_on (ltb 0 left && ltb home cores) (Tasks cores (left - 1)) ≡ Some (Tasks cores count)
 task_place cores left count home many low =
@@ -141,7 +141,7 @@ pub record IsGoodRow (known names : List (List ℕ)) (row : List SegmentView) : 
   pub maximal : AreMaximal 0 row ROUND
   pub owned : All (HasKnownOwner known names) row
 
--- a core's rows and those behind it lead to the end of the plan
+-- a core's rows and those after it lead to the end of the plan
 pub rows_led : (cores c : ℕ) (known names : List (List ℕ)) (ends : List ℕ) (row : List SegmentView)
     (rows : List (List SegmentView)) → c + 1 + length rows ≡ cores → IsGoodRow known names row
     → All (IsGoodRow known names) rows

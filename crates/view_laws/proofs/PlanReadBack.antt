@@ -46,7 +46,7 @@ use Rattle.view_laws.proofs.PlanTold.{cores_plain, cores_fine, cores_past_rows, 
 
 -- ---- owners
 
--- the name of a vCPU that has a task is among those that are told
+-- the name of a vCPU that has a task is among those that are said
 admitted_known : (names : List (List ℕ)) (tasks : List (Option Periodic)) (v : ℕ)
     → length names ≡ length tasks → has_task tasks v ≡ true
     → is_known (admitted_names names tasks) (name_at names v) ≡ true
@@ -80,7 +80,7 @@ good_segment names tasks s good many fine = record {
     by_owner (Some v) has =
         good.good v (let below = task_within tasks v (has v refl) in omega arith)
 
--- so are those of all rows
+-- the segments of all rows are good
 good_rows : (names : List (List ℕ)) (tasks : List (Option Periodic)) (raw : List (List Segment))
     → AreHostNames names → length names ≡ length tasks → AreFineRows tasks raw
     → All (λ row. All (IsGoodSegment (admitted_names names tasks) names) row)
@@ -216,7 +216,7 @@ plan_plain names plan =
     (All-append IsPlain (cores_told names 0 (rows_of plan)) (end ∷ []) (cores_plain names 0 (rows_of plan))
     (All-cons IsPlain end [] tt (All-nil IsPlain))))
 
--- and they are good
+-- the plan's lines are good
 plan_fine : (host : Host) (plan : PlanView) → IsHostWithPlan host plan
     → All IsGood (plan_told (names_of host.vcpus) plan)
 plan_fine host plan all =
@@ -259,7 +259,7 @@ plan_told_by host plan all =
 
 -- ---- what is shown
 
--- what says nothing of cores and ends says nothing behind the lines of vCPUs
+-- what says nothing of cores and ends says nothing after the lines of vCPUs
 tasks_alone : {X : Type 0} (f : Told → List X) (names : List (List ℕ)) (plan : PlanView) (xs : List X)
     → ((m k : ℕ) → f (head m k) ≡ []) → ((c : ℕ) → f (core c) ≡ [])
     → ((s : SegmentView) → f (segment_told names s) ≡ []) → f end ≡ []
@@ -358,7 +358,7 @@ few_segments at (cell ∷ cells) =
         by_test true = omega arith
         by_test false = omega arith
 
--- so the rows have few lines
+-- the rows have few lines
 few_lines : (names : List (List ℕ)) (c : ℕ) (rows : List Row) → All (λ (row : Row). length row ≡ ROUND) rows
     → length (cores_told names c (map (λ row. segments_from 0 row) rows)) ≤ length rows * (ROUND + 1)
 few_lines names c [] rounds = omega arith

@@ -167,7 +167,7 @@ tick_some names known rows slots c tick rounds are low within =
     slot_found known slots c tick (subst (HasOneOf c tick) (sym are)
     (in_rows names 0 c tick rows rounds (omega arith) (omega arith) within))
 
--- and each slot of it is its owner's
+-- each slot of a tick is its owner's
 pub tick_each : (names known : List (List ℕ)) (rows : List Row) (slots : List Stretch) (c tick place : ℕ)
     (slot : Stretch) → All (λ (row : Row). length row ≡ ROUND) rows
     → map (stretch_told known) slots ≡ slots_of names 0 (map (λ row. segments_from 0 row) rows)

@@ -50,7 +50,7 @@ cores_written names c (row ∷ rows) =
     ∙ (ap (λ ls. (told_words (core c) ∷ map told_words first) ++ ls) (cores_written names (c + 1) rows)
     ∙ sym (map-append told_words (core c ∷ first) rest))
 
--- and those of the vCPUs
+-- the vCPUs' lines are those of the tasks
 pub tasks_written : (names : List (List ℕ)) (tasks : List (Option Periodic)) (homes : List (Option ℕ))
     → vcpu_lines names tasks homes ≡ map told_words (tasks_told names tasks homes)
 tasks_written [] tasks homes = refl
@@ -182,7 +182,7 @@ cores_past_tasks n (name ∷ names) (Some t ∷ tasks) (None ∷ homes) rest =
 cores_past_tasks n (name ∷ names) (Some t ∷ tasks) (Some home ∷ homes) rest =
     cores_past_tasks n names tasks homes rest
 
--- and whatever rows
+-- the count of cores is the head's, whatever rows follow
 pub cores_past_rows : (n : ℕ) (names : List (List ℕ)) (c : ℕ) (rows : List (List SegmentView))
     (rest : List Told)
     → cores_after n (cores_told names c rows ++ rest) ≡ cores_after n rest

@@ -57,7 +57,7 @@ same_clock ends cores c core changed at same clocks = record {
         ∙ (clocks.each c core at ∙ (sym same ∙ ap (λ (x : CoreState). x.clock) here.1))
     by_place d other (inr there) = clocks.each d other there.1
 
--- and where both change
+-- the ends are as the clocks where both change
 new_clock : (ends : List ℕ) (cores : List CoreState) (c : ℕ) (changed : CoreState) (to : ℕ)
     → c < MAX_CORES → changed.clock ≡ to → AreClocks ends cores
     → AreClocks (slice_set ends c to) (slice_set cores c changed)
@@ -134,7 +134,7 @@ entered_goes names course rounds mid c e made place known ends host later at las
           (fit.core, fit.round, fit.used) more.good;
     }
 
--- so does a stint
+-- a stint that a step made goes before what later steps make
 ran_goes : (names : List (List ℕ)) (course : CourseView) (rounds : ℕ) (old mid : State) (c : ℕ) (s : Stint)
     (made : List Made) (place : Place) (known : List (List ℕ)) (ends : List ℕ) → IsRunHost names course rounds
     → StateInvariant course rounds mid → slice_get mid.cores c ≡ Some (core_at mid c)
@@ -192,7 +192,7 @@ enters_at rounds c old mid (inr m) = record {
   becomes = ap (λ (x : State). x.cores) m.becomes;
 }
 
--- so does all that the steps of a run make
+-- all that the steps of a run make leads on
 pub trace_goes : (names : List (List ℕ)) (course : CourseView) (rounds : ℕ) (old : State) (taken : List Step)
     (new : State) (made : List Made) (place : Place) (known : List (List ℕ)) (ends : List ℕ)
     → IsRunHost names course rounds → StateInvariant course rounds old

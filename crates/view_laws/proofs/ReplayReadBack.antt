@@ -178,7 +178,7 @@ no_count names course [] count = refl
 no_count names course (Entered c e ∷ made) count = no_count names course made count
 no_count names course (Ran c s ∷ made) count = no_count names course made count
 
--- nor of a task
+-- what was made says nothing of a task
 no_tasks : (names : List (List ℕ)) (course : CourseView) (made : List Made) (count : ℕ)
     → flat_map tasks_in (replay_told names course made count) ≡ []
 no_tasks names course [] count = refl
@@ -194,7 +194,7 @@ entries_are names course (Entered c e ∷ made) count =
     (entries_are names course made count)
 entries_are names course (Ran c s ∷ made) count = entries_are names course made count
 
--- and of the stints
+-- what was made shows the stints
 stints_are : (names : List (List ℕ)) (course : CourseView) (made : List Made) (count : ℕ)
     → flat_map stints_in (replay_told names course made count) ≡ stints_made names course made
 stints_are names course [] count = refl
@@ -226,7 +226,7 @@ replay_shown host course rounds state made view of is =
           ∙ (shows.stints ∙ stints_are names course made state.posted);
     }
 
--- and it has no bad line
+-- the text has no bad line
 pub replay_has_no_bad_line : (host : Host) (course : CourseView) (rounds : ℕ) (state : State)
     (made : List Made)
     (bad : ℕ) → IsReplayOf host course rounds state made

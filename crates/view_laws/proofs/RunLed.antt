@@ -34,7 +34,7 @@ entry_place Planned c r n at = absurd at
 entry_place Reporting c r n at = absurd at
 entry_place Closed c r n at = absurd at
 
--- so does a stint of some ticks
+-- a stint of some ticks leads on
 stint_place : (place : Place) (names : List (List ℕ)) (course : CourseView) (c : ℕ) (s : Stint) → IsOpen place
     → s.from < s.end → place_behind place (stint_told names course c s) ≡ Some Running
 stint_place Start names course c s at some = rw (lt-ltb s.from s.end some) refl

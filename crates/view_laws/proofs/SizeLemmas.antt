@@ -157,7 +157,7 @@ told_size (report words) plain good = absurd plain
 told_size (item words) plain good = absurd plain
 told_size done plain good = let size = line_size (told_words done) (omega arith, tt) in omega arith
 
--- so a text of such lines is short
+-- a text of such lines is short
 pub text_size : (tolds : List Told) → All IsPlain tolds → All IsGood tolds
     → length (text_of (map told_words tolds)) ≤ 331 * length tolds
 text_size [] plain good = omega arith

@@ -52,7 +52,7 @@ reach_as names front tolds Holds Then follows reached = record {
 
 -- ---- one core
 
--- behind some stints of a core the other cores' ends are as before, and the run goes on, if there are some
+-- after some stints of a core the other cores' ends are as before, and the run goes on, if there are some
 record IsBehind (c : ℕ) (ends : List ℕ) (place : Place) (ss : List Stint) (last : Place) (after : List ℕ)
     : Type 0 where
   size : length after ≡ length ends
@@ -103,7 +103,7 @@ pub record AreWhole (names : List (List ℕ)) (end : ℕ) (stints : ℕ → List
   pub lines : (c : ℕ) → c < cores → AreContiguous 0 (stints c) end
   pub fit : (c : ℕ) → c < cores → All (IsFitStint (length names) c) (stints c)
 
--- behind the cores below a number those from it on have no stint yet, and the run goes on, if there are some
+-- after the cores below a number those from it on have no stint yet, and the run goes on, if there are some
 pub record IsPast (n : ℕ) (place : Place) (ends : List ℕ) : Type 0 where
   pub size : length ends ≡ MAX_CORES
   pub rest : (d : ℕ) → n ≤ d → slice_index ends d ≡ 0

@@ -93,7 +93,7 @@ report_lines first items line all =
     of_items (words ∷ more) fine =
         rw ((All-head IsGoodItem words more fine).line) (of_items more (All-tail IsGoodItem words more fine))
 
--- and lead to the end of the text
+-- the report's lines lead to the end of the text
 report_leads : (first : Line) (items : List Line) (known : List (List ℕ)) (ends : List ℕ)
     → Leads (front_at Running known ends) (report_told first items) (front_at Closed known ends) []
 unfolding report_told
@@ -293,7 +293,7 @@ nothing_of_stints f names course stints (suc n) none =
     of_core [] = refl
     of_core (s ∷ ss) = ap (λ xs. xs ++ flat_map f (map (stint_told names course n) ss)) (none n s) ∙ of_core ss
 
--- and what says nothing of a report's line says nothing of the report
+-- what says nothing of a report's line says nothing of the report
 nothing_of_report : {X : Type 0} (f : Told → List X) (tolds : List Told)
     → ((told : Told) → IsOfReport told → f told ≡ [])
     → All IsOfReport tolds → flat_map f tolds ≡ []
@@ -333,7 +333,7 @@ report_counts (told ∷ tolds) n all =
     ap (λ m. cores_after m tolds) (no_core_in told n (All-head IsOfReport told tolds all))
     ∙ report_counts tolds n (All-tail IsOfReport told tolds all)
 
--- nor do stints
+-- stints count no cores
 stints_count : (names : List (List ℕ)) (course : CourseView) (stints : ℕ → List Stint) (n m : ℕ)
     (rest : List Told)
     → cores_after m (stints_below names course stints n ++ rest) ≡ cores_after m rest
@@ -401,7 +401,7 @@ trace_shown host changes course rounds state told view of is =
           ∙ (append-nil (flat_map stints_in own) ∙ stints_are names course stints course.cores))));
     }
 
--- and it has no bad line
+-- the trace's text has no bad line
 pub trace_has_no_bad_line : (host : Host) (changes : List (ℕ × Outcome)) (course : CourseView) (rounds : ℕ)
     (state : State) (told : ReportView) (bad : ℕ) → IsWholeRun host changes course rounds state told
     → IsFirstBad (run_text Trace host changes course rounds (stints_at state) told) bad → ⊥

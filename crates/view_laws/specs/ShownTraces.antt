@@ -1,4 +1,4 @@
--- What the trace of a whole run with its report behind it tells and shows: the stints of all cores.
+-- What the trace of a whole run with its report after it tells and shows: the stints of all cores.
 use Rattle.std.specs.Prelude.{◌≡◌, ℕ, zero, suc, ◌<◌, ◌≤◌, ◌^◌, true, List, [], ◌++◌, length, map, All}
 use Rattle.tab_core.specs.declared.TheConstants.{MAX_EVENTS, MAX_ROUNDS}
 use Rattle.tab_core.specs.declared.host.Host.{Host}
@@ -33,17 +33,20 @@ pub record AreRoundNumbers (r : RoundPlan) : Type 0 where
   pub round : r.round < 2 ^ 32
   pub plan : r.plan < 2 ^ 32
 
+-- a vCPU's numbers in a report are below 2^64, and its gap is below 2^32
 pub record AreVcpuNumbers (t : VcpuTicks) : Type 0 where
   pub offered : t.offered < 2 ^ 64
   pub slots : t.slots < 2 ^ 64
   pub shared : t.shared < 2 ^ 64
   pub gap : t.gap < 2 ^ 32
 
+-- a core's numbers in a report are below 2^64
 pub record AreCoreNumbers (t : CoreTicks) : Type 0 where
   pub slots : t.slots < 2 ^ 64
   pub shared : t.shared < 2 ^ 64
   pub idle : t.idle < 2 ^ 64
 
+-- all numbers of a report are within their types
 pub record HasNumbers (told : ReportView) : Type 0 where
   pub plans : All AreRoundNumbers told.plans
   pub vcpus : All AreVcpuNumbers told.vcpus

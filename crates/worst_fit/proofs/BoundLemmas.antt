@@ -136,7 +136,7 @@ at_most_largest [] vcpu = omega arith
 at_most_largest (task ∷ tasks) zero = omega arith
 at_most_largest (task ∷ tasks) (suc vcpu) = let rest = at_most_largest tasks vcpu in omega arith
 
--- the same of the ranks, of which the steps speak
+-- each demand of the ranks, of which the steps speak, is covered by the reserve of the bound
 each_small : (tasks : List (Option Periodic)) (order : List ByDemand) → IsFallingOrder tasks order
     → All (λ rank. rank.demand ≤ largest_demand tasks) order
 each_small tasks order falling_order = λ k d lt.
@@ -187,7 +187,7 @@ same_total_next homes most s rank small each = elim (stays_or_moves homes s rank
   })
 ]
 
--- so do all
+-- all steps keep the total
 same_total : (homes : List (Option ℕ)) (most : ℕ) (s : Staying) (order : List ByDemand)
     → All (λ r. r.demand ≤ most) order → All (λ r. r.demand ≤ most) s.moving
     → SameTotal most s (stay_all homes s order) (wanted order)

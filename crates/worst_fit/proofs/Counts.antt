@@ -1,4 +1,4 @@
--- How often a vCPU stands among ranks, in a list of vCPUs, and in a list by vCPU number.
+-- How often a vCPU is among ranks, in a list of vCPUs, and in a list by vCPU number.
 use Rattle.std.proofs.Common.{◌≡◌, ◌≢◌, ℕ, zero, suc, ◌+◌, ◌<◌, ◌≤◌, Bool, cond, eqb, List, [], ◌∷◌, ◌++◌, length, get_or, is_some, Option, None, Some, Contains, inl, inr, refl, sym, ap, ◌∙◌, arith}
 use Rattle.std.specs.Prelude.{IsPermutation, slice_get}
 use Rattle.std.specs.List.{sum_by}
@@ -86,7 +86,7 @@ turns_below vcpu number (Some task ∷ tasks) lt =
     let split = turns-cons vcpu (rank_of number task) (ranks_from (number + 1) tasks) in
     rw (ranks_from-some number task tasks) (omega arith)
 
--- and each admitted one once
+-- the ranks from a number on have each admitted vCPU from there on once
 pub turns_from : (vcpu number k : ℕ) (tasks : List (Option Periodic)) → vcpu ≡ number + k
     → turns vcpu (ranks_from number tasks) ≡ has k tasks
 turns_from vcpu number k [] e = rw (ranks_from-nil number) (turns-nil vcpu)
@@ -112,7 +112,7 @@ unfolding lefts
 lefts-more vcpu other [] = omega arith
 lefts-more vcpu other (first ∷ left) = let rest = lefts-more vcpu other left in omega arith
 
--- who is counted stands in the list
+-- who is counted is in the list
 pub contains_counted : (vcpu : ℕ) (left : List ℕ) → 1 ≤ lefts vcpu left → Contains left vcpu
 unfolding lefts
 contains_counted vcpu [] some = absurd (omega arith)
@@ -123,7 +123,7 @@ contains_counted vcpu (other ∷ left) some = elim (cases_eq other vcpu) [
       (suc rest.0, omega (arith, rest.1), rest.2))
 ]
 
--- who stands in the list is counted
+-- who is in the list is counted
 pub counts_at : (vcpu k d : ℕ) (left : List ℕ) → k < length left → get_or left k d ≡ vcpu
     → 1 ≤ lefts vcpu left
 unfolding lefts
@@ -140,7 +140,7 @@ counts_got vcpu zero (other ∷ left) at =
     let e : other ≡ vcpu = cc in let one = same-one other vcpu e in omega arith
 counts_got vcpu (suc k) (other ∷ left) at = let rest = counts_got vcpu k left at in omega arith
 
--- who is counted once stands at one place
+-- who is counted once is at one place
 pub one_place : (vcpu j k : ℕ) (left : List ℕ) → lefts vcpu left ≤ 1 → slice_get left j ≡ Some vcpu
     → slice_get left k ≡ Some vcpu → j ≡ k
 unfolding lefts

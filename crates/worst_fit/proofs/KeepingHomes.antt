@@ -58,7 +58,7 @@ share_own : (homes : List (Option ℕ)) (core : ℕ) (rank : ByDemand) → get_o
 share_own homes core rank at =
     ap (λ h. if is_on core h then rank.demand else 0) at ∙ rw (eq-eqb core core refl) refl
 
--- a vCPU that stands on a core while others are taken stays there
+-- a vCPU that is on a core while others are taken stays there
 stands_next_staying : (homes : List (Option ℕ)) (tasks : List (Option Periodic)) (cores : ℕ)
     (rank : ByDemand) (rest : List ByDemand) (s : Staying) (vcpu core : ℕ)
     → StayingInvariant tasks cores (rank ∷ rest) s → get_or s.placed.core_of vcpu None ≡ Some core
@@ -252,7 +252,7 @@ demand_at-ranks homes core number (task ∷ tasks) = elim (cases_lt number (leng
       omega arith)
 ]
 
--- a vCPU stands in a list of ranks, with others before and after it
+-- a vCPU is in a list of ranks, with others before and after it
 record Between (vcpu : ℕ) (order : List ByDemand) : Type 0 where
   pub before : List ByDemand
   pub rank : ByDemand

@@ -18,7 +18,7 @@ empty_left : (left : List ℕ) → ((vcpu : ℕ) → Contains left vcpu → ⊥)
 empty_left [] none = refl
 empty_left (vcpu ∷ left) none = absurd (none vcpu (0, omega arith, refl))
 
--- who is admitted stands on a core, where nobody was left over
+-- who is admitted is on a core, where nobody was left over
 stands : (tasks : List (Option Periodic)) (cores : ℕ) (placed : Placed) → PlacesEach tasks cores placed
     → placed.left ≡ [] → (vcpu : ℕ) → IsAdmitted tasks vcpu → IsPlaced placed.core_of vcpu
 stands tasks cores placed each none vcpu admitted = elim (each.each vcpu admitted) [

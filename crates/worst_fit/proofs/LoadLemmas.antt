@@ -1,11 +1,11 @@
--- The load of a core, as a vCPU comes to stand somewhere.
+-- The load of a core, as a vCPU is placed.
 use Rattle.std.proofs.Common.{◌≡◌, ℕ, zero, suc, ◌+◌, ◌<◌, List, [], ◌∷◌, length, set, get_or, replicate, zip, Option, None, Some, refl, ap, arith}
 use Rattle.std.specs.Prelude.{if◌then◌else◌}
 use Rattle.std.proofs.lemmas.List.Sums.{sum_by-cons}
 use Rattle.tab_core.specs.declared.periodic.Periodic.{Periodic}
 use Rattle.worst_fit.specs.Load.{is_on, load_on, task_demand}
 
--- what the vCPU of this task adds to the load of a core, where it stands on that one
+-- what the vCPU of this task adds to the load of a core, where it is on that one
 abbrev pub share_on : ℕ → Option Periodic → Option ℕ → ℕ
 share_on core task home = if is_on core home then task_demand task else 0
 
@@ -24,7 +24,7 @@ pub load_on-nil : (core : ℕ) (core_of : List (Option ℕ)) → load_on core []
 unfolding load_on
 load_on-nil core core_of = refl
 
--- nobody stands anywhere
+-- nobody is placed
 pub load_on-none : (core : ℕ) (tasks : List (Option Periodic))
     → load_on core tasks (replicate (length tasks) None) ≡ 0
 load_on-none core [] = load_on-nil core []
@@ -32,7 +32,7 @@ load_on-none core (task ∷ tasks) =
     let first = load_on-cons core task tasks None (replicate (length tasks) None)
     in let rest = load_on-none core tasks in omega arith
 
--- one more vCPU stands on a core
+-- one more vCPU is on a core
 pub load_on-set : (core home : ℕ) (tasks : List (Option Periodic)) (core_of : List (Option ℕ))
     (vcpu : ℕ) → length core_of ≡ length tasks → vcpu < length tasks
     → get_or core_of vcpu None ≡ None

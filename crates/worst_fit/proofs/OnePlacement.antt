@@ -28,7 +28,7 @@ first_leads first order k sorted lt =
     sorted_far _ (ranks_by by_falling_demand_total (λ (r : ByDemand). r)) (first ∷ order) sorted 0 k first
     (omega arith) lt
 
--- what is behind the first is sorted too: the induction's step
+-- what is after the first is sorted too: the induction's step
 falls_behind : (first : ByDemand) (order : List ByDemand)
     → IsSorted by_falling_demand (first ∷ order) → IsSorted by_falling_demand order
 falls_behind first order sorted = λ k d low lt.
@@ -64,7 +64,7 @@ neither_before a b not_a not_b =
     let with_vcpu = λ (n : ℕ). let r : ByDemand = record { demand = b.demand; vcpu = n } in r in
     ap with_demand numbers.0 ∙ ap with_vcpu numbers.1
 
--- a list with a rank has a turn that an empty one lacks
+-- a list with a rank has a turn that an empty one doesn't have
 has_turn : (rank : ByDemand) (order : List ByDemand) → turns rank.vcpu (rank ∷ order) ≡ turns rank.vcpu [] → ⊥
 has_turn rank order h =
     let split = turns-cons rank.vcpu rank order in
@@ -82,7 +82,7 @@ same_rank tasks a b in_a in_b e =
     let with_vcpu = λ (n : ℕ). let r : ByDemand = record { demand = b.demand; vcpu = n } in r in
     ap with_demand demand ∙ ap with_vcpu e
 
--- the first of one list doesn't come behind that of the other, which has a place in the first
+-- the first of one list doesn't come after that of the other, which has a place in the first
 not_before : (tasks : List (Option Periodic)) (a b : ByDemand) (behind_a behind_b : List ByDemand)
     → ((vcpu : ℕ) → turns vcpu (a ∷ behind_a) ≡ turns vcpu (b ∷ behind_b))
     → All (IsRankIn tasks) (a ∷ behind_a) → All (IsRankIn tasks) (b ∷ behind_b)
@@ -135,7 +135,7 @@ falling_order_unique tasks one other of_one of_other =
     ∙ sym (turns-permutation vcpu (ranks_from 0 tasks) other of_other.admitted))
     (all_ranked tasks one of_one) (all_ranked tasks other of_other) of_one.falls of_other.falls
 
--- so the tasks have one placement beside those that stay
+-- the tasks have one placement beside those that stay
 pub placement_unique : (homes : List (Option ℕ)) (tasks : List (Option Periodic)) (cores : ℕ)
     (one other : Placed)
     → IsStayingPlacement homes tasks cores one → IsStayingPlacement homes tasks cores other → one ≡ other

@@ -26,7 +26,7 @@ pub ranks_from-nil : (number : ℕ) → ranks_from number [] ≡ []
 unfolding ranks_from
 ranks_from-nil number = refl
 
--- the tasks from this number on are the one here and those behind it
+-- the tasks from this number on are the one here and those after it
 drop_here : (tasks : List (Option Periodic)) (number : ℕ) (task : Option Periodic)
     → number < length tasks → task ≡ get_or tasks number task
     → drop number tasks ≡ task ∷ drop (number + 1) tasks

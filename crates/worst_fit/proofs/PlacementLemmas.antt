@@ -8,7 +8,7 @@ use Rattle.worst_fit.specs.declared.by_demand.ByDemand.{ByDemand}
 use Rattle.worst_fit.specs.Placement.{PartialPlacement, least_core, least_load, place_all, place_next}
 use Rattle.worst_fit.proofs.LeastCore.{IsFirstLeast, first_least}
 
--- what is placed, once the next vCPU stands on this core
+-- what is placed, once the next vCPU is on this core
 abbrev pub on_core : PartialPlacement → ByDemand → ℕ → ℕ → PartialPlacement
 on_core p rank core load = record {
   loads = set p.loads core load;
@@ -64,7 +64,7 @@ pub place_all-nil : (p : PartialPlacement) → place_all p [] ≡ p
 unfolding place_all
 place_all-nil p = refl
 
--- the rank at k is placed, and those behind it are left
+-- the rank at k is placed, and those after it are left
 pub place_all-next : (order : List ByDemand) (k : ℕ) (rank : ByDemand) (p q all : PartialPlacement)
     → k < length order → rank ≡ get_or order k rank → q ≡ place_next p rank
     → place_all p (drop k order) ≡ all → place_all q (drop (k + 1) order) ≡ all

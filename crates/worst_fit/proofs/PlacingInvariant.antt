@@ -40,7 +40,7 @@ pub least_core_in : (loads : List ℕ) → 1 ≤ length loads
 least_core_in [] some = absurd (omega arith)
 least_core_in (load ∷ loads) some = least_core_has load loads
 
--- who counts 0 stands nowhere
+-- who counts 0 is on no core
 pub none_if_zero : {X : Type 0} (o : Option X) → one_if (is_some o) ≡ 0 → o ≡ None
 none_if_zero None h = refl
 none_if_zero (Some x) h = absurd (omega arith)
@@ -78,13 +78,13 @@ has_set : (vcpu other home : ℕ) (core_of : List (Option ℕ)) → other < leng
 has_set vcpu other home core_of lt e =
     ap (λ o. one_if (is_some o)) (get_or-set_at core_of other vcpu (Some home) None e lt)
 
--- and the others count as before
+-- the vCPUs that weren't placed now count as before
 has_other : (vcpu other home : ℕ) (core_of : List (Option ℕ)) → vcpu ≢ other
     → has vcpu (set core_of other (Some home)) ≡ has vcpu core_of
 has_other vcpu other home core_of ne =
     ap (λ o. one_if (is_some o)) (get_or-set_other core_of other vcpu (Some home) None ne)
 
--- a vCPU came to stand on a core
+-- a vCPU came to are on a core
 pub keeps_on : (tasks : List (Option Periodic)) (cores : ℕ) (rank : ByDemand) (rest : List ByDemand)
     (p : PartialPlacement) (home load : ℕ) → home < cores → IsRankIn tasks rank
     → load ≡ get_or p.loads home 0 + rank.demand → load ≤ ROUND
@@ -176,7 +176,7 @@ keeps_next tasks cores rank rest p some ranked kept =
           (omega arith) ranked (omega arith) room kept))
     ]
 
--- so do all of them
+-- all steps keep the invariant
 pub keeps_all : (tasks : List (Option Periodic)) (cores : ℕ) (order : List ByDemand) (p : PartialPlacement)
     → 1 ≤ cores → All (IsRankIn tasks) order → PlacingInvariant tasks cores order p
     → PlacingInvariant tasks cores [] (place_all p order)
@@ -217,19 +217,19 @@ all_ranked tasks order falling_order =
     All-permutation (IsRankIn tasks) (ranks_from 0 tasks) order falling_order.admitted
     (ranked_from tasks 0 tasks refl (omega arith))
 
--- as the loop begins no vCPU stands anywhere
+-- as the loop begins no vCPU is placed
 nobody : (vcpu n : ℕ) → get_or (replicate {A = Option ℕ} n None) vcpu None ≡ None
 nobody vcpu zero = refl
 nobody zero (suc n) = refl
 nobody (suc vcpu) (suc n) = nobody vcpu n
 
--- and no core has a load
+-- as the loop begins no core has a load
 no_load : (cores core : ℕ) → core < cores → get_or (replicate {A = ℕ} cores 0) core 0 ≤ ROUND
 no_load cores core lt =
     let none : get_or (replicate {A = ℕ} cores 0) core 0
     ≡ 0 = get_or-replicate {A = ℕ} cores core 0 0 lt in omega arith
 
--- so the invariant holds before the first step
+-- the invariant holds before the first step
 pub starts : (tasks : List (Option Periodic)) (cores : ℕ) (order : List ByDemand)
     → IsFallingOrder tasks order → PlacingInvariant tasks cores order (nothing_placed cores (length tasks))
 starts tasks cores order falling_order = record {
@@ -260,7 +260,7 @@ same_turns tasks cores rest other p same kept = record {
   balance = λ vcpu. (let before = kept.balance vcpu in let turn = same vcpu in omega arith);
 }
 
--- a vCPU that stands on a core isn't the next one
+-- a vCPU that is on a core isn't the next one
 pub not_next : (tasks : List (Option Periodic)) (cores : ℕ) (rank : ByDemand) (rest : List ByDemand)
     (p : PartialPlacement) (vcpu core : ℕ) → PlacingInvariant tasks cores (rank ∷ rest) p
     → get_or p.core_of vcpu None ≡ Some core → vcpu ≢ rank.vcpu
@@ -269,7 +269,7 @@ not_next tasks cores rank rest p vcpu core kept stands = λ e.
     let here = ap (λ v. get_or p.core_of v None) e in
     absurd (cc))
 
--- so it stays there
+-- a vCPU that is on a core stays there
 stands_next : (tasks : List (Option Periodic)) (cores : ℕ) (rank : ByDemand) (rest : List ByDemand)
     (p : PartialPlacement) (vcpu core : ℕ) → PlacingInvariant tasks cores (rank ∷ rest) p
     → get_or p.core_of vcpu None ≡ Some core → get_or (place_next p rank).core_of vcpu None ≡ Some core

@@ -23,7 +23,7 @@ pub stay_all-nil : (homes : List (Option ℕ)) (s : Staying) → stay_all homes 
 unfolding stay_all
 stay_all-nil homes s = refl
 
--- the rank at k stays or moves, and those behind it are left
+-- the rank at k stays or moves, and those after it are left
 pub stay_all-next : (homes : List (Option ℕ)) (order : List ByDemand) (k : ℕ) (rank : ByDemand)
     (s t all : Staying) → k < length order → rank ≡ get_or order k rank → t ≡ stay_next homes s rank
     → stay_all homes s (drop k order) ≡ all → stay_all homes t (drop (k + 1) order) ≡ all
@@ -188,7 +188,7 @@ keeps_either homes tasks cores rank rest s ranked kept = elim (stays_or_moves ho
       (keeps_moving tasks cores rank rest s ranked kept)
 ]
 
--- so do all of them
+-- all steps of staying keep the invariant
 pub keeps_all_staying : (homes : List (Option ℕ)) (tasks : List (Option Periodic)) (cores : ℕ)
     (order : List ByDemand) (s : Staying) → All (IsRankIn tasks) order
     → StayingInvariant tasks cores order s

@@ -1,4 +1,4 @@
--- What vCPUs take of a round, and what stands on each core.
+-- What vCPUs take of a round, and what is on each core.
 use Rattle.std.specs.Prelude.{ℕ, ◌<◌, ◌≤◌, ◌==◌, Bool, false, if◌then◌else◌, List, Option, None, Some, sum_by, zip}
 use Rattle.tab_core.specs.declared.TheConstants.{ROUND}
 use Rattle.tab_core.specs.declared.periodic.Periodic.{Periodic}
@@ -9,12 +9,12 @@ abbrev pub task_demand : Option Periodic → ℕ
 task_demand None = 0
 task_demand (Some task) = demand task.cost task.period
 
--- the vCPU stands on this core
+-- the vCPU is on this core
 abbrev pub is_on : ℕ → Option ℕ → Bool
 is_on core None = false
 is_on core (Some home) = home == core
 
--- the load of a core: what the vCPUs that stand there take of a round together
+-- the load of a core: what the vCPUs that are there take of a round together
 unfoldable pub load_on : ℕ → List (Option Periodic) → List (Option ℕ) → ℕ
 load_on core tasks core_of = sum_by (λ vcpu. if is_on core vcpu.1 then task_demand vcpu.0 else 0)
     (zip tasks core_of)

@@ -106,11 +106,11 @@ IsPlacement = IsStayingPlacement []
 abbrev pub IsAdmitted : List (Option Periodic) → ℕ → Type 0
 IsAdmitted tasks vcpu = (task : Periodic) × (slice_get tasks vcpu ≡ Some (Some task))
 
--- the vCPU stands on a core
+-- the vCPU is on a core
 abbrev pub IsPlaced : List (Option ℕ) → ℕ → Type 0
 IsPlaced core_of vcpu = (core : ℕ) × (slice_get core_of vcpu ≡ Some (Some core))
 
--- each admitted vCPU stands on one of the cores or is left over, never both, and no other vCPU does
+-- each admitted vCPU is on one of the cores or is left over, never both, and no other vCPU does
 pub record PlacesEach (tasks : List (Option Periodic)) (cores : ℕ) (placed : Placed) : Type 0 where
   pub as_many : length placed.core_of ≡ length tasks
   pub each : (vcpu : ℕ) → IsAdmitted tasks vcpu → IsPlaced placed.core_of vcpu ⊎ Contains placed.left vcpu

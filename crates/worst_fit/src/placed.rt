@@ -4,7 +4,7 @@ ghost use Rattle.tab_core.specs.declared.TheConstants.{MAX_VCPUS};
 use std::marker::Model;
 use tab_core::{CoreNo, VcpuNo};
 
-/// The core of each vCPU by its number, or none where it stands on none. Contracts see the list.
+/// The core of each vCPU by its number, or none where it is on none. Contracts see the list.
 #[derive(Drop)]
 pub struct PlacedCores {
     items: Vec<Option<CoreNo>>,
@@ -68,7 +68,7 @@ impl LeftOver {
     }
 }
 
-/// Where the vCPUs of a host stand, and who is left over.
+/// Where the vCPUs of a host are, and who is left over.
 #[derive(Drop)]
 pub struct Placed {
     pub core_of: PlacedCores,

@@ -32,14 +32,14 @@ next_segment ss from place s rises lt at =
     rises_parts from s (drop (place + 1) ss) ROUND
     (subst (λ xs. RisesTo from xs ROUND) (drop_next ss place s lt at) rises)
 
--- so it ends within the round
+-- the segment ends within the round
 pub segment_end : (ss : List Segment) (from place : ℕ) (s : Segment) → RisesTo from (drop place ss) ROUND
     → place < length ss → s ≡ get_or ss place s → s.end ≤ ROUND
 segment_end ss from place s rises lt at =
     let rest = (next_segment ss from place s rises lt at).1 in
     omega (arith, length-cells_from s.end (drop (place + 1) ss) ROUND rest)
 
--- a vCPU's cells from a segment on are those of the segment and those behind it
+-- a vCPU's cells from a segment on are those of the segment and those after it
 pub count_next : (ss : List Segment) (v from place : ℕ) (s : Segment) → place < length ss
     → s ≡ get_or ss place s
     → count_of v (cells_from from (drop place ss))
@@ -61,7 +61,7 @@ count_most ss v rises =
       length-cells_from 0 ss ROUND rises,
     )
 
--- behind the last segment there is no cell
+-- after the last segment there is no cell
 pub count_end : (ss : List Segment) (v from place : ℕ) → length ss ≤ place
     → count_of v (cells_from from (drop place ss)) ≡ 0
 count_end ss v from place past =

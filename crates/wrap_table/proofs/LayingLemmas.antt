@@ -13,7 +13,7 @@ pub length-owners : (ns : List ℕ) (q n : ℕ) → length (owners ns q n) ≡ n
 length-owners ns q zero = refl
 length-owners ns q (suc n) = ap suc (length-owners ns (q + 1) n)
 
--- a run and the one behind it are one run
+-- a run and the one after it are one run
 pub owners-add : (ns : List ℕ) (q a b : ℕ) → owners ns q (a + b) ≡ owners ns q a ++ owners ns (q + a) b
 owners-add ns q zero b = rw (zero-add, add-zero) refl
 owners-add ns q (suc a) b =
@@ -43,7 +43,7 @@ owners-run ns v q (suc n) h from until =
     ap (λ o. o ∷ owners ns (q + 1) n) first
     ∙ ap (λ r. Some v ∷ r) (owners-run ns v (q + 1) n h (omega arith) (omega arith))
 
--- behind all ticks a position is nobody's
+-- after all ticks a position is nobody's
 no_owner : (v : ℕ) (ns : List ℕ) (q : ℕ) → offset ns (length ns) ≤ q → owner_from v ns q ≡ None
 unfolding owner_from
 no_owner v [] q le = refl
@@ -52,7 +52,7 @@ no_owner v (n ∷ ns) q le =
     cond-false (nat_lt q n) (Some v) (owner_from (v + 1) ns (q - n)) (le-ltb q n (omega (arith, le, all)))
     ∙ no_owner (v + 1) ns (q - n) (omega (arith, le, all))
 
--- and so is a run there
+-- a run after all ticks is nobody's
 pub owners-idle : (ns : List ℕ) (q n : ℕ) → offset ns (length ns) ≤ q → owners ns q n ≡ replicate n None
 owners-idle ns q zero le = refl
 owners-idle ns q (suc n) le =
@@ -102,7 +102,7 @@ run_is ns q v begun n at h le =
     let here = at.here h in
     owners-run ns v q n h (omega arith) (omega arith)
 
--- a row with a run behind the runs that it has
+-- a row with a run after the runs that it has
 pub row_more : (ns : List ℕ) (row old : Row) (cells : Row) (from a b : ℕ) → row ≡ old ++ owners ns from a
     → owners ns (from + a) b ≡ cells → row ++ cells ≡ old ++ owners ns from (a + b)
 row_more ns row old cells from a b is next =

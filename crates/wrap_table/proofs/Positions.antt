@@ -1,4 +1,4 @@
--- Where ticks are laid that stand one after the other.
+-- Where ticks are laid that are one after the other.
 use Rattle.std.proofs.Common.{◌≡◌, ℕ, zero, suc, ◌+◌, ◌-◌, ◌*◌, ◌<◌, ◌≤◌, ◌==◌, nat_lt, nat_le, cond, List, [], ◌∷◌, Option, Some, None, length, get_or, ap, refl, sym, ◌∙◌, arith, inl, inr}
 use Rattle.std.proofs.lemmas.Bool.{cases_lt, cases_order, lt-ltb, le-ltb, le-leb, lt-leb, cond-true, cond-false, eq-eqb, ne_eqb}
 use Rattle.std.proofs.lemmas.Option.{same_Some}
@@ -36,7 +36,7 @@ owner_laid (n ∷ ns) v (suc k) q laid =
     cond-false (nat_lt q n) (Some v) (owner_from (v + 1) ns (q - n)) (le-ltb q n beyond)
     ∙ owner_laid ns (v + 1) k (q - n) rest ∙ ap (λ m. Some m) (omega arith)
 
--- and an owned position lies within its owner's ticks
+-- an owned position lies within its owner's ticks
 pub laid_owner : (ns : List ℕ) (v q w : ℕ) → owner_from v ns q ≡ Some w
     → (k : ℕ) × (w ≡ v + k) × IsPosition ns k q
 unfolding owner_from
@@ -73,7 +73,7 @@ pub not_owned : (v : ℕ) (o : Option ℕ) → (o ≡ Some v → ⊥) → ◌≡
 not_owned v None ne = refl
 not_owned v (Some w) ne = cond-false {A = ℕ} (v == w) 1 0 (ne_eqb v w (λ e. ne (ap (λ m. Some m) (sym e))))
 
--- the same from the first vCPU on
+-- a cell of a vCPU, as a number, counted from the first vCPU on
 laid_here : (ns : List ℕ) (v q : ℕ) → owner_from 0 ns q ≡ Some v → IsPosition ns v q
 laid_here ns v q e = let s = laid_owner ns 0 q v e in let same : v ≡ s.0 = omega (arith, s.1) in rw same s.2
 
@@ -118,7 +118,7 @@ laid_count ns v l m h fits =
     total-ext _ _ m (λ c _. total-ext _ _ l (λ t _. owned_is ns v (c * l + t) h))
     ∙ layout_serves (offset ns v) (get_or ns v 0) l m fits
 
--- and no two of them at one place
+-- no two places of a vCPU are one
 pub laid_apart : (ns : List ℕ) (v l c d t : ℕ) → get_or ns v 0 ≤ l → owner_from 0 ns (c * l + t) ≡ Some v
     → owner_from 0 ns (d * l + t) ≡ Some v → c ≡ d
 laid_apart ns v l c d t short at_c at_d =

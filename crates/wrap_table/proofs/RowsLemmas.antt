@@ -22,7 +22,7 @@ marks_up a is j (suc n) le =
     let e : j + suc n ≡ j + n + 1 = omega arith in
     rw e (omega (arith, marks_up a is j n (omega arith), is.rise (j + n) (omega arith)))
 
--- so an earlier one is no later
+-- an earlier mark is no later
 marks_order : (a : AllotmentView) → HasIntervals a → (j i : ℕ) → j ≤ i → i ≤ length a.ticks
     → get_or a.marks j 0 ≤ get_or a.marks i 0
 marks_order a is j i le within =
@@ -92,7 +92,7 @@ laid_further a c at x i lt here old j before = elim (cases_eq j i) [
   | inr ne ↦ rw (get_or-set_other at i j x (record { vcpu = 0; ticks = 0 }) ne) (old j (omega arith))
 ]
 
--- and in the others they are laid as before
+-- in the other intervals the ticks are laid as before
 pub laid_before : (a : AllotmentView) (c : ℕ) (at : List Laid) (x : Laid) (i : ℕ)
     → ((j : ℕ) → i ≤ j → j < length a.ticks → IsLaidTo (row_at a.ticks j) (c * length_at a j) (laid_at at j))
     → (j : ℕ) → i + 1 ≤ j → j < length a.ticks

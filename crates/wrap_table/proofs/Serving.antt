@@ -36,7 +36,7 @@ taken v (suc n) (x ∷ xs) = sum_by-cons (λ cell. one v cell) x (take n xs)
     ∙ ap (λ m. one v x + m) (taken v n xs)
     ∙ sym (total-front (λ j. one v (flat (slice_get (x ∷ xs) j))) n)
 
--- a cell behind those that are dropped
+-- a cell after those that are dropped
 dropped : (from j : ℕ) (row : Row) → slice_get (drop from row) j ≡ slice_get row (from + j)
 dropped zero j row = ap (λ n. slice_get row n) (sym (zero-add j))
 dropped (suc from) j [] = refl
@@ -147,14 +147,14 @@ supply_is tasks cores a rows is w v task at k lt =
     let sum = over_window l ok v k s.0 s.1 win (flow_of a.ticks v) in
     omega (arith, all, served, sum, cost)
 
--- so the rows serve
+-- the rows serve
 pub wrapped_serves : (tasks : List (Option Periodic)) (cores : ℕ) (a : AllotmentView) (rows : List Row)
     → IsAllotment tasks cores a
     → AreWrapped a cores rows → Serves tasks rows
 wrapped_serves tasks cores a rows is w v task at k lt =
     omega (arith, supply_is tasks cores a rows is w v task at k lt)
 
--- and those that are capped get no more
+-- capped vCPUs get exactly their cost
 pub wrapped_serves_exactly : (tasks : List (Option Periodic)) (capped : List Bool) (cores : ℕ)
     (a : AllotmentView) (rows : List Row) → IsAllotment tasks cores a → AreWrapped a cores rows
     → ServesExactly tasks capped rows

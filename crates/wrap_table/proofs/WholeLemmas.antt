@@ -77,7 +77,8 @@ fits_host host plan is = record {
       (tasks_where_reserved host plan.tasks is.tasks);
 }
 
--- where each vCPU has its task, of the two refusals of the choice of periods only want of memory is left
+-- where each vCPU has its task, of the two refusals of the choice of periods only running out of memory
+-- is left
 pub no_memory_for_tasks : (host : Host) (tasks : List (Option Periodic)) (fault : TaskFault)
     → AreTasksOf host tasks → ((vcpu : ℕ) → fault ≡ NoPeriod vcpu → IsFirstWithoutPeriod host vcpu)
     → fault_of_tasks fault ≡ whole.NoMemory

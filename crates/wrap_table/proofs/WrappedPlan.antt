@@ -34,7 +34,7 @@ keeps tasks cores a rows homes capped is wrapped are = record {
   exact = wrapped_serves_exactly tasks capped cores a rows is wrapped;
 }
 
--- and it is the plan of the allotment
+-- what the rows make is the plan of the allotment
 pub is_wrapped : (tasks : List (Option Periodic)) (cores : ℕ) (a : AllotmentView) (rows : List Row)
     (homes : List (Option ℕ)) (capped : List Bool)
     → IsAllotment tasks cores a → AreWrapped a cores rows → AreHomesOf tasks rows homes
@@ -68,7 +68,7 @@ made_keeps tasks cores a plan is made =
     (sym made.tasks_are)
     (keeps tasks cores a plan.rows plan.homes plan.capped is made.rows_are made.homes_are)
 
--- and the allotment's
+-- what is made of an allotment is its plan
 pub made_is_wrapped : (tasks : List (Option Periodic)) (cores : ℕ) (a : AllotmentView) (plan : PlanView)
     → IsAllotment tasks cores a → IsMade tasks cores a plan → IsWrapped tasks a cores plan
 made_is_wrapped tasks cores a plan is made =

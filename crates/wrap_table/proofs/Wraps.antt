@@ -69,7 +69,7 @@ cell_in tasks cores a rows c place v is w owned =
       place_is = omega (arith, s.2);
     }
 
--- no vCPU stands on two cores at one place
+-- no vCPU is on two cores at one place
 pub wrapped_apart : (tasks : List (Option Periodic)) (cores : ℕ) (a : AllotmentView) (rows : List Row)
     → IsAllotment tasks cores a
     → AreWrapped a cores rows → Apart rows

@@ -21,8 +21,8 @@ use table_form::Plan;
 /// periods, for all cores together, and laid along the cores. Its capped vCPUs are the host's.
 ///
 /// `NoPeriod` comes where an admitted vCPU has no admissible period, and `NoFit` where each has one
-/// but their demands sum to more than the cores have: then and only then, but that want of memory
-/// may come in place of any answer. So a host whose demands fit is refused for want of memory alone,
+/// but their demands sum to more than the cores have: then and only then, though `NoMemory` may
+/// come in place of any answer. So a host whose demands fit is refused when memory runs out alone,
 /// and one whose demands don't fit has no allotment of ticks to its vCPUs.
 ///
 /// The call tells at most two steps for each edge of the flow network, for each pair of an admitted

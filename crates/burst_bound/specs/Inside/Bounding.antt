@@ -46,7 +46,7 @@ pub record IsSince (course : CourseView) (used : List ℕ) (r first : ℕ) : Typ
   pub same : (q : ℕ) → first ≤ q → q ≤ r
       → plan_number_after course (slice_index used q) ≡ plan_number_after course (slice_index used r)
 
--- so has each round such a first one
+-- each round has a first one such that the rounds from it on have one plan
 pub record AreSince (course : CourseView) (used since : List ℕ) : Type 0 where
   pub size : length since ≡ length used
   pub each : (r : ℕ) → r < length used → IsSince course used r (slice_index since r)

@@ -9,10 +9,10 @@ use Rattle.table_form.specs.Tables.Serves.{is_cell_of}
 abbrev pub run_in : ℕ → ℕ → ℕ → Stint → ℕ
 run_in v from end st = if is_cell_of v st.ran then min st.end end - max st.from from else 0
 
--- the same of stints
+-- at how many of the ticks from one up to another the stints ran the vCPU
 unfoldable pub run_by : ℕ → ℕ → ℕ → List Stint → ℕ
 run_by v from end stints = sum_by (run_in v from end) stints
 
--- and of the stints of cores
+-- at how many of the ticks from one up to another the stints of cores ran the vCPU
 unfoldable pub run_on : ℕ → ℕ → ℕ → List CoreState → ℕ
 run_on v from end cores = sum_by (λ (core : CoreState). run_by v from end core.stints) cores

@@ -7,7 +7,7 @@ use Rattle.table_form.specs.Running.State.{State, CoreState, IsCore}
 abbrev pub SeesFrom : ℕ → ℕ → List Stint → Type 0
 SeesFrom event x stints = (k : ℕ) (st : Stint) → slice_get stints k ≡ Some st → x < st.end → event < st.seen
 
--- stints one behind the other, whose seen counts never fall
+-- stints one after the other, whose seen counts never fall
 pub record AreInOrder (stints : List Stint) : Type 0 where
   pub ends : (j k : ℕ) (s t : Stint) → j ≤ k → slice_get stints j ≡ Some s → slice_get stints k ≡ Some t
       → s.end ≤ t.end

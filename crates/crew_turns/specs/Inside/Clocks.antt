@@ -26,6 +26,6 @@ pub record IsPosting {L : Type 0} (control : Kind L) (lead : Player L) (v : View
 abbrev pub ticks_left : List ℕ → ℕ
 ticks_left ticks = sum_by (λ (t : ℕ). OUT - t) ticks
 
--- and for the controller
+-- how much is left to do for the controller, at most
 abbrev pub lead_left : {L : Type 0} → Kind L → Player L → Bool → ℕ
 lead_left control lead posting = (control.end lead.actor - control.place lead.actor) + (if posting then 1 else 0)

@@ -44,7 +44,7 @@ RunTold {C} core c ticks v Stopped cores' ticks' w = (ticks' ≡ ticks)
     × ((p : Player C) → slice_get cores' c ≡ Some p → core.waits p.actor v w)
 RunTold core c ticks v Done cores' ticks' w = ⊥
 
--- the same of the core that is guessed
+-- what came of the turn of the core that is guessed
 abbrev pub GuessTold : List ℕ → Bool → List ℕ → Type 0
 GuessTold ticks true ticks' = ticks_left ticks' < ticks_left ticks
 GuessTold ticks false ticks' = ticks' ≡ ticks
@@ -72,7 +72,7 @@ or_waits Waits = Waits
 or_waits Stopped = Stopped
 or_waits Done = Waits
 
--- and one in which it waits for what won't come
+-- what a turn is in which an actor waits for what won't come
 abbrev pub or_stops : Progress → Progress
 or_stops Moved = Moved
 or_stops Waits = Stopped

@@ -80,7 +80,7 @@ pub record SomeMissed (ps : List Piece) (given : List ℕ) (tick : ℕ) : Type 0
 abbrev pub IsCalm : Piece → ℕ → ℕ → Type 0
 IsCalm p tick until = (k : ℕ) → tick < k * p.period + p.from → until ≤ k * p.period + p.from
 
--- and of the first n pieces none has such a window
+-- no window of the first n pieces begins at a tick above `tick` and below `until`
 abbrev pub AreCalm : List Piece → ℕ → ℕ → ℕ → Type 0
 AreCalm ps n tick until = (i : ℕ) (d : Piece) → i < n → IsCalm (slice_index_or ps i d) tick until
 
@@ -88,7 +88,7 @@ AreCalm ps n tick until = (i : ℕ) (d : Piece) → i < n → IsCalm (slice_inde
 unfoldable pub due_of : Piece → ℕ → ℕ
 due_of p next = next - p.period - p.from + p.to
 
--- and what all windows before it cost
+-- what all windows of the piece before the one that begins at `next` cost
 unfoldable pub goal_of : Piece → ℕ → ℕ
 goal_of p next = (next - p.from) / p.period * p.cost
 
@@ -102,7 +102,7 @@ pub record IsKept (p : Piece) (bound event next : ℕ) : Type 0 where
   pub begun : next < bound + p.period
   pub ahead : event ≤ next
 
--- and of each of the first n pieces
+-- what is kept of one piece is kept of each of the first n pieces
 abbrev pub AreKept : List Piece → List ℕ → ℕ → ℕ → ℕ → Type 0
 AreKept ps ns n bound event = (i : ℕ) (d : Piece) → i < n
     → IsKept (slice_index_or ps i d) bound event (slice_index ns i)
@@ -115,7 +115,7 @@ key_at p next = due_of p next * MAX_VCPUS + p.vcpu
 abbrev pub job_at : List Pending → ℕ → Pending
 job_at jobs j = slice_index_or jobs j (record { key = 0; left = 0 })
 
--- the job is what the window of piece i that began last lacks
+-- the job is what the window of piece i that began last still has to get
 pub record IsJobOf (ps : List Piece) (given ns : List ℕ) (job : Pending) (i : ℕ) : Type 0 where
   pub in_range : i < length ps
   pub some : 0 < job.left
@@ -123,7 +123,8 @@ pub record IsJobOf (ps : List Piece) (given ns : List ℕ) (job : Pending) (i : 
       → slice_index given i + job.left ≡ goal_of (slice_index_or ps i d) (slice_index ns i)
   pub key_is : (d : Piece) → job.key ≡ key_at (slice_index_or ps i d) (slice_index ns i)
 
--- the first `count` jobs are those of the pieces that lack ticks, and the most urgent is the last
+-- the first `count` jobs are those of the pieces that still have to get ticks, and the most urgent
+-- is the last
 pub record ArePending (ps : List Piece) (given ns : List ℕ) (jobs : List Pending) (count : ℕ) : Type 0 where
   pub room : count ≤ length jobs
   pub falling : (j k : ℕ) → j < k → k < count → (job_at jobs k).key < (job_at jobs j).key
@@ -134,7 +135,7 @@ pub record ArePending (ps : List Piece) (given ns : List ℕ) (jobs : List Pendi
   pub within : (i : ℕ) (d : Piece) → i < length ps
       → slice_index given i ≤ goal_of (slice_index_or ps i d) (slice_index ns i)
 
--- of the first `count` jobs, those at and behind a place have moved up for one that is more urgent
+-- of the first `count` jobs, those at and after a place have moved up for one that is more urgent
 pub record IsAdded (old new : List Pending) (count : ℕ) (job : Pending) : Type 0 where
   pub at : ℕ
   pub within : at ≤ count

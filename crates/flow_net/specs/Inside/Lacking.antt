@@ -1,4 +1,4 @@
--- What a vCPU's jobs lack, as far as the intervals were gone through.
+-- What a vCPU's jobs still need, as far as the intervals were gone through.
 use Rattle.std.specs.Prelude.{◌≡◌, ℕ, ◌+◌, ◌*◌, ◌<◌, ◌≤◌, ◌==◌, cond, List, length, slice_index}
 use Rattle.tab_core.specs.Sums.{total}
 use Rattle.flow_net.specs.Load.{Load, job}
@@ -7,8 +7,8 @@ use Rattle.flow_net.specs.Load.{Load, job}
 abbrev pub given_before : Load → (ℕ → ℕ → ℕ) → ℕ → ℕ → ℕ → ℕ
 given_before l f v k i = total (λ j. cond (job l v j == k) (f v j) 0) i
 
--- before interval `i`: the jobs that have ended have their lacks listed, the next one ends at a tick
--- and still lacks `left`, and those after it have nothing
+-- before interval `i`: the jobs that have ended have what they still need listed, the next one ends
+-- at a tick and still needs `left`, and those after it have nothing
 pub record AreLacksTo (l : Load) (f : ℕ → ℕ → ℕ) (v : ℕ) (lacks : List ℕ) (end left i : ℕ) : Type 0 where
   pub end_is : end ≡ (length lacks + 1) * l.period v
   pub from : length lacks * l.period v ≤ l.mark i

@@ -1,4 +1,4 @@
--- What a search from a lacking job has reached.
+-- What a search from a job that still needs ticks has reached.
 -- Source: the augmenting paths of L. R. Ford, D. R. Fulkerson, "Maximal flow through a network",
 -- Canadian Journal of Mathematics 8, 1956.
 use Rattle.std.specs.Prelude.{◌≡◌, ℕ, ◌-◌, ◌<◌, ◌≤◌, Bool, true, false, cond}
@@ -6,8 +6,8 @@ use Rattle.flow_net.specs.Counts.{is_due}
 use Rattle.tab_core.specs.Sums.{total}
 use Rattle.flow_net.specs.Load.{Load, span, job, used}
 
--- The intervals that were reached, in order: `at x`, by a tick of vCPU `by x` that may move there
--- from interval `at (back x - 1)`, or that its job lacks where `back x` is 0. `scan v i` is how often
+-- The intervals that were reached, in order: `at x`, by a tick of vCPU `by x` that may move there from
+-- interval `at (back x - 1)`, or that its job still needs where `back x` is 0. `scan v i` is how often
 -- the edge from the vCPU's job to the interval was read, and `near` says which intervals were reached.
 pub record Reached : Type 0 where
   pub near : ℕ → Bool
@@ -82,7 +82,7 @@ pub record IsReadUpTo (l : Load) (f : ℕ → ℕ → ℕ) (room : ℕ → ℕ) 
   pub full : (x : ℕ) → x < head → room (q.at x) ≡ 0
   pub back : (x v : ℕ) → x < head → v < l.width → 0 < f v (q.at x) → 0 < q.scan v (q.at x)
 
--- an edge of the root's job was read, and that job lacks ticks
+-- an edge of the root's job was read, and that job still needs ticks
 pub record IsRooted (l : Load) (lack : ℕ → ℕ → ℕ) (rv rk : ℕ) (q : Reached) : Type 0 where
   pub vcpu : rv < l.width
   pub interval : ℕ
@@ -91,7 +91,7 @@ pub record IsRooted (l : Load) (lack : ℕ → ℕ → ℕ) (rv rk : ℕ) (q : R
   pub read : 0 < q.scan rv interval
   pub lacks : 0 < lack rv rk
 
--- the ticks on which the links up to number `x` stand are as they were
+-- the ticks on which the links up to number `x` are are as they were
 pub record IsKeptTo (f g : ℕ → ℕ → ℕ) (q : Reached) (x : ℕ) : Type 0 where
   pub here : (z : ℕ) → z ≤ x → g (q.by z) (q.at z) ≡ f (q.by z) (q.at z)
   pub before : (z : ℕ) → z ≤ x → 0 < q.back z

@@ -40,7 +40,7 @@ known_of so_far = record {
 abbrev pub KeepsPlans : List Plan → List Plan → Type 0
 KeepsPlans plans more = (more ≡ plans) ⊎ ((plan : Plan) × (more ≡ plans ++ plan ∷ []))
 
--- a refusal of a changed host's plan, as the change's outcome; want of memory is none
+-- a refusal of a changed host's plan, as the change's outcome; out of memory is none
 abbrev pub outcome_of_fault : PlanFault → Option Outcome
 outcome_of_fault (NoPeriod vcpu) = Some (outcome.NoPeriod vcpu)
 outcome_of_fault (NoRoom vcpu rest over) = Some (outcome.NoRoom vcpu)
@@ -72,7 +72,7 @@ abbrev pub IsNextMade : BookState → Act → List (Option (Result Plan Outcome)
 IsNextMade known act made = (edits : List Edit) (changed : Host) (m : Result Plan Outcome) → act ≡ Change edits
     → IsEdited known.host edits changed → slice_get made (length known.outcomes) ≡ Some (Some m) → IsMadeOf changed m
 
--- what stands at a place stood there before
+-- what is at a place was there before
 abbrev pub AreLeft : List (Option (Result Plan Outcome)) → List (Option (Result Plan Outcome)) → Type 0
 AreLeft made left = (k : ℕ) (m : Result Plan Outcome) → slice_get left k ≡ Some (Some m) → slice_get made k ≡ Some (Some m)
 

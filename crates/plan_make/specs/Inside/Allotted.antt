@@ -36,7 +36,7 @@ pub record AreAllottedTo (tasks : List (Option Periodic)) (homes : List (Option 
       → slice_get (pieces_on cores other) j ≡ Some q
       → p.vcpu ≡ q.vcpu → (core ≡ other) ⊎ WindowsApart p q
 
--- the vCPUs stand on these cores with these homes, but for those that are still left over
+-- the vCPUs are on these cores with these homes, but for those that are still left over
 pub record AreLaidOut (tasks : List (Option Periodic)) (cores : List (List Piece))
     (homes : List (Option ℕ)) (left : List ℕ) : Type 0 where
   pub places : PlacesEach tasks (length cores) (record { core_of = homes; left = left })

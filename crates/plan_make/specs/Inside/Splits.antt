@@ -22,7 +22,7 @@ pub record AreShares (cores : List (List Piece)) (vcpu : ℕ) (task : Periodic)
   pub windows : HaveAdjacentWindows 0 task.period pieces
   pub cost : sum_by (λ p. p.cost) pieces ≡ task.cost
 
--- the vCPU is split: its pieces stand behind those of the cores, and the last of them is on its home
+-- the vCPU is split: its pieces are after those of the cores, and the last of them is on its home
 pub record IsAdded (cores : List (List Piece)) (vcpu : ℕ) (task : Periodic)
     (end : List (List Piece)) (home : ℕ) : Type 0 where
   pub pieces : List Piece
@@ -44,14 +44,14 @@ abbrev pub IsRefusedNext : List (Option Periodic) → List (List Piece) → ℕ 
 IsRefusedNext tasks cores vcpu fault = (task : Periodic) × (slice_get tasks vcpu ≡ Some (Some task))
     × IsSplitFault cores vcpu task fault
 
--- splitting in turn ends at that vCPU; want of memory says nothing of the cores
+-- splitting in turn ends at that vCPU; out of memory says nothing of the cores
 abbrev pub IsStuckFault : List (Option Periodic) → List (List Piece) → List (Option ℕ) → List ℕ
     → SplitFault → Type 0
 IsStuckFault tasks start core_of left (NoRoom vcpu rest over) =
     IsFirstStuck tasks start core_of left vcpu rest over
 IsStuckFault tasks start core_of left NoMemory = Unit {0}
 
--- the host has a vCPU without room; want of memory says nothing of the host
+-- the host has a vCPU without room; out of memory says nothing of the host
 abbrev pub IsLayoutFault : List (Option ℕ) → Host → SplitFault → Type 0
 IsLayoutFault old_homes host (NoRoom vcpu rest over) = IsFirstStayingWithoutRoom old_homes host vcpu rest over
 IsLayoutFault old_homes host NoMemory = Unit {0}

@@ -18,7 +18,7 @@ passing test from (suc n) = passing test from n + (if test (from + n) then 1 els
 abbrev pub AllWait : (ℕ → Bool) → ℕ → ℕ → Type 0
 AllWait waits from n = (t : ℕ) → t < n → waits (from + t) ≡ true
 
--- what is told of the ticks from `from` on is so
+-- what is counted of the ticks from `from` on is so
 pub record Tells (waits offered : ℕ → Bool) (from : ℕ) (s : Stretch) : Type 0 where
   pub small : IsSmall s
   pub count : s.offered ≡ passing offered from s.ticks

@@ -1,4 +1,4 @@
--- The rule, of words that stand apart in a table.
+-- The rule, of words that are apart in a table.
 -- Source: the rules of this project.
 use Rattle.std.specs.Prelude.{◌≡◌, ℕ, List, length, map, slice_index}
 use Rattle.round_words.specs.declared.spacing.TheConstants.{PLACES, SPACE}

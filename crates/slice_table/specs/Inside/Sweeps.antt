@@ -17,7 +17,7 @@ pub record IsPast (row : Row) (place number : ℕ) : Type 0 where
   pub passed : (j : ℕ) (s : SegmentView) → j < number → slice_get (segments_from 0 row) j ≡ Some s
       → s.end ≤ place
 
--- in each row the sweep stands at a number whose segments before it are past
+-- in each row the sweep is at a number whose segments before it are past
 abbrev pub ArePast : List Row → ℕ → List ℕ → Type 0
 ArePast rows place numbers = (d : ℕ) (row : Row) → slice_get rows d ≡ Some row
     → IsPast row place (slice_index numbers d)

@@ -23,7 +23,7 @@ abbrev pub AreHeld : List Row → ℕ → List (Option ℕ) → List ℕ → Typ
 AreHeld rows place owners ends = (d : ℕ) (row : Row) → slice_get rows d ≡ Some row
     → IsHeld row place (slice_index_or owners d None) (slice_index ends d)
 
--- the same of each row whose end is behind the place
+-- each row's owner has it up to the row's end, where that is after the place
 abbrev pub AreDue : List Row → ℕ → List (Option ℕ) → List ℕ → Type 0
 AreDue rows place owners ends = (d : ℕ) (row : Row) → slice_get rows d ≡ Some row → place < slice_index ends d
     → IsHeld row place (slice_index_or owners d None) (slice_index ends d)
@@ -60,12 +60,12 @@ abbrev pub Moves : ℕ → ℕ → ℕ → ℕ → ℕ → Type 0
 Moves place begin count begin' count' = ((begin' ≡ begin) × (count' ≡ count))
     ⊎ ((begin < place) × (begin' ≡ place) × (count' ≡ count + 1))
 
--- the same of a core's row
+-- the last begin and the count of a core's spans stay, or a span more begins at the place
 abbrev pub MovesAt : ℕ → Begun → Begun → ℕ → Type 0
 MovesAt place old new c = Moves place (slice_index old.begins c) (slice_index old.counts c)
     (slice_index new.begins c) (slice_index new.counts c)
 
--- no span begins behind the place, and each begins a tick at least behind the one before
+-- no span begins after the place, and each begins a tick at least after the one before
 abbrev pub AreWithin : ℕ → Begun → Type 0
 AreWithin place begun = (c : ℕ) → (slice_index begun.begins c ≤ place)
     × (slice_index begun.counts c ≤ slice_index begun.begins c + 1)

@@ -5,7 +5,7 @@ use Rattle.line_bytes.specs.Tails.{AreTails}
 use Rattle.line_bytes.specs.declared.block.TheConstants.{BLOCK}
 use Rattle.line_bytes.specs.declared.tail.Tail.{Tail}
 
--- the tails are those of these names, with a space behind each, and no more is gathered than there is room for
+-- the tails are those of these names, with a space after each, and no more is gathered than there is room for
 pub record HoldsLines (names : List (List ℕ)) (tails : List Tail) (count : ℕ) : Type 0 where
   pub are : AreTails names 32 MAX_VCPUS tails
   pub few : count ≤ BLOCK

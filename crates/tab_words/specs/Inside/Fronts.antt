@@ -1,7 +1,7 @@
 -- Sections that begin earlier.
 use Rattle.std.specs.Prelude.{ℕ, List, [], ◌∷◌, ◌++◌}
 
--- the sections behind these bytes, which belong to the first of them
+-- the sections after these bytes, which belong to the first of them
 abbrev pub behind : List ℕ → List (List ℕ) → List (List ℕ)
 behind front [] = front ∷ []
 behind front (section ∷ sections) = (front ++ section) ∷ sections

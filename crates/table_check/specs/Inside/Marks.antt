@@ -1,5 +1,5 @@
 -- Marks of ticks: for each vCPU words with a bit for each tick of a round, which is 1 where the vCPU
--- stands at the tick in one of some rows.
+-- is at the tick in one of some rows.
 use Rattle.std.specs.Prelude.{◌≡◌, ◌==◌, ℕ, ◌+◌, ◌*◌, ◌/◌, ◌%◌, ◌<◌, Bool, false, true, List, Some, slice_get, slice_index}
 use Rattle.std.specs.Int.{bit_at}
 use Rattle.table_form.specs.Tables.Rows.{Row}

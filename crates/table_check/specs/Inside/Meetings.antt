@@ -3,12 +3,12 @@ use Rattle.std.specs.Prelude.{◌≡◌, ℕ, ◌≤◌, Option, Some, None, sli
 use Rattle.table_form.specs.Tables.Rows.{Row}
 use Rattle.table_check.specs.declared.meeting.Meeting.{Meeting}
 
--- the vCPU stands at the tick in both rows
+-- the vCPU is at the tick in both rows
 pub record MeetsAt (row other : Row) (v tick : ℕ) : Type 0 where
   pub here : slice_get row tick ≡ Some (Some v)
   pub there : slice_get other tick ≡ Some (Some v)
 
--- no vCPU stands in both rows before the tick
+-- no vCPU is in both rows before the tick
 abbrev pub MeetNoneBefore : Row → Row → ℕ → Type 0
 MeetNoneBefore row other tick = (v x : ℕ) → MeetsAt row other v x → tick ≤ x
 

@@ -17,7 +17,8 @@ pub record IsLook (plan : PlanView) (c place : ℕ) (spot : Spot) : Type 0 where
   pub few : length plan.homes ≤ MAX_VCPUS
   pub steady : (d x : ℕ) → place ≤ x → x < spot.end → owner_at plan.rows d place ≡ owner_at plan.rows d x
 
--- the same, where the places up to the spot's end are known to be alike
+-- the owner and the vCPUs away at the place, where the places up to the spot's end are known to be
+-- alike
 pub record IsPart (plan : PlanView) (c place : ℕ) (spot : Spot) : Type 0 where
   pub owner : spot.owner ≡ owner_at plan.rows c place
   pub size : length spot.away ≡ MAX_VCPUS

@@ -30,6 +30,7 @@ abbrev pub KeepInWindows : List Piece → List Row → Type 0
 KeepInWindows pieces rows = (vcpu tick core : ℕ) → owner_at rows core tick ≡ Some vcpu
     → list_any (has_in_window vcpu tick) (pieces_at pieces core) ≡ true
 
+-- the period of a task that may be missing
 abbrev pub period_in : Option (Option Periodic) → Option ℕ
 period_in None = None
 period_in (Some None) = None
@@ -49,7 +50,7 @@ abbrev pub HaveCosts : List (Option Periodic) → List Piece → Type 0
 HaveCosts tasks pieces = (vcpu : ℕ) (task : Periodic) → slice_get tasks vcpu ≡ Some (Some task)
     → cost_on vcpu pieces ≡ task.cost
 
--- no two pieces of one vCPU stand on one core
+-- no two pieces of one vCPU are on one core
 abbrev pub HaveOwnCores : List Piece → Type 0
 HaveOwnCores pieces = (i j : ℕ) (p q : Piece) → slice_get pieces i ≡ Some p → slice_get pieces j ≡ Some q
     → p.vcpu ≡ q.vcpu → p.core ≡ q.core → i ≡ j
@@ -59,10 +60,11 @@ abbrev pub HaveOwnWindows : List Piece → Type 0
 HaveOwnWindows pieces = (i j : ℕ) (p q : Piece) → slice_get pieces i ≡ Some p → slice_get pieces j ≡ Some q
     → p.vcpu ≡ q.vcpu → p.from < q.to → q.from < p.to → i ≡ j
 
--- each piece stands on a core that has a row
+-- each piece is on a core that has a row
 abbrev pub StandOnRows : List Piece → List Row → Type 0
 StandOnRows pieces rows = (i : ℕ) (p : Piece) → slice_get pieces i ≡ Some p → p.core < length rows
 
+-- the piece is of this vCPU and of this core
 abbrev pub is_piece_on : ℕ → ℕ → Piece → Bool
 is_piece_on vcpu core p = (p.vcpu == vcpu) && (p.core == core)
 

@@ -9,6 +9,7 @@ use Rattle.table_form.specs.Planning.Jobs.{Job}
 abbrev pub is_same_job : Job → Job → Bool
 is_same_job i j = (i.vcpu == j.vcpu) && (i.deadline == j.deadline)
 
+-- the cell runs this job
 abbrev pub is_run_of : Job → Option Job → Bool
 is_run_of j None = false
 is_run_of j (Some i) = is_same_job i j
@@ -17,7 +18,8 @@ is_run_of j (Some i) = is_same_job i j
 unfoldable pub cells_of : Job → List (Option Job) → ℕ
 cells_of j cells = count_by (λ cell. is_run_of j cell) cells
 
--- at this tick, after these cells, the job's window has begun and it lacks ticks
+-- at this tick, after these cells, the job's window has begun and it has had fewer ticks than its
+-- cost
 abbrev pub is_pending : List (Option Job) → ℕ → Job → Bool
 is_pending cells tick j = nat_le j.release tick && nat_lt (cells_of j cells) j.cost
 
@@ -25,6 +27,7 @@ is_pending cells tick j = nat_le j.release tick && nat_lt (cells_of j cells) j.c
 abbrev pub comes_before : Job → Job → Bool
 comes_before i j = nat_lt i.deadline j.deadline || ((i.deadline == j.deadline) && nat_lt i.vcpu j.vcpu)
 
+-- of two jobs the one that comes first, where the second may be missing
 abbrev pub sooner : Job → Option Job → Job
 sooner j None = j
 sooner j (Some i) = if comes_before i j then i else j
@@ -41,6 +44,7 @@ unfoldable pub edf_cells : List Job → ℕ → List (Option Job)
 edf_cells jobs zero = []
 edf_cells jobs (suc n) = edf_cells jobs n ++ first_pending (edf_cells jobs n) n jobs ∷ []
 
+-- the vCPU of a job that a cell runs, or none where the cell is idle
 abbrev pub owner_of : Option Job → Option ℕ
 owner_of None = None
 owner_of (Some j) = Some j.vcpu

@@ -4,6 +4,7 @@ use Rattle.table_form.specs.declared.plan.Plan.{Plan}
 use Rattle.table_form.specs.Running.Courses.{CourseView}
 use Rattle.table_form.specs.Tables.Views.{plan_view}
 
+-- a course as contracts see it, by its parts
 abbrev pub course_view : ℕ → ℕ → ℕ → List ℕ → List Plan → List ℕ → List (List Bool) → CourseView
 course_view cores lag quantum ticks plans numbers runnable = record {
   cores = cores;

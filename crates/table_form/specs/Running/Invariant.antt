@@ -28,7 +28,7 @@ pub record StintInvariant (course : CourseView) (posted c : ℕ) (earlier : List
   pub fresh : IsFresh course s.seen s.from
   pub dispatch : IsDispatch course c earlier s
 
--- so is each stint of a core, and their seen counts never fall
+-- each stint of a core is as above, and their seen counts never fall
 pub record StintsInvariant (course : CourseView) (posted c : ℕ) (stints : List Stint) : Type 0 where
   pub each : (k : ℕ) (s : Stint) → slice_get stints k ≡ Some s
       → StintInvariant course posted c (take k stints) s

@@ -12,6 +12,7 @@ pub record OutlineView : Type 0 where
   pub ticks : List ℕ
   pub runnable : List (List Bool)
 
+-- an outline as contracts see it, by its parts
 abbrev pub outline_view : ℕ → ℕ → ℕ → List ℕ → List (List Bool) → OutlineView
 outline_view cores lag quantum ticks runnable = record {
   cores = cores;

@@ -21,9 +21,12 @@ round_of core = core.clock / ROUND
 abbrev pub has_entered : CoreState → Bool
 has_entered core = list_any (λ (e : Entry). e.round == core.clock / ROUND) core.entries
 
+-- the phase of a core that has seen, by whether it has entered its clock's round
 abbrev pub phase_once_seen : Bool → CorePhase
 phase_once_seen entered = if entered then to_run else to_decide
 
+-- the phase of a core that isn't at the end, by what it has seen and whether it has entered its
+-- clock's round
 abbrev pub phase_unfinished : Option ℕ → Bool → CorePhase
 phase_unfinished None entered = to_see
 phase_unfinished (Some n) entered = phase_once_seen entered

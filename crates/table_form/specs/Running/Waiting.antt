@@ -1,4 +1,4 @@
--- What steps wait for: events that are posted, and clocks that are not too far behind.
+-- What steps wait for: events that are posted, and clocks that are within the lag.
 -- Source: the rules of this project.
 use Rattle.std.specs.Prelude.{◌≡◌, ◌≢◌, ℕ, ◌+◌, ◌<◌, ◌≤◌, List, Option, Some, slice_get}
 use Rattle.table_form.specs.Running.State.{CoreState}

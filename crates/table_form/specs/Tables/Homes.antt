@@ -14,11 +14,13 @@ is_housed count None (Some core) = false
 is_housed count (Some task) None = false
 is_housed count (Some task) (Some core) = nat_lt core count
 
+-- each task has a home below the count of cores, and no other vCPU has one
 abbrev pub are_housed : ℕ → List (Option Periodic) → List (Option ℕ) → Bool
 are_housed count [] [] = true
 are_housed count [] (home ∷ homes) = false
 are_housed count (task ∷ tasks) [] = false
 are_housed count (task ∷ tasks) (home ∷ homes) = is_housed count task home && are_housed count tasks homes
 
+-- each task has a home among the rows, and no other vCPU has one
 abbrev pub HaveHomes : List (Option Periodic) → List (Option ℕ) → List Row → Type 0
 HaveHomes tasks homes rows = IsTrue (are_housed (length rows) tasks homes)

@@ -4,7 +4,7 @@ use Rattle.std.specs.Option.{option_eq}
 use Rattle.table_form.specs.Tables.Rows.{Row}
 use Rattle.table_form.specs.declared.segment.Segment.{Segment}
 
--- a segment as contracts see it: an owner, and the tick behind its last
+-- a segment as contracts see it: an owner, and the tick after its last
 pub record SegmentView : Type 0 where
   pub owner : Option ℕ
   pub end : ℕ
@@ -13,12 +13,12 @@ pub record SegmentView : Type 0 where
 abbrev pub segment_view : Segment → SegmentView
 segment_view s = record { owner = s.owner; end = s.end }
 
--- segments with one in front, which joins the first of them where that has its owner
+-- segments with one before them, which joins the first where that has its owner
 abbrev pub put_front : SegmentView → List SegmentView → List SegmentView
 put_front s [] = s ∷ []
 put_front s (t ∷ ts) = if option_eq nat_eq s.owner t.owner then t ∷ ts else s ∷ t ∷ ts
 
--- segments in front of others, where the last of them joins the first of those if they have one owner
+-- segments before others, where the last of them joins the first of those if they have one owner
 abbrev pub put_before : List SegmentView → List SegmentView → List SegmentView
 put_before [] rest = rest
 put_before (t ∷ []) rest = put_front t rest

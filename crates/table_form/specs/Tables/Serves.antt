@@ -9,6 +9,7 @@ use Rattle.tab_core.specs.declared.TheConstants.{ROUND}
 use Rattle.tab_core.specs.declared.periodic.Periodic.{Periodic}
 use Rattle.table_form.specs.Tables.Rows.{Row}
 
+-- the cell is the vCPU's
 abbrev pub is_cell_of : ℕ → Option ℕ → Bool
 is_cell_of v None = false
 is_cell_of v (Some w) = v == w
@@ -33,10 +34,12 @@ ServesExactly tasks capped rows = (v : ℕ) (task : Periodic) → slice_get task
     → IsTrue (has_vcpu capped v) → (k : ℕ) → k < ROUND / task.period →
     supply v rows (k * task.period) ((k + 1) * task.period) ≡ task.cost
 
+-- an entry that may be missing and may be none, as one that may be none
 abbrev pub flat : {T : Type 0} → Option (Option T) → Option T
 flat None = None
 flat (Some o) = o
 
+-- the cell of a row at a place, or none where there is no such row
 abbrev pub cell_of : Option Row → ℕ → Option ℕ
 cell_of None place = None
 cell_of (Some row) place = flat (slice_get row place)
@@ -45,7 +48,7 @@ cell_of (Some row) place = flat (slice_get row place)
 abbrev pub owner_at : List Row → ℕ → ℕ → Option ℕ
 owner_at rows c place = cell_of (slice_get rows c) place
 
--- no vCPU stands at one place in two rows
+-- no vCPU is at one place in two rows
 abbrev pub Apart : List Row → Type 0
 Apart rows = (v place c d : ℕ) → owner_at rows c place ≡ Some v → owner_at rows d place ≡ Some v → c ≡ d
 

@@ -1,4 +1,4 @@
--- What is told of vCPUs, from what is kept of them.
+-- What is reported of vCPUs, from what is kept of them.
 use Rattle.std.specs.Prelude.{◌≡◌, ℕ, ◌*◌, ◌&&◌, Bool, true, nat_le, ◌≤◌, List, Option, Some, None, slice_get}
 use Rattle.tab_core.specs.declared.TheConstants.{WHOLE_PPM}
 use Rattle.tab_core.specs.declared.reservation.Reservation.{Reservation}
@@ -55,13 +55,13 @@ least_share window None = None
 least_share window (Some least) =
     Some (record { share_ppm = share_of least.run_ns window; at_ns = least.at_ns })
 
--- whatever marks the vCPU has, this is told of them
+-- whatever marks the vCPU has, this is reported of them
 pub record IsReportBy (window : ℕ) (tracker : Tracker) (reservation : Option Reservation) (time : ℕ)
     (report : VcpuReport) : Type 0 where
   pub told : (marks : List Mark) → IsTracked marks tracker
       → IsVcpuReport reservation window (state_at marks) (told_at marks) time report
 
--- this is told of each vCPU
+-- this is reported of each vCPU
 abbrev pub AreReports : ℕ → List Tracker → List Vcpu → ℕ → List VcpuReport → Type 0
 AreReports window trackers vcpus time reports = (v : ℕ) (tracker : Tracker) (vcpu : Vcpu) (report : VcpuReport)
     → slice_get trackers v ≡ Some tracker → slice_get vcpus v ≡ Some vcpu → slice_get reports v ≡ Some report

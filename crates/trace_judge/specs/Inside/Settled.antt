@@ -19,7 +19,7 @@ pub record HasTimes (course : Course) (time : ℕ) (times : Times) : Type 0 wher
   pub wait : times.wait_ns ≡ time_before course state.Wait time
   pub block : times.block_ns ≡ time_before course state.Block time
 
--- the wait that goes on at a time, with the CPU that was told last when it began
+-- the wait that goes on at a time, with the CPU that was named last when it began
 pub record IsOn (course : Course) (told : ℕ → Option ℕ) (time : ℕ) (begun : Begun) : Type 0 where
   pub some : begun.at_ns < time
   pub lasts : begun.at_ns + waited course time ≡ time

@@ -19,6 +19,6 @@ pub record IsSound (vcpus : List VcpuTicks) (added : ℕ) (round run : List Stre
   pub round_size : length round ≡ MAX_VCPUS
   pub run_size : length run ≡ MAX_VCPUS
 
--- what is told of a vCPU whose run is this stretch
+-- what is reported of a vCPU whose run is this stretch
 abbrev pub counted : Stretch → VcpuTicks
 counted s = record { offered = s.offered; slots = 0; shared = 0; gap = s.most }

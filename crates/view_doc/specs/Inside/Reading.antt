@@ -23,13 +23,13 @@ pub record Reading : Type 0 where
   pub entries : List Entry
   pub stints : List Stretch
 
--- behind the stretches that were read there are those that are told
+-- after the stretches that were read there are those that are said
 pub record AreAppended (names : List (List ℕ)) (old new : List Stretch) (tolds : List Told) : Type 0 where
   pub more : List Stretch
   pub appended : new ≡ old ++ more
   pub told : map (stretch_told names) more ≡ tolds
 
--- what is told was put to the rest, at the same place
+-- what is said was put to the rest, at the same place
 pub record IsPut (told : Told) (old new : Reading) : Type 0 where
   pub place : new.front.place ≡ old.front.place
   pub names : names_behind old.front.names told ≡ Some new.front.names
@@ -40,11 +40,11 @@ pub record IsPut (told : Told) (old new : Reading) : Type 0 where
   pub entries : new.entries ≡ old.entries ++ entries_in told
   pub stints : AreAppended new.front.names old.stints new.stints (stints_in told)
 
--- what is told can't be put there
+-- what is said can't be put there
 abbrev pub CantBePut : Told → Reading → Type 0
 CantBePut told old = (names_behind old.front.names told ≡ None) ⊎ (ends_behind old.front.ends told ≡ None)
 
--- what is told was read
+-- what is said was read
 pub record IsTaken (told : Told) (old new : Reading) : Type 0 where
   pub front : front_behind old.front told ≡ Some new.front
   pub cores : new.cores ≡ cores_behind old.cores told
@@ -59,7 +59,7 @@ pub record IsLineTaken (words : Line) (old new : Reading) : Type 0 where
   pub says : Says words told
   pub taken : IsTaken told old new
 
--- the line says nothing, or what may not stand there
+-- the line says nothing, or what may not are there
 abbrev pub IsBadLine : Front → Line → Type 0
 IsBadLine front words = SaysNothing words ⊎ IsMisplaced front words
 
@@ -69,7 +69,7 @@ pub record IsPlainOwner (names : List (List ℕ)) (word : List ℕ) (by : Use) :
   pub good : IsGoodOwner (holder_named names by)
   pub known : (end : ℕ) → names_behind names (segment end (holder_named names by)) ≡ Some names
 
--- the names in what is told have the form of names
+-- the names in what is said have the form of names
 abbrev pub HasNames : Told → Type 0
 HasNames (task name period cost home) = IsName name
 HasNames (stint c from to used seen holder) = IsGoodHolder holder

@@ -8,7 +8,7 @@ use Rattle.tab_core.specs.Sums.{total}
 use Rattle.wrap_table.specs.Wrapping.{length_at, owner_from}
 use Rattle.wrap_table.specs.declared.laying.Laid.{Laid}
 
--- the position where a vCPU's ticks begin: behind those of all before it
+-- the position where a vCPU's ticks begin: after those of all before it
 abbrev pub offset : List ℕ → ℕ → ℕ
 offset ns v = total (λ j. slice_index ns j) v
 

@@ -2,7 +2,7 @@ use Rattle.std.proofs.Common.{◌≤◌}
 use Rattle.burst_bound.specs.Inside.Bounding.{KeepsBudget}
 use Rattle.burst_bound.proofs.ahead.keeps_budget.Given as goal
 
--- the rounds behind give the vCPU the budget
+-- the rounds after this one give the vCPU the budget
 abbrev pub invariant-loop-next : goal.invariant-loop-next
 invariant-loop-next l = record {
   within : l.next ≤ l.fn.end;

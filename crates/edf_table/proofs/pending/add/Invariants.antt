@@ -2,7 +2,7 @@ use Rattle.std.proofs.Common.{◌≡◌, ℕ, ◌+◌, ◌<◌, ◌≤◌, lengt
 use Rattle.edf_table.specs.Inside.Progress.{job_at}
 use Rattle.edf_table.proofs.pending.add.Given as goal
 
--- the jobs behind the place are less urgent, and have moved up
+-- the jobs after the place are less urgent, and have moved up
 abbrev pub invariant-loop-place : goal.invariant-loop-place
 invariant-loop-place l = record {
   within : l.place ≤ l.count;

@@ -1,4 +1,4 @@
--- each search has lowered what all jobs lack by one, or told that there is nothing left
+-- each search has lowered what all jobs still need by one, or found that there is nothing left
 use Rattle.std.proofs.Common.{◌≡◌, ◌+◌, ◌*◌, ◌≤◌, cond, false}
 use Rattle.flow_net.specs.Networks.{IsNetwork, lacks_of, load}
 use Rattle.flow_net.specs.Counts.{edges, job_count}

@@ -1,4 +1,4 @@
--- behind the edges to the jobs of the first vCPUs there are so many left
+-- after the edges to the jobs of the first vCPUs there are so many left
 use Rattle.std.proofs.Common.{◌≡◌, ◌+◌}
 use Rattle.tab_core.specs.Sums.{total}
 use Rattle.flow_net.specs.Inside.Demanded.{load}

@@ -1,4 +1,4 @@
--- the flow is still one, and lacks no more
+-- the flow is still one, and needs no more
 use Rattle.std.proofs.Common.{◌≡◌, ◌≤◌, length}
 use Rattle.flow_net.specs.Flows.{all_lacks}
 use Rattle.flow_net.specs.Inside.Demanded.{IsFlowOf, load}

@@ -111,13 +111,13 @@ give-requires-clause-interval c =
     let inv = c.loop-link.invariant in
     rw inv.is (c.requires.search.interval c.loop-link.x inv.within)
 
--- the last link moves a tick that the root's job lacks
+-- the last link moves a tick that the root's job still needs
 at_root : (l : Load) (f : ℕ → ℕ → ℕ) (rv rk : ℕ) (q : Reached) (x : ℕ) → IsSearch l f rv rk q → x < q.tail
     → q.back x ≡ 0 → rk ≡ job l rv (q.at x)
 at_root l f rv rk q x s h last =
     sym (s.root_job x h last) ∙ ap (λ v. job l v (q.at x)) (s.root_vcpu x h last)
 
--- and its interval has fewer ticks of the root's vCPU than it is long
+-- the interval of the last link has fewer ticks of the root's vCPU than it is long
 root_short : (l : Load) (f g : ℕ → ℕ → ℕ) (rv rk : ℕ) (q : Reached) (x : ℕ) → IsSearch l f rv rk q
     → IsKeptTo f g q x → x < q.tail → q.back x ≡ 0 → g rv (q.at x) < span l (q.at x)
 root_short l f g rv rk q x s kept h last =

@@ -1,7 +1,7 @@
 use Rattle.std.proofs.Common.{◌≡◌, ◌+◌, ◌∷◌, length, take}
 use Rattle.line_bytes.proofs.tails.tail_of.Given as goal
 
--- behind the space stand the bytes so far
+-- after the space are the bytes so far
 abbrev pub invariant-loop-at : goal.invariant-loop-at
 invariant-loop-at l = record {
   sized : length l.bytes ≡ 40;

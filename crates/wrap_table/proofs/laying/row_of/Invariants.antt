@@ -1,4 +1,4 @@
--- the cells of the first intervals stand, and in those the ticks are laid one core further
+-- the cells of the first intervals are made, and in those the ticks are laid one core further
 use Rattle.std.proofs.Common.{◌≡◌, ℕ, ◌+◌, ◌*◌, ◌<◌, ◌≤◌, length, get_or}
 use Rattle.flow_net.specs.Allotted.{allotment_view}
 use Rattle.flow_net.specs.Rows.{row_at}

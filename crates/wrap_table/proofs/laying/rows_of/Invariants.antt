@@ -1,4 +1,4 @@
--- the rows of the first cores stand, and all ticks are laid up to the next core
+-- the rows of the first cores are made, and all ticks are laid up to the next core
 use Rattle.std.proofs.Common.{◌≡◌, ℕ, Some, length, slice_get}
 use Rattle.flow_net.specs.Allotted.{allotment_view}
 use Rattle.table_form.specs.Tables.Rows.{Row}

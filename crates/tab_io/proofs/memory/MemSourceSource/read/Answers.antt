@@ -3,7 +3,7 @@ use Rattle.std.proofs.lemmas.List.{take-append-drop, drop-drop}
 use Rattle.std.proofs.lemmas.Grind.{common_steps}
 use Rattle.tab_io.proofs.memory.MemSourceSource.read.Goals as goal
 
--- what was copied from the front of a rest, and then the rest after it
+-- what was copied from the start of a rest, and then the rest after it
 taken_front : (all into : List ℕ) (at n : ℕ) (left : List ℕ) → left ≡ drop at all → take n into ≡ take n left
     → drop at all ≡ take n into ++ drop (at + n) all
 taken_front all into at n left is same =

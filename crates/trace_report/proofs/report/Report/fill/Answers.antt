@@ -16,7 +16,7 @@ use Rattle.trace_report.specs.declared.ticks.CoreTicks.{CoreTicks}
 use Rattle.trace_report.specs.declared.ticks.VcpuTicks.{VcpuTicks}
 use Rattle.trace_report.proofs.report.Report.fill.Goals as goal
 
--- the vCPUs are told what the stretches of the run say
+-- what is reported of the vCPUs is what the stretches of the run say
 abbrev AreCounted : List VcpuTicks → List Stretch → Type 0
 AreCounted vcpus run = (v : ℕ) → v < length vcpus → vcpu_at vcpus v ≡ counted (stretch_at run v)
 
