@@ -73,7 +73,7 @@ next_same course c p q s same next = record {
   follows = subst (λ (ss : List Stint). IsDispatch course c ss s) (sym same.stints) next.follows;
 }
 
--- a core that is behind the controller
+-- a core that waits for the controller
 module _ (course : CourseView) (c tick : ℕ) (v w : View) (ok : IsCourse course) (lt : c < course.cores) (changes : ChangesOnly v w c)
     (lacks : LacksEvent (outline_of course) c v w tick) where
   lacks_waits : CoreWaits course c v w
@@ -88,7 +88,7 @@ module _ (course : CourseView) (c tick : ℕ) (v w : View) (ok : IsCourse course
         ∙ ap (λ (p : Part). length p.floors) (sym (changes.parts controller (λ e. omega (arith, e, lt, ok.form.outline.few_cores))));
   })
 
--- and one that is behind another core
+-- a core that waits for another core
 module _ (course : CourseView) (c d tick count : ℕ) (entered : Part) (v w : View) (changes : ChangesOnly v w c) (enters : ComesToEnter (sees (part v c) count) entered)
     (finds : FindsLow course c entered (part w c) d tick) where
   found_same : SamePart entered (part w c)
@@ -154,7 +154,7 @@ core_stepped course a b v w Finished ok same was now changes told =
       stays ∙ (was.stands.clock ∙ (told.0 ∙ ap (λ (r : ℕ). r * ROUND) (sym same.rounds))),
     )
 
--- so the core's part is some steps on
+-- a core's part is some steps on after its step
 core_on : (course : CourseView) (rounds c : ℕ) (v w : View) (answer : CoreAnswer) → IsCourse course → ChangesOnly v w c → CoreTold course rounds c v answer w → IsOn (part v c) (part w c)
 core_on course rounds c v w (Ran s) ok changes told =
     let enters = told.2.enters in
@@ -213,7 +213,7 @@ lead_stepped course k l v w control.Finished was now changes told =
     let stays : l.posted ≡ k.posted = now.posted ∙ (ap (λ (u : View). length (part u controller).floors) told.1 ∙ sym was.posted) in
     (stays, subst (IsQuiet v) (sym told.1) (quiet_none v), stays ∙ told.0)
 
--- and its part is some steps on
+-- the controller's part is some steps on after its step
 lead_on : (course : CourseView) (n : ℕ) (v w : View) (answer : ControlAnswer) → ControlTold (outline_of course) n v answer w → IsOn (part v controller) (part w controller)
 lead_on course n v w (control.Posted count) told = let posts = told.2 in
     on_more (part v controller) posts.heard (part w controller) (on_cores controller _ _ _ (part v controller) posts.heard posts.near)

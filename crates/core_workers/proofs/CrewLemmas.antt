@@ -9,7 +9,7 @@ use Rattle.core_workers.specs.ActorLaws.{same_actor, same_more}
 use Rattle.core_workers.specs.Crews.{HoldsAll, IsCrew, IsSameAt, IsSameCrew, IsWhole}
 use Rattle.core_workers.specs.Views.{CrewView, actor_of}
 
--- the same actor, one after another
+-- actors that are the same, one after another
 pub at_same : (o : Option StateView) → IsSameAt o o
 at_same None = tt
 at_same (Some a) = same_actor a

@@ -21,7 +21,7 @@ module _ (crew : CrewView) (v w : View) (is : IsCrew crew) (whole : IsWhole crew
       let end = (stint_bounds crew.course least.core (part w least.core).stints other.stint is.course_kept other.next.follows).2 in
       omega (arith, d.low, d.exact (all.cores d.core d.within), end, other.next.begins.from, least.least d.core (holds_core d.core d.within))
 
-  -- nor for an event, for which the controller would wait for a core of lower clock
+  -- no core waits for an event, for which the controller would wait for a core of lower clock
   sees_all : (least : LeastWaits crew.course v w) → AwaitsEvent crew.course least.core v w → ⊥
   sees_all least awaits =
       let count : awaits.count ≡ crew.control.posted = awaits.exact all.control ∙ sym (agree.control all.control).posted in
@@ -37,7 +37,7 @@ module _ (crew : CrewView) (v w : View) (is : IsCrew crew) (whole : IsWhole crew
     | inr least ↦ absurd (elim least.waits [ inl event ↦ sees_all least event | inr other ↦ near_all least other ])
   ]
 
-  -- and once the cores are at the run's end the controller doesn't wait either
+  -- once the cores are at the run's end the controller doesn't wait either
   all_posted : HasPosted crew
   all_posted = elim (rest.control all.control) [
     | inl posted ↦ posted

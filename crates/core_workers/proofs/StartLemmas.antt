@@ -48,6 +48,6 @@ holds_started crew v is le = subst (HoldsAll crew) (sym is) (record {
 abbrev pub nobody : CourseView → CrewView
 nobody course = record { course = course; rounds = 0; control = record { posted = 0; known = [] }; actors = [] }
 
--- the same, of a board started with what the course tells
+-- a crew of nobody, of a board started with what the course tells
 pub fresh_as : (course : CourseView) (v : View) (lag cores events : ℕ) → lag ≡ course.lag → cores ≡ course.cores → events ≡ length course.ticks → v ≡ just_started lag cores events → IsFresh course v
 fresh_as course v lag cores events a b c is = fresh course v (is ∙ (ap (λ (l : ℕ). just_started l cores events) a ∙ (ap (λ (n : ℕ). just_started course.lag n events) b ∙ ap (just_started course.lag course.cores) c)))

@@ -20,7 +20,7 @@ use Rattle.plan_switch.specs.declared.state.ControlState.{ControlState}
 use Rattle.core_workers.specs.Actors.{CoreAgrees, core_kind, lead_kind}
 use Rattle.core_workers.specs.Waiting.{AwaitsCore, AwaitsEvent, CoreWaits, LeadWaits}
 
--- the same actor
+-- laws of actors that are the same
 
 pub same_actor : (a : StateView) → IsSameCore a a
 same_actor a = record { core = refl; rounds = refl; keep = refl }

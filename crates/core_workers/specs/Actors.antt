@@ -18,7 +18,7 @@ pub record CoreAgrees (a : ActorView) (v : View) : Type 0 where
   pub fits : FitsRounds a.course a.state.rounds
   pub agrees : AgreesWith a.course a.state v
 
--- the same core by the same course, some steps on
+-- the core is the same by the same course, some steps on
 pub record IsSameActor (a b : ActorView) : Type 0 where
   pub course : b.course ≡ a.course
   pub core : IsSameCore a.state b.state

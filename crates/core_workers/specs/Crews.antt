@@ -36,14 +36,14 @@ pub record AllAgree (crew : CrewView) (v : View) : Type 0 where
   pub cores : CoresAgree crew v
   pub control : holds v controller ≡ true → controllers.AgreesWith crew.course crew.control v
 
--- the same actor, some steps on, or none
+-- the actor is the same, some steps on, or none
 abbrev pub IsSameAt : Option StateView → Option StateView → Type 0
 IsSameAt None None = Unit {0}
 IsSameAt None (Some b) = ⊥
 IsSameAt (Some a) None = ⊥
 IsSameAt (Some a) (Some b) = IsSameCore a b
 
--- the same actors, some steps on
+-- the actors are the same, some steps on
 pub record IsSameCrew (crew crew' : CrewView) : Type 0 where
   pub course : crew'.course ≡ crew.course
   pub rounds : crew'.rounds ≡ crew.rounds

@@ -12,8 +12,8 @@ use Rattle.dispatch_core.specs.Told.{ComesNext}
 use Rattle.core_workers.specs.Views.{CrewView}
 use Rattle.core_workers.specs.Crews.{CoresFinished, HasPosted}
 
--- the last that core c did since v was to see a count, which lacks an event of tick at most the core's clock
--- less the lag
+-- the last that core c did since v was to see a count, which leaves out an event of tick at most the core's
+-- clock less the lag
 pub record AwaitsEvent (course : CourseView) (c : ℕ) (v w : View) : Type 0 where
   pub before : Part
   pub since : IsOn (part v c) before

@@ -45,7 +45,7 @@ impl<'a> Model for Crew<'a> {
 impl<'a> Crew<'a> {
     /// The actors of a run of so many rounds that has not begun. `keep` says for each core how many stints are kept.
     ///
-    /// A run of so many rounds has all events of the course. Fails only for want of memory.
+    /// A run of so many rounds has all events of the course. Fails only when memory runs out.
     pub fn make<R: Threads>(
         rt: &R,
         alloc: Global,

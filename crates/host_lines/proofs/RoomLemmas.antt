@@ -23,7 +23,7 @@ over_time period budget count some =
     let right : q * (count * period) ≡ q * period * count = grind arith in
     rw (left, right) times
 
--- so is what a task is given
+-- what a task is given in each period is no more than its parts, over any number of periods
 task_room : (s : Scheduler) (tick core time : ℕ) (t : Task) → is_taken s tick t ≡ true → 1 ≤ period_in s tick t
     → (t.home ≡ core → time / period_in s tick t * period_in s tick t ≡ time)
     → PARTS * given_on s tick core time t ≤ part_on s tick core t * time
@@ -42,7 +42,7 @@ abbrev pub AreTaken : Scheduler → ℕ → List Task → Type 0
 AreTaken s tick tasks = (v : ℕ) (t : Task) → slice_get tasks v ≡ Some t
     → (is_taken s tick t ≡ true) × (1 ≤ period_in s tick t)
 
--- and what all tasks are given
+-- what all tasks are given is no more than the core's time
 room_of : (s : Scheduler) (tick core time : ℕ) (tasks : List Task) → AreTaken s tick tasks
     → IsCommon s tick core tasks time
     → PARTS * sum_by (given_on s tick core time) tasks ≤ load_on s tick core tasks * time

@@ -1,4 +1,4 @@
--- The guest and the number of a vCPU by its name, which has them before and behind its last dot: `web.0` is number 0
+-- The guest and the number of a vCPU by its name, which has them before and after its last dot: `web.0` is number 0
 -- of the guest `web`.
 -- Source: the names of this project's hosts of sizes.
 use Rattle.std.specs.Prelude.{ℕ, zero, suc, ◌+◌, ◌==◌, ◌&&◌, ◌||◌, nat_le, not, Bool, if◌then◌else◌, List, length, drop, slice_index, take}

@@ -36,7 +36,8 @@ abbrev pub KeepsShare : ℕ → ℕ → Reservation → Type 0
 KeepsShare period budget r = (given : ℕ → Bool) → GivesBudget given period budget
     → (k : ℕ) → r.share_ppm * period ≤ WHOLE_PPM * given_in given (k * period) period
 
--- and lets the vCPU wait no longer than its latency, with a unit of so many nanoseconds
+-- whoever gives the budget in each period lets the vCPU wait no longer than its latency, with a
+-- unit of so many nanoseconds
 abbrev pub KeepsWait : ℕ → ℕ → ℕ → Reservation → Type 0
 KeepsWait unit period budget r = (given : ℕ → Bool) → GivesBudget given period budget
     → (first last : ℕ) → IsWait given first last → unit * (suc last - first) ≤ r.latency_ns

@@ -23,14 +23,14 @@ fn is_dot(name: &[u8], k: usize) -> bool
     name[k] == b'.'
 }
 
-// The guest of a vCPU's name, which stands before its last dot.
+// The guest of a vCPU's name, which is before its last dot.
 pub(crate) fn guest_of(name: &[u8]) -> &[u8]
     ensures { result.now ≡ guest_of name.now }
 {
     &name[..dot_of(name)]
 }
 
-// The number there, which stands behind that dot.
+// The number there, which is after that dot.
 pub(crate) fn number_of(name: &[u8]) -> &[u8]
     ensures { result.now ≡ number_of name.now }
 {

@@ -11,7 +11,7 @@ pub enum Scheduler {
     Rtds,
     /// Linux's deadline tasks, in nanoseconds, of which the kernel admits 95 percent of a core.
     Deadline,
-    /// The same where the kernel was told to admit a whole core.
+    /// Linux's deadline tasks, in nanoseconds, where the kernel admits a whole core.
     FullDeadline,
     /// Linux's fair scheduler with quotas of cgroups v2, in microseconds. It bounds no wait.
     Quota,

@@ -15,7 +15,7 @@ use view_doc::{Stretch, Task, Use, View};
 /// Why the vCPUs of a plan aren't put on a scheduler.
 #[derive(Clone, Copy, Debug, PartialEq, Eq)]
 pub enum Unkept {
-    /// The vCPU's name isn't a guest's with a number behind a dot.
+    /// The vCPU's name isn't a guest's with a number after a dot.
     NoGuest(VcpuNo),
     /// Its period and its cost are those of no plan.
     NoTask(VcpuNo),

@@ -29,7 +29,7 @@ left_edge j n span columns some low =
     (div-lt_iff_lt-mul {k = columns} {x = (j + 1) * span + (columns - 1)} {y = n + 1} some).1 over in
     (grind (arith, low, least, none), omega (arith, under))
 
--- and those behind it begin there or later
+-- the columns after a tick's end begin there or later
 pub right_edge : (j n span columns : ℕ) → 0 < columns → 0 < span → n * columns / span + 1 ≤ j
     → n ≤ (j * span + (columns - 1)) / columns
 right_edge j n span columns some wide high =
@@ -82,7 +82,7 @@ sum_more f columns j v (bar ∷ bars) =
     let all = sum_by-cons (λ (b : Bar). if nat_lt b.key (v + 1) then ticks_in f columns j b else 0) bar bars in
     omega (arith, rest, one, low, same, all)
 
--- so with its ticks there are those of the vCPUs below the next
+-- with the next vCPU's ticks there are those of the vCPUs below the one after it
 pub ticks_more : (f : Frame) (v : ℕ) (bars : List Bar) (old new : List ℕ) → AreBelow f bars v old
     → ((j : ℕ) → j < 200 → slice_index new j
     ≡ min (width_at f 200 j) (slice_index old j + sum_of (λ w. w == v) f 200 bars j))
@@ -102,7 +102,7 @@ no_ticks f columns j v (bar ∷ bars) none =
     let rest : list_any (λ (b : Bar). b.key == v) bars ≡ false = grind (arith, common_steps, none) in
     grind (arith, common_steps, one, no_ticks f columns j v bars rest)
 
--- so without one the ticks are those of the vCPUs below the next
+-- without a bar of the next vCPU the ticks are those of the vCPUs below the one after it
 pub ticks_same : (f : Frame) (v : ℕ) (bars : List Bar) (ticks : List ℕ)
     → list_any (λ (bar : Bar). bar.key == v) bars ≡ false → AreBelow f bars v ticks → AreBelow f bars (v + 1) ticks
 ticks_same f v bars ticks none below j low =
@@ -111,7 +111,7 @@ ticks_same f v bars ticks none below j low =
     let nothing = no_ticks f 200 j v bars none in
     omega (arith, more, was, nothing)
 
--- and they are capped
+-- the ticks of the vCPUs below a number are capped
 pub below_capped : (f : Frame) (v : ℕ) (bars : List Bar) (ticks : List ℕ) → AreBelow f bars v ticks
     → AreCapped f 200 ticks
 below_capped f v bars ticks below j low =
@@ -132,7 +132,7 @@ none_before f columns j bar some low =
     let e = left_edge j (bar.from - f.from) (f.to - f.from) columns some low in
     omega (arith, e.0, e.1)
 
--- and those behind have none
+-- the columns after those of a bar have none of it
 pub none_behind : (f : Frame) (columns j : ℕ) (bar : Bar) → 0 < columns → 0 < f.to - f.from
     → (bar.end - f.from) * columns / (f.to - f.from) + 1 ≤ j → ticks_in f columns j bar ≡ 0
 none_behind f columns j bar some wide high =

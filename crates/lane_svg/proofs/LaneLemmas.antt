@@ -17,7 +17,7 @@ no_way v shared (bar ∷ bars) none =
     let rest : list_any (λ (b : Bar). b.key == v) bars ≡ false = grind (arith, common_steps, none) in
     grind (arith, common_steps, one, no_way v shared bars rest)
 
--- so there is no path
+-- without a bar there is no path
 pub no_paths : (f : Frame) (y high : ℕ) (names : List (List ℕ)) (tasks : List Task) (colours : List ℕ)
     (bars : List Bar) (v : ℕ) → list_any (λ (bar : Bar). bar.key == v) bars ≡ false
     → vcpu_paths f y high names tasks colours bars v ≡ []

@@ -1,4 +1,4 @@
--- Where boxes stand, and how high columns are.
+-- Where boxes are, and how high columns are.
 use Rattle.std.proofs.Common.{arith, refl, ap, ◌∙◌, ◌≡◌, ℕ, ◌+◌, ◌-◌, ◌*◌, ◌/◌, ◌<◌, ◌≤◌, ◌⊎◌, inl, inr, true, false, List, [], ◌∷◌, ◌++◌, max, min}
 use Rattle.std.proofs.Math.Nat.{div-le_of_le-mul, div-mul-le_self}
 use Rattle.std.proofs.lemmas.Bool.Decides.{nat_tests}
@@ -25,7 +25,7 @@ later_place d e span units some few less =
     let at : d * units / span + 1 ≤ e * units / span = le-div (d * units / span + 1) (e * units) span some high in
     omega (arith, at)
 
--- and never a smaller one
+-- an earlier tick never has a greater place
 place_order : (d e span units : ℕ) → 0 < span → d ≤ e → d * units / span ≤ e * units / span
 place_order d e span units some less =
     let whole : d * units / span * span ≤ d * units = div-mul-le_self (d * units) span in
@@ -65,7 +65,7 @@ one_bar : (f : Frame) (s : Stretch) (row v : ℕ) → is_on f.by_vcpu row s ≡ 
 one_bar f s row v here by some =
     rw (here, in_frame s.from s.end f.from f.to some) (ap (held_bars f s) by)
 
--- so it is a bar of the lane, at its place
+-- a slot with ticks in the frame is a bar of the lane, at its place
 pub bar_among : (f : Frame) (before after : List Stretch) (s : Stretch) (row v : ℕ)
     → is_on f.by_vcpu row s ≡ true → s.by ≡ Slot v → max s.from f.from < min s.end f.to
     → lane_bars f (before ++ s ∷ after) row ≡ lane_bars f before row ++ (record {
@@ -84,7 +84,7 @@ bar_among f before after s row v here by some =
 some_or_none : (n : ℕ) → (0 < n) ⊎ (n ≡ 0)
 some_or_none n = grind arith
 
--- more ticks stand higher
+-- more ticks are higher
 level_order : (t u high wide : ℕ) → t ≤ u → u ≤ wide → t * high / wide ≤ u * high / wide
 level_order t u high wide less capped = elim (some_or_none wide) [
   | inl some ↦
@@ -103,7 +103,7 @@ levels_rise f high bars v j =
     level_order (ticks_of (λ w. nat_lt w v) f 200 bars j) (ticks_of (λ w. nat_lt w (v + 1)) f 200 bars j) high
     (width_at f 200 j) (omega (arith, more)) (omega arith)
 
--- and all no higher than the lane
+-- all levels are no higher than the lane
 pub level_within : (f : Frame) (high : ℕ) (bars : List Bar) (v j : ℕ) → level_of f high bars v j ≤ high
 level_within f high bars v j =
     let ticks = ticks_of (λ w. nat_lt w v) f 200 bars j in

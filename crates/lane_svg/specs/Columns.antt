@@ -1,4 +1,4 @@
--- A lane of many bars is drawn as 200 columns: in each the vCPUs stand upon each other by number, each as high
+-- A lane of many bars is drawn as 200 columns: in each the vCPUs are upon each other by number, each as high
 -- as its part of the column's ticks.
 use Rattle.std.specs.Prelude.{ℕ, ◌+◌, ◌-◌, ◌*◌, ◌/◌, ◌==◌, nat_lt, List, [], if◌then◌else◌, length, slice_index, slice_get}
 use Rattle.std.specs.List.{list_any}
@@ -11,7 +11,7 @@ use Rattle.view_lanes.specs.Columns.{ticks_of, width_at}
 use Rattle.view_lanes.specs.declared.frame.Bar.{Bar}
 use Rattle.view_lanes.specs.declared.frame.Frame.{Frame}
 
--- how high those below a vCPU stand
+-- how high those below a vCPU are
 abbrev pub level_of : Frame → ℕ → List Bar → ℕ → ℕ → ℕ
 level_of f high bars v j = ticks_of (λ w. nat_lt w v) f 200 bars j * high / width_at f 200 j
 

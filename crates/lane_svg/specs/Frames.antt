@@ -1,10 +1,10 @@
--- Where things stand in a picture. One unit is a hundredth of a pixel; a picture of one round has a unit for
+-- Where things are in a picture. One unit is a hundredth of a pixel; a picture of one round has a unit for
 -- each tick. All divisions are rounded down.
 use Rattle.std.specs.Prelude.{ℕ, ◌+◌, ◌-◌, ◌*◌, ◌/◌, nat_le, if◌then◌else◌, max, min}
 use Rattle.tab_core.specs.declared.TheConstants.{ROUND}
 use Rattle.view_lanes.specs.declared.frame.Frame.{Frame}
 
--- where a tick stands
+-- where a tick is
 abbrev pub x_at : Frame → ℕ → ℕ
 x_at f t = 9400 + (t - f.from) * ROUND / (f.to - f.from)
 

@@ -34,7 +34,7 @@ bar_box f y high bar = box_path (x_at f bar.from) (top_in y high bar.shared) (x_
 abbrev pub box_of : Frame → ℕ → ℕ → ℕ → Bool → Bar → List ℕ
 box_of f y high v shared bar = if is_of v shared bar then bar_box f y high bar else []
 
--- what is told of a vCPU: its name, and what its reservation is, in tenths of a millisecond
+-- what is said of a vCPU: its name, and what its reservation is, in tenths of a millisecond
 unfoldable pub task_note : List ℕ → ℕ → ℕ → ℕ → List ℕ
 task_note name home cost period = name ++ (codes ": home core " ++ (decimal home ++ (codes ", " ++ (decimal (cost / 10)
     ++ (codes "." ++ (decimal (cost % 10) ++ (codes " ms in each " ++ (decimal (period / 10) ++ (codes "."
@@ -97,7 +97,7 @@ name_text x y name = codes "<text x=\"" ++ (decimal x ++ (codes "\" y=\"" ++ (de
 abbrev pub width_of : ℕ → List ℕ → ℕ
 width_of letters name = length name * (letters * 61 / 100) + 500
 
--- the line on which letters stand in the middle of what is so high
+-- the line on which letters are in the middle of what is so high
 abbrev pub line_in : ℕ → ℕ → ℕ → ℕ
 line_in y high letters = y + high / 2 + letters * 35 / 100
 
@@ -150,7 +150,7 @@ vcpu_label name y front dots back = codes "<g><title>" ++ (name ++ (codes "</tit
 abbrev pub vcpu_text : List ℕ → ℕ → ℕ → List ℕ
 vcpu_text name y high = vcpu_label name (line_in y high 900) (short_front name) (short_dots name) (short_back name)
 
--- what stands left of the lane of a core or a vCPU
+-- what is left of the lane of a core or a vCPU
 abbrev pub label_text : Bool → List (List ℕ) → ℕ → ℕ → ℕ → ℕ → List ℕ
 label_text false labels row y high share = core_text row y high share
 label_text true labels row y high share = vcpu_text (name_at labels row) y high
@@ -200,7 +200,7 @@ wait_note tick y wait promise =
     wait_label y (wait_class (is_late tick wait promise)) (tenths_ms tick wait) ++ wait_end promise
 
 -- from one tick of two rounds to another: the part in the first round, and that in the second, each where its round
--- stands
+-- is
 unfoldable pub wait_at : Frame → ℕ → ℕ → ℕ → ℕ → ℕ → Option ℕ → List ℕ
 wait_at f y begin mark line wait promise = codes "<path class=\"wait\" d=\"" ++ (wait_part f y begin (min mark ROUND)
     ++ (wait_part f y (begin - ROUND) (mark - ROUND) ++ wait_note f.tick line wait promise))

@@ -169,7 +169,7 @@ fn put_column_box<K: Sink>(
     )
 }
 
-// How high so many ticks of a column stand.
+// How high so many ticks of a column are.
 fn level_of(ticks: u64, high: u32, wide: u64) -> u64
     requires high { high ≤ 4000 }
     requires few { ticks < 2 ^ 50 }

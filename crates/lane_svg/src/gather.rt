@@ -21,7 +21,7 @@ pub(crate) fn put_at_once<K: Sink>(sink: &mut K, pieces: &[TextPiece<'_>]) -> Re
     put_pieces(sink, pieces)
 }
 
-// Appends the pieces, or a front of them where there is no room.
+// Appends the pieces, or a prefix of them where there is no room.
 fn gather<const N: usize>(
     bytes: &mut ArrayVec<u8, N>,
     pieces: &[TextPiece<'_>],

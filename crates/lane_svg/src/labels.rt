@@ -9,7 +9,7 @@ use tab_io::{Sink, WriteFault};
 use tab_words::{TextPiece, put_pieces};
 use view_lanes::name_at;
 
-// Writes what stands left of the lane of a core or a vCPU.
+// Writes what is left of the lane of a core or a vCPU.
 pub(crate) fn put_label<K: Sink>(
     sink: &mut K,
     by_vcpu: bool,

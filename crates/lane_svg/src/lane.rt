@@ -413,7 +413,7 @@ fn width_of(letters: u32, name: &[u8]) -> u64
     name.len() as u64 * u64::from(letters * 61 / 100) + 500
 }
 
-// The line on which letters stand in the middle of what is so high.
+// The line on which letters are in the middle of what is so high.
 pub(crate) fn line_in(y: u32, high: u32, letters: u32) -> u32
     requires low { y < 2 ^ 32 - 10000 }
     requires high { high ≤ 4000 }

@@ -25,7 +25,7 @@ pub fn no_slot_vanishes()
     ensures apart { (f : Frame) (end from : ℕ) → f.from < f.to → end ≤ from → x_at f end ≤ x_at f from }
 {}
 
-/// In a column of a lane the vCPUs stand upon each other, and no higher than the lane.
+/// In a column of a lane the vCPUs are upon each other, and no higher than the lane.
 pub fn a_column_stays_in_its_lane()
     ensures stacked { (f : Frame) (high : ℕ) (bars : List Bar) (v j : ℕ)
         → level_of f high bars v j ≤ level_of f high bars (v + 1) j }

@@ -19,7 +19,7 @@ fn ticks_in(frame: &Frame, columns: u32, j: u32, bar: &Bar) -> u64
     )
 }
 
-// The number of the column that a tick is in, or of those behind them.
+// The number of the column that a tick is in, or of those after them.
 fn column_at(frame: &Frame, columns: u32, tick: u32) -> u64
     requires { columns ≤ 65536 }
     ensures value { result ≡ (tick - frame.now.from) * columns / (frame.now.to - frame.now.from) }
@@ -32,7 +32,7 @@ fn column_at(frame: &Frame, columns: u32, tick: u32) -> u64
     u64::from(tick.saturating_sub(frame.from)) * u64::from(columns) / u64::from(span)
 }
 
-// The columns that a bar is in: the first, and the one behind the last.
+// The columns that a bar is in: the first, and the one after the last.
 fn columns_in(frame: &Frame, columns: u32, bar: &Bar) -> (u32, u32)
     requires some { 0 < columns }
     requires few { columns ≤ 65536 }

@@ -45,7 +45,7 @@ pub(crate) fn put_path_end<K: Sink>(
     write_all(sink, b"</title></path>\n")
 }
 
-// Writes what is told of a vCPU.
+// Writes what is said of a vCPU.
 fn put_note<K: Sink>(
     sink: &mut K,
     frame: &Frame,

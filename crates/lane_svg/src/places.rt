@@ -5,7 +5,7 @@ ghost use Rattle.lane_svg.specs.Frames.{foot_of, height_of, letters_of, pitch_of
 use tab_core::ROUND;
 use view_lanes::{Frame, span_of};
 
-/// Where a tick stands.
+/// Where a tick is.
 pub fn x_at(frame: &Frame, tick: u32) -> u64
     ensures value { result ≡ x_at frame.now tick }
     ensures small { result < 2 ^ 50 }

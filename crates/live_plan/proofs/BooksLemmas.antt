@@ -36,7 +36,7 @@ runnable_more runnable events n event at =
 
 -- ---- edits
 
--- the changes of an event come before those behind it
+-- the changes of an event come before those after it
 with_change-append : (act : Act) (xs ys : List (List Edit)) → with_change act (xs ++ ys) ≡ with_change act xs ++ ys
 with_change-append (Wake vcpu) xs ys = refl
 with_change-append (Block vcpu) xs ys = refl

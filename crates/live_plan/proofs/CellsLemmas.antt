@@ -20,7 +20,7 @@ nothing_missed : (b : LiveView) (c : ℕ) (slot : Option Slot) → IsNewSlot b c
 nothing_missed b c None new = refl
 nothing_missed b c (Some slot) new = new.1
 
--- nor do any of some new slots know
+-- none of some new slots knows a value
 pub none_known : (b : LiveView) (from : ℕ) (slots : List (Option Slot)) → AreNewSlots b from slots
     → (k : ℕ) → known_in (slice_index_or slots k None) ≡ None
 none_known b from [] new k = refl
@@ -36,7 +36,7 @@ none_missed b from (slot ∷ slots) new (suc k) = none_missed b (suc from) slots
 
 -- ---- a look into one slot
 
--- what stands at an index once one element was set
+-- what is at an index once one element was set
 at_set : {X : Type 0} (xs : List X) (c k : ℕ) (x d : X) → c < length xs
     → ((k ≡ c) × (get_or (slice_set xs c x) k d ≡ x)) ⊎ (get_or (slice_set xs c x) k d ≡ get_or xs k d)
 at_set xs c k x d lt = elim (cases_lt k c) [

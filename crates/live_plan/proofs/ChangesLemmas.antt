@@ -19,7 +19,7 @@ taken_or_refused before edits a b taken refused =
     planned_or_unplanned refused.host taken.plan refused.outcome
     (subst (λ h. IsPlanned h taken.plan) host taken.planned) refused.unplanned
 
--- so a change makes one host of the one that stands
+-- a change makes one host of the one that is known
 becomes_unique : (before : Host) (edits : List Edit) (a b : Host) → Becomes before edits a → Becomes before edits b
     → a ≡ b
 becomes_unique before edits a b (inl of_a) (inl of_b) = edited_unique before edits a b of_a.edited of_b.edited
@@ -27,7 +27,7 @@ becomes_unique before edits a b (inl of_a) (inr of_b) = absurd (taken_or_refused
 becomes_unique before edits a b (inr of_a) (inl of_b) = absurd (taken_or_refused before edits b a of_b of_a)
 becomes_unique before edits a b (inr of_a) (inr of_b) = of_a.stays ∙ sym of_b.stays
 
--- and one host stands after the first changes
+-- one host is known after the first changes
 pub host_unique : (host : Host) (changes : List (List Edit)) (k : ℕ) (a b : Host) → HostAfter host changes k a
     → HostAfter host changes k b → a ≡ b
 host_unique host changes zero a b of_a of_b = of_a ∙ sym of_b
@@ -37,7 +37,7 @@ host_unique host changes (suc k) a b of_a of_b =
     becomes_unique of_b.0 of_b.1 a b
     (subst (λ (es : List Edit). Becomes of_b.0 es a) edits (subst (λ (h : Host). Becomes h of_a.1 a) before of_a.4)) of_b.4
 
--- a change edits the one that stands before it to one host
+-- a change edits the one that is before it to one host
 pub edited_by_unique : (host : Host) (changes : List (List Edit)) (k : ℕ) (a b : Host) → IsEditedBy host changes k a
     → IsEditedBy host changes k b → a ≡ b
 edited_by_unique host changes k a b of_a of_b =
@@ -66,7 +66,7 @@ after_size host changes (suc k) after is =
     let here = becomes_size is.0 is.1 after is.4 in
     record { vcpus = here.vcpus ∙ before.vcpus; cores = here.cores ∙ before.cores }
 
--- a change of the first host's vCPUs is one of the vCPUs of the host that stands
+-- a change of the first host's vCPUs is one of the vCPUs of the known host
 pub edits_of_host : (host : Host) (changes : List (List Edit)) (k : ℕ) (before : Host) (edits : List Edit)
     → All (AreEditsOf (length host.vcpus)) changes → HostAfter host changes k before → slice_get changes k ≡ Some edits
     → AreEditsOf (length before.vcpus) edits
@@ -76,7 +76,7 @@ edits_of_host host changes k before edits within stands at =
     (within k edits (slice_get_within changes k edits at)) in
     subst (λ (n : ℕ). AreEditsOf n edits) (sym (after_size host changes k before stands).vcpus) here
 
--- what stands among the first changes
+-- what is among the first changes
 taken_at : (m : ℕ) (changes : List (List Edit)) (k : ℕ) (edits : List Edit) → slice_get (take m changes) k ≡ Some edits
     → slice_get changes k ≡ Some edits
 taken_at zero changes k edits at = absurd cc
@@ -101,7 +101,7 @@ edited_by_of_first host changes m k edited of = record {
   is = of.is;
 }
 
--- nor do the others have to be there
+-- the other changes don't have to be there
 at_first : (m : ℕ) (changes : List (List Edit)) (k : ℕ) (edits : List Edit) → k < m → slice_get changes k ≡ Some edits
     → slice_get (take m changes) k ≡ Some edits
 at_first zero changes k edits lt at = absurd (omega arith)

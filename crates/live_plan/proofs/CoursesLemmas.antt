@@ -25,7 +25,7 @@ use Rattle.live_plan.specs.Courses.{IsLiveCourse}
 use Rattle.live_plan.proofs.BooksLemmas.{runnable_more}
 use Rattle.live_plan.proofs.ChangesLemmas.{host_unique}
 
--- the edits of a change stand behind those of the changes before it
+-- the edits of a change are after those of the changes before it
 pub edits_at : (events : List Event) (n : ℕ) (event : Event) (edits : List Edit) → slice_get events n ≡ Some event
     → event.act ≡ Change edits → slice_get (edits_in events) (changes_in (take n events)) ≡ Some edits
 edits_at [] n event edits at is = absurd cc
@@ -139,7 +139,7 @@ same_outline host events b course of_b of form =
     ≡ outline_view b.outline.cores b.outline.lag b.outline.quantum b.outline.ticks b.outline.runnable = cc in
     same
 
--- and after each count the course has the plan of the host that stands
+-- after each count the course has the plan of the known host
 pub live_course : (host : Host) (events : List Event) (b : LiveView) (course : CourseView) → IsLiveBookOf host events b
     → IsCourseOf host events course → IsCourseForm course → IsLiveCourse b course
 live_course host events b course of_b of form = record {

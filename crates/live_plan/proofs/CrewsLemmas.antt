@@ -99,7 +99,7 @@ held_crew b crew v few is agree all = record {
   control = all.control;
 }
 
--- and ends it
+-- a crew ends its work
 module _ (b : LiveView) (rounds : ℕ) (members : List Member) (lead : Lead) (maker : Maker) (v : View) (held : IsHeld b rounds members lead v) where
   abbrev crew : CrewView
   crew = crew_view rounds members lead maker

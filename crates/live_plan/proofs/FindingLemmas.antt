@@ -23,7 +23,7 @@ pub planned_after : (host : Host) (changes : List (List Edit)) (k : ℕ) (before
 planned_after host changes k before edits plan next stands at is =
     (before, edits, stands, at, inl (record { edited = is.edited; plan = plan; planned = is.planned }))
 
--- one that was refused to the host that stood
+-- one that was refused to the host that was known
 pub refused_after : (host : Host) (changes : List (List Edit)) (k : ℕ) (before : Host) (edits : List Edit) (outcome : Outcome)
     (next : Host) → HostAfter host changes k before → slice_get changes k ≡ Some edits
     → IsRefusedNext before edits outcome next → HostAfter host changes (suc k) next
@@ -41,7 +41,7 @@ refused_after host changes k before edits outcome next stands at is = (
   }),
 )
 
--- so each does
+-- each change that was made leads to the host that is known after it
 pub made_after : (host : Host) (changes : List (List Edit)) (k : ℕ) (before : Host) (edits : List Edit)
     (made : Result Plan Outcome) (next : Host) → HostAfter host changes k before → slice_get changes k ≡ Some edits
     → IfOk made (λ plan. IsPlannedNext before edits (plan_view plan) next)
@@ -51,7 +51,7 @@ made_after host changes k before edits (Ok plan) next stands at planned refused 
 made_after host changes k before edits (Err outcome) next stands at planned refused =
     refused_after host changes k before edits outcome next stands at refused
 
--- what was found for the change of a host that stands is what the rules give for it
+-- what was found for the change of a host that is known is what the rules give for it
 pub found_of_next : (host : Host) (changes : List (List Edit)) (k : ℕ) (before : Host) (edits : List Edit) (found : Found)
     (next : Host) → HostAfter host changes k before → slice_get changes k ≡ Some edits
     → IsFoundNext before edits found next → IsFoundOf host changes k found
@@ -69,7 +69,7 @@ found_of_next host changes k before edits (Refused outcome) next stands at is = 
 }
 found_of_next host changes k before edits NoMemory next stands at is = is
 
--- and the host that stands next is the one after the change
+-- the host that is known next is the one after the change
 pub stands_next : (host : Host) (changes : List (List Edit)) (k : ℕ) (before : Host) (edits : List Edit) (found : Found)
     (next : Host) → HostAfter host changes k before → slice_get changes k ≡ Some edits
     → IsFoundNext before edits found next → is_stopped found ≡ false → HostAfter host changes (suc k) next
@@ -96,7 +96,7 @@ found_of_first host changes m k (Refused outcome) is = record {
 }
 found_of_first host changes m k NoMemory is = is
 
--- so what a value for a change of a book found is what the rules give for that change
+-- what a value for a change of a book found is what the rules give for that change
 pub found_in_book : (b : LiveView) (k : ℕ) (m : MadeView) (found : Found) → IsMadeFor b k m
     → IsFoundOf m.host m.edits m.change m.found → found ≡ m.found → IsFoundOf b.host b.changes k found
 found_in_book b k m found of told is =

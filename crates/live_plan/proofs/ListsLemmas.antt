@@ -1,4 +1,4 @@
--- What stands at a place of the shelf in memory.
+-- What is at a place of the shelf in memory.
 use Rattle.std.proofs.Common.{◌≡◌, ℕ, zero, suc, ◌<◌, List, [], ◌∷◌, length, get_or, Option, None, sym, arith}
 use Rattle.std.specs.Prelude.{slice_index_or}
 use Rattle.live_plan.specs.Mades.{MadeView}

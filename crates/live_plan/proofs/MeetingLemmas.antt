@@ -26,7 +26,7 @@ module _ (b : LiveView) (rounds : ℕ) (lower upper : List Member) (lead : Lead)
   few : length lower + length upper ≤ 32
   few = omega (arith, held.working.block.few, length-append lower upper)
 
-  -- a member stands there by its number
+  -- a member is there by its number
   lower_is : (i : ℕ) (m : Member) → slice_get lower i ≡ Some m → m.actor.state.core ≡ i
   lower_is i m at = let is = (held.working.block.each i m (get_left lower upper i m at)).core in omega (arith, is)
 
@@ -84,7 +84,7 @@ module _ (b : LiveView) (rounds : ℕ) (lower upper : List Member) (lead : Lead)
     control = (without_others mask v controller off_control).0 ∙ held.control;
   })
 
-  -- and what the other is given
+  -- what the other seat is given
   pub worker_upper : (w : View) → w ≡ only mask v → IsWorker b rounds (length lower) upper w
   worker_upper w is = subst (IsWorker b rounds (length lower) upper) (sym is) (record {
     block = record {

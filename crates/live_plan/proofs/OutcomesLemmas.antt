@@ -47,7 +47,7 @@ module _ (host : Host) (events : List Event) (b : LiveView) (of : IsLiveBookOf h
       → IsMadeOf changed m
   made_of_book k m changed outcome is = by m outcome
     where
-      -- the change edits the host that stands in the book
+      -- the change edits the host that is in the book
       one : (edited : Host) → IsEditedBy b.host b.changes k edited → changed ≡ edited
       one edited by =
           let stands : HostAfter b.host b.changes k is.known.host =
@@ -70,6 +70,6 @@ module _ (host : Host) (events : List Event) (b : LiveView) (of : IsLiveBookOf h
       by (Err outcome) found =
           subst (λ (h : Host). IsUnplanned h outcome) (sym (one found.edited found.edited_by)) found.unplanned
 
-  -- so it may be given to the maker of the plan book
+  -- what was made may be given to the maker of the plan book
   pub made_of_all : (made : List (Option (Result Plan Outcome))) → AreOutcomesOf b made → AreMadeOf host events made
   made_of_all made are k m changed at is = made_of_book k m changed (are k m at) is

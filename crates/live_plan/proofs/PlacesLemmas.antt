@@ -1,5 +1,5 @@
--- What stands at the places of a list of which one place was set or that was lent whole, and of two lists, one after
--- the other.
+-- What is at the places of a list of which one place was set or that was lent whole, and of two lists, one after the
+-- other.
 use Rattle.std.proofs.Common.{◌≡◌, ◌≢◌, ◌⊎◌, ℕ, zero, suc, ◌+◌, ◌<◌, Bool, true, inl, inr, List, [], ◌∷◌, ◌++◌, length, take, drop, Some, sym, ap, ◌∙◌, subst, arith}
 use Rattle.std.specs.Prelude.{if◌then◌else◌, slice_get, slice_set}
 use Rattle.std.proofs.Math.Seq.{take-append_seam}
@@ -23,7 +23,7 @@ in_second (z ∷ zs) ys k x at =
     let e : suc (length zs) + k ≡ suc (length zs + k) = omega arith in
     subst (λ (i : ℕ). slice_get (z ∷ (zs ++ ys)) i ≡ Some x) (sym e) (in_second zs ys k x at)
 
--- and each is one of them
+-- each of two lists' elements is one of them
 pub of_both : {X : Type 0} (xs ys : List X) (k : ℕ) (x : X) → slice_get (xs ++ ys) k ≡ Some x
     → (slice_get xs k ≡ Some x) ⊎ ((j : ℕ) × (k ≡ length xs + j) × (slice_get ys j ≡ Some x))
 of_both [] ys k x at = inr (k, omega arith, at)

@@ -77,7 +77,7 @@ pub for_same : (b : LiveView) (k : ℕ) (m n : MadeView) → IsMadeFor b k m →
 for_same b k m n of change host edits =
     record { change_is = change ∙ of.change_is; host_is = host ∙ of.host_is; edits_are = edits ∙ of.edits_are }
 
--- the host that stands in the book stands for the value's own changes
+-- the host that is in the book stands for the value's own changes
 pub stands_for : (b : LiveView) (k : ℕ) (m : MadeView) (host : Host) → IsMadeFor b k m → HostAfter b.host b.changes k host
     → HostAfter m.host m.edits m.change host
 stands_for b k m host of stands =
@@ -86,7 +86,7 @@ stands_for b k m host of stands =
     (subst (λ (h : Host). HostAfter h (take (suc k) b.changes) k host) (sym of.host_is)
     (after_in_first b.host b.changes (suc k) k host (omega arith) stands)))
 
--- and back, one change on
+-- the value's own changes stand for the host one change on
 pub stands_on : (b : LiveView) (k : ℕ) (m : MadeView) (host : Host) → IsMadeFor b k m → HostAfter m.host m.edits (m.change + 1) host
     → HostAfter b.host b.changes (k + 1) host
 stands_on b k m host of stands =

@@ -1,4 +1,4 @@
--- What a core takes of the changes of a live book, and the plan that stands after them.
+-- What a core takes of the changes of a live book, and the plan that is after them.
 use Rattle.std.proofs.Common.{◌≡◌, ℕ, suc, ◌+◌, ◌≤◌, List, length, Option, None, Some, inl, inr, sym, subst, arith}
 use Rattle.std.specs.Prelude.{slice_get}
 use Rattle.tab_core.specs.declared.host.Host.{Host}
@@ -16,7 +16,7 @@ use Rattle.live_plan.specs.Finding.{IsPlanOf, IsRefusalOf}
 use Rattle.live_plan.specs.Inside.Seeking.{IsSliceAt}
 use Rattle.live_plan.proofs.ChangesLemmas.{edited_by_unique, host_unique}
 
--- the host that a planned change makes stands after it
+-- the host that a planned change makes is after it
 plan_stands : (b : LiveView) (k : ℕ) (plan : PlanView) (tables : List (List FullSpan)) (of : IsPlanOf b.host b.changes k plan tables)
     → HostAfter b.host b.changes (suc k) of.edited
 plan_stands b k plan tables of =
@@ -57,7 +57,7 @@ refused_stays b k outcome host of stands =
       }),
     )
 
--- so the change that counted counts on
+-- the change that counted counts on where a change is refused
 pub last_kept : (b : LiveView) (k : ℕ) (outcome : Outcome) (last : Option ℕ) → IsRefusalOf b.host b.changes k outcome
     → IsLastChange b k last → IsLastChange b (k + 1) last
 last_kept b k outcome None of is = refused_stays b k outcome b.host of is

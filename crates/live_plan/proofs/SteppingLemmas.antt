@@ -42,7 +42,7 @@ waits_told b c seen used d tick v w s t (Ran stint) waits told = absurd told
 waits_told b c seen used d tick v w s t (NotMade change) waits told = absurd told
 waits_told b c seen used d tick v w s t Finished waits told = absurd told
 
--- the same of one that waits for the controller, whose step is over with its begin
+-- a core that waits for the controller has looked at what it saw: its step is over with its begin
 record SawAll (p q : Part) (seen : ℕ) : Type 0 where
   pub clock : q.clock ≡ p.clock
   pub stints : q.stints ≡ p.stints
@@ -143,7 +143,7 @@ needs_change b rounds c seen used change v u w state from is less =
       needs = needs_used b rounds c seen used change v u state from less;
     })
 
--- the whole step, whose end is told
+-- the whole step, whose end is reported
 pub finish_told : (b : LiveView) (rounds c seen used : ℕ) (v u w : View) (s t : ShelfView) (state : StateView) (answer : LiveAnswer)
     → HasBegunFrom b rounds c seen used v u state → FinishTold b c seen used u s answer w t → LiveTold b rounds c v s answer w t
 finish_told b rounds c seen used v u w s t state (Ran stint) from told = λ course live. (

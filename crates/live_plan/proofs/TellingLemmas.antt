@@ -38,7 +38,7 @@ edited_here host changes k before edits a b stands at is by =
     edited_unique by.before by.edits a b
     (subst (λ (es : List Edit). IsEdited by.before es a) two (subst (λ (h : Host). IsEdited h edits a) one is)) by.is
 
--- so what was found for it tells of the state after it
+-- what was found for a change tells of the state after it
 tells_of : (host : Host) (changes : List (List Edit)) (k : ℕ) (before : BookState) (edits : List Edit) (known : BookState)
     (found : Found) → HostAfter host changes k before.host → slice_get changes k ≡ Some edits → IsFoundOf host changes k found
     → IsChangeTaken before edits known ⊎ IsChangeRefused before edits known → TellsOf found known

@@ -69,7 +69,7 @@ core_ended b a n v w s t said same now told e =
     now.stands.clock ∙ (ap (λ (c : ℕ). (part w c).clock) same.core
     ∙ (ap (λ (u : View). (part u a.core).clock) over.1 ∙ (over.0 ∙ ap (λ (r : ℕ). r * ROUND) (sym same.rounds))))
 
--- and so has the controller
+-- a controller that says so has finished
 pub lead_ended : (b : LiveView) (k l : ControlState) (v w : View) (s t : ShelfView) (said : LiveControl)
     → HasPosted b.outline k v → HasPosted b.outline l w → LiveControlTold b k.posted v s said w t → said ≡ control.Finished
     → l.posted ≡ length b.outline.ticks

@@ -25,7 +25,7 @@ pub record LiveActorView : Type 0 where
 abbrev pub live_actor_view : StateView → List FullSpan → Taken → LiveActorView
 live_actor_view state table taken = record { state = state; table = table; taken = taken }
 
--- the plan after the first k changes is that of change i, which made the host that stands then
+-- the plan after the first k changes is that of change i, which made the host that is known then
 pub record IsLastPlanned (b : LiveView) (k i : ℕ) : Type 0 where
   pub before : i < k
   pub host : Host

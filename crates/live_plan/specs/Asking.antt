@@ -18,6 +18,6 @@ pub record IsBeyond (b : LiveView) (seen change : ℕ) : Type 0 where
   pub some : change < length b.changes
   pub first : change ≡ changes_before b seen
 
--- a look at that one, if there is one, missed, or found that it isn't want of memory
+-- a look at that one, if there is one, missed, or found that it isn't out of memory
 abbrev pub LooksBeyond : LiveView → ℕ → ShelfView → ShelfView → Type 0
 LooksBeyond b seen s t = (change : ℕ) → IsBeyond b seen change → Missed s t change ⊎ Knows t change false

@@ -17,7 +17,7 @@ pub record IsNextChange (b : LiveView) (n change : ℕ) : Type 0 where
 
 -- what a step of the controller that has posted n events did to the view v and the shelf s: it is as a step
 -- of a controller with a course, but a change is posted only where the shelf knows a value for it other than
--- want of memory
+-- out of memory
 abbrev pub LiveControlTold : LiveView → ℕ → View → ShelfView → LiveControl → View → ShelfView → Type 0
 LiveControlTold b n v s (Posted count) w t = ControlTold b.outline n v (control.Posted count) w
     × (IsChange b n → Knows t (changes_before b n) false)

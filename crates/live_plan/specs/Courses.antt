@@ -1,5 +1,5 @@
 -- The course of a live book. No plan has to be in memory for it: after each count of events its plan is the
--- one of the host that stands then. Source: the rules of this project.
+-- one of the host that is known then. Source: the rules of this project.
 use Rattle.std.specs.Prelude.{◌≡◌, ℕ, ◌≤◌, length}
 use Rattle.tab_core.specs.declared.host.Host.{Host}
 use Rattle.table_form.specs.Running.Courses.{CourseView, outline_of, plan_after}

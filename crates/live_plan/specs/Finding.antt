@@ -35,13 +35,13 @@ pub record IsRefusalOf (host : Host) (changes : List (List Edit)) (k : ℕ) (out
   pub edited_by : IsEditedBy host changes k edited
   pub unplanned : IsUnplanned edited outcome
 
--- what was found is what the rules give for change k; want of memory says nothing of it
+-- what was found is what the rules give for change k; out of memory says nothing of it
 abbrev pub IsFoundOf : Host → List (List Edit) → ℕ → Found → Type 0
 IsFoundOf host changes k (Planned plan slices) = IsPlanOf host changes k (plan_view plan) slices.items
 IsFoundOf host changes k (Refused outcome) = IsRefusalOf host changes k outcome
 IsFoundOf host changes k NoMemory = Unit {0}
 
--- it is want of memory
+-- it is out of memory
 abbrev pub is_stopped : Found → Bool
 is_stopped (Planned plan slices) = false
 is_stopped (Refused outcome) = false

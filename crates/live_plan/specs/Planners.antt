@@ -29,7 +29,7 @@ pub record IsPlannerOf (b : LiveView) (p : PlannerView) : Type 0 where
   pub each : (k : ℕ) (m : MadeView) → slice_get p.left k ≡ Some m → IsMadeFor b (length b.changes - 1 - k) m
   pub stands : p.stopped ≡ false → HostAfter b.host b.changes p.next p.standing
 
--- it planned its next change, and made one put of that change's value, which is want of memory or isn't
+-- it planned its next change, and made one put of that change's value, which is out of memory or isn't
 pub record PlansNext (b : LiveView) (p : PlannerView) (s : ShelfView) (change : ℕ) (stopped : Bool)
     (q : PlannerView) (t : ShelfView) : Type 0 where
   pub going : p.stopped ≡ false

@@ -6,14 +6,14 @@ use Rattle.live_plan.specs.Finding.{is_stopped}
 use Rattle.live_plan.specs.Mades.{MadeView}
 
 -- the value that it knows of each change, how often a look at each missed, how many values it was handed, and
--- whether the last of these is want of memory
+-- whether the last of these is out of memory
 pub record ShelfView : Type 0 where
   pub known : ℕ → Option MadeView
   pub misses : ℕ → ℕ
   pub puts : ℕ
   pub stopped : Bool
 
--- the shelf knows a value for the change, which is want of memory or isn't
+-- the shelf knows a value for the change, which is out of memory or isn't
 pub record Knows (s : ShelfView) (change : ℕ) (stopped : Bool) : Type 0 where
   pub made : MadeView
   pub known : s.known change ≡ Some made

@@ -7,7 +7,7 @@ use Rattle.plan_book.specs.declared.outcome.Outcome.{Outcome}
 use Rattle.live_plan.specs.declared.made.Found.{Found}
 use Rattle.live_plan.specs.declared.made.Found.TheVariants.{Planned, Refused, NoMemory}
 
--- the plan that is known, or the last outcome; want of memory tells nothing
+-- the plan that is known, or the last outcome; out of memory tells nothing
 abbrev pub TellsOf : Found → BookState → Type 0
 TellsOf (Planned plan slices) known = known.plan ≡ plan_view plan
 TellsOf (Refused outcome) known = (before : List Outcome) × (known.outcomes ≡ before ++ outcome ∷ [])

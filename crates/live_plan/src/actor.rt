@@ -43,7 +43,7 @@ impl LiveActor {
     /// room for the used count of each round.
     ///
     /// It agrees with the core's part of each view that was started for the book, if that part is one to
-    /// which nothing has happened. Fails only for want of memory.
+    /// which nothing has happened. Fails only when memory runs out.
     pub fn make(
         alloc: Global,
         book: &LiveBook,
@@ -63,7 +63,7 @@ impl LiveActor {
         LiveActor::make_with(alloc, book, &owners, core, rounds)
     }
 
-    /// The same, where the owners in the rows of the host's plan are known.
+    /// A live actor, where the owners in the rows of the host's plan are known.
     pub fn make_with(
         alloc: Global,
         book: &LiveBook,

@@ -72,11 +72,11 @@ impl LiveController {
 }
 
 /// One step of the controller, as `control_step` makes it. A change is posted only where the shelf knows a
-/// value for it other than want of memory.
+/// value for it other than out of memory.
 ///
 /// The seat holds the controller, which agrees with its part, and the shelf is of the book; both are so
 /// afterwards. `NotMade` and `Stopped` come only where the next event is a change: the one where a look at it
-/// missed in this call, the other where it gave want of memory. Then the controller's part is as it was.
+/// missed in this call, the other where it gave out of memory. Then the controller's part is as it was.
 pub fn live_control_step<'a, H: Shelf<'a>>(
     board: &RoundBoard,
     seat: &mut RoundSeat,

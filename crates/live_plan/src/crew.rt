@@ -50,7 +50,7 @@ impl Model for LiveCrew {
 impl LiveCrew {
     /// The actors of a run of so many rounds that has not begun, by a live book.
     ///
-    /// A run of so many rounds has all events of the book. Fails only for want of memory.
+    /// A run of so many rounds has all events of the book. Fails only when memory runs out.
     pub fn make<R: Threads>(
         rt: &R,
         alloc: Global,

@@ -51,7 +51,7 @@ fn standing_after<R: Threads + Sync>(
     Ok(standing)
 }
 
-// What is found for a change of the host that stands, which becomes the host after it.
+// What is found for a change of the known host, which becomes the host after it.
 pub(crate) fn found_next<R: Threads + Sync>(
     rt: &R,
     alloc: Global,
@@ -67,7 +67,7 @@ pub(crate) fn found_next<R: Threads + Sync>(
     }
 }
 
-// The same, where memory lasts.
+// What is found for a change of the known host, where memory lasts.
 fn sought_next<R: Threads + Sync>(
     rt: &R,
     alloc: Global,
@@ -86,7 +86,7 @@ fn sought_next<R: Threads + Sync>(
     }
 }
 
-// The plan of the host that the edits make, which stands from then on, or why it has none.
+// The plan of the host that the edits make, which is known from then on, or why it has none.
 fn planned_next<R: Threads + Sync>(
     rt: &R,
     alloc: Global,

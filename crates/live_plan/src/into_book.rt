@@ -21,9 +21,9 @@ use table_form::Plan;
 
 impl LiveBook {
     /// The plan book of the host and the script whose live book this is. What was made of a change is taken over,
-    /// so that only a change whose cell has nothing for it, or want of memory, is planned here.
+    /// so that only a change whose cell has nothing for it, or out of memory, is planned here.
     ///
-    /// Fails only for want of memory.
+    /// Fails only when memory runs out.
     pub fn into_book<R: Threads + Sync>(
         self,
         rt: &R,
@@ -78,8 +78,8 @@ fn outcome_in(
     }
 }
 
-// The plan that was found, once more, or the outcome, but for want of memory. `book` and `change` are for the proof
-// alone.
+// The plan that was found, once more, or the outcome, but when memory runs out. `book` and `change` are for the
+// proof alone.
 fn outcome_of(
     alloc: Global,
     book: &LiveBook,

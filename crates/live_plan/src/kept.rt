@@ -71,7 +71,7 @@ pub(crate) fn keep<'a, H: Shelf<'a>>(
     keep_anew(book, shelf, taken, kept, core, used)
 }
 
-// The same, where another count's was kept.
+// Keeps the core's slice table, where another count's was kept.
 #[inline(never)]
 fn keep_anew<'a, H: Shelf<'a>>(
     book: &'a LiveBook,

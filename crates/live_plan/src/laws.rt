@@ -18,8 +18,8 @@ pub fn a_scripts_course_is_its_live_books()
         → IsLiveCourse b course }
 {}
 
-/// What was found for a change of a live book, but for want of memory, is what the script's events come to:
-/// the plan after the change, or the outcome of its refusal.
+/// What was found for a change of a live book, but when memory runs out, is what the script's events come
+/// to: the plan after the change, or the outcome of its refusal.
 pub fn what_is_found_is_what_the_script_makes()
     ensures { (host : Host) (events : List Event) (b : LiveView) (n : ℕ) (found : FoundValue)
         (known : BookState) → IsLiveBookOf host events b → IsChange b n

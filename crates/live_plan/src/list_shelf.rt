@@ -43,7 +43,7 @@ impl<'a> Shelf<'a> for ListShelf<'a> {
 
     ghost is_of = { λ s b. AreMadeFor b s.made.now };
 
-    // Besides what each shelf owes: a value is given exactly where one stands at the change's place.
+    // Besides what each shelf owes: a value is given exactly where one is at the change's place.
     fn look(&mut self, book: &'a LiveBook, change: u32) -> Option<&'a Made>
         requires book { AreMadeFor book.now self.old.made.now }
         requires change { change < length book.now.changes }

@@ -27,7 +27,7 @@ pub enum Found {
 }
 
 impl Found {
-    /// Whether it is want of memory.
+    /// Whether it is out of memory.
     pub fn is_stopped(&self) -> bool
         ensures { result ≡ is_stopped self.now }
     {
@@ -38,7 +38,7 @@ impl Found {
 /// What was made of one change: the change's number, the host, the edits of each change up to it and with it,
 /// and what was found. Contracts see these.
 ///
-/// What was found is what the rules give for that host and those edits, or want of memory.
+/// What was found is what the rules give for that host and those edits, or out of memory.
 #[derive(Drop)]
 pub struct Made {
     pub(crate) change: u32,
@@ -58,8 +58,8 @@ impl Model for Made {
 }
 
 impl Made {
-    /// The value for a change of the book, for which nothing was looked for yet. Fails only for want of
-    /// memory.
+    /// The value for a change of the book, for which nothing was looked for yet. Fails only when memory
+    /// runs out.
     pub fn blank(alloc: Global, book: &LiveBook, change: u32) -> Result<Made, NoMemory>
         requires { change < length book.now.changes }
         ensures for_it { IfOk result (IsMadeFor book.now change) }
@@ -86,8 +86,8 @@ impl Made {
         self.found = found_after(rt, alloc, &self.host, &self.edits);
     }
 
-    // The same, where the host after the changes before this one is known. It becomes the host after this
-    // one.
+    // Fills in what a change makes, where the host after the changes before this one is known. It becomes
+    // the host after this one.
     pub(crate) fn fill_from<R: Threads + Sync>(
         &mut self,
         rt: &R,

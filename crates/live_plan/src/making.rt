@@ -26,8 +26,8 @@ impl LiveBook {
     /// The live book of a host and a script, whose vCPUs are the host's. Only the host is planned, and
     /// nothing is made of any change.
     ///
-    /// But for want of memory, `NoPeriod` comes exactly where a vCPU of the host has no period, and `NoRoom`
-    /// exactly where each has one but one has no room.
+    /// But when memory runs out, `NoPeriod` comes exactly where a vCPU of the host has no period, and
+    /// `NoRoom` exactly where each has one but one has no room.
     pub fn make<R: Threads + Sync>(
         rt: &R,
         alloc: Global,

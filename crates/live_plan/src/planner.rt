@@ -16,13 +16,13 @@ pub enum PlannerAnswer {
     Told { change: u32 },
     /// Memory ran out for this change, which it put, and it plans nothing more.
     Stopped { change: u32 },
-    /// All changes were told, or one stopped.
+    /// All changes were reported, or one stopped.
     Finished,
 }
 
 /// Who plans the changes of a live book, one after the other. Contracts see the values of those that are
-/// left, the last change first, the host that stands, the number of the next change, and whether memory ran
-/// out for one.
+/// left, the last change first, the known host, the number of the next change, and whether memory ran out
+/// for one.
 #[derive(Drop)]
 pub struct LivePlanner {
     pub(crate) left: Vec<Box<Made>>,
@@ -41,7 +41,7 @@ impl Model for LivePlanner {
 }
 
 impl LivePlanner {
-    /// The planner of the book that has planned no change. Fails only for want of memory.
+    /// The planner of the book that has planned no change. Fails only when memory runs out.
     pub fn make(alloc: Global, book: &LiveBook) -> Result<LivePlanner, NoMemory>
         ensures planner { IfOk result (IsPlannerOf book.now) }
         ensures first { IfOk result (λ p. p.next ≡ 0) }
@@ -79,8 +79,8 @@ impl LivePlanner {
 /// One step of the planner: it plans the next change, and puts what it found.
 ///
 /// The planner and the shelf are of the book, and the shelf was handed the values of the changes before.
-/// `Stopped` comes exactly where the value that was put is want of memory, and `Told` exactly where it isn't.
-/// `Finished` comes exactly where all changes were told or one stopped.
+/// `Stopped` comes exactly where the value that was put is out of memory, and `Told` exactly where it isn't.
+/// `Finished` comes exactly where all changes were reported or one stopped.
 pub fn planner_step<'a, R: Threads + Sync, H: Shelf<'a>>(
     rt: &R,
     alloc: Global,

@@ -8,7 +8,7 @@ use crate::made::Made;
 /// Where an actor of a run looks what was made of a change, and where its planner puts that.
 pub trait Shelf<'a> {
     /// What it knows of each change, how often a look at each missed, how many values it was handed, and
-    /// whether the last of these is want of memory.
+    /// whether the last of these is out of memory.
     ghost state: { Self → ShelfView };
     /// It is a shelf of this book.
     ghost is_of: { Self → LiveView → Type 0 };

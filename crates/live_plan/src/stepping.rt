@@ -26,7 +26,7 @@ use tab_core::Actor;
 /// The seat holds the core, the actor is of the book and agrees with the core's part, and the shelf is of the
 /// book; all are so afterwards. `Ran`, `Behind` and `Finished` come as those of `core_step` by each course of
 /// the book. `NotMade` names a change among the events of the round's used count, a look at which missed in
-/// this call. `Stopped` names such a change for which the look gave want of memory, or where the core would
+/// this call. `Stopped` names such a change for which the look gave out of memory, or where the core would
 /// wait, the first change beyond what it saw. After these two the core has run nothing, and an entry that was
 /// made stays.
 pub fn live_core_step<'a, H: Shelf<'a>>(
@@ -54,8 +54,8 @@ pub fn live_core_step<'a, H: Shelf<'a>>(
     step_keeping(board, seat, actor, book, shelf, &mut kept)
 }
 
-// The same, where what the last step found is kept: the shelf is asked for a plan only where the round has another used
-// count.
+// One step of a live core, where what the last step found is kept: the shelf is asked for a plan only where the round
+// has another used count.
 #[inline(always)]
 pub(crate) fn step_keeping<'a, H: Shelf<'a>>(
     board: &RoundBoard,

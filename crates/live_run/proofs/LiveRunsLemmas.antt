@@ -72,7 +72,7 @@ module _ (b : LiveView) (v : View) (lag cores events : ℕ) (lag_is : lag ≡ b.
       ∙ (ap (λ (n : ℕ). just_started b.outline.lag n events) cores_are
       ∙ ap (just_started b.outline.lag b.outline.cores) events_are))
 
-  -- and has all parts
+  -- the view of a started crew has all parts
   pub holds_live : (crew : CrewView) → IsCrewOf b crew → b.outline.cores ≤ 32 → HoldsAll crew v
   holds_live crew of few =
       let all = holds_started (nobody (bare b)) v same_start few in record {
@@ -108,14 +108,14 @@ module _ (b : LiveView) (crew : CrewView) (v : View) (is : IsCrewOf b crew) (agr
   pub started : IsStarted b.outline.lag b.outline.cores (length b.outline.ticks) v
   started = (agree.control all.control).of_outline
 
-  -- and holds all parts
+  -- the view holds all parts
   pub holds_all : HoldsAllParts v
   holds_all = record {
     cores = λ c lt. all.cores c (omega (arith, lt, started.cores_are, is.cores));
     controller = all.control;
   }
 
-  -- so it is of a run so far where the promises are kept
+  -- the view is of a run so far where the promises are kept
   pub runs_so_far : (host : Host) (events : List Event) (rounds : ℕ) → IsLiveBookOf host events b
       → ((course : CourseView) → IsCourse course → IsLiveCourse b course
       → KeepsPromises course rounds (state_of course v)) → RunsSoFar rounds host events v

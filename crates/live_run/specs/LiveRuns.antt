@@ -1,4 +1,4 @@
--- What a run leaves behind whose changes were planned beside its cores.
+-- What is left of a run whose changes were planned beside its cores.
 -- Source: the rules of this project.
 use Rattle.std.specs.Prelude.{◌≡◌, ℕ, List, length}
 use Rattle.tab_core.specs.declared.host.Host.{Host}
@@ -52,7 +52,7 @@ pub record IsRunOf (rounds : ℕ) (host : Host) (events : List Event) (view : Vi
   pub report : IsReportOfState ran.book.course (state_of ran.book.course view) ran.report
   pub vcpus : length host.vcpus ≡ vcpus_of ran.book.course
 
--- why the host has no plan; want of memory has no cause
+-- why the host has no plan; out of memory has no cause
 abbrev pub IsUnplanned : Host → PlanFault → Type 0
 IsUnplanned host (fault.NoPeriod vcpu) = IsFirstWithoutPeriod host vcpu
 IsUnplanned host (fault.NoRoom vcpu rest over) = IsFirstWithoutRoom host vcpu rest over

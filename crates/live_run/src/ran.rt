@@ -54,8 +54,8 @@ pub enum LiveFault {
 /// the host's plan, and the plans of the changes are made beside them.
 ///
 /// The script is one for the host's vCPUs, with all its events in the run. `NotBegun` has the fault that
-/// `make_book` has of the host alone, or want of memory, and leaves the seat as it was. From the start on memory
-/// may run out for a change or for what is told of the run: with `Stopped` the view reads as a run so far, which
+/// `make_book` has of the host alone, or out of memory, and leaves the seat as it was. From the start on memory
+/// may run out for a change or for what is reported of the run: with `Stopped` the view reads as a run so far, which
 /// needn't be whole. Without a fault it reads as a whole run, and the report is the one of that run. Both hold
 /// by the course that the script makes of the host, whatever the threads did.
 ///
@@ -116,7 +116,7 @@ fn run_ready<R: Threads + Wait + Sync, G: Gate>(
     run_live(rt, alloc, board, seat, crew, live, gate)
 }
 
-// The run that was made, if memory didn't run out for a change and doesn't for what is told.
+// The run that was made, if memory didn't run out for a change and doesn't for what is reported.
 fn ran_of<R: Threads + Sync>(
     rt: &R,
     alloc: Global,

@@ -10,7 +10,7 @@ use trace_report::write_report;
 
 /// Writes the report of a run, for the names of a host of as many vCPUs and cores as the run's.
 ///
-/// A fault leaves a front of the text in the sink. Nothing is settled, and nothing is allocated.
+/// A fault leaves a prefix of the text in the sink. Nothing is settled, and nothing is allocated.
 pub fn write_run<K: Sink>(
     sink: &mut K,
     host: &Host,

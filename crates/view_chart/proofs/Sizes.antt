@@ -3,7 +3,7 @@ use Rattle.std.proofs.Common.{arith, ℕ, ◌+◌, ◌-◌, ◌*◌, ◌/◌, �
 use Rattle.std.proofs.Math.Nat.{div-mul-le_self}
 use Rattle.std.proofs.lemmas.Nat.{mul-le}
 
--- a mark before the last isn't behind the end
+-- a mark before the last isn't after the end
 pub mark_low : (first k us step : ℕ) → k < (us / step + 1) - first → (first + k) * step ≤ us
 mark_low first k us step low =
     let few : first + k ≤ us / step = omega arith in

@@ -28,7 +28,7 @@ end_mark f = micros_at f f.to / step_of f + 1
 abbrev pub tick_at : Frame → ℕ → ℕ
 tick_at f us = min f.to (us * 1000 / f.tick)
 
--- where the mark there stands
+-- where the mark there is
 abbrev pub mark_at : Frame → ℕ → ℕ
 mark_at f us = x_at f (tick_at f us)
 
@@ -42,7 +42,7 @@ mark_text x ms = codes "<text x=\"" ++ (decimal x
     ++ (codes "\" y=\"8900\" font-size=\"1000\" class=\"dim\" text-anchor=\"middle\">" ++ (decimal ms
     ++ codes "</text>\n")))
 
--- steps of whole milliseconds are told as milliseconds, others as microseconds
+-- steps of whole milliseconds are written as milliseconds, others as microseconds
 abbrev pub unit_of : ℕ → ℕ
 unit_of step = if nat_le 1000 step then 1000 else 1
 
@@ -69,7 +69,7 @@ time_axis f foot = axis_of f foot (end_mark f - first_mark f)
 
 -- ---- ticks, below the lanes
 
--- the step between marks, and the numbers of the first mark and of the one behind the last
+-- the step between marks, and the numbers of the first mark and of the one after the last
 abbrev pub tick_step : Frame → ℕ
 tick_step f = step_in (f.to - f.from) STEPS
 

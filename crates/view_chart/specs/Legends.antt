@@ -17,7 +17,7 @@ column_of k = 4000 + k % 4 * 36000
 abbrev pub row_of : ℕ → ℕ → ℕ
 row_of foot k = foot + 5500 + k / 4 * 1400
 
--- the first row: what is listed, and what is told of it where there are reservations
+-- the first row: what is listed, and what is said of it where there are reservations
 abbrev pub listed_word : Bool → List ℕ
 listed_word false = codes "vCPU"
 listed_word true = codes "core"

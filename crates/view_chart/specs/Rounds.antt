@@ -9,7 +9,7 @@ use Rattle.view_chart.specs.Axes.{tick_text}
 use Rattle.view_lanes.specs.Rounds.{first_round, rounds_shown, used_in}
 use Rattle.view_lanes.specs.declared.frame.Frame.{Frame}
 
--- what stands before a round's number where so many are shown, a letter where there is no room
+-- what is before a round's number where so many are shown, a letter where there is no room
 abbrev pub round_word : ℕ → List ℕ
 round_word rounds = if nat_le rounds 16 then codes "round " else codes "r"
 
@@ -31,7 +31,7 @@ round_at f foot k = round_text (begin_at f k) foot (round_word (rounds_shown f))
 
 -- ---- counts of events
 
--- the same of the round before the one of a number of those that are shown, if that one is shown too
+-- where the round before that of a number begins, of those that are shown, if that one is shown too
 abbrev pub used_before : List Stretch → ℕ → ℕ → Option ℕ
 used_before stretches first zero = None
 used_before stretches first (suc k) = used_in stretches (first + k)

@@ -117,7 +117,7 @@ fn step_of(frame: &Frame) -> u64
     step_in(micros_at(frame, span_of(frame)), &STEPS)
 }
 
-// The number of the first mark, and of the one behind the last.
+// The number of the first mark, and of the one after the last.
 fn first_mark(frame: &Frame) -> u64
     ensures value { result ≡ first_mark frame.now }
 {
@@ -150,7 +150,7 @@ fn micros_of(frame: &Frame, k: u64) -> u64
     us
 }
 
-// Where a mark stands.
+// Where a mark is.
 fn mark_at(frame: &Frame, us: u64) -> u64
     requires { us < 2 ^ 39 }
     ensures { result ≡ mark_at frame.now us }
@@ -237,7 +237,7 @@ fn put_mark<K: Sink>(sink: &mut K, x: u64, ms: u64) -> Result<(), WriteFault>
     )
 }
 
-// Microseconds of the unit that marks are told in.
+// Microseconds of the unit that marks are written in.
 fn unit_of(step: u64) -> u64
     ensures value { result ≡ unit_of step }
     ensures some { 0 < result }
@@ -295,7 +295,7 @@ fn tick_step(frame: &Frame) -> u64
     step_in(u64::from(span_of(frame)), &STEPS)
 }
 
-// The number of the first mark, and of the one behind the last.
+// The number of the first mark, and of the one after the last.
 fn first_tick(frame: &Frame) -> u64
     ensures { result ≡ first_tick frame.now }
 {

@@ -164,7 +164,7 @@ fn put_legend_head<K: Sink>(sink: &mut K, x: u32, y: u32, word: &[u8]) -> Result
     )
 }
 
-// Writes what is told of each, where there are reservations.
+// Writes what is said of each, where there are reservations.
 fn put_task_heads<K: Sink>(
     sink: &mut K,
     x: u32,

@@ -67,7 +67,7 @@ fn put_round_at<K: Sink>(sink: &mut K, frame: &Frame, foot: u32, k: u64) -> Resu
     put_round(sink, begin_at(frame, k), foot, word, first_round(frame) + k)
 }
 
-// What stands before the number of a round of so many.
+// What is before the number of a round of so many.
 fn round_word(rounds: u64) -> &'static [u8]
     ensures { result.now ≡ round_word rounds }
 {

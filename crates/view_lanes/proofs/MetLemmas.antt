@@ -15,7 +15,7 @@ count_of : (on : ℕ → ℕ → Bool) (vcpus n : ℕ) → length (colours_below
 count_of on vcpus zero = refl
 count_of on vcpus (suc n) = grind (arith, common_steps, count_of on vcpus n)
 
--- the colour of each is the next one behind those of the lower ones
+-- the colour of each is the next one after those of the lower ones
 colour_at : (on : ℕ → ℕ → Bool) (vcpus n v : ℕ) → v < n
     → slice_index (colours_below on vcpus n) v ≡ next_colour on vcpus (colours_below on vcpus v) v
 colour_at on vcpus zero v low = absurd (omega (arith, low))
@@ -30,7 +30,7 @@ colour_at on vcpus (suc n) v low = elim (cases_lt v n) [
       rw same (grind (arith, common_steps, count))
 ]
 
--- so those below a number are the same in longer lists
+-- the colours below a number are the same in longer lists
 colour_same : (on : ℕ → ℕ → Bool) (vcpus n m v : ℕ) → v < n → v < m
     → slice_index (colours_below on vcpus n) v ≡ slice_index (colours_below on vcpus m) v
 colour_same on vcpus n m v low less = colour_at on vcpus n v low ∙ sym (colour_at on vcpus m v less)

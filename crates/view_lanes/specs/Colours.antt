@@ -24,11 +24,11 @@ is_home (Some task) core = task.home == core
 abbrev pub runs_on : List Stretch → ℕ → ℕ → Bool
 runs_on stretches core v = list_any (λ s. (s.core == core) && has_it s.by v) stretches
 
--- the vCPU stands on the core: it has a stretch there, or its home
+-- the vCPU is on the core: it has a stretch there, or its home
 abbrev pub stands_on : List Stretch → List Task → ℕ → ℕ → Bool
 stands_on stretches tasks core v = runs_on stretches core v || is_home (slice_get tasks v) core
 
--- two stand on one core, of those below a number
+-- two are on one core, of those below a number
 abbrev pub meets_below : (ℕ → ℕ → Bool) → ℕ → ℕ → ℕ → Bool
 meets_below on u v cores = any_below (λ core. on core u && on core v) cores
 
@@ -48,7 +48,7 @@ abbrev pub first_free : (ℕ → Bool) → ℕ → ℕ → ℕ → ℕ
 first_free taken other k zero = other
 first_free taken other k (suc n) = if taken k then first_free taken other (suc k) n else k
 
--- the colour of a vCPU, behind those of the lower ones
+-- the colour of a vCPU, after those of the lower ones
 abbrev pub next_colour : (ℕ → ℕ → Bool) → ℕ → List ℕ → ℕ → ℕ
 next_colour on vcpus colours v =
     if nat_le vcpus 12 then v else first_free (is_taken on colours v) (24 + v % 24) 0 12

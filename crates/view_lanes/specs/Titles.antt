@@ -68,7 +68,7 @@ unfoldable pub share_text : ℕ → List ℕ
 share_text share = codes ", of which vCPUs have " ++ (decimal (share / 10) ++ (codes "." ++ (decimal (share % 10)
     ++ codes " %.")))
 
--- what stands on the lanes of vCPUs
+-- what is on the lanes of vCPUs
 abbrev pub lanes_note : Bool → List ℕ
 lanes_note false = codes ". A line is the longest wait for a slot; right of it how long that is."
 lanes_note true = codes ". The lanes are the vCPUs', the boxes the cores'."

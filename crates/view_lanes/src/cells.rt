@@ -15,7 +15,7 @@ pub fn edge_of(frame: &Frame, columns: u32, j: u32) -> u64
     edge_from(frame.from, span_of(frame), columns, j)
 }
 
-// The same of so many ticks from one on.
+// Where the column of a number begins, of so many ticks from one on.
 fn edge_from(from: u32, span: u32, columns: u32, j: u32) -> u64
     requires some { 0 < columns }
     requires few { columns ≤ 65536 }

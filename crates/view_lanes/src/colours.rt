@@ -31,7 +31,7 @@ pub(crate) fn colours_of(
     Ok(colours)
 }
 
-// For each core the vCPUs that stand on it.
+// For each core the vCPUs that are on it.
 fn sets_of(alloc: Global, stretches: &[Stretch], tasks: &[Task]) -> Result<Vec<VcpuSet>, NoMemory>
     ensures { IfOk result (λ sets. AreOn sets.items (stands_on stretches.now tasks.now)) }
 {
@@ -104,7 +104,7 @@ fn put_homes(set: &mut VcpuSet, tasks: &[Task], core: u32)
     }
 }
 
-// The colour of a vCPU, behind those of the lower ones.
+// The colour of a vCPU, after those of the lower ones.
 fn next_colour(sets: &[VcpuSet], vcpus: usize, colours: &[u32], v: VcpuNo) -> u32
     requires sets { length sets.now ≡ MAX_CORES }
     requires lower { length colours.now ≡ v }
@@ -134,7 +134,7 @@ fn is_taken(met: &VcpuSet, colours: &[u32], v: VcpuNo, k: u32) -> bool
     taken
 }
 
-// The vCPUs that stand on a core with one.
+// The vCPUs that are on a core with one.
 fn met_by(sets: &[VcpuSet], v: VcpuNo) -> VcpuSet
     requires { length sets.now ≡ MAX_CORES }
     ensures { (on : ℕ → ℕ → Bool) → AreOn sets.now on → AreMet result on v }

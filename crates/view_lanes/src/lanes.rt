@@ -34,7 +34,7 @@ impl Lane {
         &self.bars
     }
 
-    // Puts a bar behind the others.
+    // Puts a bar after the others.
     fn push(&mut self, bar: Bar) -> Result<(), NoMemory>
         ensures { OnOk result (self.new ≡ self.old ++ bar ∷ []) }
     {

@@ -4,7 +4,7 @@ ghost use Rattle.view_doc.specs.declared.view.Stretch.{Stretch};
 ghost use Rattle.view_doc.specs.declared.view.Task.{Task};
 ghost use Rattle.view_lanes.specs.Colours.{colours_of, met_below, stands_on};
 
-/// Two vCPUs that stand on one core have different colours, where the one of the higher number meets fewer than
+/// Two vCPUs that are on one core have different colours, where the one of the higher number meets fewer than
 /// 12 of the lower ones.
 pub fn colours_of_a_lane_differ()
     ensures { (stretches : List Stretch) (tasks : List Task) (vcpus u v core : ℕ) → u < v → v < vcpus

@@ -206,7 +206,7 @@ fn put_sub_end<K: Sink>(sink: &mut K, head: &Head) -> Result<(), WriteFault>
     }
 }
 
-// What stands on the lanes of vCPUs.
+// What is on the lanes of vCPUs.
 fn lanes_note(is_run: bool) -> &'static [u8]
     ensures { result.now ≡ lanes_note is_run }
 {

@@ -14,6 +14,6 @@ plain_bytes (b ∷ bs) all =
     let plain : is_plain b ≡ true = grind (arith, nat_tests) in
     rw plain (plain_bytes bs more)
 
--- and so are names
+-- names are plain
 pub plain_name : (name : List ℕ) → IsName name → list_all is_plain name ≡ true
 plain_name name good = plain_bytes name (and_parts _ (list_all is_byte_of_name name) good).1

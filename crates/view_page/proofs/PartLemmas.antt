@@ -14,11 +14,11 @@ pub part_written : (s t : SinkView) (text : List ℕ) (r : Result (Unit {0}) Wri
 part_written s t text (Ok u) wrote = wrote
 part_written s t text (Err f) wrote = wrote
 
--- where nothing was written yet, a front of any text was
+-- where nothing was written yet, a prefix of any text was
 pub nothing_fronted : (s : SinkView) (text : List ℕ) → Fronted s s text
 nothing_fronted s text = record { left = text; is = all_left s text }
 
--- a front of a part was written: so was a front of the text
+-- a prefix of a part was written: so was a prefix of the text
 fronted_more : (s t v : SinkView) (text left part rest : List ℕ)
     → IsLeft s t text left → left ≡ part ++ rest → Fronted t v part → Fronted s v text
 fronted_more s t v text left part rest is parts begun = record {
@@ -31,7 +31,7 @@ fronted_more s t v text left part rest is parts begun = record {
   };
 }
 
--- the last part's front: the text's
+-- what was written of the last part is a prefix of the text
 fronted_last : (s t v : SinkView) (text left : List ℕ) → IsLeft s t text left → Fronted t v left → Fronted s v text
 fronted_last s t v text left is begun = record {
   left = begun.left;

@@ -41,7 +41,7 @@ unfoldable pub both_tables : Option (List Vcpu) → ℕ → View → List ℕ
 both_tables host tick view = codes "<h2>By vCPU and by core</h2>\n<pre tabindex=\"0\">" ++ (table_text host tick view
     ++ (codes "</pre>\n<h2>By virtual machine and by core</h2>\n<pre tabindex=\"0\">" ++ (vm_table_text host tick view ++ codes "</pre>\n")))
 
--- the same, where the view has a vCPU of a plan
+-- the tables by vCPU and by virtual machine, where the view has a vCPU of a plan
 abbrev pub tables_part : Option (List Vcpu) → ℕ → View → List ℕ
 tables_part host tick view = if length view.tasks.items == 0 then [] else both_tables host tick view
 
@@ -74,7 +74,7 @@ pictures_part tick view figures = codes "<h2>Picture of the cores</h2>\n<figure 
 unfoldable pub script_text : List ℕ → List ℕ
 script_text script = codes "<h2>Script</h2>\n<pre tabindex=\"0\">" ++ (escaped script ++ codes "</pre>\n")
 
--- the same, where a script is given
+-- the script of a run, where one is given
 abbrev pub script_part : Option (List ℕ) → List ℕ
 script_part None = []
 script_part (Some script) = script_text script
@@ -83,7 +83,7 @@ script_part (Some script) = script_text script
 unfoldable pub framed_text : List ℕ → List ℕ
 framed_text text = codes "<h2>What differs from the older plan</h2>\n<pre tabindex=\"0\">" ++ (text ++ codes "</pre>\n")
 
--- the same, where an older plan is given
+-- what differs from an older plan, where one is given
 abbrev pub differences_part : Option (List ℕ) → List ℕ
 differences_part None = []
 differences_part (Some text) = framed_text text

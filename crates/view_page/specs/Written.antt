@@ -6,12 +6,12 @@ use Rattle.tab_io.specs.declared.sink.WriteFault.{WriteFault}
 use Rattle.view_lanes.specs.declared.fault.ChartFault.{ChartFault}
 use Rattle.view_lanes.specs.declared.fault.ChartFault.TheVariants as fault
 
--- a front of the text was written, and no write failed
+-- a prefix of the text was written, and no write failed
 pub record Fronted (old new : SinkView) (text : List ℕ) : Type 0 where
   pub left : List ℕ
   pub is : IsLeft old new text left
 
--- all of the text was written; or a front of it, since the sink failed or memory ran out
+-- all of the text was written; or a prefix of it, since the sink failed or memory ran out
 abbrev pub WritesPart : SinkView → SinkView → List ℕ → Result (Unit {0}) ChartFault → Type 0
 WritesPart old new text (Ok u) = Writes {U = Unit {0}} old new text (Ok u)
 WritesPart old new text (Err fault.Write) = Writes {U = Unit {0}} old new text (Err (record {}))

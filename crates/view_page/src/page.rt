@@ -22,7 +22,8 @@ use view_table::{Figures, write_table, write_vm_table};
 /// core and by vCPU, the script of a run, and what differs from an older plan, as `write_diff` writes it, where these are
 /// given. It loads nothing, and suits wide and narrow screens, light and dark.
 ///
-/// It fails where the sink does, or where memory runs out; a front of the page is in the sink then. Nothing is settled.
+/// It fails where the sink does, or where memory runs out; a prefix of the page is in the sink then. Nothing is
+/// settled.
 pub fn write_page<K: Sink>(
     alloc: Global,
     sink: &mut K,

@@ -16,7 +16,7 @@ pub number_of-more : (names : List (List ℕ)) (v : ℕ) (name : List ℕ)
 unfolding number_of
 number_of-more names v name = ap (λ n. number_of names n name) (add-one v)
 
--- the same as a loop has it
+-- with one more name the number is as a loop has it
 pub number_step : (names : List (List ℕ)) (v : ℕ) (name : List ℕ) (b : Bool) (found old : Option ℕ)
     → b ≡ bytes_eq (name_at names v) name → old ≡ number_of names v name
     → ((b ≡ true) × (found ≡ Some v)) ⊎ ((b ≡ false) × (found ≡ old)) → found ≡ number_of names (v + 1) name

@@ -10,7 +10,7 @@ one_place width v w x y low high same =
     sym (div-mul-add v width y high) ∙ (ap (λ n. n / width) same ∙ div-mul-add w width x low) in
     (row, omega (arith, subst (λ k. k * width + y ≡ w * width + x) row same))
 
--- the same place or another
+-- two places are the same or not
 apart : (a b : ℕ) → (a ≡ b) ⊎ (a ≢ b)
 apart a b = grind arith
 

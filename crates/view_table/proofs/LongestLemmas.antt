@@ -45,7 +45,7 @@ waited_reaches f (suc n) first none = elim (order first n) [
     order : (a b : ℕ) → (a ≤ b) ⊎ (b < a)
     order a b = grind arith
 
--- so no run of them below a tick is longer than the longest
+-- no run of ticks without a slot below a tick is longer than the longest
 longest_reaches : (f : ℕ → Bool) (n first last : ℕ) → first ≤ last → last < n
     → ((x : ℕ) → first ≤ x → x ≤ last → f x ≡ false) → suc last - first ≤ longest f n
 longest_reaches f zero first last order low none = omega arith
@@ -153,7 +153,7 @@ short slots v place first last low served wait = elim (order last (first + ROUND
     order : (a b : ℕ) → (a < b) ⊎ (b ≤ a)
     order a b = grind arith
 
--- the same wait in the first two rounds
+-- a wait is the same in the first two rounds
 moved : (slots : List Stretch) (v first last x : ℕ) → IsWait slots v first last → first % ROUND ≤ x
     → x ≤ first % ROUND + (last - first) → is_served slots v x ≡ false
 moved slots v first last x wait low high =

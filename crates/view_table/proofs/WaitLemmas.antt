@@ -27,7 +27,7 @@ pub longest-zero : (served : ℕ → Bool) → longest served 0 ≡ 0
 unfolding longest
 longest-zero served = refl
 
--- ticks without a slot behind one that has a slot
+-- ticks without a slot after one that has a slot
 pub waited_over : (served : ℕ → Bool) (a k : ℕ) → waited served a ≡ 0
     → ((x : ℕ) → a ≤ x → x < a + k → served x ≡ false)
     → (waited served (a + k) ≡ k) × (longest served (a + k) ≡ max (longest served a) k)

@@ -82,7 +82,7 @@ gives_it true more base from end x is low high =
     ap (λ b. b || more) both
 gives_it false more base from end x is low high = absurd cc
 
--- and none of the round behind its end, or where it isn't due
+-- a slot gives none of the ticks of the round after its end, or where it isn't due
 gives_no_more : (own more : Bool) (base from end x : ℕ) → base + min end ROUND ≤ x → x < base + ROUND
     → ((own && (nat_le (base + from) x && nat_lt x (base + end))) || more) ≡ more
 gives_no_more true more base from end x low high =
@@ -117,7 +117,7 @@ marked_one served end b wait mark marked met none = elim (order wait (b - end)) 
     order : (a b : ℕ) → (a < b) ⊎ (b ≤ a)
     order a b = grind arith
 
--- and it isn't behind the rounds
+-- a wait that is longer than those before ends no later than the rounds
 mark_early : (test : Bool) (b mark most : ℕ) → b ≤ most → mark ≤ most → (if test then b else mark) ≤ most
 mark_early true b mark most low early = low
 mark_early false b mark most low early = early
@@ -177,7 +177,7 @@ walk_one served s rest v base end wait mark all walked = elim (bool_cases (is_du
   | inr due ↦ rw due (walk_other served s rest v base end wait mark due walked)
 ]
 
--- what stands behind a segment of a list in order
+-- what is after a segment of a list in order
 all_begin : (from : ℕ) (ss : List Stretch) (d : Stretch)
     → ((k : ℕ) → k < length ss → from ≤ (get_or ss k d).from) → AllBegin from ss
 all_begin from [] d each = tt
@@ -225,7 +225,7 @@ walk_begin slots order v are = record {
         let ends : 0 + till ≡ till = omega arith in
         rw (place, begins, ends) refl
 
--- the second round begins behind the first
+-- the second round begins after the first
 pub walk_again : (slots order : List Stretch) (v end wait mark : ℕ) → AreByBegin slots order
     → IsWalked (is_served slots v) [] v 0 end wait mark
     → IsWalked (is_served slots v) order v ROUND end wait mark
@@ -261,7 +261,7 @@ walk_again slots order v end wait mark are walked = record {
     any_none : (ss : List Stretch) (x : ℕ) → x < ROUND → list_any (gives v ROUND x) ss ≡ false
     any_none ss x early = none_gives v ROUND x 0 ss (all_zero ss) (omega (arith, early))
 
--- and what is left of it is waited
+-- what is left of the second round is waited
 pub walk_end : (slots : List Stretch) (v end wait mark : ℕ)
     → IsWalked (is_served slots v) [] v ROUND end wait mark → max wait (2 * ROUND - end) ≡ wait_of slots v
 unfolding wait_of

@@ -13,7 +13,7 @@ use Rattle.view_table.specs.Loads.{stands_on}
 use Rattle.view_table.specs.Table.{asked_of, core_head, core_row, is_kept, share_of, wait_cell}
 use Rattle.view_table.specs.Waits.{wait_of}
 
--- where the VM's part of a name ends, by so many of its bytes: at the last dot behind the first byte,
+-- where the VM's part of a name ends, by so many of its bytes: at the last dot after the first byte,
 -- or at the name's end where there is none
 unfoldable pub vm_end : List ℕ → ℕ → ℕ
 vm_end name zero = length name
@@ -96,7 +96,7 @@ vm_breaks tick vcpus names vm tasks slots v = is_broken tick vcpus names tasks s
 
 -- ---- rows
 
--- the names of the columns behind the first; what was asked for stands where there is a host
+-- the names of the columns after the first; what was asked for is there where there is a host
 abbrev pub vm_head : Option (List Vcpu) → List ℕ
 vm_head None = codes "  vcpus   share %    wait ms  cores\n"
 vm_head (Some vcpus) = codes "  vcpus   asked %   given %    wait ms  promised ms  kept  cores\n"
@@ -121,7 +121,7 @@ unfoldable pub vm_cells : ℕ → ℕ → List ℕ → ℕ → ℕ → ℕ → L
 vm_cells tick width vm count share wait = left width vm ++ (count_cell 7 count
     ++ (percent_cell 5 share ++ (wait_cell tick wait ++ codes " ")))
 
--- the same beside what was asked for and promised
+-- the cells of a VM beside what was asked for and promised
 unfoldable pub asked_vm_cells : ℕ → ℕ → List ℕ → ℕ → ℕ → ℕ → ℕ → Option ℕ → Bool → List ℕ
 asked_vm_cells tick width vm count asked share wait promised breaks = left width vm ++ (count_cell 7 count
     ++ (sum_cell promised asked ++ (percent_cell 5 share ++ (wait_cell tick wait

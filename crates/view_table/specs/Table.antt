@@ -64,7 +64,7 @@ core_words slots cores v = codes " " ++ (texts_below (core_word slots v) cores +
 
 -- ---- rows
 
--- the first row, which names the columns; what was asked for stands where there is a host
+-- the first row, which names the columns; what was asked for is there where there is a host
 abbrev pub head_text : Option (List Vcpu) → List ℕ
 head_text None = codes "   share %  period ms    wait ms  cores\n"
 head_text (Some vcpus) =
@@ -75,7 +75,7 @@ unfoldable pub plain_cells : ℕ → ℕ → List ℕ → Task → ℕ → List 
 plain_cells tick width name t wait = left width name ++ (percent_cell 5 (share_of t)
     ++ (millis_cell 7 (t.period * tick) ++ wait_cell tick wait))
 
--- the same beside what was asked for
+-- the cells of a vCPU's row beside what was asked for
 unfoldable pub asked_cells : ℕ → ℕ → List ℕ → Task → ℕ → Option Reservation → List ℕ
 asked_cells tick width name t wait r = left width name ++ (asked_cell r ++ (percent_cell 5 (share_of t)
     ++ (millis_cell 7 (t.period * tick) ++ (wait_cell tick wait

@@ -8,7 +8,7 @@ use Rattle.view_table.specs.Groups.{vm_head, vm_row}
 use Rattle.view_table.specs.Table.{core_head, core_row, head_text, vcpu_row}
 use Rattle.view_table.specs.Totals.{total_text}
 
--- what stands behind the rows of vCPUs or of VMs
+-- what is after the rows of vCPUs or of VMs
 abbrev pub end_text : Option (List Vcpu) → ℕ → View → List ℕ
 end_text host tick view =
     core_head ++ (texts_below (core_row view.slots.items) view.cores ++ total_text host tick view)

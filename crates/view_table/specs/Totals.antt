@@ -50,7 +50,8 @@ unfoldable pub plain_total : ℕ → ℕ → ℕ → List ℕ
 plain_total vcpus given full = codes "\ntotal: vCPUs " ++ (count_cell 0 vcpus ++ (codes ", given " ++ (percent_cell 0 given
     ++ (codes " %, load " ++ (percent_cell 0 full ++ codes " %\n")))))
 
--- the same beside what was asked for, with how many of those that are admitted have all that they were promised
+-- the total beside what was asked for, with how many of those that are admitted have all that they were
+-- promised
 unfoldable pub asked_total : ℕ → ℕ → ℕ → ℕ → ℕ → ℕ → List ℕ
 asked_total vcpus asked given full kept admitted = codes "\ntotal: vCPUs " ++ (count_cell 0 vcpus
     ++ (codes ", asked " ++ (percent_cell 0 asked ++ (codes " %, given " ++ (percent_cell 0 given

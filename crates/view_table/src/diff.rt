@@ -18,7 +18,7 @@ use view_doc::{Stretch, Task, Use, View};
 /// line for each home, share, period and wait that is another, for each vCPU that is gone or new, for
 /// each core's load, and one where the slots are others. It writes nothing where the plans say the same.
 ///
-/// A fault leaves a front of the text in the sink. Nothing is settled, and nothing is allocated.
+/// A fault leaves a prefix of the text in the sink. Nothing is settled, and nothing is allocated.
 pub fn write_diff<K: Sink>(
     sink: &mut K,
     old: &View,

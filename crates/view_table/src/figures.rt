@@ -20,9 +20,9 @@ pub struct Figures {
     pub stands: Vec<bool>,
 }
 
-/// The figures of a plan of at most 256 `vcpu` lines. Fails only for want of memory, of which it takes 44
-/// bytes for each of these lines, a copy of the segments and what a sort of it takes. It goes from segment
-/// to segment, which it puts in the order of their begins.
+/// The figures of a plan of at most 256 `vcpu` lines. Fails only when memory runs out, of which it takes
+/// 44 bytes for each of these lines, a copy of the segments and what a sort of it takes. It goes from
+/// segment to segment, which it puts in the order of their begins.
 pub fn figures_of(alloc: Global, view: &View) -> Result<Figures, NoMemory>
     requires { length view.now.tasks.items ≤ MAX_VCPUS }
     ensures { IfOk result (AreFigures view.now) }

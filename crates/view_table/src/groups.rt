@@ -25,7 +25,7 @@ use view_doc::View;
 /// host a row has what the VM's admitted vCPUs have reserved too: their shares together and the least of their
 /// latencies, and whether each has what it was promised, or dashes where none is admitted.
 ///
-/// A fault leaves a front of the text in the sink. Nothing is settled, and nothing is allocated.
+/// A fault leaves a prefix of the text in the sink. Nothing is settled, and nothing is allocated.
 pub fn write_vm_table<K: Sink>(
     sink: &mut K,
     host: Option<&[Vcpu]>,
@@ -270,7 +270,7 @@ fn vm_of(name: &[u8]) -> &[u8]
     &name[..end]
 }
 
-// Whether a name's last part may begin behind this byte.
+// Whether a name's last part may begin after this byte.
 fn is_last_part(name: &[u8], k: usize) -> bool
     requires { k < length name.now }
     ensures { result ≡ ((slice_index name.now k == 46) && nat_lt 0 k) }

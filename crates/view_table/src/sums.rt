@@ -26,7 +26,7 @@ pub(crate) enum Matter {
 /// plan the new one has another home, another share and another wait, and how many stayed as they were. A VM has
 /// another home where one of its vCPUs has, and so on, and stayed where each of them did.
 ///
-/// A fault leaves a front of the text in the sink. Nothing is settled, and nothing is allocated.
+/// A fault leaves a prefix of the text in the sink. Nothing is settled, and nothing is allocated.
 pub fn write_sums<K: Sink>(
     sink: &mut K,
     old: &View,

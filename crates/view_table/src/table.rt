@@ -27,7 +27,7 @@ use view_doc::{Stretch, Task, View};
 /// and what is left of a round. The last line has how many vCPUs there are, their shares together, how full the
 /// cores are together, and how many of the admitted vCPUs have what they were promised. Times are in milliseconds, with three digits.
 ///
-/// A fault leaves a front of the text in the sink. Nothing is settled, and nothing is allocated.
+/// A fault leaves a prefix of the text in the sink. Nothing is settled, and nothing is allocated.
 pub fn write_table<K: Sink>(
     sink: &mut K,
     host: Option<&[Vcpu]>,
@@ -66,7 +66,7 @@ fn put_table<K: Sink>(
     put_end(sink, host, view, figures, tick_ns)
 }
 
-// Writes the names of the columns behind the first.
+// Writes the names of the columns after the first.
 fn put_head<K: Sink>(sink: &mut K, host: &Option<&[Vcpu]>) -> Result<(), WriteFault>
     ensures { Writes (K.state sink.old) (K.state sink.new) (head_text (option_copied host.now)) result }
 {

@@ -15,7 +15,7 @@ use tab_io::{Sink, WriteFault};
 use table_cells::{Cell, put_cells};
 use view_doc::View;
 
-// Writes what stands behind the rows of vCPUs or of VMs.
+// Writes what is after the rows of vCPUs or of VMs.
 pub(crate) fn put_end<K: Sink>(
     sink: &mut K,
     host: Option<&[Vcpu]>,

@@ -15,7 +15,7 @@ use Rattle.view_text.proofs.LetterLemmas.{leader_same}
 
 -- ---- edges
 
--- a column doesn't begin before the one in front of it
+-- a column doesn't begin before the one before it
 pub edge_rises : (f : Frame) (columns j : ℕ) → 0 < columns → edge_of f columns j ≤ edge_of f columns (j + 1)
 edge_rises f columns j some =
     let span = f.to - f.from in
@@ -27,13 +27,13 @@ edge_rises f columns j some =
     let at = le-div ((j * span + (columns - 1)) / columns) ((j + 1) * span + (columns - 1)) columns some least in
     omega (arith, at)
 
--- so what ends before the one ends before the other
+-- what ends before a column begins ends before the next one does
 pub not_later : (end first edge next : ℕ) → end ≤ first → first ≡ edge → edge ≤ next → end ≤ next
 not_later end first edge next early is later = omega (arith, early, is, later)
 
 -- ---- windows
 
--- bars that rise from each to the next rise from each to all behind it
+-- bars that rise from each to the next rise from each to all after it
 pub rise_all : (bars : List Bar) (i n : ℕ) (d : Bar) → Rise bars → i + n < length bars
     → (get_or bars i d).from ≤ (get_or bars (i + n) d).from
 rise_all bars i zero d rise low = rw (same i) (omega arith)
@@ -90,7 +90,7 @@ sum_window g bars start stop order within before behind =
     let part = sum_by-take-drop g rest n in
     omega (arith, front, back, whole, part)
 
--- what ends before a column or begins behind it has nothing in it
+-- what ends before a column or begins after it has nothing in it
 none_before : (first last : ℕ) (bar : Bar) → bar.end ≤ first → overlap first last bar ≡ 0
 none_before first last bar early = omega (arith, early)
 

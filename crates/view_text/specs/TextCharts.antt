@@ -50,7 +50,7 @@ cell_at f columns vcpus bars j = letter_at f columns vcpus bars j ∷ []
 
 -- ---- a line
 
--- what stands between a core's number and its columns, and before a share
+-- what is between a core's number and its columns, and before a share
 abbrev pub gap_behind : ℕ → List ℕ
 gap_behind core = if nat_lt core 10 then codes "  " else codes " "
 
@@ -75,7 +75,7 @@ line_at f columns vcpus first lanes i = line_of f columns vcpus (first + i)
 
 -- ---- the text
 
--- the letter of a vCPU and its name; eight stand in a line
+-- the letter of a vCPU and its name; eight are in a line
 unfoldable pub key_name : List ℕ → List ℕ → List ℕ
 key_name name gap = codes "=" ++ (name ++ gap)
 

@@ -27,10 +27,9 @@ use view_lanes::{
 /// Draws a view of at most 32 cores and 256 vCPUs as a text: a line for each core, in it a letter for each
 /// column, and below the letters' vCPUs, and how many have no letter of their own.
 ///
-/// A column's letter is that of the vCPU that has the most of its ticks, a colon where nobody had more, and a dot where
-/// no vCPU had any.
-/// A fault of writing leaves a front of the text in the sink; nothing is written where there is no memory,
-/// or where no tick or no core is shown. Nothing is settled.
+/// A column's letter is that of the vCPU that has the most of its ticks, a colon where nobody had more, and a dot
+/// where no vCPU had any. A fault of writing leaves a prefix of the text in the sink; nothing is written where there
+/// is no memory, or where no tick or no core is shown. Nothing is settled.
 pub fn write_text_chart<K: Sink>(
     alloc: Global,
     sink: &mut K,
@@ -397,7 +396,7 @@ fn put_key_name<K: Sink>(sink: &mut K, names: &[Name], v: usize) -> Result<(), W
     put_named(sink, name_at(names, v), key_gap(lettered(names.len()), v))
 }
 
-// What stands behind a vCPU's name, of so many.
+// What is after a vCPU's name, of so many.
 fn key_gap(vcpus: usize, v: usize) -> &'static [u8]
     requires { v < vcpus }
     ensures { result.now ≡ key_gap vcpus v }

@@ -3,7 +3,7 @@ ghost use Rattle.view_text.specs.Inside.Windows.{AreBefore, AreBehind, Rise};
 
 use view_lanes::Bar;
 
-// Whether no bar begins before the one in front of it.
+// Whether no bar begins before the one before it.
 pub(crate) fn rise(bars: &[Bar]) -> bool
     ensures { result ≡ true → Rise bars.now }
 {

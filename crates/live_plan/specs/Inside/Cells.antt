@@ -42,7 +42,7 @@ pub record IsSlotOf (b : LiveView) (c : ℕ) (slot : Slot) : Type 0 where
   pub cell : (cell : Global × ℕ) → slice_get b.cells c ≡ Some cell → slot.note.cell ≡ cell_name cell
   pub matches : slot.matches ≡ true → IsSeenFor b c slot.note.known
 
--- so is each slot, and where there is none there is no such change
+-- each slot is of the cell of its change, and where there is none there is no such change
 abbrev pub IsSlotAt : LiveView → ℕ → Option Slot → Type 0
 IsSlotAt b c None = length b.changes ≤ c
 IsSlotAt b c (Some slot) = IsSlotOf b c slot
@@ -68,7 +68,7 @@ pub record MissedIn (old new : Slot) : Type 0 where
   pub after : known_in (Some new) ≡ None
   pub rose : Rose old.missed new.missed
 
--- so are these, from change c on
+-- the slots are new, from change c on
 abbrev pub AreNewSlots : LiveView → ℕ → List (Option Slot) → Type 0
 AreNewSlots b c [] = Unit {0}
 AreNewSlots b c (slot ∷ slots) = IsNewSlot b c slot × AreNewSlots b (suc c) slots

@@ -11,7 +11,7 @@ IsKept b c kept = kept.used ≤ length b.outline.ticks
     → MatchOption kept.table (IsPlanAt b (changes_before b kept.used) b.plan)
     (λ table. IsSliceAt b (changes_before b kept.used) c table.now)
 
--- the same by place, for neighbouring cores from the first one on
+-- the tables are kept by place, for neighbouring cores from the first one on
 pub record AreKept (b : LiveView) (first : ℕ) (kepts : List Kept) : Type 0 where
   pub size : length kepts ≡ 32
   pub each : (i : ℕ) (kept : Kept) → slice_get kepts i ≡ Some kept → IsKept b (first + i) kept

@@ -6,7 +6,7 @@ use Rattle.live_plan.specs.Books.{IsMadeFor, LiveView}
 use Rattle.live_plan.specs.Mades.{MadeView}
 use Rattle.live_plan.specs.Shelves.{ShelfView}
 
--- what stands at a place, once it was looked at
+-- what is at a place, once it was looked at
 abbrev pub seen_at : Bool → Option MadeView → Option MadeView
 seen_at true made = made
 seen_at false made = None

@@ -12,7 +12,7 @@ use Rattle.live_plan.specs.declared.made.Found.{Found}
 use Rattle.live_plan.specs.declared.made.Found.TheVariants.{Planned, Refused, NoMemory}
 use Rattle.live_plan.specs.Finding.{AreTablesOf}
 
--- the edits make a host with this plan, and that stands next
+-- the edits make a host with this plan, and that is known next
 pub record IsPlannedNext (before : Host) (edits : List Edit) (plan : PlanView) (next : Host) : Type 0 where
   pub edited : IsEdited before edits next
   pub planned : IsPlanned next plan
@@ -25,7 +25,7 @@ pub record IsRefusedNext (before : Host) (edits : List Edit) (outcome : Outcome)
   pub unplanned : IsUnplanned host outcome
   pub stays : next ≡ before
 
--- what was found for the edits of a host, and the host that stands next; want of memory says nothing of it
+-- what was found for the edits of a host, and the known host next; out of memory says nothing of it
 abbrev pub IsFoundNext : Host → List Edit → Found → Host → Type 0
 IsFoundNext before edits (Planned plan slices) next = IsPlannedNext before edits (plan_view plan) next
     × AreTablesOf (plan_view plan) slices.items

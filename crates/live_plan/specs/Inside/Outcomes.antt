@@ -12,6 +12,6 @@ abbrev pub IsOutcomeOf : LiveView → ℕ → Result Plan Outcome → Type 0
 IsOutcomeOf b k (Ok plan) = (tables : List (List FullSpan)) × IsPlanOf b.host b.changes k (plan_view plan) tables
 IsOutcomeOf b k (Err outcome) = IsRefusalOf b.host b.changes k outcome
 
--- so is what stands at each change's place, if anything
+-- what is at each change's place, if anything, is what the rules give for that change of the book
 abbrev pub AreOutcomesOf : LiveView → List (Option (Result Plan Outcome)) → Type 0
 AreOutcomesOf b made = (k : ℕ) (m : Result Plan Outcome) → slice_get made k ≡ Some (Some m) → IsOutcomeOf b k m

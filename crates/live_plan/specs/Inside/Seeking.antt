@@ -28,7 +28,7 @@ abbrev pub IsUnmade : ℕ → ShelfView → ShelfView → Unmade → Type 0
 IsUnmade k s t (NotMade change) = (change < k) × Missed s t change
 IsUnmade k s t (Stopped change) = (change < k) × Knows t change true
 
--- nothing holds back event n: if it is a change, the shelf knows a value for it other than want of memory
+-- nothing holds back event n: if it is a change, the shelf knows a value for it other than out of memory
 abbrev pub IsFree : LiveView → ℕ → ShelfView → Type 0
 IsFree b n t = n < length b.outline.ticks → IsChange b n → Knows t (changes_before b n) false
 

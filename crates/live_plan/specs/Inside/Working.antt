@@ -38,7 +38,7 @@ pub record IsWorking (b : LiveView) (rounds first : ℕ) (members : List Member)
   pub shelf : IsCellShelfOf b lead.shelf
   pub control : LeadAgrees b lead v
 
--- the same without a controller
+-- the members of a thread whose seat has this view, without a controller
 pub record IsWorker (b : LiveView) (rounds first : ℕ) (members : List Member) (v : View) : Type 0 where
   pub block : IsBlock b rounds first members
   pub cores : BlockAgrees b members v
@@ -78,11 +78,11 @@ pub record IsRoster (b : LiveView) (members : List Member) (lead : Lead) (roster
 abbrev pub AllFinished : List Member → Type 0
 AllFinished members = (i : ℕ) (m : Member) → slice_get members i ≡ Some m → HasFinished m.actor.state
 
--- and so has the controller, if the view holds it
+-- every member has finished, and the controller, if the view holds it
 pub record HaveEnded (b : LiveView) (members : List Member) (lead : Lead) (v : View) : Type 0 where
   pub cores : AllFinished members
   pub control : holds v controller ≡ true → HasPostedAll b lead
 
--- all changes were told, or one stopped
+-- all changes were reported, or one stopped
 abbrev pub HasPlanned : LiveView → PlannerView → Type 0
 HasPlanned b p = (p.next ≡ length b.changes) ⊎ (p.stopped ≡ true)

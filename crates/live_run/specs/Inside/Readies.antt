@@ -1,4 +1,4 @@
--- What a live run begins with, what it comes to, and what it is told with.
+-- What a live run begins with, what it comes to, and what it is reported with.
 use Rattle.std.specs.Prelude.{◌≡◌, ℕ, IfNone, List, Option, Some, length}
 use Rattle.tab_core.specs.declared.host.Host.{Host}
 use Rattle.script_doc.specs.declared.event.Event.{Event}

@@ -4,7 +4,7 @@ use Rattle.view_doc.specs.declared.view.Use.{Use}
 use Rattle.view_doc.specs.declared.view.Use.TheVariants.{Slot, Shared}
 use Rattle.view_lanes.specs.declared.frame.Bar.{Bar}
 
--- each lane has these bars behind those that it had
+-- each lane has these bars after those that it had
 pub record HaveMore (more : ℕ → List Bar) (old new : List (List Bar)) : Type 0 where
   pub count : length new ≡ length old
   pub bars : (i : ℕ) → i < length old → slice_index_or new i [] ≡ slice_index_or old i [] ++ more i

@@ -1,10 +1,10 @@
--- Sets that say which vCPUs stand on each core, and which of them meet.
+-- Sets that say which vCPUs are on each core, and which of them meet.
 use Rattle.std.specs.Prelude.{◌≡◌, ℕ, ◌<◌, ◌||◌, Bool, List, [], length, slice_index_or}
 use Rattle.tab_core.specs.VcpuSets.{has_vcpu}
 use Rattle.tab_core.specs.declared.TheConstants.{MAX_CORES, MAX_VCPUS}
 use Rattle.view_lanes.specs.Colours.{meets}
 
--- the sets by core have the vCPUs that stand there
+-- the sets by core have the vCPUs that are there
 pub record AreOn (sets : List (List Bool)) (on : ℕ → ℕ → Bool) : Type 0 where
   pub count : length sets ≡ MAX_CORES
   pub members : (core v : ℕ) → core < MAX_CORES → v < MAX_VCPUS

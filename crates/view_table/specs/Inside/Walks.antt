@@ -6,7 +6,7 @@ use Rattle.tab_core.specs.declared.TheConstants.{ROUND}
 use Rattle.view_doc.specs.declared.view.Stretch.{Stretch}
 use Rattle.view_table.specs.Waits.{is_slot_of, longest, serves, waited}
 
--- no segment begins before the one in front of it
+-- no segment begins before the one before it
 abbrev pub Rise : List Stretch → Type 0
 Rise order = IsNonDecreasingBy (λ (s : Stretch). s.from) order
 
@@ -31,7 +31,7 @@ next_wait v base s end wait = if is_due v s then max wait (base + s.from - end) 
 abbrev pub next_mark : ℕ → ℕ → Stretch → ℕ → ℕ → ℕ → ℕ
 next_mark v base s end wait mark = if is_due v s && nat_lt wait (base + s.from - end) then base + s.from else mark
 
--- the same behind both rounds
+-- the tick at which that wait ends, after both rounds
 abbrev pub last_mark : ℕ → ℕ → ℕ → ℕ
 last_mark end wait mark = if nat_lt wait (2 * ROUND - end) then 2 * ROUND else mark
 
@@ -39,8 +39,8 @@ last_mark end wait mark = if nat_lt wait (2 * ROUND - end) then 2 * ROUND else m
 abbrev pub gives : ℕ → ℕ → ℕ → Stretch → Bool
 gives v base x s = is_slot_of v s.by && (nat_le (base + s.from) x && nat_lt x (base + s.end))
 
--- The longest wait up to a tick is known, and a tick at which such a wait ends. None goes on there, and what comes behind in the round that
--- begins at `base` is in the segments that are left.
+-- The longest wait up to a tick is known, and a tick at which such a wait ends. None goes on there, and what comes
+-- after in the round that begins at `base` is in the segments that are left.
 pub record IsWalked (served : ℕ → Bool) (rest : List Stretch) (v base end wait mark : ℕ) : Type 0 where
   pub within : end ≤ base + ROUND
   pub most : wait ≡ longest served end

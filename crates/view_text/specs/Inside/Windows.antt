@@ -1,8 +1,8 @@
--- The bars that a column goes over: those before them and behind them have nothing in it.
+-- The bars that a column goes over: those before them and after them have nothing in it.
 use Rattle.std.specs.Prelude.{ℕ, ◌+◌, ◌<◌, ◌≤◌, List, length, slice_index_or}
 use Rattle.view_lanes.specs.declared.frame.Bar.{Bar}
 
--- no bar begins before the one in front of it
+-- no bar begins before the one before it
 abbrev pub Rise : List Bar → Type 0
 Rise bars = (i : ℕ) (d : Bar) → i + 1 < length bars → (slice_index_or bars i d).from ≤ (slice_index_or bars (i + 1) d).from
 

@@ -2,7 +2,7 @@ use Rattle.std.proofs.Common.{◌≡◌, ℕ, ◌<◌, ◌≤◌, get_or, length
 use Rattle.view_table.specs.Inside.Walks.{last_mark}
 use Rattle.view_table.proofs.waits.end_marks.Given as goal
 
--- the marks below the vCPU are those behind both rounds, and the others not yet
+-- the marks below the vCPU are those after both rounds, and the others not yet
 abbrev pub invariant-loop-vcpu : goal.invariant-loop-vcpu
 invariant-loop-vcpu l = record {
   size : length l.marks ≡ length l.initial.marks;
