@@ -36,8 +36,8 @@ returns-in-Ok-plan_staying g c =
   c.in-Ok-plan_staying.ensures.fits_host,
 )
 
-pub returns-in-Err-plan_staying : goal.returns-in-Err-plan_staying
-returns-in-Err-plan_staying g c =
+pub returns : goal.returns
+returns g c =
     let old : HasOldHomes c.args.sections.now c.in-Ok.host c.in-Ok-read_old_homes.homes.items = record {
       is_host = rw c.part.ensures at c.in-Ok.ensures.ok;
       old = rw c.part-2.ensures at c.in-Ok-read_old_homes.ensures.ok;
