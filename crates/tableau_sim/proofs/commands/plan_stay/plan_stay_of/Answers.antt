@@ -20,24 +20,24 @@ returns-in-Ok-plan_staying g c =
       is_host = rw c.part.ensures at c.in-Ok.ensures.ok;
       old = rw c.part-2.ensures at c.in-Ok-read_old_homes.ensures.ok;
     } in (
-  PlansStaying.Planned c.in-Ok.host c.in-Ok-read_old_homes.homes.items _ old (record {
-    planned = rw c.deref.ensures.value at c.in-Ok-plan_staying.ensures.ok;
-    keeps = record {
-      serves = c.in-Ok-plan_staying.plan.serves;
-      apart = c.in-Ok-plan_staying.plan.apart;
-      housed = c.in-Ok-plan_staying.plan.housed;
-      owned = c.in-Ok-plan_staying.plan.owned;
-      exact = c.in-Ok-plan_staying.plan.exact;
-    };
-    is_for = c.in-Ok-plan_staying.ensures.fits_host;
-    reservations = kept_by_rows c.in-Ok.host _ c.in-Ok-plan_staying.ensures.chosen c.in-Ok-plan_staying.plan.serves
-        c.in-Ok-plan_staying.plan.apart;
-  }),
-  c.in-Ok-plan_staying.ensures.fits_host,
-)
+      PlansStaying.Planned c.in-Ok.host c.in-Ok-read_old_homes.homes.items _ old (record {
+        planned = rw c.deref.ensures.value at c.in-Ok-plan_staying.ensures.ok;
+        keeps = record {
+          serves = c.in-Ok-plan_staying.plan.serves;
+          apart = c.in-Ok-plan_staying.plan.apart;
+          housed = c.in-Ok-plan_staying.plan.housed;
+          owned = c.in-Ok-plan_staying.plan.owned;
+          exact = c.in-Ok-plan_staying.plan.exact;
+        };
+        is_for = c.in-Ok-plan_staying.ensures.fits_host;
+        reservations = kept_by_rows c.in-Ok.host _ c.in-Ok-plan_staying.ensures.chosen c.in-Ok-plan_staying.plan.serves
+            c.in-Ok-plan_staying.plan.apart;
+      }),
+      c.in-Ok-plan_staying.ensures.fits_host,
+    )
 
-pub returns-in-Err-plan_staying : goal.returns-in-Err-plan_staying
-returns-in-Err-plan_staying g c =
+pub returns : goal.returns
+returns g c =
     let old : HasOldHomes c.args.sections.now c.in-Ok.host c.in-Ok-read_old_homes.homes.items = record {
       is_host = rw c.part.ensures at c.in-Ok.ensures.ok;
       old = rw c.part-2.ensures at c.in-Ok-read_old_homes.ensures.ok;
