@@ -22,7 +22,7 @@ const CLEARED: &[u8] = b"\r                                                  \r"
 pub(crate) struct ProgressGate<C: Clock, P: Print> {
     clock: C,
     output: P,
-    // Where there is none, nothing is told.
+    // Where there is none, nothing is written.
     begin: Option<Instant>,
     steps: AtomicU64,
     // The milliseconds from the begin to the last telling, 0 where there is none.
@@ -46,7 +46,7 @@ impl<C: Clock, P: Print> ProgressGate<C, P> {
         }
     }
 
-    /// Clears the line, if anything was told, once no actor steps any more.
+    /// Clears the line, if anything was written, once no actor steps any more.
     pub(crate) fn clear(&self) {
         if self.told.swap(0, SeqCst) != 0 {
             // (a line that can't be cleared stays)

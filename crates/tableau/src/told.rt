@@ -1,4 +1,5 @@
-//! What is told on standard error: what a command reads from a terminal, and after a refusal what to do.
+//! What is written to standard error: what a command reads from a terminal, and after a refusal what to
+//! do.
 ghost use Rattle.std.specs.Prelude.{◌<◌, ◌^◌, length};
 
 use advice::{Due, Refusal, write_advice, write_prompt};
@@ -11,8 +12,8 @@ use tableau_sim::Status;
 // Room for the longest of these texts.
 const ROOM: usize = 4096;
 
-/// Writes what the command of these words reads, before it reads that from a terminal. Where memory is
-/// wanting, or the output fails, nothing more is written.
+/// Writes what the command of these words reads, before it reads that from a terminal. Where memory
+/// runs out, or the output fails, nothing more is written.
 pub(crate) fn prompt<P: Print>(output: &P, alloc: Global, words: &[String]) {
     let Ok(mut sink) = MemSink::with_room(alloc, ROOM) else {
         return;
@@ -21,8 +22,8 @@ pub(crate) fn prompt<P: Print>(output: &P, alloc: Global, words: &[String]) {
     let _ = output.write_all(sink.bytes());
 }
 
-/// Writes the advice on this status of a call with these words, which read this input. Where memory is
-/// wanting, or the output fails, nothing more is written.
+/// Writes the advice on this status of a call with these words, which read this input. Where memory
+/// runs out, or the output fails, nothing more is written.
 pub(crate) fn tell<P: Print>(
     output: &P,
     alloc: Global,
@@ -72,7 +73,7 @@ fn refusal_of(status: &Status) -> Option<Refusal> {
     Some(refusal)
 }
 
-// The same of tables that are no plan.
+// What the advice is asked of tables that are no plan.
 fn of_tables(fault: &CheckFault) -> Option<Refusal> {
     match fault {
         CheckFault::BadShape { core, place } => Some(Refusal::BadShape {
@@ -103,7 +104,7 @@ fn of_tables(fault: &CheckFault) -> Option<Refusal> {
     }
 }
 
-// The same of a step that isn't done.
+// What the advice is asked of a step that isn't done.
 fn of_step(line: u32, answer: &Answer) -> Option<Refusal> {
     let due = match answer {
         Answer::Done => return None,

@@ -59,7 +59,7 @@ module _ (rounds : ℕ) (host : Host) (events : List Event) (view : View) (ran :
         complete = is.complete;
       }
 
-  -- and its report is what `run` with `live` writes
+  -- the report of a whole run is what `run` with `live` writes
   pub ran_live : (sections : List (List ℕ)) → HasScript rounds sections host events → Runs rounds Live view sections
       (Writes (report_text host ran.changes (length ran.book.course.ticks) rounds ran.report))
   ran_live sections script =

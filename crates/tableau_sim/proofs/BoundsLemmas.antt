@@ -39,7 +39,8 @@ no_vcpu_lacks_room host v rest over has first =
     (placement_within_bound [] first.tasks host.cores first.placed host.some_core
     first.is_start.placement within) first.stuck.left_is
 
--- so nothing refuses it, neither as a document nor for a period or room
+-- nothing refuses a host within the bound, neither as a document nor because a period or room is
+-- missing
 bounded_is_planned : (sections : List (List ℕ)) → IsBounded (host_section sections)
     → (refusal : Status) (names : List (List ℕ)) → Plans sections (Refuses refusal names) → ⊥
 bounded_is_planned sections bounded refusal names (Plans.BadHost fault is) =
@@ -51,7 +52,7 @@ bounded_is_planned sections bounded refusal names (Plans.NoRoom host vcpu rest o
     let has = subst HasBoundedTasks (one_host _ bounded.host host bounded.is_host is) bounded.bounded in
     no_vcpu_lacks_room host vcpu rest over has lacks
 
--- the same of the whole input
+-- `plan whole` doesn't refuse an input whose host's demands fit
 pub bounded_is_faultless : (input : List ℕ) → length (sections_of input) ≡ 1
     → IsBounded (host_section (sections_of input)) → IsFaultless Replies called.Plan input
 bounded_is_faultless input one bounded refusal names h =
@@ -63,7 +64,7 @@ none_beyond_room host demand room has beyond =
     let same = ap demands (tasks_unique host beyond.tasks has.tasks beyond.tasks_are has.tasks_are) in
     omega (arith, beyond.demand_is, beyond.room_is, beyond.beyond, has.fits, same)
 
--- so `plan whole` doesn't refuse it
+-- `plan whole` doesn't refuse a host whose demands fit
 fitting_is_planned : (sections : List (List ℕ)) → IsFitting (host_section sections)
     → (refusal : Status) (names : List (List ℕ)) → PlansWhole sections (Refuses refusal names) → ⊥
 fitting_is_planned sections fitting refusal names (PlansWhole.BadHost fault is) =
@@ -75,7 +76,7 @@ fitting_is_planned sections fitting refusal names (PlansWhole.NoFit host demand 
     let has = subst HasFittingTasks (one_host _ fitting.host host fitting.is_host is) fitting.fitting in
     none_beyond_room host demand room has beyond
 
--- the same of the whole input
+-- `plan whole` doesn't refuse an input whose host's demands fit
 pub fitting_is_faultless : (input : List ℕ) → length (sections_of input) ≡ 1
     → IsFitting (host_section (sections_of input)) → IsFaultless Replies called.PlanWhole input
 fitting_is_faultless input one fitting refusal names h =

@@ -23,7 +23,7 @@ abbrev pub RefusesInput : (Command → List ℕ → Outcome → Type 0) → Type
 RefusesInput R = (command : Command) (input : List ℕ) (refusal : Status) (names : List (List ℕ))
     → R command input (Refuses refusal names) → IsOfInput refusal
 
--- and a command that reads nothing refuses nothing
+-- a command that reads nothing refuses nothing
 abbrev pub WritesUnread : (Command → List ℕ → Outcome → Type 0) → Type 0
 WritesUnread R = (command : Command) (input : List ℕ) (outcome : Outcome) → reads command ≡ false
     → R command input outcome → status_of outcome ≡ status.Ok
@@ -65,7 +65,8 @@ outcome_written : (outcome : Outcome) → status_of outcome ≡ status.Ok
 outcome_written (Writes text) is of = refl
 outcome_written (Refuses refusal names) is of = absurd (subst IsOfInput is (of refusal names refl))
 
--- the same premise for any outcome of a command, so that it needn't be a refusal by its form
+-- a command that ends with `Ok` has written a text, by a premise on any outcome, so that it needn't
+-- be a refusal by its form
 of_input : (R : Command → List ℕ → Outcome → Type 0) (refuses : RefusesInput R)
     (command : Command) (input : List ℕ) (outcome : Outcome) → R command input outcome
     → (refusal : Status) (names : List (List ℕ)) → outcome ≡ Refuses refusal names → IsOfInput refusal
@@ -163,7 +164,7 @@ not_too_much true old new input given reading_is is consumed size =
     omega (arith, low, within, size)
 not_too_much false old new input given reading_is is consumed size = absurd cc
 
--- over a source that works, of a faultless input a text is due, or memory was wanting
+-- over a source that works, of a faultless input a text is due, or memory ran out
 complete_of : (R : Command → List ℕ → Outcome → Type 0) (Leaves : Due → List ℕ → Type 0)
     (words : List (List ℕ)) (source source' : SourceView) (command : Command)
     (input given : List ℕ) (due : Due) → IsCommand words command → IsToRead command source given
@@ -204,7 +205,7 @@ complete_told R Leaves words source source' sink sink' told a command given are 
 
 -- ---- a command that reads nothing
 
--- what is due is its text, or memory was wanting, and nothing was read
+-- what is due is its text, or memory ran out, and nothing was read
 silent_of : (R : Command → List ℕ → Outcome → Type 0) (Leaves : Due → List ℕ → Type 0) (silent : WritesUnread R)
     (words : List (List ℕ)) (source source' : SourceView) (command : Command)
     (input : List ℕ) (due : Due) → IsCommand words command → reads command ≡ false
@@ -229,7 +230,7 @@ silent_of R Leaves silent words source source' command input (Replied other outc
       subst (λ b. HasReadIf b source' input) (ap reads same ∙ still) h.1,
     )
 
--- so it ends in one of these ways
+-- a command that reads nothing ends with its text, or because memory ran out
 ends_unread : (takes : Bool) (told due : Status) → (told ≡ due) ⊎ (told ≡ status.WriteFault)
     → (due ≡ status.Ok) ⊎ ((takes ≡ true) × (due ≡ status.NoMemory)) → EndsUnread takes told
 ends_unread false told due (inl is) (inl ok) = inl (is ∙ ok)
@@ -350,7 +351,7 @@ too_long_told R Leaves refuses words source source' sink sink' told a is =
     let t = told_due R Leaves words source source' sink sink' told a (λ failed. let e = sym is ∙ failed in absurd cc) in
     (t.input, t.consumed, too_long_of R Leaves refuses words source source' t.input t.due t.is_due (t.told_is ∙ is))
 
--- with `NoMemory` only want of memory can have been due
+-- with `NoMemory` only running out of memory can have been due
 lacked_of : (R : Command → List ℕ → Outcome → Type 0) (Leaves : Due → List ℕ → Type 0) (refuses : RefusesInput R)
     (words : List (List ℕ)) (source source' : SourceView) (input : List ℕ) (due : Due)
     → Consumes source.rest source'.rest input → IsDue R Leaves words source source' input due

@@ -11,7 +11,8 @@ use Rattle.tableau_sim.specs.declared.status.Status.TheVariants as status
 use Rattle.tableau_sim.specs.Frame.{WritesReply}
 use Rattle.tableau_sim.specs.Outcomes.{Outcome, text_of}
 
--- the text is out whole and `finish` fails: the answer is a write fault, with the whole text as its front
+-- the text is out whole and `finish` fails: the answer is a write fault, with the whole text as what was
+-- written
 pub unsettled : (s t v : SinkView) (due : Outcome) (q : Result (Unit {0}) WriteFault)
     (u : Unit {0})
     → Writes s t (text_of due) q → q ≡ Ok u → Rose t.faults v.faults → ((m : ℕ) → t.room ≡ Some m → ⊥)

@@ -21,7 +21,7 @@ use Rattle.tableau_sim.specs.Sections.{host_section}
 use Rattle.tableau_sim.proofs.HostsLemmas.{no_host_fault}
 use Rattle.tableau_sim.proofs.OutcomesLemmas.{no_refusal}
 
--- of its section: it is a host, and no other, and lacks neither a period nor room
+-- of its section: it is a host, and no other, and no period and no room is missing
 gen_is_planned : (seed cores vcpus : ℕ) (host : Host) (s : List (List ℕ)) → vcpus ≤ 99 * cores + 1
     → IsGenerated seed cores vcpus host → IsHostText (host_section s) host → (refusal : Status)
     (names : List (List ℕ)) → Plans s (Refuses refusal names) → ⊥
@@ -34,7 +34,7 @@ gen_is_planned seed cores vcpus host s few of is refusal names (Plans.NoRoom oth
     has_room seed cores vcpus other vcpu rest over few
     (subst (λ h. IsGenerated seed cores vcpus h) (one_host _ host other is also) of) lacks
 
--- and so of the whole input
+-- the input that `gen` writes is a host that is planned
 gen_is_faultless : (seed cores vcpus : ℕ) (host : Host) (input : List ℕ) → vcpus ≤ 99 * cores + 1
     → IsGenerated seed cores vcpus host → length (sections_of input) ≡ 1
     → IsHostText (host_section (sections_of input)) host → IsFaultless Replies called.Plan input
@@ -42,7 +42,7 @@ gen_is_faultless seed cores vcpus host input few of one is refusal names h =
     no_refusal 1 Plans input one (gen_is_planned seed cores vcpus host (sections_of input) few of is)
     refusal names h
 
--- so what `gen` writes is planned
+-- what `gen` writes is planned
 pub gen_text_is_planned : (seed cores vcpus : ℕ) (text : List ℕ) → IsGenerable seed cores vcpus
     → Gens seed cores vcpus (Writes text) → IsFaultless Replies called.Plan text
 gen_text_is_planned seed cores vcpus text counts (Gens.Generated host of) =
@@ -51,7 +51,7 @@ gen_text_is_planned seed cores vcpus text counts (Gens.Generated host of) =
     gen_is_faultless seed cores vcpus host (host_text host) counts.roomy of (ap length one)
     (subst (λ s. IsHostText (host_section s) host) (sym one) is)
 
--- and is within the limit of an input
+-- what `gen` writes is within the limit of an input
 pub gen_text_is_short : (seed cores vcpus : ℕ) (text : List ℕ) → IsGenerable seed cores vcpus
     → Gens seed cores vcpus (Writes text) → length text ≤ INPUT_LIMIT
 gen_text_is_short seed cores vcpus text counts (Gens.Generated host of) =

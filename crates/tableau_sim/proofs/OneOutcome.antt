@@ -102,7 +102,7 @@ abbrev OfOldHomes : Host → List (Option ℕ) → Outcome → Type 0
 OfOldHomes h homes = Ends (HasStayingFault homes h) (plan_refusal h) (IsStayingPlan homes h)
     (λ p. Writes (plan_text (names_of h.vcpus) p))
 
--- and of a host
+-- what `replay` makes of a host
 abbrev OfStayingHost : List (List ℕ) → Host → Outcome → Type 0
 OfStayingHost s h = Staged (IsFirstBadFor IsSomeOldText 1 (worded (plan_section s)))
     (λ line. Refuses (status.BadPlanLine line) [])
@@ -146,14 +146,14 @@ abbrev OfTables : Host → List (Option Periodic) → RawTables → Outcome → 
 OfTables h t raw = Ends (HasCheckFault t raw.rows) (λ f. Refuses (status.CheckNo f) (names_of h.vcpus))
     (λ (_ : Unit {0}). AreGood t raw.rows) (λ _. Writes (codes "ok\n"))
 
--- and of tasks
+-- what `check` makes of tasks
 abbrev OfTasks : List (List ℕ) → Host → List (Option Periodic) → Outcome → Type 0
 OfTasks s h t =
     Staged (IsFirstBadFor (IsSomePlan (names_of h.vcpus) h.cores t) 1 (worded (plan_section s)))
     (λ line. Refuses (status.BadPlanLine line) [])
     (IsPlanText (names_of h.vcpus) h.cores t (plan_section s)) (OfTables h t)
 
--- and of a host
+-- what `replay` makes of a host
 abbrev OfCheckedHost : List (List ℕ) → Host → Outcome → Type 0
 OfCheckedHost s h = Staged (IsFirstWithoutPeriod h)
     (λ vcpu. Refuses (status.NoPeriod vcpu) (names_of h.vcpus)) (AreTasksOf h) (OfTasks s h)
@@ -224,25 +224,25 @@ abbrev OfCourse : ℕ → Parts → CourseView → Outcome → Type 0
 OfCourse rounds parts course = Ends (IsRefusedOn rounds parts course)
     (λ at. Refuses (status.StepRefused at.0 at.1) []) (IsRunOf rounds parts course) (run_text parts course)
 
--- and of its parts
+-- what `replay` makes of its parts
 abbrev OfParts : ℕ → Parts → Outcome → Type 0
 OfParts rounds parts = Staged (HasPlanFault parts.host) (plan_refusal parts.host)
     (IsFormedCourseOf parts.host parts.events) (OfCourse rounds parts)
 
--- and of a script
+-- what `replay` makes of a script
 abbrev OfScript : ℕ → List (List ℕ) → Host → List Event → Outcome → Type 0
 OfScript rounds s h events = Staged (IsFirstBadLine h.cores (statements_of (steps_section s)))
     (λ line. Refuses (status.BadStep line) [])
     (λ (listed : List Step × List ℕ). AreSteps h.cores (statements_of (steps_section s)) listed.0 listed.1)
     (λ listed. OfParts rounds (parts_of h events listed))
 
--- and of a host
+-- what `replay` makes of a host
 abbrev OfReplayedHost : ℕ → List (List ℕ) → Host → Outcome → Type 0
 OfReplayedHost rounds s h = Staged (IsFirstFault (names_of h.vcpus) rounds (statements_of (script_section s)))
     (λ f. Refuses (status.Script f) [])
     (IsScript (names_of h.vcpus) rounds (statements_of (script_section s))) (OfScript rounds s h)
 
--- the first three stages are behind where there are parts
+-- the first three stages are passed where there are parts
 behind_parts : (rounds : ℕ) (s : List (List ℕ)) (parts : Parts) (o : Outcome) → HasParts rounds s parts
     → OfParts rounds parts o → HostStage s (OfReplayedHost rounds s) o
 behind_parts rounds s parts o has rest = inr (
@@ -368,7 +368,7 @@ one_outcome (called.Gen seed cores vcpus) input one other single = gen_only seed
 one_outcome (called.Run rounds mode) input one other single = λ p q. absurd p
 one_outcome (called.Selftest seed) input one other single = λ p q. absurd p
 
--- and each that is refused has no other
+-- each input that is refused has no other outcome
 pub one_refusal : (command : Command) (input : List ℕ) (refusal : Status) (names : List (List ℕ))
     (other : Outcome) → Replies command input (Refuses refusal names) → Replies command input other
     → Refuses refusal names ≡ other

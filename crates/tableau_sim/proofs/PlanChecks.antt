@@ -34,7 +34,7 @@ use Rattle.tableau_sim.proofs.OutcomesLemmas.{no_refusal}
 
 -- ---- the tables
 
--- so the plan's own segments are good tables
+-- a plan's own segments are good tables
 good_tables : (plan : PlanView) (raw : RawTables) → AreOfPlan plan raw → IsPlan plan
     → All (λ (row : Row). length row ≡ ROUND) plan.rows → AreGood plan.tasks raw.rows
 good_tables plan raw own keeps rounds =
@@ -71,7 +71,7 @@ plan_written section text (Plans.Planned host plan is has) = record {
   says = refl;
 }
 
--- and so is what `plan stay` wrote
+-- what `plan stay` wrote is the text of a plan of the host
 stay_written : (section old text : List ℕ) → PlansStaying (section ∷ old ∷ []) (Writes text)
     → WritesPlan section text
 stay_written section old text (PlansStaying.Planned host homes plan is has) = record {
@@ -85,7 +85,7 @@ stay_written section old text (PlansStaying.Planned host homes plan is has) = re
   says = refl;
 }
 
--- and so is what `plan whole` wrote
+-- what `plan whole` wrote is the text of a plan of the host
 whole_written : (section text : List ℕ) → PlansWhole (section ∷ []) (Writes text) → WritesPlan section text
 whole_written section text (PlansWhole.Planned host plan is has) = record {
   host = host;
@@ -125,7 +125,7 @@ passes section text p =
     Checks.Passes p.host p.plan.tasks back.raw (record { tasked = tasked; text = own })
     (good_tables p.plan back.raw back.own p.keeps valid.rounds)
 
--- so it isn't refused, since `check` has one outcome
+-- a text of the plan's own tables isn't refused, since `check` has one outcome
 written_checks : (section text input : List ℕ) → WritesPlan section text
     → sections_of input ≡ section ∷ text ∷ [] → IsFaultless Replies called.Check input
 written_checks section text input written parts refusal names h =
@@ -138,13 +138,13 @@ pub plan_checks : (section text input : List ℕ) → Plans (section ∷ []) (Wr
     → sections_of input ≡ section ∷ text ∷ [] → IsFaultless Replies called.Check input
 plan_checks section text input planned = written_checks section text input (plan_written section text planned)
 
--- and of `plan stay`
+-- the law of `plan stay`
 pub stay_checks : (section old text input : List ℕ) → PlansStaying (section ∷ old ∷ []) (Writes text)
     → sections_of input ≡ section ∷ text ∷ [] → IsFaultless Replies called.Check input
 stay_checks section old text input planned =
     written_checks section text input (stay_written section old text planned)
 
--- and of `plan whole`
+-- the law of `plan whole`
 pub whole_checks : (section text input : List ℕ) → PlansWhole (section ∷ []) (Writes text)
     → sections_of input ≡ section ∷ text ∷ [] → IsFaultless Replies called.Check input
 whole_checks section text input planned = written_checks section text input (whole_written section text planned)

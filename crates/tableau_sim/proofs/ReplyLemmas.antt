@@ -185,7 +185,7 @@ made_of_sections n P input (Ok text) size h = (Sectioned _ size h.0, h.1)
 made_of_sections n P input (Err (stop.Refused refusal host)) size h = Sectioned _ size h
 made_of_sections n P input (Err stop.NoMemory) size h = tt {0}
 
--- and otherwise the refusal of their number is
+-- the refusal of the number of sections is made of the input, where they aren't as many as wanted
 pub off_sections : (n : ℕ) (P : List (List ℕ) → Outcome → Type 0) (input : List ℕ) (why : Stop)
     → IsOff n input why → Makes (OfSections n P input) (Err why)
 off_sections n P input why is = subst (λ w. Makes (OfSections n P input) (Err w)) (sym is.why_is)
@@ -232,7 +232,7 @@ read_too_much old new result at all is =
       why_is = HasNoInput.TooLong ended.1;
     }
 
--- memory was wanting while the input was read
+-- memory ran out while the input was read
 pub read_lacking : (old new : SourceView) (result : Result (Vec ℕ Global) ReadAll)
     → ReadsAll old new INPUT_LIMIT result → StopsReading old new stop.NoMemory
 read_lacking old new result all = record {

@@ -167,7 +167,7 @@ test_answers seed old new words source sink sink' told are by = elim by.is [
   }
 ]
 
--- want of memory that leaves Q
+-- running out of memory that leaves Q
 pub lacking : (P : Outcome → Type 0) (Q : Type 0) (old new : View) (sink sink' : SinkView) (told : Status) → Q
     → WritesReply sink sink' (Refuses status.NoMemory []) told → AnswersBy P Q old new sink sink' told
 lacking P Q old new sink sink' told left written = record {

@@ -41,7 +41,7 @@ selftest_writes : (seed : ℕ) (view : View) (outcome : Outcome) → Selftests s
     → status_of outcome ≡ status.Ok
 selftest_writes seed view outcome (Selftests.Tested host book report is of whole reports) = refl
 
--- so its refusals are of its input: there are none
+-- the refusals of `selftest` are of its input: there are none
 selftest_refuses : (seed : ℕ) (view : View) (outcome : Outcome) (refusal : Status) (names : List (List ℕ))
     → Selftests seed view outcome → outcome ≡ Refuses refusal names → IsOfInput refusal
 selftest_refuses seed view outcome refusal names (Selftests.Tested host book report is of whole reports) same =
@@ -56,7 +56,7 @@ seat_refuses old new (called.Selftest seed) input refusal names h =
     selftest_refuses seed new _ refusal names h.0 refl
 seat_refuses old new other input refusal names h = refuses_input other input refusal names h.0
 
--- and a command that reads nothing refuses nothing
+-- a command that reads nothing refuses nothing, with a seat too
 pub seat_writes : (old new : View) (command : Command) (input : List ℕ) (outcome : Outcome)
     → reads command ≡ false → OnSeat old new command input outcome → status_of outcome ≡ status.Ok
 seat_writes old new (called.Run rounds mode) input outcome still h = absurd cc
@@ -70,19 +70,19 @@ left_alone view (called.Run rounds mode) input outcome still h = absurd still
 left_alone view (called.Selftest seed) input outcome still h = absurd still
 left_alone view other input outcome still h = (h, refl)
 
--- want of memory for a run may leave the seat as it was
+-- running out of memory for a run may leave the seat as it was
 pub run_left : (rounds : ℕ) (mode : RunMode) (old new : View) (sections : List (List ℕ)) → new ≡ old
     → LeavesRun rounds mode old new sections
 run_left rounds Live old new sections same = inl same
 run_left rounds other old new sections same = same
 
--- and so may each that isn't a command's reply
+-- whatever isn't a command's reply may leave the seat as it was
 pub seat_left : (old new : View) (due : Due) (input : List ℕ) → new ≡ old → LeavesSeat old new due input
 seat_left old new (LacksMemory (called.Run rounds mode)) input same =
     run_left rounds mode old new (sections_of input) same
 seat_left old new due input same = same
 
--- so what is due without a seat is due with one
+-- what is due without a seat is due with one
 due_with_seat : (view : View) (words : List (List ℕ)) (old new : SourceView) (input : List ℕ) (due : Due)
     → AreStill words → IsDue Replies LeavesNothing words old new input due
     → IsDue (OnSeat view view) (LeavesSeat view view) words old new input due
@@ -94,7 +94,7 @@ due_with_seat view words old new input (LacksMemory command) still h =
 due_with_seat view words old new input (Replied command outcome) still h =
     (h.0, h.1, left_alone view command input outcome (still command h.0) h.2)
 
--- and the answer is the same
+-- the answer with a seat is that without one
 pub answers_with_seat : (view : View) (words : List (List ℕ)) (source source' : SourceView)
     (sink sink' : SinkView) (told : Status) → AreStill words
     → Answers Replies LeavesNothing words source source' sink sink' told
@@ -134,7 +134,7 @@ run_has rounds mode view input _ source source' consumed ok
 run_has rounds mode view input _ source source' consumed ok
     (Runs.TraceTooLong host events book bound script is long) = absurd cc
 
--- so is that of its input
+-- the text of a run is that of its input
 run_of : (rounds : ℕ) (mode : RunMode) (view : View) (input : List ℕ) (outcome : Outcome)
     (source source' : SourceView) → Consumes source.rest source'.rest input
     → status_of outcome ≡ status.Ok → OfSections 2 (Runs rounds mode view) input outcome

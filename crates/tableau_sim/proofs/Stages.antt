@@ -25,7 +25,7 @@ pub record IsOne {F X : Type 0} (Bad : F → Type 0) (Good : X → Type 0) : Typ
   pub thing : (x y : X) → Good x → Good y → x ≡ y
   pub apart : (f : F) (x : X) → Bad f → Good x → ⊥
 
--- then the outcome is one where it is behind the stage
+-- then the outcome is one where it is past the stage
 pub one_staged : {F X : Type 0} (Bad : F → Type 0) (refusal : F → Outcome) (Good : X → Type 0)
     (Then : X → Outcome → Type 0) (a b : Outcome) → IsOne Bad Good
     → ((x : X) → Good x → Then x a → Then x b → a ≡ b)
@@ -42,7 +42,7 @@ abbrev pub Ends : {F X : Type 0} → (F → Type 0) → (F → Outcome) → (X �
     → Outcome → Type 0
 Ends Bad refusal Good made = Staged Bad refusal Good (λ x outcome. outcome ≡ made x)
 
--- so behind it nothing is left to show
+-- nothing is left to show past the last stage
 pub one_end : {F X : Type 0} (Bad : F → Type 0) (refusal : F → Outcome) (Good : X → Type 0)
     (made : X → Outcome) (a b : Outcome) → IsOne Bad Good → Ends Bad refusal Good made a
     → Ends Bad refusal Good made b → a ≡ b
@@ -72,7 +72,7 @@ abbrev pub HostStage : List (List ℕ) → (Host → Outcome → Type 0) → Out
 HostStage sections = Staged (IsHostFault (host_section sections)) (λ f. Refuses (status.Host f) [])
     (IsHostText (host_section sections))
 
--- and is one host, or has one fault
+-- the first section is one host, or has one fault
 pub one_host_stage : (sections : List (List ℕ)) (Then : Host → Outcome → Type 0) (a b : Outcome)
     → ((h : Host) → IsHostText (host_section sections) h → Then h a → Then h b → a ≡ b)
     → HostStage sections Then a → HostStage sections Then b → a ≡ b

@@ -37,14 +37,14 @@ host_stopped P section (stop.Refused (status.Host bad) host) faulty h =
     subst (λ o. P (Refuses (status.Host bad) (names_in o))) (sym h.1) (faulty bad h.0)
 host_stopped P section (stop.Refused other host) faulty h = absurd h
 
--- the same where a host has no tasks
+-- where a host has no tasks, any command P that refuses it so makes the stop
 pub tasks_stopped : (P : Outcome → Type 0) (host : Host) (f : TaskFault)
     → ((vcpu : ℕ) → f ≡ lacks.NoPeriod vcpu → P (Refuses (status.NoPeriod vcpu) (names_of host.vcpus)))
     → Makes P (Err (tasks_stop f host))
 tasks_stopped P host (lacks.NoPeriod vcpu) no_period = no_period vcpu refl
 tasks_stopped P host lacks.NoMemory no_period = tt {0}
 
--- the same where a host has no plan
+-- where a host has no plan, any command P that refuses it so makes the stop
 pub plan_stopped : (P : Outcome → Type 0) (host : Host) (f : PlanFault)
     → ((vcpu : ℕ) → f ≡ fault.NoPeriod vcpu → P (Refuses (status.NoPeriod vcpu) (names_of host.vcpus)))
     → ((vcpu rest : ℕ) (over : List Over) → f ≡ fault.NoRoom vcpu rest over
@@ -54,7 +54,7 @@ plan_stopped P host (fault.NoPeriod vcpu) no_period no_room = no_period vcpu ref
 plan_stopped P host (fault.NoRoom vcpu rest over) no_period no_room = no_room vcpu rest over refl
 plan_stopped P host fault.NoMemory no_period no_room = tt {0}
 
--- the same where it has no plan of all cores together
+-- where a host has no plan of all cores together, any command P that refuses it so makes the stop
 pub whole_stopped : (P : Outcome → Type 0) (host : Host) (f : WholeFault)
     → ((vcpu : ℕ) → f ≡ whole.NoPeriod vcpu → P (Refuses (status.NoPeriod vcpu) (names_of host.vcpus)))
     → ((demand room : ℕ) → f ≡ whole.NoFit demand room → P (Refuses (status.NoFit demand room) []))
@@ -63,7 +63,7 @@ whole_stopped P host (whole.NoPeriod vcpu) no_period no_fit = no_period vcpu ref
 whole_stopped P host (whole.NoFit demand room) no_period no_fit = no_fit demand room refl
 whole_stopped P host whole.NoMemory no_period no_fit = tt {0}
 
--- the same where tables are no plan
+-- where tables are no plan, any command P that refuses them so makes the stop
 pub check_stopped : (P : Outcome → Type 0) (host : Host) (f : CheckFault) (what : Type 0)
     → (what → P (Refuses (status.CheckNo f) (names_of host.vcpus)))
     → (f ≡ tables.NoMemory) ⊎ what → Makes P (Err (check_stop f host))

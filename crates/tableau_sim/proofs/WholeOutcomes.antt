@@ -56,7 +56,7 @@ one_whole_fault h (whole.NoFit demand room) (whole.NoFit other more) of_f of_g =
     let has = one.1 in
     cc
 
--- and no plan with it, since an allotment needs room for all demands
+-- a host with a fault has no plan, since an allotment needs room for all demands
 whole_or_fault : (h : Host) (p : PlanView) (f : WholeFault) → IsWholePlan h p → HasWholeFault h f → ⊥
 whole_or_fault h p (whole.NoPeriod vcpu) is bad = none_without_period h p.tasks vcpu is.tasks bad
 whole_or_fault h p (whole.NoFit demand room) is bad =
@@ -86,7 +86,7 @@ whole_refused h a b refusal names is (inl p) (inl q) =
 whole_refused h a b refusal names is (inl p) (inr q) = absurd (whole_or_fault h q.0 p.0 q.1.planned p.1)
 whole_refused h a b refusal names is (inr p) q = let e = sym is ∙ p.2 in absurd cc
 
--- and so of its sections
+-- a refusal of sections is their only outcome
 pub whole_only : (s : List (List ℕ)) (refusal : Status) (names : List (List ℕ)) (b : Outcome)
     → PlansWhole s (Refuses refusal names) → PlansWhole s b → Refuses refusal names ≡ b
 whole_only s refusal names b of_a of_b = one_host_stage s OfWholeHost (Refuses refusal names) b

@@ -38,7 +38,7 @@ script_section sections = slice_index_or sections 1 []
 abbrev pub steps_section : List (List ℕ) → List ℕ
 steps_section sections = slice_index_or sections 2 []
 
--- a host, the events of a script, and steps with the lines that they stand on
+-- a host, the events of a script, and steps with the lines that they are on
 pub record Parts : Type 0 where
   pub host : Host
   pub events : List Event
@@ -50,7 +50,7 @@ pub record HasScript (rounds : ℕ) (sections : List (List ℕ)) (host : Host) (
   pub is_host : IsHostText (host_section sections) host
   pub is_script : IsScript (names_of host.vcpus) rounds (statements_of (script_section sections)) events
 
--- and the third is these steps
+-- the three sections are this host, this script of it and these steps, for a run of so many rounds
 pub record HasParts (rounds : ℕ) (sections : List (List ℕ)) (parts : Parts) : Type 0 where
   pub script : HasScript rounds sections parts.host parts.events
   pub are_steps : AreSteps parts.host.cores (statements_of (steps_section sections)) parts.steps parts.lines

@@ -36,15 +36,15 @@ OnSeat old new (command.Selftest seed) input outcome =
     Selftests seed new outcome × IsStillIfRefused old new outcome
 OnSeat old new other input outcome = Replies other input outcome × (new ≡ old)
 
--- what want of memory leaves of a run of an input that began before its plans were made: the input has a host and
--- a script, which was run so far
+-- what running out of memory leaves of a run of an input that began before its plans were made: the input has a
+-- host and a script, which was run so far
 pub record HasStopped (rounds : ℕ) (sections : List (List ℕ)) (view : View) : Type 0 where
   pub host : Host
   pub events : List Event
   pub script : HasScript rounds sections host events
   pub so_far : RunsSoFar rounds host events view
 
--- memory may be wanting for a run before it begins, and for one with `live` after that too
+-- memory may run out for a run before it begins, and for one with `live` after that too
 abbrev pub LeavesRun : ℕ → RunMode → View → View → List (List ℕ) → Type 0
 LeavesRun rounds Live old new sections = (new ≡ old) ⊎ HasStopped rounds sections new
 LeavesRun rounds mode old new sections = new ≡ old

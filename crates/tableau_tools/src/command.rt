@@ -31,7 +31,7 @@ pub(crate) fn command<'a>(alloc: Global) -> Result<Command<'a>, AllocError> {
     with_command(command, place_command(alloc))
 }
 
-// The command with another below it. (One alone is held where memory is wanting: to let go of several takes minutes
+// The command with another below it. (One alone is held where memory runs out: to let go of several takes minutes
 // of proof. So it is with arguments: none is held while another is added.)
 fn with_command<'a>(
     command: Command<'a>,
@@ -161,7 +161,7 @@ fn first_cpu_arg<'a>(alloc: Global) -> Arg<'a> {
         .help("In lines for a scheduler, the CPU that core 0 is; without it, 0")
 }
 
-// Whether the kernel is told to admit whole cores.
+// Whether the kernel is set to admit whole cores.
 fn full_arg<'a>(alloc: Global) -> Arg<'a> {
     Arg::new(alloc, "full")
         .long("full")

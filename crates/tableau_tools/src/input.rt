@@ -13,7 +13,7 @@ pub(crate) const LIMIT: usize = 67_108_864;
 /// A text that was read.
 #[derive(Drop)]
 pub(crate) struct Input {
-    /// The file's name with a colon and a space, as it stands before a fault of the text; nothing for standard input.
+    /// The file's name with a colon and a space, as it is before a fault of the text; nothing for standard input.
     pub(crate) place: String,
     pub(crate) bytes: Vec<u8>,
     ghost few: { length bytes.items ≤ LIMIT },

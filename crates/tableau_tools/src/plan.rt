@@ -14,7 +14,7 @@ pub(crate) fn view_of(alloc: Global, input: Input) -> Result<View, Fault> {
     view_in(alloc, &input.place, &input.bytes)
 }
 
-/// The same of bytes. The place is that of a fault.
+/// What bytes of a text show. The place is that of a fault.
 pub(crate) fn view_in(alloc: Global, place: &str, bytes: &[u8]) -> Result<View, Fault>
     requires { length bytes.now < 2 ^ 31 }
 {
@@ -38,7 +38,7 @@ pub(crate) fn drawable(view: View) -> Result<View, Fault>
     Ok(view)
 }
 
-/// What a plan text shows. It is a plan alone, without a run behind it. The place is that of a fault.
+/// What a plan text shows. It is a plan alone, without a run after it. The place is that of a fault.
 pub(crate) fn plan_of(alloc: Global, place: &str, bytes: &[u8]) -> Result<View, Fault>
     requires { length bytes.now < 2 ^ 31 }
     ensures cores { IfOk result (λ view. view.cores ≤ MAX_CORES) }

@@ -18,7 +18,7 @@ pub(crate) fn shown(alloc: Global, bytes: &[u8]) -> Result<String, AllocError> {
     Ok(text)
 }
 
-/// What stands before a fault of the file of this path: its name, a colon and a space; nothing for standard input.
+/// What is before a fault of the file of this path: its name, a colon and a space; nothing for standard input.
 pub(crate) fn place_of(alloc: Global, path: &str) -> Result<String, AllocError> {
     let mut place = shown(alloc, path.as_bytes())?;
     if !path.is_empty() {

@@ -1,4 +1,4 @@
--- What stands between reading and writing: the reply to the words.
+-- What is between reading and writing: the reply to the words.
 use Rattle.std.specs.Prelude.{◌≡◌, ◌≢◌, ℕ, ◌+◌, ◌<◌, ◌≤◌, ◌^◌, true, List, [], codes, length, Option, Some, None, Result, Ok, Err}
 use Rattle.std.specs.Io.KnownBytes.{Consumes, IsAtEnd}
 use Rattle.tab_core.specs.declared.host.Host.{Host}
@@ -49,7 +49,7 @@ abbrev pub names_in : Option Host → List (List ℕ)
 names_in None = []
 names_in (Some host) = names_of host.vcpus
 
--- the reply is an outcome of which P holds, and can be written; or memory was wanting
+-- the reply is an outcome of which P holds, and can be written; or memory ran out
 abbrev pub Makes : (Outcome → Type 0) → Result Text Stop → Type 0
 Makes P (Ok text) = P (Writes (bytes_of text)) × IsWritable text
 Makes P (Err (stop.Refused refusal host)) = P (Refuses refusal (names_in host))
@@ -83,14 +83,14 @@ pub record HasInput (old new : SourceView) (input : List ℕ) : Type 0 where
   pub short : length input ≤ INPUT_LIMIT
   pub ended : IsAtEnd new.rest
 
--- after these bytes the source failed, or it gave too many of them, or memory was wanting
+-- after these bytes the source failed, or it gave too many of them, or memory ran out
 pub data HasNoInput (old new : SourceView) (input : List ℕ) : Stop → Type 0 where
   Failed : length input ≤ INPUT_LIMIT → Rose old.faults new.faults → (old.sound ≡ true → ⊥)
       → HasNoInput old new input (stop.Refused status.ReadFault None)
   TooLong : length input ≡ INPUT_LIMIT + 1 → HasNoInput old new input (stop.Refused status.TooLong None)
   Lacks : HasNoInput old new input stop.NoMemory
 
--- so each command that reads must reply
+-- each command that reads must reply so
 pub record StopsReading (old new : SourceView) (why : Stop) : Type 0 where
   pub input : List ℕ
   pub consumed : Consumes old.rest new.rest input

@@ -1,4 +1,4 @@
--- What stands between running and the whole answer: an outcome that was written, and the seat.
+-- What is between running and the whole answer: an outcome that was written, and the seat.
 use Rattle.std.specs.Prelude.{◌≡◌, ◌⊎◌, ℕ, ◌≤◌, List, [], length}
 use Rattle.tab_core.specs.declared.host.Host.{Host}
 use Rattle.script_doc.specs.declared.event.Event.{Event}
@@ -21,7 +21,7 @@ use Rattle.tableau_sim.specs.Outcomes.Outcome.{Refuses}
 use Rattle.tableau_sim.specs.Seats.{IsStillIfRefused}
 
 -- an outcome of which P holds was written, and the seat's view is as before, which was `old`, if that is a refusal;
--- or want of memory was, which leaves Q
+-- or memory ran out, which leaves Q
 pub record AnswersBy (P : Outcome → Type 0) (Q : Type 0) (old new : View) (sink sink' : SinkView)
     (told : Status) : Type 0 where
   pub outcome : Outcome

@@ -25,7 +25,7 @@ pub(crate) fn plan_whole_reply(alloc: Global, input: &[u8]) -> Reply
     }
 }
 
-// The same of its sections, with a counter of steps that nobody reads.
+// The reply of `plan whole` to its sections, with a counter of steps that nobody reads.
 fn plan_whole_of<L: Ledger>(alloc: Global, sections: &Sections, blank: Blank) -> Reply
     requires one { length sections.now ≡ 1 }
     requires name { blank.name ≡ L.name }

@@ -163,7 +163,7 @@ pub(crate) struct Prepared {
     pub(crate) changes: Vec<(u32, Outcome)>,
 }
 
-// Prepares a run of a host and a script, with room for what is told of its bursts.
+// Prepares a run of a host and a script, with room for what is reported of its bursts.
 fn prepare<R: Threads + Sync>(
     rt: &R,
     alloc: Global,
@@ -201,8 +201,8 @@ fn prepare<R: Threads + Sync>(
     Ok((run, bursts))
 }
 
-// Room for what is told of a run's bursts, if they are asked for. A run that may have more stints than are kept
-// isn't begun.
+// Room for what is reported of a run's bursts, if they are asked for. A run that may have more stints than are
+// kept isn't begun.
 fn burst_room(
     alloc: Global,
     course: &Course,

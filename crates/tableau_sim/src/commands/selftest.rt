@@ -96,8 +96,8 @@ fn run_test<R: Threads + Sync, K: Sink, G: Gate>(
     }
 }
 
-// The seed's host of 8 cores and 64 vCPUs, and its book without an event. A generated host lacks neither
-// a period nor room (`host_gen::a_generated_host_is_within_the_bound`).
+// The seed's host of 8 cores and 64 vCPUs, and its book without an event. No period and no room is
+// missing for a generated host (`host_gen::a_generated_host_is_within_the_bound`).
 fn test_host<R: Threads + Sync>(
     rt: &R,
     alloc: Global,
