@@ -4,10 +4,10 @@ ghost use Rattle.tab_core.specs.declared.TheConstants.{MAX_CORES, MAX_VCPUS};
 use crate::fault::Fault;
 use crate::input::input_of;
 use crate::output::{finish, output_of};
-use crate::plan::{host_of, plan_of, view_of};
+use crate::plan::{drawable, host_of, plan_of, view_of};
 use clap::ArgMatches;
 use std::alloc::Global;
-use tab_core::{MAX_CORES, MAX_TICK_NS, MAX_VCPUS, Name, TICK_NS, Vcpu, VcpuNo};
+use tab_core::{MAX_TICK_NS, MAX_VCPUS, Name, TICK_NS, Vcpu, VcpuNo};
 use tab_words::cut_sections;
 use vcpu_names::Names;
 use view_chart::write_chart;
@@ -109,14 +109,10 @@ fn promise_of(vcpus: &[Vcpu], number: Option<VcpuNo>) -> Option<u64> {
     Some(vcpu.reservation?.latency_ns)
 }
 
-// The view, if it isn't too much to be drawn.
+// The view, if it isn't too much to be drawn, with its waits.
 fn checked(view: View, promises: Vec<Option<u64>>, tick_ns: u32) -> Result<Drawn, Fault> {
-    let most = MAX_VCPUS as usize;
-    if view.cores > MAX_CORES || view.names.len() > most || view.tasks.len() > most {
-        return Err(Fault::TooMany);
-    }
     Ok(Drawn {
-        view,
+        view: drawable(view)?,
         promises,
         tick_ns: tick_ns.min(MAX_TICK_NS) as u16,
     })
