@@ -1,12 +1,15 @@
 -- What `ran` and `tested` of the call say has what they promise.
 use Rattle.std.proofs.Common.{◌≡◌, ℕ, List, [], Result, Ok, Err, None, refl, ◌∙◌, arith}
 use Rattle.std.specs.Prelude.{IfOk}
+use Rattle.std.specs.Io.KnownBytes.{IsAtEnd}
 use Rattle.std.specs.Result.{result_err}
 use Rattle.std.proofs.lemmas.Option.{slice_get_within}
 use Rattle.toml.specs.Data.{Items, Members}
 use Rattle.tab_core.specs.declared.host.Host.{Host}
 use Rattle.tab_core.specs.declared.vcpu.Vcpu.{Vcpu}
-use Rattle.tab_io.specs.Views.{SourceView}
+use Rattle.tab_io.specs.Views.{SourceView, SinkView}
+use Rattle.tab_words.specs.declared.command.Command.TheVariants as called
+use Rattle.tab_words.specs.declared.command.RunMode.{RunMode}
 use Rattle.host_doc.specs.Document.{IsHostText, first_fault, members_fault}
 use Rattle.host_doc.specs.KeyTable.{format_of, vcpus_of}
 use Rattle.host_doc.specs.VcpuFaults.{vcpus_fault}
@@ -19,9 +22,11 @@ use Rattle.table_form.specs.Running.Courses.{CourseView}
 use Rattle.plan_promises.proofs.RunPromisesLemmas.{run_promises}
 use Rattle.round_words.specs.declared.view.View.{View}
 use Rattle.board_state.specs.Readings.{state_of}
+use Rattle.tableau_sim.specs.Clauses.{WroteFor}
 use Rattle.tableau_sim.specs.Promised.{HasRunAsPromised, HasTestedAsPromised, RanAsPromised, StatesHost}
 use Rattle.tableau_sim.specs.Run.{RunsWhole}
-use Rattle.tableau_sim.specs.Seats.{HasRun, HasTested}
+use Rattle.tableau_sim.specs.Seats.{HasRun, HasTested, OnSeat}
+use Rattle.tableau_sim.proofs.SeatsLemmas.{ran_told}
 
 -- an array that states the vCPUs, each by a table of its number
 record HasArray (found : Result Items HostFault) (vcpus : List Vcpu) : Type 0 where
@@ -74,26 +79,39 @@ states bytes host is =
 -- a whole run is as promised
 ran_whole : (rounds : ℕ) (host : Host) (events : List Event) (course : CourseView) (view : View)
     → RunsWhole rounds host events course view → RanAsPromised rounds host events view
-ran_whole rounds host events course view whole = record {
-  cores = whole.started.cores_are ∙ whole.course_is.cores;
-  holds = whole.holds;
-  course = course;
-  run = run_promises rounds host events course (state_of course view) whole.course_is whole.course_kept
-      whole.promises whole.complete;
-}
+ran_whole rounds host events course view whole =
+    let run = run_promises rounds host events course (state_of course view) whole.course_is whole.course_kept
+    whole.promises whole.complete in
+    record {
+      cores = whole.started.cores_are ∙ whole.course_is.cores;
+      holds = whole.holds;
+      course = course;
+      hosts = run.hosts;
+      history = run.history;
+      promises = run.promises;
+    }
 
--- the clause `promised` follows from `ran`
-pub run_promised : (rounds : ℕ) (source source' : SourceView) (view : View)
+-- a run of all that the source had is as promised
+run_whole : (rounds : ℕ) (source source' : SourceView) (view : View) → IsAtEnd source'.rest
     → HasRun rounds source source' view → HasRunAsPromised rounds source source' view
-run_promised rounds source source' view has = record {
+run_whole rounds source source' view ended has = record {
   input = has.input;
   consumed = has.consumed;
+  ended = ended;
   host = has.host;
   states = states _ has.host has.script.is_host;
   events = has.events;
   script = has.script.is_script;
   ran = ran_whole rounds has.host has.events has.course view has.whole;
 }
+
+-- the clause `promised` follows from `wrote`
+pub run_promised : (old new : View) (rounds : ℕ) (mode : RunMode) (source source' : SourceView)
+    (sink sink' : SinkView) → WroteFor (OnSeat old new) (called.Run rounds mode) source source' sink sink'
+    → HasRunAsPromised rounds source source' new
+run_promised old new rounds mode source source' sink sink' wrote =
+    run_whole rounds source source' new wrote.read.read.1
+    (ran_told old new rounds mode source source' sink sink' wrote)
 
 -- that of `selftest` follows from `tested`
 pub test_promised : (seed : ℕ) (view : View) → HasTested seed view → HasTestedAsPromised seed view

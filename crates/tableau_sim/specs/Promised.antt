@@ -1,7 +1,7 @@
 -- What `Ok` of `run` and of `selftest` promises to whoever was sold a vCPU, and no more. Which plans the run had,
 -- why a change was refused and what is written, `ran`, `tested` and `wrote` of the call say.
 use Rattle.std.specs.Prelude.{◌≡◌, ℕ, List, [], Some, Ok, length, slice_get}
-use Rattle.std.specs.Io.KnownBytes.{Consumes}
+use Rattle.std.specs.Io.KnownBytes.{Consumes, IsAtEnd}
 use Rattle.toml.specs.Data.{table, get_item, Items, Members}
 use Rattle.tab_core.specs.Vcpus.{HaveDistinctNames}
 use Rattle.tab_core.specs.declared.host.Host.{Host}
@@ -17,7 +17,8 @@ use Rattle.script_doc.specs.Statements.{statements_of}
 use Rattle.script_doc.specs.declared.event.Event.{Event}
 use Rattle.vcpu_names.specs.Names.{names_of}
 use Rattle.table_form.specs.Running.Courses.{CourseView}
-use Rattle.plan_promises.specs.RunPromises.{IsPromisedRun}
+use Rattle.plan_promises.specs.Histories.{IsHistory}
+use Rattle.plan_promises.specs.RunPromises.{RunPromises}
 use Rattle.host_gen.specs.Generated.{IsGenerated}
 use Rattle.round_words.specs.declared.view.View.{View}
 use Rattle.board_state.specs.Readings.{state_of}
@@ -46,18 +47,22 @@ pub record StatesHost (bytes : List ℕ) (host : Host) : Type 0 where
   pub vcpus : (v : ℕ) (vcpu : Vcpu) → slice_get host.vcpus v ≡ Some vcpu → HasMember items v vcpu
   pub distinct : HaveDistinctNames host.vcpus
 
--- the view has the part of each of the host's cores, and read as a state on some course it is a whole run of so many
--- rounds that keeps its promises
+-- the view has the part of each of the host's cores, the events make some hosts of this one, and read as a state on
+-- some course the view is a whole run of so many rounds that keeps what these hosts promise
 pub record RanAsPromised (rounds : ℕ) (host : Host) (events : List Event) (view : View) : Type 0 where
   pub cores : view.cores ≡ host.cores
   pub holds : HoldsAllParts view
   pub course : CourseView
-  pub run : IsPromisedRun rounds host events course (state_of course view)
+  pub hosts : ℕ → Host
+  pub history : IsHistory host events hosts course
+  pub promises : RunPromises rounds hosts host.tick_ns course (state_of course view)
 
--- what `Ok` of `run` promises: the source gave bytes that state a host and a script of it, which was run as promised
+-- what `Ok` of `run` promises: the source gave all its bytes, and they state a host and a script of it, which was run
+-- as promised
 pub record HasRunAsPromised (rounds : ℕ) (source source' : SourceView) (view : View) : Type 0 where
   pub input : List ℕ
   pub consumed : Consumes source.rest source'.rest input
+  pub ended : IsAtEnd source'.rest
   pub host : Host
   pub states : StatesHost (host_section (sections_of input)) host
   pub events : List Event

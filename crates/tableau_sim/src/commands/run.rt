@@ -31,13 +31,14 @@ use crate::commands::run_beside::run_beside;
 use crate::input::{cut, read_input};
 use crate::output::{settle, write_reply};
 use crate::reply::Stop;
+use crate::stage::Stage;
 use crate::status::Status;
 use crate::stops::{script_of, stop_of_plan, stop_of_run};
 use burst_bound::{BurstAnswer, BurstReport, write_bursts};
 use core_workers::{Crew, Gate};
 use course_run::{Ran, TRACE_LIMIT, changes_of, run_course, write_run};
 use plan_book::{Outcome, PlanBook, make_book};
-use round_words::{RoundBoard, RoundSeat};
+use round_words::RoundSeat;
 use script_doc::Script;
 use std::alloc::Global;
 use std::sync::Wait;
@@ -50,26 +51,23 @@ use table_form::Course;
 
 // Answers `run`: reads its input, runs the host's cores on a board that isn't started, and writes the text.
 pub(crate) fn run<R: Threads + Wait + Sync, S: Source, K: Sink, G: Gate>(
-    rt: &R,
-    alloc: Global,
+    stage: &Stage<'_, R, G>,
     rounds: u32,
     mode: RunMode,
     input: &mut S,
     output: &mut K,
-    board: &RoundBoard,
     seat: RoundSeat,
-    gate: &G,
 ) -> Done
     requires some { 1 ≤ rounds }
     requires few { rounds ≤ MAX_ROUNDS }
-    requires board { IsSeatOf board.now seat }
+    requires board { IsSeatOf stage.now.board.now seat }
     requires opening { view_of seat ≡ opening }
-    ensures board { IsSeatOf board.now result.seat }
+    ensures board { IsSeatOf stage.now.board.now result.seat }
     ensures answers { (words : List (List ℕ)) → IsCommand words (called.Run rounds mode)
         → Answers (OnSeat (view_of seat) (view_of result.seat)) (LeavesSeat (view_of seat) (view_of result.seat)) words
         (S.state input.old) (S.state input.new) (K.state output.old) (K.state output.new) result.status }
 {
-    let bytes = match read_input(alloc, input) {
+    let bytes = match read_input(stage.alloc, input) {
         Ok(bytes) => bytes,
         Err(stop) => {
             return Done {
@@ -78,38 +76,33 @@ pub(crate) fn run<R: Threads + Wait + Sync, S: Source, K: Sink, G: Gate>(
             };
         }
     };
-    let done = run_input(rt, alloc, rounds, mode, &bytes, output, board, seat, gate);
+    let done = run_input(stage, rounds, mode, &bytes, output, seat);
     input.take_back(bytes);
     done
 }
 
 // Answers `run` for its input, on a board that isn't started.
 fn run_input<R: Threads + Wait + Sync, K: Sink, G: Gate>(
-    rt: &R,
-    alloc: Global,
+    stage: &Stage<'_, R, G>,
     rounds: u32,
     mode: RunMode,
     bytes: &[u8],
     output: &mut K,
-    board: &RoundBoard,
     seat: RoundSeat,
-    gate: &G,
 ) -> Done
     requires short { length bytes.now ≤ INPUT_LIMIT }
     requires some { 1 ≤ rounds }
     requires few { rounds ≤ MAX_ROUNDS }
-    requires board { IsSeatOf board.now seat }
+    requires board { IsSeatOf stage.now.board.now seat }
     requires opening { view_of seat ≡ opening }
-    ensures board { IsSeatOf board.now result.seat }
+    ensures board { IsSeatOf stage.now.board.now result.seat }
     ensures answers { (words : List (List ℕ)) (from to : SourceView) → IsCommand words (called.Run rounds mode)
         → HasInput from to bytes.now
         → Answers (OnSeat (view_of seat) (view_of result.seat)) (LeavesSeat (view_of seat) (view_of result.seat)) words
         from to (K.state output.old) (K.state output.new) result.status }
 {
     match cut(bytes, 2) {
-        Ok(sections) => run_sections(
-            rt, alloc, rounds, mode, &sections, output, board, seat, gate,
-        ),
+        Ok(sections) => run_sections(stage, rounds, mode, &sections, output, seat),
         Err(stop) => Done {
             status: write_reply(output, Err(stop)),
             seat,
@@ -119,33 +112,28 @@ fn run_input<R: Threads + Wait + Sync, K: Sink, G: Gate>(
 
 // Answers `run` for its two sections, on a board that isn't started.
 fn run_sections<R: Threads + Wait + Sync, K: Sink, G: Gate>(
-    rt: &R,
-    alloc: Global,
+    stage: &Stage<'_, R, G>,
     rounds: u32,
     mode: RunMode,
     sections: &Sections,
     output: &mut K,
-    board: &RoundBoard,
     seat: RoundSeat,
-    gate: &G,
 ) -> Done
     requires two { length sections.now ≡ 2 }
     requires short { (i : ℕ) → length (slice_index_or sections.now i []) < 2 ^ 32 }
     requires some { 1 ≤ rounds }
     requires few { rounds ≤ MAX_ROUNDS }
-    requires board { IsSeatOf board.now seat }
+    requires board { IsSeatOf stage.now.board.now seat }
     requires opening { view_of seat ≡ opening }
-    ensures board { IsSeatOf board.now result.seat }
+    ensures board { IsSeatOf stage.now.board.now result.seat }
     ensures answers { AnswersBy (Runs rounds mode (view_of result.seat) sections.now)
         (LeavesRun rounds mode (view_of seat) (view_of result.seat) sections.now)
         (view_of seat) (view_of result.seat) (K.state output.old) (K.state output.new) result.status }
 {
-    match script_of(alloc, rounds, sections) {
+    match script_of(stage.alloc, rounds, sections) {
         Ok((host, script)) => match mode {
-            RunMode::Live => run_beside(rt, alloc, rounds, host, script, output, board, seat, gate),
-            mode => run_script(
-                rt, alloc, rounds, mode, host, script, output, board, seat, gate,
-            ),
+            RunMode::Live => run_beside(stage, rounds, host, script, output, seat),
+            mode => run_script(stage, rounds, mode, host, script, output, seat),
         },
         Err(stop) => Done {
             status: write_reply(output, Err(stop)),
@@ -223,30 +211,27 @@ fn burst_room(
 
 // Answers `run` for a host and a script, whose changes are planned before the cores start.
 fn run_script<R: Threads + Sync, K: Sink, G: Gate>(
-    rt: &R,
-    alloc: Global,
+    stage: &Stage<'_, R, G>,
     rounds: u32,
     mode: RunMode,
     host: Host,
     script: Script,
     output: &mut K,
-    board: &RoundBoard,
     seat: RoundSeat,
-    gate: &G,
 ) -> Done
     requires some { 1 ≤ rounds }
     requires few { rounds ≤ MAX_ROUNDS }
     requires within { AreWithin (length host.vcpus) script }
     requires in_run { AreInRun rounds script }
-    requires board { IsSeatOf board.now seat }
+    requires board { IsSeatOf stage.now.board.now seat }
     requires opening { view_of seat ≡ opening }
-    ensures board { IsSeatOf board.now result.seat }
+    ensures board { IsSeatOf stage.now.board.now result.seat }
     ensures answers { (sections : List (List ℕ)) → HasScript rounds sections host script
         → AnswersBy (Runs rounds mode (view_of result.seat) sections)
         (LeavesRun rounds mode (view_of seat) (view_of result.seat) sections)
         (view_of seat) (view_of result.seat) (K.state output.old) (K.state output.new) result.status }
 {
-    let (run, mut bursts) = match prepare(rt, alloc, rounds, mode, host, script) {
+    let (run, mut bursts) = match prepare(stage.rt, stage.alloc, rounds, mode, host, script) {
         Ok(ready) => ready,
         Err(stop) => {
             return Done {
@@ -256,7 +241,16 @@ fn run_script<R: Threads + Sync, K: Sink, G: Gate>(
         }
     };
     let course = run.book.course();
-    match run_course(rt, alloc, course, rounds, mode, board, seat, gate) {
+    match run_course(
+        stage.rt,
+        stage.alloc,
+        course,
+        rounds,
+        mode,
+        stage.board,
+        seat,
+        stage.gate,
+    ) {
         Ok((seat, ran)) => {
             tell_bursts(mode, course, rounds, &run.script, ran.crew(), &mut bursts);
             Done {

@@ -15,13 +15,13 @@ ghost use Rattle.tableau_sim.specs.Seats.{LeavesRun};
 
 use crate::call::Done;
 use crate::output::{settle, write_reply};
+use crate::stage::Stage;
 use crate::status::Status;
 use crate::stops::stop_of_live;
 use core_workers::Gate;
 use live_run::{Ran, run_script, write_run};
-use round_words::{RoundBoard, RoundSeat};
+use round_words::RoundSeat;
 use script_doc::Script;
-use std::alloc::Global;
 use std::sync::Wait;
 use std::thread::Threads;
 use tab_core::Host;
@@ -29,29 +29,35 @@ use tab_io::Sink;
 
 // Answers `run` with `live` for a host and a script, whose changes are planned beside the cores.
 pub(crate) fn run_beside<R: Threads + Wait + Sync, K: Sink, G: Gate>(
-    rt: &R,
-    alloc: Global,
+    stage: &Stage<'_, R, G>,
     rounds: u32,
     host: Host,
     script: Script,
     output: &mut K,
-    board: &RoundBoard,
     seat: RoundSeat,
-    gate: &G,
 ) -> Done
     requires some { 1 ≤ rounds }
     requires few { rounds ≤ MAX_ROUNDS }
     requires within { AreWithin (length host.vcpus) script }
     requires in_run { AreInRun rounds script }
-    requires board { IsSeatOf board.now seat }
+    requires board { IsSeatOf stage.now.board.now seat }
     requires opening { view_of seat ≡ opening }
-    ensures board { IsSeatOf board.now result.seat }
+    ensures board { IsSeatOf stage.now.board.now result.seat }
     ensures answers { (sections : List (List ℕ)) → HasScript rounds sections host script
         → AnswersBy (Runs rounds Live (view_of result.seat) sections)
         (LeavesRun rounds Live (view_of seat) (view_of result.seat) sections)
         (view_of seat) (view_of result.seat) (K.state output.old) (K.state output.new) result.status }
 {
-    match run_script(rt, alloc, &host, &script, rounds, board, seat, gate) {
+    match run_script(
+        stage.rt,
+        stage.alloc,
+        &host,
+        &script,
+        rounds,
+        stage.board,
+        seat,
+        stage.gate,
+    ) {
         Ok((seat, ran)) => Done {
             status: write_ran(output, &host, rounds, &ran),
             seat,

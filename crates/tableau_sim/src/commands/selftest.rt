@@ -17,13 +17,14 @@ ghost use Rattle.tableau_sim.specs.Selftest.{Selftests, selftest_line};
 use crate::call::Done;
 use crate::output::{settle, write_reply};
 use crate::reply::Stop;
+use crate::stage::Stage;
 use crate::status::Status;
 use core_workers::Gate;
 use course_run::{Ran, RunFault, run_course, write_run};
 use host_gen::generate;
 use plan_book::{PlanBook, make_book};
 use plan_make::PlanFault;
-use round_words::{RoundBoard, RoundSeat};
+use round_words::RoundSeat;
 use script_doc::Script;
 use std::alloc::{AllocError, Global};
 use std::thread::Threads;
@@ -33,55 +34,49 @@ use tab_words::{RunMode, TextPiece, put_pieces};
 
 // Answers `selftest`: runs the cores of the seed's host on a board that isn't started, and writes the text.
 pub(crate) fn selftest<R: Threads + Sync, K: Sink, G: Gate>(
-    rt: &R,
-    alloc: Global,
+    stage: &Stage<'_, R, G>,
     seed: u64,
     output: &mut K,
-    board: &RoundBoard,
     seat: RoundSeat,
-    gate: &G,
 ) -> Done
-    requires board { IsSeatOf board.now seat }
+    requires board { IsSeatOf stage.now.board.now seat }
     requires opening { view_of seat ≡ opening }
-    ensures board { IsSeatOf board.now result.seat }
+    ensures board { IsSeatOf stage.now.board.now result.seat }
     ensures answers { (words : List (List ℕ)) (source : SourceView) → IsCommand words (called.Selftest seed)
         → Answers (OnSeat (view_of seat) (view_of result.seat)) (LeavesSeat (view_of seat) (view_of result.seat)) words
         source source (K.state output.old) (K.state output.new) result.status }
 {
-    run_test(rt, alloc, seed, output, board, seat, gate)
+    run_test(stage, seed, output, seat)
 }
 
 // The run of the seed's host, and its text.
 fn run_test<R: Threads + Sync, K: Sink, G: Gate>(
-    rt: &R,
-    alloc: Global,
+    stage: &Stage<'_, R, G>,
     seed: u64,
     output: &mut K,
-    board: &RoundBoard,
     seat: RoundSeat,
-    gate: &G,
 ) -> Done
-    requires board { IsSeatOf board.now seat }
+    requires board { IsSeatOf stage.now.board.now seat }
     requires opening { view_of seat ≡ opening }
-    ensures board { IsSeatOf board.now result.seat }
+    ensures board { IsSeatOf stage.now.board.now result.seat }
     ensures answers { AnswersBy (Selftests seed (view_of result.seat)) (view_of result.seat ≡ view_of seat)
         (view_of seat) (view_of result.seat) (K.state output.old) (K.state output.new) result.status }
 {
-    let Ok((host, book)) = test_host(rt, alloc, seed) else {
+    let Ok((host, book)) = test_host(stage.rt, stage.alloc, seed) else {
         return Done {
             status: write_reply(output, Err(Stop::NoMemory)),
             seat,
         };
     };
     match run_course(
-        rt,
-        alloc,
+        stage.rt,
+        stage.alloc,
         book.course(),
         4,
         RunMode::Report,
-        board,
+        stage.board,
         seat,
-        gate,
+        stage.gate,
     ) {
         Ok((seat, ran)) => Done {
             status: write_test(output, seed, &host, &ran),
