@@ -55,6 +55,11 @@ impl<'a> Stepper for Lead<'a> {
     }
 
     #[inline(always)]
+    fn place(&self) -> u32 {
+        self.controller.posted()
+    }
+
+    #[inline(always)]
     fn step(&mut self, board: &RoundBoard, seat: &mut RoundSeat) -> Turn {
         match control_step(board, seat, &mut self.controller) {
             ControlAnswer::Posted { count: _ } => Turn::Moved,

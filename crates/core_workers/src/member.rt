@@ -82,6 +82,11 @@ impl<'a> Stepper for Member<'a> {
     }
 
     #[inline(always)]
+    fn place(&self) -> u32 {
+        self.state.clock()
+    }
+
+    #[inline(always)]
     fn step(&mut self, board: &RoundBoard, seat: &mut RoundSeat) -> Turn {
         match step_state(board, seat, self.course, &self.slices, &mut self.state) {
             CoreAnswer::Ran(_) => Turn::Moved,
@@ -95,9 +100,4 @@ impl<'a> CoreStepper for Member<'a> {
     ghost use Rattle.core_workers.specs.ActorLaws.{core_short};
 
     ghost is_short = { core_short };
-
-    #[inline(always)]
-    fn clock(&self) -> u32 {
-        self.state.clock()
-    }
 }

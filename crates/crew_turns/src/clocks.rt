@@ -20,7 +20,7 @@ pub(crate) fn read_clocks<C: CoreStepper + Drop>(seat: &RoundSeat, cores: &[Play
     let mut ticks = [OUT; 32];
     for core in 0..cores.len() {
         ticks[core] = if seat.holds(core as u32) {
-            cores[core].actor.clock()
+            cores[core].actor.place()
         } else {
             OUT
         };

@@ -40,7 +40,10 @@ pub(crate) fn step_player<A: Stepper + Drop, G: Gate>(
     ensures parts { PartsGoOn (view_of seat.old) (view_of seat.new) }
     ensures told { Stepped A.kind player.old.actor (view_of seat.old) result player.new.actor (view_of seat.new) }
 {
-    site.gate.pass(player.actor.number(), player.steps);
+    let number = player.actor.number();
+    site.gate.pass(number, player.steps);
+    site.gate
+        .reached(number, player.steps, player.actor.place());
     player.steps = player.steps.saturating_add(1);
     player.actor.step(site.board, seat)
 }

@@ -35,11 +35,11 @@ pub(crate) fn run_player<C: CoreStepper + Drop, G: Gate>(
     ensures parts { PartsGoOn (view_of seat.old) (view_of seat.new) }
     ensures runs { RunsOn C.kind player.old.actor (view_of seat.old) result.clock player.new.actor (view_of seat.new) }
 {
-    let mut clock = player.actor.clock();
+    let mut clock = player.actor.place();
     'running: while clock <= limit {
         let turn = step_player(site, seat, player);
         match turn {
-            Turn::Moved => clock = player.actor.clock(),
+            Turn::Moved => clock = player.actor.place(),
             Turn::Waits { tick: _ } | Turn::Stopped => return Reached { clock, turn },
             Turn::Ended => return Reached { clock: OUT, turn },
         }

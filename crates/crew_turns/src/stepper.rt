@@ -34,6 +34,10 @@ pub trait Stepper {
     fn number(&self) -> u32
         ensures { result ≡ kind.number self.now };
 
+    /// How far it is: a core's clock, in ticks, or how many events the controller has posted.
+    fn place(&self) -> u32
+        ensures { result ≡ kind.place self.now };
+
     /// One step.
     fn step(&mut self, board: &RoundBoard, seat: &mut RoundSeat) -> Turn
         requires board { IsSeatOf board.now seat.old }
@@ -48,10 +52,6 @@ pub trait Stepper {
 
 /// A core that steps by a seat: its place is its clock.
 pub trait CoreStepper: Stepper {
-    /// Its clock, in ticks.
-    fn clock(&self) -> u32
-        ensures { result ≡ Self.Stepper.kind.place self.now };
-
     /// No run is as long as `OUT` ticks.
     ghost is_short: { (a : Self) (v : ViewValue) → Self.Stepper.kind.agrees a v → Self.Stepper.kind.end a < THE_OUT };
 }

@@ -36,7 +36,7 @@ fn main(rt: HostRuntime) -> ExitCode {
         return ExitCode::from(Status::NoMemory.exit());
     };
     let mut input = KeptSource::of(rt.alloc(), StdSource::of(rt.reader()));
-    let gate = ProgressGate::new(rt, rt.stderr(), rt.stderr().is_terminal());
+    let gate = ProgressGate::new(rt, rt.stderr(), rt.stderr().is_terminal(), words);
     let mut output = ClearedSink {
         inner: StdSink::of(writer),
         gate: &gate,

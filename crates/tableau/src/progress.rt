@@ -3,7 +3,9 @@ use core_workers::Gate;
 use std::sync::atomic::AtomicU64;
 use std::sync::atomic::Ordering::SeqCst;
 use std::time::{Clock, Instant};
+use tab_core::{MAX_CORES, ROUND};
 use tab_io::{Put, Sink};
+use tab_words::{Command, read_words};
 
 // A thread looks at the clock once in so many steps of an actor.
 const STRIDE: u64 = 4096;
@@ -14,25 +16,27 @@ const PAUSE: u64 = 1000;
 // What covers the line, which is shorter, and begins it again.
 const CLEARED: &[u8] = b"\r                                                  \r";
 
-/// A gate that lets everybody pass, and tells the steps of all actors so far, once a second at most and on one line.
-///
-/// A step that finds nothing to do yet counts too. Only whole strides are counted. The gate sees actors and steps, and
-/// no clock of a core, so it can't tell rounds.
+/// A gate that lets everybody pass, and writes the furthest round in which it saw a core, once a second at most and on
+/// one line.
 #[derive(Drop)]
 pub(crate) struct ProgressGate<C: Clock, P: Print> {
     clock: C,
     output: P,
     // Where there is none, nothing is written.
     begin: Option<Instant>,
-    steps: AtomicU64,
+    // How many rounds the run has.
+    rounds: u32,
+    // The latest clock of a core that was written, in ticks: cores aren't at one tick.
+    latest: AtomicU64,
     // The milliseconds from the begin to the last telling, 0 where there is none.
     told: AtomicU64,
 }
 
 impl<C: Clock, P: Print> ProgressGate<C, P> {
-    /// A gate that tells this output from now on, or tells nothing.
-    pub(crate) fn new(clock: C, output: P, tells: bool) -> ProgressGate<C, P> {
-        let begin = if tells {
+    /// A gate that tells this output of a run by these words from now on, or tells nothing.
+    pub(crate) fn new(clock: C, output: P, tells: bool, words: &[String]) -> ProgressGate<C, P> {
+        let rounds = rounds_of(words);
+        let begin = if tells && rounds > 0 {
             Instant::now(&clock).ok()
         } else {
             None
@@ -41,7 +45,8 @@ impl<C: Clock, P: Print> ProgressGate<C, P> {
             clock,
             output,
             begin,
-            steps: AtomicU64::new(0),
+            rounds,
+            latest: AtomicU64::new(0),
             told: AtomicU64::new(0),
         }
     }
@@ -54,9 +59,8 @@ impl<C: Clock, P: Print> ProgressGate<C, P> {
         }
     }
 
-    // Counts a stride, and tells the count where that is due. Of several threads one tells it.
-    fn count(&self, begin: Instant) {
-        let steps = self.steps.fetch_add(STRIDE, SeqCst).wrapping_add(STRIDE);
+    // Tells the round, where that is due, once a core was seen at this clock. Of several threads one tells it.
+    fn tell(&self, begin: Instant, clock: u32) {
         let Ok(elapsed) = begin.elapsed(&self.clock) else {
             return;
         };
@@ -70,22 +74,39 @@ impl<C: Clock, P: Print> ProgressGate<C, P> {
             .compare_exchange(last, now, SeqCst, SeqCst)
             .is_ok()
         {
+            let ticks = self
+                .latest
+                .fetch_max(u64::from(clock), SeqCst)
+                .max(u64::from(clock));
+            let (rounds, round) = (u64::from(self.rounds), u64::from(ROUND));
+            let percent = ticks.saturating_mul(100) / (rounds * round).max(1);
             // (what can't be written is left out)
-            let _ = self
-                .output
-                .print(format_args!("\r{steps} steps in {} s", now / 1000));
+            let _ = self.output.print(format_args!(
+                "\rround {} of {rounds}, {percent} %",
+                (ticks / round).saturating_add(1).min(rounds)
+            ));
         }
     }
 }
 
 impl<C: Clock + Sync, P: Print + Sync> Gate for ProgressGate<C, P> {
-    fn pass(&self, _actor: u32, step: u64) {
-        if step % STRIDE != STRIDE - 1 {
+    fn pass(&self, _actor: u32, _step: u64) {}
+
+    fn reached(&self, actor: u32, step: u64, place: u32) {
+        if step % STRIDE != STRIDE - 1 || actor >= MAX_CORES {
             return;
         }
         if let Some(begin) = self.begin {
-            self.count(begin);
+            self.tell(begin, place);
         }
+    }
+}
+
+// How many rounds `run` has by these words, or 0 for other words: a self test is over at once.
+fn rounds_of(words: &[String]) -> u32 {
+    match read_words(words) {
+        Ok(Command::Run { rounds, mode: _ }) => rounds,
+        _ => 0,
     }
 }
 
