@@ -7,6 +7,7 @@ use Rattle.tab_core.specs.declared.actor.Actor.TheVariants.{Core, Controller}
 use Rattle.tab_core.specs.declared.stint.Stint.{Stint}
 use Rattle.table_form.specs.Running.Choice.{IsDispatch}
 use Rattle.table_form.specs.Running.Courses.{CourseView, IsCourse, outline_of}
+use Rattle.table_form.specs.Running.Outlines.{OutlineView}
 use Rattle.round_words.specs.declared.view.Part.{Part}
 use Rattle.round_words.specs.declared.view.View.{View}
 use Rattle.round_words.specs.Changes.{ChangesOnly}
@@ -17,7 +18,7 @@ use Rattle.run_promises.proofs.ChoiceLemmas.{stint_bounds}
 use Rattle.dispatch_core.specs.declared.answer.CoreAnswer.{CoreAnswer}
 use Rattle.dispatch_core.specs.declared.answer.CoreAnswer.TheVariants.{Ran, Behind, Finished}
 use Rattle.dispatch_core.specs.States.{AgreesWith, IsSameCore, StateView}
-use Rattle.dispatch_core.specs.Told.{ComesNext, ComesToEnter, CoreTold, FindsLow, LacksEvent}
+use Rattle.dispatch_core.specs.Told.{ComesNext, ComesToEnter, CoreGoes, CoreTold, FindsLow, HearsLow, LacksEvent, RunsSome}
 use Rattle.dispatch_core.proofs.PartLemmas.{entered_same}
 use Rattle.dispatch_core.proofs.StintLemmas.{begins_same}
 use Rattle.plan_switch.specs.Controllers as controllers
@@ -44,7 +45,7 @@ LeadStep course n v (control.Behind core tick) k w = (k ≡ n) × IsQuiet v w ×
 LeadStep course n v control.Finished k w = (k ≡ n) × IsQuiet v w × (k ≡ length course.ticks)
 
 -- a step in which the actor didn't get on
-quiet_none : (v : View) → IsQuiet v v
+pub quiet_none : (v : View) → IsQuiet v v
 quiet_none v = record { actors = actors_none v; clocks = λ a. refl; floors = λ a. refl }
 
 quiet_step : (v w : View) (c : ℕ) → ChangesOnly v w c → (part w c).clock ≡ (part v c).clock → (part w c).floors ≡ (part v c).floors → IsQuiet v w
@@ -65,6 +66,94 @@ clock_now course a b w same agrees = agrees.stands.clock ∙ ap (λ (c : ℕ). (
 -- entering posts nothing
 entered_floors : (p q : Part) → ComesToEnter p q → q.floors ≡ p.floors
 entered_floors p q enters = elim enters [ inl had ↦ ap (λ (r : Part). r.floors) had.1 | inr d ↦ ap (λ (r : Part). r.floors) d.becomes ]
+
+-- a core whose clock is too low, whatever the plan
+abbrev low_of : (course : CourseView) (c d tick : ℕ) (p q : Part) → FindsLow course c p q d tick → HearsLow (outline_of course) c p q d tick
+low_of course c d tick p q finds = record {
+  end = finds.stint.end;
+  core = finds.core;
+  other = finds.other;
+  heard = finds.heard;
+  near = finds.near;
+  low = finds.low;
+  becomes = finds.becomes;
+}
+
+-- a step in all that needs no plan
+module _ (o : OutlineView) (c : ℕ) (v w : View) (changes : ChangesOnly v w c) where
+  -- the core has entered its round, or needn't
+  module _ (count : ℕ) (entered : Part) (enters : ComesToEnter (sees (part v c) count) entered) where
+    on_begun : IsOn (part v c) entered
+    on_begun = on_more (part v c) (sees (part v c) count) entered (on_sees (part v c) count) (on_entered (sees (part v c) count) entered enters)
+
+    begun_clock : entered.clock ≡ (part v c).clock
+    begun_clock = (entered_same (sees (part v c) count) entered enters).clock
+
+    begun_floors : entered.floors ≡ (part v c).floors
+    begun_floors = entered_floors (sees (part v c) count) entered enters
+
+    -- it runs a stint
+    pub later : (s : Stint) → RunsSome o c entered (part w c) s → (part v c).clock < (part w c).clock
+    later s runs = omega (arith, ap (λ (q : Part). q.clock) runs.becomes, runs.some, runs.begins.from, begun_clock)
+
+    on_run : (s : Stint) → RunsSome o c entered (part w c) s → IsOn (part v c) (part w c)
+    on_run s runs = let heard = on_cores c o.lag s.end o.cores entered runs.heard runs.near in record {
+      clock = omega (arith, later s runs);
+      sights = λ e. absurd (omega (arith, later s runs, e));
+      heard = λ d. omega (arith, on_begun.heard d, heard.heard d, ap (λ (q : Part). length (heard_of q d)) runs.becomes);
+    }
+
+    -- it waits for another core
+    module _ (d tick : ℕ) (low : HearsLow o c entered (part w c) d tick) where
+      pub on_heard : IsOn (part v c) low.heard
+      on_heard = on_more (part v c) entered low.heard on_begun (on_cores c o.lag low.end d entered low.heard low.near)
+
+      on_low : IsOn (part v c) (part w c)
+      on_low = on_more (part v c) low.heard (part w c) on_heard (subst (IsOn low.heard) (sym low.becomes) (on_hears low.heard d tick))
+
+      pub low_quiet : IsQuiet v w
+      low_quiet = let hs = heard_same c o.lag low.end d entered low.heard low.near in
+          quiet_step v w c changes (ap (λ (q : Part). q.clock) low.becomes ∙ (hs.clock ∙ begun_clock))
+          (ap (λ (q : Part). q.floors) low.becomes ∙ (hs.floors ∙ begun_floors))
+
+  -- it does nothing more
+  pub begun_parts : (count : ℕ) → ComesToEnter (sees (part v c) count) (part w c) → PartsGoOn v w
+  begun_parts count enters = parts_changed v w c changes (on_begun count (part w c) enters)
+
+  pub begun_quiet : (count : ℕ) → ComesToEnter (sees (part v c) count) (part w c) → IsQuiet v w
+  begun_quiet count enters = quiet_step v w c changes (begun_clock count (part w c) enters) (begun_floors count (part w c) enters)
+
+  -- it waits for the controller
+  pub lacks_quiet : (tick : ℕ) → LacksEvent o c v w tick → IsQuiet v w
+  lacks_quiet tick lacks = quiet_step v w c changes (ap (λ (q : Part). q.clock) lacks.becomes) (ap (λ (q : Part). q.floors) lacks.becomes)
+
+  goes_on : (rounds : ℕ) (answer : CoreAnswer) → CoreGoes o rounds c v answer w → IsOn (part v c) (part w c)
+  goes_on rounds (Ran s) goes = on_run goes.0 goes.1 goes.2.enters s goes.3
+  goes_on rounds (Behind Controller tick) goes = subst (IsOn (part v c)) (sym goes.1.becomes) (on_sees (part v c) goes.1.count)
+  goes_on rounds (Behind (Core d) tick) goes = on_low goes.0 goes.1 goes.2.enters d tick goes.3
+  goes_on rounds Finished goes = subst (λ (u : View). IsOn (part v c) (part u c)) (sym goes.1) (on_none (part v c))
+
+  pub goes_parts : (rounds : ℕ) (answer : CoreAnswer) → CoreGoes o rounds c v answer w → PartsGoOn v w
+  goes_parts rounds answer goes = parts_changed v w c changes (goes_on rounds answer goes)
+
+-- what a step did by a course, in all that needs no plan
+pub told_goes : (course : CourseView) (rounds c : ℕ) (v w : View) (answer : CoreAnswer) → IsCourse course → CoreTold course rounds c v answer w
+    → CoreGoes (outline_of course) rounds c v answer w
+told_goes course rounds c v w (Ran s) ok told = let runs = told.3 in (
+  told.0,
+  told.1,
+  told.2,
+  record {
+    begins = runs.next.begins;
+    some = (stint_bounds course c told.1.stints s ok runs.next.follows).0;
+    heard = runs.heard;
+    near = runs.near;
+    becomes = runs.becomes;
+  },
+)
+told_goes course rounds c v w (Behind Controller tick) ok told = told
+told_goes course rounds c v w (Behind (Core d) tick) ok told = (told.0, told.1, told.2, low_of course c d tick told.1 (part w c) told.3, told.4)
+told_goes course rounds c v w Finished ok told = told
 
 -- what was heard doesn't matter to the stint that comes next
 next_same : (course : CourseView) (c : ℕ) (p q : Part) (s : Stint) → SamePart p q → ComesNext course c p s → ComesNext course c q s
@@ -95,11 +184,6 @@ module _ (course : CourseView) (c d tick count : ℕ) (entered : Part) (v w : Vi
   found_same = let hs = heard_same c course.lag finds.stint.end d entered finds.heard finds.near in
       subst (SamePart entered) (sym finds.becomes) (record { clock = hs.clock; sights = hs.sights; entries = hs.entries; stints = hs.stints; floors = hs.floors })
 
-  on_heard : IsOn (part v c) finds.heard
-  on_heard = on_more (part v c) entered finds.heard
-      (on_more (part v c) (sees (part v c) count) entered (on_sees (part v c) count) (on_entered (sees (part v c) count) entered enters))
-      (on_cores c course.lag finds.stint.end d entered finds.heard finds.near)
-
   finds_waits : (holds v d ≡ true → tick ≡ (part v d).clock) → CoreWaits course c v w
   finds_waits exact = inr (record {
     stint = finds.stint;
@@ -108,7 +192,7 @@ module _ (course : CourseView) (c d tick count : ℕ) (entered : Part) (v w : Vi
         omega (arith, ap length found_same.sights, ap length es.sights, length_push (part v c).sights count));
     awaits = record {
       before = finds.heard;
-      since = on_heard;
+      since = on_heard (outline_of course) c v w changes count entered enters d tick (low_of course c d tick entered (part w c) finds);
       core = d;
       within = finds.core;
       other = finds.other;
@@ -119,65 +203,40 @@ module _ (course : CourseView) (c d tick count : ℕ) (entered : Part) (v w : Vi
     };
   })
 
+-- an actor whose core doesn't get on keeps its clock
+clock_stays : (course : CourseView) (a b : StateView) (v w : View) → IsSameCore a b → AgreesWith course a v → AgreesWith course b w → IsQuiet v w → b.clock ≡ a.clock
+clock_stays course a b v w same was now quiet = clock_now course a b w same now ∙ (quiet.clocks a.core ∙ sym was.stands.clock)
+
 -- what a core's step brings
 pub core_stepped : (course : CourseView) (a b : StateView) (v w : View) (answer : CoreAnswer) → IsCourse course → IsSameCore a b → AgreesWith course a v → AgreesWith course b w
     → ChangesOnly v w a.core → CoreTold course a.rounds a.core v answer w → CoreStep course a v answer b w
 core_stepped course a b v w (Ran s) ok same was now changes told =
-    let begins = told.2 in
-    let runs = told.3 in
-    let es = entered_same (sees (part v a.core) told.0) told.1 begins.enters in
-    let bounds = stint_bounds course a.core told.1.stints s ok runs.next.follows in
-    omega (arith, bounds.0, runs.next.begins.from, es.clock, was.stands.clock, clock_now course a b w same now, ap (λ (q : Part). q.clock) runs.becomes)
+    let goes = told_goes course a.rounds a.core v w (Ran s) ok told in
+    omega (arith, later (outline_of course) a.core v w changes goes.0 goes.1 goes.2.enters s goes.3, was.stands.clock, clock_now course a b w same now)
 core_stepped course a b v w (Behind Controller tick) ok same was now changes told =
     let lacks = told.1 in
     let lt : a.core < course.cores = omega (arith, was.stands.core.0, was.stands.of_outline.cores_are) in
-    let clock : (part w a.core).clock ≡ (part v a.core).clock = ap (λ (p : Part). p.clock) lacks.becomes in (
-      clock_now course a b w same now ∙ (clock ∙ sym was.stands.clock),
-      quiet_step v w a.core changes clock (ap (λ (p : Part). p.floors) lacks.becomes),
+    let quiet = lacks_quiet (outline_of course) a.core v w changes tick lacks in (
+      clock_stays course a b v w same was now quiet,
+      quiet,
       subst (λ (c : ℕ). CoreWaits course c v w) (sym same.core) (lacks_waits course a.core tick v w ok lt changes lacks),
     )
 core_stepped course a b v w (Behind (Core d) tick) ok same was now changes told =
-    let begins = told.2 in
+    let enters = told.2.enters in
     let finds = told.3 in
-    let p : Part = sees (part v a.core) told.0 in
-    let es = entered_same p told.1 begins.enters in
-    let hs = found_same course a.core d tick told.0 told.1 v w changes begins.enters finds in
-    let clock : (part w a.core).clock ≡ (part v a.core).clock = hs.clock ∙ es.clock in (
-      clock_now course a b w same now ∙ (clock ∙ sym was.stands.clock),
-      quiet_step v w a.core changes clock (hs.floors ∙ entered_floors p told.1 begins.enters),
-      subst (λ (c : ℕ). CoreWaits course c v w) (sym same.core) (finds_waits course a.core d tick told.0 told.1 v w changes begins.enters finds told.4),
+    let quiet = low_quiet (outline_of course) a.core v w changes told.0 told.1 enters d tick (low_of course a.core d tick told.1 (part w a.core) finds) in (
+      clock_stays course a b v w same was now quiet,
+      quiet,
+      subst (λ (c : ℕ). CoreWaits course c v w) (sym same.core) (finds_waits course a.core d tick told.0 told.1 v w changes enters finds told.4),
     )
 core_stepped course a b v w Finished ok same was now changes told =
-    let stays : b.clock ≡ a.clock = clock_now course a b w same now ∙ (ap (λ (u : View). (part u a.core).clock) told.1 ∙ sym was.stands.clock) in (
-      stays,
-      subst (IsQuiet v) (sym told.1) (quiet_none v),
-      stays ∙ (was.stands.clock ∙ (told.0 ∙ ap (λ (r : ℕ). r * ROUND) (sym same.rounds))),
-    )
+    let quiet = subst (IsQuiet v) (sym told.1) (quiet_none v) in
+    let stays = clock_stays course a b v w same was now quiet in
+    (stays, quiet, stays ∙ (was.stands.clock ∙ (told.0 ∙ ap (λ (r : ℕ). r * ROUND) (sym same.rounds))))
 
 -- a core's part is some steps on after its step
-core_on : (course : CourseView) (rounds c : ℕ) (v w : View) (answer : CoreAnswer) → IsCourse course → ChangesOnly v w c → CoreTold course rounds c v answer w → IsOn (part v c) (part w c)
-core_on course rounds c v w (Ran s) ok changes told =
-    let enters = told.2.enters in
-    let runs = told.3 in
-    let es = entered_same (sees (part v c) told.0) told.1 enters in
-    let bounds = stint_bounds course c told.1.stints s ok runs.next.follows in
-    let end : (part w c).clock ≡ s.end = ap (λ (q : Part). q.clock) runs.becomes in
-    let entered = on_entered (sees (part v c) told.0) told.1 enters in
-    let heard = on_cores c course.lag s.end course.cores told.1 runs.heard runs.near in
-    let later : (part v c).clock < (part w c).clock = omega (arith, end, bounds.0, runs.next.begins.from, es.clock) in record {
-      clock = omega (arith, later);
-      sights = λ e. absurd (omega (arith, later, e));
-      heard = λ d. omega (arith, entered.heard d, heard.heard d, ap (λ (q : Part). length (heard_of q d)) runs.becomes);
-    }
-core_on course rounds c v w (Behind Controller tick) ok changes told = subst (IsOn (part v c)) (sym told.1.becomes) (on_sees (part v c) told.1.count)
-core_on course rounds c v w (Behind (Core d) tick) ok changes told =
-    let finds = told.3 in
-    on_more (part v c) finds.heard (part w c) (on_heard course c d tick told.0 told.1 v w changes told.2.enters finds)
-    (subst (IsOn finds.heard) (sym finds.becomes) (on_hears finds.heard d tick))
-core_on course rounds c v w Finished ok changes told = subst (λ (u : View). IsOn (part v c) (part u c)) (sym told.1) (on_none (part v c))
-
 pub core_parts : (course : CourseView) (rounds c : ℕ) (v w : View) (answer : CoreAnswer) → IsCourse course → ChangesOnly v w c → CoreTold course rounds c v answer w → PartsGoOn v w
-core_parts course rounds c v w answer ok changes told = parts_changed v w c changes (core_on course rounds c v w answer ok changes told)
+core_parts course rounds c v w answer ok changes told = goes_parts (outline_of course) c v w changes rounds answer (told_goes course rounds c v w answer ok told)
 
 -- what the controller's step brings
 pub lead_stepped : (course : CourseView) (k l : ControlState) (v w : View) (answer : ControlAnswer) → controllers.AgreesWith course k v → controllers.AgreesWith course l w

@@ -1,7 +1,6 @@
--- A live crew: how it is made, how it starts to work, and what its view reads as by each course of the book.
-use Rattle.std.proofs.Common.{◌≡◌, ℕ, ◌+◌, ◌<◌, ◌≤◌, true, List, [], ◌∷◌, ◌++◌, length, Option, None, Some, inl, inr, refl, sym, ap, ◌∙◌, subst, arith}
+-- A live crew: how it is made and goes on, and what its view reads as by each course of the book.
+use Rattle.std.proofs.Common.{◌≡◌, ℕ, ◌<◌, ◌≤◌, true, List, [], ◌∷◌, ◌++◌, length, Option, None, Some, inl, inr, refl, sym, ap, ◌∙◌, subst, arith}
 use Rattle.std.specs.Prelude.{IfNone, slice_get}
-use Rattle.std.proofs.lemmas.List.{length-append}
 use Rattle.std.proofs.lemmas.Option.{slice_get_within}
 use Rattle.tab_core.proofs.Lists.{push_split, element_at}
 use Rattle.table_form.specs.Running.Courses.{CourseView, FitsRounds, IsCourse, outline_of}
@@ -13,6 +12,9 @@ use Rattle.run_promises.proofs.PromiseLemmas.{promised}
 use Rattle.round_words.specs.declared.view.View.{View}
 use Rattle.round_words.specs.Shown.{HoldsCore, ViewInvariant}
 use Rattle.round_words.specs.Views.{controller, holds, part}
+use Rattle.crew_turns.specs.declared.player.Player.{Player}
+use Rattle.crew_turns.specs.Going.{SameActors}
+use Rattle.crew_turns.specs.Troops.{AllHaveEnded, AreAgreed, AreHeld, AreSame}
 use Rattle.dispatch_core.specs.Parts.{used_counts}
 use Rattle.dispatch_core.specs.States.{Stands, StateView}
 use Rattle.plan_switch.specs.Controllers.{HasPosted}
@@ -22,58 +24,47 @@ use Rattle.board_state.proofs.FinishedLemmas.{counts_used, view_complete}
 use Rattle.board_state.proofs.RunViewLemmas.{view_kept}
 use Rattle.board_state.proofs.ViewLemmas.{IsAgreedBy, finished_view, run_view}
 use Rattle.core_workers.specs.Crews.{HasFinished, IsFresh}
-use Rattle.live_plan.specs.declared.team.Lead.{Lead}
-use Rattle.live_plan.specs.declared.team.Maker.{Maker}
-use Rattle.live_plan.specs.declared.team.Member.{Member}
+use Rattle.live_plan.specs.declared.maker.Maker.{Maker}
 use Rattle.live_plan.specs.Actors.{LiveActorView, LiveAgrees}
 use Rattle.live_plan.specs.Books.{LiveView}
 use Rattle.live_plan.specs.Courses.{IsLiveCourse}
-use Rattle.live_plan.specs.Crews.{AllAgree, CrewView, HaveFinished, HoldsAll, IsCrewOf, IsMakerOf, IsMemberOf, actor_in, actor_of, bare, crew_view}
-use Rattle.live_plan.specs.Inside.Cells.{IsCellShelfOf}
+use Rattle.live_plan.specs.Crews.{AllAgree, CrewView, HaveFinished, HoldsAll, IsCrewOf, IsMakerOf, actor_in, actor_of, bare, crew_view}
 use Rattle.live_plan.specs.Inside.Crewing.{AreNewMembers, IsNewMember}
-use Rattle.live_plan.specs.Inside.Working.{HaveEnded, IsHeld}
-use Rattle.live_plan.proofs.PlacesLemmas.{of_both}
+use Rattle.live_plan.specs.PlayerLaws.{core_lawful, lead_lawful}
+use Rattle.live_plan.specs.Players.{LeadView, MemberView, core_kind, lead_kind}
 
--- the member of an actor
-pub member_of : (o : Option Member) (a : LiveActorView) → actor_in o ≡ Some a → (m : Member) × (o ≡ Some m) × (m.actor ≡ a)
+-- the player of an actor
+pub member_of : (o : Option (Player MemberView)) (a : LiveActorView) → actor_in o ≡ Some a → (p : Player MemberView) × (o ≡ Some p) × (p.actor.actor ≡ a)
 member_of None a h = absurd cc
-member_of (Some m) a h = (m, refl, cc)
+member_of (Some p) a h = (p, refl, cc)
 
 -- a crew that is made
 
--- one member more
-pub new_more : (b : LiveView) (rounds first : ℕ) (ms : List Member) (m : Member) → AreNewMembers b rounds first ms
-    → IsNewMember b rounds (first + length ms) m → AreNewMembers b rounds first (ms ++ m ∷ [])
-new_more b rounds first ms m are new i x at = elim (push_split ms i m x at) [
+-- one core more
+pub new_more : (b : LiveView) (rounds : ℕ) (ps : List (Player MemberView)) (p : Player MemberView) → AreNewMembers b rounds ps
+    → IsNewMember b rounds (length ps) p.actor → AreNewMembers b rounds (ps ++ p ∷ [])
+new_more b rounds ps p are new i x at = elim (push_split ps i p x at) [
   | inl old ↦ are i x old
-  | inr here ↦ subst (IsNewMember b rounds (first + i)) here.1 (subst (λ (k : ℕ). IsNewMember b rounds (first + k) m) (sym here.0) new)
+  | inr here ↦ subst (λ (q : Player MemberView). IsNewMember b rounds i q.actor) here.1 (subst (λ (k : ℕ). IsNewMember b rounds k p.actor) (sym here.0) new)
 ]
 
-module _ (b : LiveView) (rounds : ℕ) (lower upper : List Member) (lead : Lead) (maker : Maker)
-    (lowers : AreNewMembers b rounds 0 lower) (uppers : AreNewMembers b rounds (length lower) upper) where
-  new_at : (c : ℕ) (m : Member) → slice_get (lower ++ upper) c ≡ Some m → IsNewMember b rounds c m
-  new_at c m at = elim (of_both lower upper c m at) [
-    | inl old ↦ (let e : 0 + c ≡ c = omega arith in subst (λ (k : ℕ). IsNewMember b rounds k m) e (lowers c m old))
-    | inr new ↦ subst (λ (k : ℕ). IsNewMember b rounds k m) (sym new.1) (uppers new.0 m new.2)
-  ]
-
-  pub crew_made : FitsRounds (bare b) rounds → length lower + length upper ≡ b.outline.cores → IsCellShelfOf b lead.shelf
-      → IsMakerOf b maker → IsCrewOf b (crew_view rounds (lower ++ upper) lead maker)
-  crew_made fits count shelf made = record {
+module _ (b : LiveView) (rounds : ℕ) (members : List (Player MemberView)) (lead : Player LeadView) (maker : Maker)
+    (new : AreNewMembers b rounds members) (count : length members ≡ b.outline.cores) where
+  pub crew_made : FitsRounds (bare b) rounds → lead.actor.book ≡ b → IsMakerOf b maker → IsCrewOf b (crew_view rounds members lead maker)
+  crew_made fits lead_is made = record {
     fits = fits;
-    cores = length-append lower upper ∙ count;
-    members = λ c m at. (new_at c m at).member;
-    lead = shelf;
+    cores = count;
+    members = λ c p at. (new c p at).member;
+    lead = lead_is;
     maker = made;
   }
 
-  pub agree_made : length lower + length upper ≡ b.outline.cores → (v : View) → IsFresh (bare b) v
-      → (holds v controller ≡ true → HasPosted b.outline lead.controller v)
-      → AllAgree b (crew_view rounds (lower ++ upper) lead maker) v
-  agree_made count v fresh control = record {
-    cores = λ c a at has. (let m = member_of (slice_get (lower ++ upper) c) a at in
-        let core : HoldsCore v c = (omega (arith, slice_get_within (lower ++ upper) c m.0 m.1, length-append lower upper, count, fresh.started.cores_are), has) in
-        subst (λ (x : LiveActorView). LiveAgrees b x.state v) m.2 ((new_at c m.0 m.1).agrees v fresh.started core (fresh.cores c core)));
+  pub agree_made : (v : View) → IsFresh (bare b) v → (holds v controller ≡ true → HasPosted b.outline lead.actor.control v)
+      → AllAgree b (crew_view rounds members lead maker) v
+  agree_made v fresh control = record {
+    cores = λ c a at has. (let p = member_of (slice_get members c) a at in
+        let core : HoldsCore v c = (omega (arith, slice_get_within members c p.0 p.1, count, fresh.started.cores_are), has) in
+        subst (λ (x : LiveActorView). LiveAgrees b x.state v) p.2 ((new c p.0 p.1).agrees v fresh.started core (fresh.cores c core)));
     control = control;
   }
 
@@ -83,100 +74,162 @@ none_more None P Q f p = f p
 none_more (Some x) P Q f p = p
 
 -- a crew starts to work
-pub held_crew : (b : LiveView) (crew : CrewView) (v : View) → length crew.members ≤ 32 → IsCrewOf b crew → AllAgree b crew v → HoldsAll crew v
-    → IsHeld b crew.rounds crew.members crew.lead v
+pub held_crew : (b : LiveView) (crew : CrewView) (v : View) → b.outline.cores ≤ 32 → IsCrewOf b crew → AllAgree b crew v → HoldsAll crew v
+    → AreHeld core_kind lead_kind crew.members crew.lead v
 held_crew b crew v few is agree all = record {
-  working = record {
-    block = record {
-      few = omega (arith, few);
-      short = is.fits.few_rounds;
-      each = λ i m at. (let e : i ≡ 0 + i = omega arith in subst (λ (k : ℕ). IsMemberOf b crew.rounds k m) e (is.members i m at));
-    };
-    cores = λ i m at. agree.cores i m.actor (ap actor_in at) (all.cores i (slice_get_within crew.members i m at));
-    shelf = is.lead;
-    control = agree.control;
+  troop = record {
+    few = omega (arith, few, is.cores);
+    each = λ i p at. (is.members i p at).core;
+    lead_is = refl;
   };
-  control = all.control;
+  each = λ i p at. (let m = is.members i p at in record {
+    short = omega (arith, m.rounds_is, is.fits.few_rounds);
+    agrees = subst (λ (k : LiveView). LiveAgrees k p.actor.actor.state v) (sym m.book_is)
+        (agree.cores i p.actor.actor (ap actor_in at) (all.cores i (slice_get_within crew.members i p at)));
+  });
+  control_agrees = subst (λ (k : LiveView). HasPosted k.outline crew.lead.actor.control v) (sym is.lead) (agree.control all.control);
 }
 
+-- its players go on
+module _ (b : LiveView) (members members' : List (Player MemberView)) (lead lead' : Player LeadView)
+    (same : AreSame core_kind lead_kind members lead members' lead') where
+  pub crew_on : (rounds : ℕ) (maker maker' : Maker) → IsCrewOf b (crew_view rounds members lead maker) → IsMakerOf b maker'
+      → IsCrewOf b (crew_view rounds members' lead' maker')
+  crew_on rounds maker maker' is made = record {
+    fits = is.fits;
+    cores = same.count ∙ is.cores;
+    members = λ c q at. (let p = element_at members c (omega (arith, slice_get_within members' c q at, same.count)) in
+        let was = is.members c p.0 p.1 in
+        let on = same.each c p.0 q p.1 at in
+        record { book_is = on.book ∙ was.book_is; core = on.core.core ∙ was.core; rounds_is = on.core.rounds ∙ was.rounds_is });
+    lead = same.same_lead ∙ is.lead;
+    maker = made;
+  }
+
+  -- the view still holds their parts
+  pub held_on : (v w : View) → AreHeld core_kind lead_kind members lead v → SameActors v w → AreAgreed core_kind lead_kind members' lead' w
+      → AreHeld core_kind lead_kind members' lead' w
+  held_on v w held actors agreed = record {
+    troop = agreed.troop;
+    each = λ i q at. (let p = element_at members i (omega (arith, slice_get_within members' i q at, same.count)) in
+        agreed.each i q at (actors.actors i ∙ subst (λ (k : ℕ). holds v k ≡ true) (held.troop.each i p.0 p.1)
+        (core_lawful.held p.0.actor v (held.each i p.0 p.1))));
+    control_agrees = agreed.control_agrees (actors.actors controller ∙ lead_lawful.held lead.actor v held.control_agrees);
+  }
+
+pub held_agreed : (members : List (Player MemberView)) (lead : Player LeadView) (v : View) → AreHeld core_kind lead_kind members lead v
+    → AreAgreed core_kind lead_kind members lead v
+held_agreed members lead v held = record {
+  troop = held.troop;
+  each = λ i p at has. held.each i p at;
+  control_agrees = λ has. held.control_agrees;
+}
+
+-- a crew that comes back: the view holds all parts, and all have ended but where memory ran out for a change
+pub record ComesBack (b : LiveView) (crew : CrewView) (w : View) (stopped : Option ℕ) : Type 0 where
+  pub is : IsCrewOf b crew
+  pub held : AreHeld core_kind lead_kind crew.members crew.lead w
+  pub ended : IfNone stopped (AllHaveEnded core_kind lead_kind crew.members crew.lead w)
+
+-- its players went on by workers, and then all together
+module _ (b : LiveView) (rounds : ℕ) (first mid last : List (Player MemberView)) (lead mid_lead last_lead : Player LeadView) (maker maker' : Maker)
+    (u w : View) (stopped : Option ℕ) (is : IsCrewOf b (crew_view rounds first lead maker)) (made : IsMakerOf b maker') where
+  pub comes_back : (back : List (Player MemberView)) → back ≡ last → AreSame core_kind lead_kind first lead mid mid_lead
+      → AreHeld core_kind lead_kind mid mid_lead u → AreSame core_kind lead_kind mid mid_lead last last_lead → SameActors u w
+      → AreAgreed core_kind lead_kind last last_lead w → IfNone stopped (AllHaveEnded core_kind lead_kind last last_lead w)
+      → ComesBack b (crew_view rounds back last_lead maker') w stopped
+  comes_back back back_is one held two actors agreed ended = subst (λ (ps : List (Player MemberView)). ComesBack b (crew_view rounds ps last_lead maker') w stopped) (sym back_is) (record {
+    is = crew_on b mid last mid_lead last_lead two rounds maker' maker' (crew_on b first mid lead mid_lead one rounds maker maker' is made) made;
+    held = held_on b mid last mid_lead last_lead two u w held actors agreed;
+    ended = ended;
+  })
+
 -- a crew ends its work
-module _ (b : LiveView) (rounds : ℕ) (members : List Member) (lead : Lead) (maker : Maker) (v : View) (held : IsHeld b rounds members lead v) where
-  abbrev crew : CrewView
-  crew = crew_view rounds members lead maker
+module _ (b : LiveView) (crew : CrewView) (v : View) (is : IsCrewOf b crew) (held : AreHeld core_kind lead_kind crew.members crew.lead v) where
+  agrees_at : (c : ℕ) (p : Player MemberView) → slice_get crew.members c ≡ Some p → LiveAgrees b p.actor.actor.state v
+  agrees_at c p at = subst (λ (k : LiveView). LiveAgrees k p.actor.actor.state v) (is.members c p at).book_is (held.each c p at).agrees
 
-  member_is : (c : ℕ) (m : Member) → slice_get members c ≡ Some m → IsMemberOf b rounds c m
-  member_is c m at = let e : 0 + c ≡ c = omega arith in subst (λ (k : ℕ). IsMemberOf b rounds k m) e (held.working.block.each c m at)
-
-  pub crew_back : FitsRounds (bare b) rounds → length members ≡ b.outline.cores → IsMakerOf b maker → IsCrewOf b crew
-  crew_back fits count made = record { fits = fits; cores = count; members = member_is; lead = held.working.shelf; maker = made }
+  controls : HasPosted b.outline crew.lead.actor.control v
+  controls = subst (λ (k : LiveView). HasPosted k.outline crew.lead.actor.control v) is.lead held.control_agrees
 
   pub agree_back : AllAgree b crew v
   agree_back = record {
-    cores = λ c a at has. (let m = member_of (slice_get members c) a at in
-        subst (λ (x : LiveActorView). LiveAgrees b x.state v) m.2 (held.working.cores c m.0 m.1));
-    control = held.working.control;
+    cores = λ c a at has. (let p = member_of (slice_get crew.members c) a at in
+        subst (λ (x : LiveActorView). LiveAgrees b x.state v) p.2 (agrees_at c p.0 p.1));
+    control = λ has. controls;
   }
+
+  held_core : (c : ℕ) (p : Player MemberView) → slice_get crew.members c ≡ Some p → holds v c ≡ true
+  held_core c p at = subst (λ (k : ℕ). holds v k ≡ true) (is.members c p at).core (held.each c p at).agrees.stands.core.1
 
   pub holds_back : HoldsAll crew v
   holds_back = record {
-    cores = λ c lt. (let m = element_at members c lt in
-        subst (λ (k : ℕ). holds v k ≡ true) (member_is c m.0 m.1).core (held.working.cores c m.0 m.1).stands.core.1);
-    control = held.control;
+    cores = λ c lt. (let p = element_at crew.members c lt in held_core c p.0 p.1);
+    control = controls.holds_it;
   }
 
-  pub finished_back : HaveEnded b members lead v → HaveFinished b crew
-  finished_back ended = record {
-    cores = λ c a at. (let m = member_of (slice_get members c) a at in
-        subst (λ (x : LiveActorView). HasFinished x.state) m.2 (ended.cores c m.0 m.1));
-    control = ended.control held.control;
-  }
+  -- each core has ended, and the controller has posted all
+  module _ (ended : AllHaveEnded core_kind lead_kind crew.members crew.lead v) where
+    core_over : (c : ℕ) (p : Player MemberView) → slice_get crew.members c ≡ Some p → HasFinished p.actor.actor.state
+    core_over c p at = ended.cores_have c p at (held_core c p at)
+
+    posted_all : crew.lead.actor.control.posted ≡ length b.outline.ticks
+    posted_all = ended.lead_has controls.holds_it ∙ ap (λ (k : LiveView). length k.outline.ticks) is.lead
+
+    pub finished_back : HaveFinished b crew
+    finished_back = record {
+      cores = λ c a at. (let p = member_of (slice_get crew.members c) a at in
+          subst (λ (x : LiveActorView). HasFinished x.state) p.2 (core_over c p.0 p.1));
+      control = posted_all;
+    }
 
   -- what its view reads as by a course of the book
-  module _ (course : CourseView) (live : IsLiveCourse b course) (count : length members ≡ b.outline.cores) (shown : ViewInvariant v) where
-    abbrev agreed : (c : ℕ) → c < course.cores → (s : StateView) × IsAgreedBy course rounds c v s
+  module _ (course : CourseView) (live : IsLiveCourse b course) (shown : ViewInvariant v) where
+    at_core : (c : ℕ) → c < course.cores → (p : Player MemberView) × (slice_get crew.members c ≡ Some p)
+    at_core c lt = element_at crew.members c (omega (arith, lt, is.cores, ap (λ (o : OutlineView). o.cores) live.outline))
+
+    abbrev agreed : (c : ℕ) → c < course.cores → (s : StateView) × IsAgreedBy course crew.rounds c v s
     agreed c lt =
-        let m = element_at members c (omega (arith, lt, count, ap (λ (o : OutlineView). o.cores) live.outline)) in
-        let is = member_is c m.0 m.1 in
-        let agrees = held.working.cores c m.0 m.1 in (
-          m.0.actor.state,
+        let p = at_core c lt in
+        let member = is.members c p.0 p.1 in
+        let agrees = agrees_at c p.0 p.1 in (
+          p.0.actor.actor.state,
           record {
-            core_is = is.core;
-            rounds_are = is.rounds_is;
+            core_is = member.core;
+            rounds_are = member.rounds_is;
             agrees = record {
-              stands = subst (λ (o : OutlineView). Stands o m.0.actor.state v) (sym live.outline) agrees.stands;
+              stands = subst (λ (o : OutlineView). Stands o p.0.actor.actor.state v) (sym live.outline) agrees.stands;
               plans = agrees.plans course live;
             };
           },
         )
 
-    control_by : HasPosted (outline_of course) lead.controller v
-    control_by = subst (λ (o : OutlineView). HasPosted o lead.controller v) (sym live.outline) (held.working.control held.control)
+    control_by : HasPosted (outline_of course) crew.lead.actor.control v
+    control_by = subst (λ (o : OutlineView). HasPosted o crew.lead.actor.control v) (sym live.outline) controls
 
-    pub run : IsRunView course rounds v
-    run = run_view course rounds v lead.controller agreed control_by shown
+    pub run : IsRunView course crew.rounds v
+    run = run_view course crew.rounds v crew.lead.actor.control agreed control_by shown
 
-    pub kept : StateInvariant course rounds (state_of course v)
-    kept = view_kept course rounds v run
+    pub kept : StateInvariant course crew.rounds (state_of course v)
+    kept = view_kept course crew.rounds v run
 
-    pub promises : IsCourse course → KeepsPromises course rounds (state_of course v)
-    promises is = promised course rounds (state_of course v) is kept
+    pub promises : IsCourse course → KeepsPromises course crew.rounds (state_of course v)
+    promises ok = promised course crew.rounds (state_of course v) ok kept
 
-    module _ (ended : HaveEnded b members lead v) where
-      over : IsFinished rounds v
-      over = finished_view course rounds v lead.controller
-          (λ c lt. let s = agreed c lt in
-          let m = element_at members c (omega (arith, lt, count, ap (λ (o : OutlineView). o.cores) live.outline)) in
-          (s.0, s.1, ended.cores c m.0 m.1))
-          control_by (ended.control held.control ∙ ap (λ (o : OutlineView). length o.ticks) (sym live.outline))
+    module _ (ended : AllHaveEnded core_kind lead_kind crew.members crew.lead v) where
+      over : IsFinished crew.rounds v
+      over = finished_view course crew.rounds v crew.lead.actor.control
+          (λ c lt. let s = agreed c lt in let p = at_core c lt in (s.0, s.1, core_over ended c p.0 p.1))
+          control_by (posted_all ended ∙ ap (λ (o : OutlineView). length o.ticks) (sym live.outline))
 
-      pub complete : IsComplete course rounds (state_of course v)
-      complete = view_complete course rounds v run over
+      pub complete : IsComplete course crew.rounds (state_of course v)
+      complete = view_complete course crew.rounds v run over
 
       pub counts : (c : ℕ) (a : LiveActorView) → actor_of crew c ≡ Some a → a.state.used ≡ (state_of course v).decided
       counts c a at =
-          let m = member_of (slice_get members c) a at in
-          let agrees = held.working.cores c m.0 m.1 in
-          let small : c < v.cores = omega (arith, slice_get_within members c m.0 m.1, count, agrees.stands.of_outline.cores_are) in
-          let used : m.0.actor.state.used ≡ used_counts (part v c).entries =
-          subst (λ (k : ℕ). m.0.actor.state.used ≡ used_counts (part v k).entries) (member_is c m.0 m.1).core agrees.stands.used in
-          subst (λ (x : LiveActorView). x.state.used ≡ (state_of course v).decided) m.2 (used ∙ (counts_used course rounds c v run over small).0)
+          let p = member_of (slice_get crew.members c) a at in
+          let agrees = agrees_at c p.0 p.1 in
+          let small : c < v.cores = omega (arith, slice_get_within crew.members c p.0 p.1, is.cores, agrees.stands.of_outline.cores_are) in
+          let used : p.0.actor.actor.state.used ≡ used_counts (part v c).entries =
+          subst (λ (k : ℕ). p.0.actor.actor.state.used ≡ used_counts (part v k).entries) (is.members c p.0 p.1).core agrees.stands.used in
+          subst (λ (x : LiveActorView). x.state.used ≡ (state_of course v).decided) p.2 (used ∙ (counts_used course crew.rounds c v run over small).0)

@@ -8,11 +8,8 @@ pub mod ShelvesLemmas
 pub mod SteppingLemmas
 pub mod ListsLemmas
 pub mod PlannersLemmas
-pub mod PlacesLemmas
-pub mod WorkingLemmas
+pub mod PlayersLemmas
 pub mod CellsLemmas
 pub mod CrewsLemmas
-pub mod MeetingLemmas
 pub mod OutcomesLemmas
 pub mod TellingLemmas
-pub mod KeepingLemmas

@@ -56,7 +56,10 @@ waits_for_controller : (b : LiveView) (rounds c tick seen : ℕ) (v w : View) �
     → (lacks : LacksEvent b.outline c v w tick) → lacks.count ≡ seen → WaitsFor b rounds c v Controller tick w
 waits_for_controller b rounds c tick seen v w less lacks count =
     let saw = saw_all (part v c) (part w c) lacks.count lacks.becomes in record {
-      told = λ course live. (less, subst (λ (o : OutlineView). LacksEvent o c v w tick) (sym live.outline) lacks);
+      step = record {
+        goes = (less, lacks);
+        told = λ course live. (less, subst (λ (o : OutlineView). LacksEvent o c v w tick) (sym live.outline) lacks);
+      };
       unfinished = less;
       clock = saw.clock;
       stints = saw.stints;
@@ -115,13 +118,17 @@ waits_for_core : (b : LiveView) (rounds c seen used d tick : ℕ) (v u w : View)
     → HasBegunFrom b rounds c seen used v u state → WaitsForCore b c u d tick w → WaitsFor b rounds c v (Core d) tick w
 waits_for_core b rounds c seen used d tick v u w state from waits =
     let entered = entered_same (sees (part v c) seen) (part u c) from.begins.enters in record {
-      told = λ course live. (let low = waits.low course live in (
-        seen,
-        part u c,
-        subst (λ (o : OutlineView). BeginsStep o rounds c v seen (part u c)) (sym live.outline) from.begins,
-        low.0,
-        low_told c v u d tick from.others low.0.other low.1,
-      ));
+      step = record {
+        goes = (let low = waits.end.goes in
+            (seen, part u c, from.begins, low.0, low_told c v u d tick from.others low.0.other low.1));
+        told = λ course live. (let low = waits.end.told course live in (
+          seen,
+          part u c,
+          subst (λ (o : OutlineView). BeginsStep o rounds c v seen (part u c)) (sym live.outline) from.begins,
+          low.0,
+          low_told c v u d tick from.others low.0.other low.1,
+        ));
+      };
       unfinished = from.begins.unfinished;
       clock = waits.still.clock ∙ entered.clock;
       stints = waits.still.stints ∙ entered.stints;
@@ -146,12 +153,15 @@ needs_change b rounds c seen used change v u w state from is less =
 -- the whole step, whose end is reported
 pub finish_told : (b : LiveView) (rounds c seen used : ℕ) (v u w : View) (s t : ShelfView) (state : StateView) (answer : LiveAnswer)
     → HasBegunFrom b rounds c seen used v u state → FinishTold b c seen used u s answer w t → LiveTold b rounds c v s answer w t
-finish_told b rounds c seen used v u w s t state (Ran stint) from told = λ course live. (
-  seen,
-  part u c,
-  subst (λ (o : OutlineView). BeginsStep o rounds c v seen (part u c)) (sym live.outline) from.begins,
-  told course live,
-)
+finish_told b rounds c seen used v u w s t state (Ran stint) from told = record {
+  goes = (seen, part u c, from.begins, told.goes);
+  told = λ course live. (
+    seen,
+    part u c,
+    subst (λ (o : OutlineView). BeginsStep o rounds c v seen (part u c)) (sym live.outline) from.begins,
+    told.told course live,
+  );
+}
 finish_told b rounds c seen used v u w s t state (Behind (Core d) tick) from told = (
   waits_for_core b rounds c seen used d tick v u w state from told.0,
   subst (λ (n : ℕ). LooksBeyond b n s t)

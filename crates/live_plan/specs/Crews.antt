@@ -1,34 +1,33 @@
 -- The actors of a live run, and when they are of a book and agree with a view.
 -- Source: the rules of this project.
-use Rattle.std.specs.Prelude.{◌≡◌, ℕ, ◌+◌, ◌<◌, true, false, List, [], Option, None, Some, length, slice_get}
+use Rattle.std.specs.Prelude.{◌≡◌, ◌⊎◌, ℕ, ◌+◌, ◌<◌, true, false, List, [], Option, None, Some, length, slice_get}
 use Rattle.table_form.specs.Running.Courses.{CourseView, FitsRounds, with_plans}
 use Rattle.round_words.specs.declared.view.View.{View}
 use Rattle.round_words.specs.Views.{controller, holds}
 use Rattle.plan_switch.specs.Controllers.{HasPosted}
 use Rattle.core_workers.specs.Crews.{HasFinished}
-use Rattle.live_plan.specs.declared.team.Lead.{Lead}
-use Rattle.live_plan.specs.declared.team.Maker.{Maker}
-use Rattle.live_plan.specs.declared.team.Member.{Member}
-use Rattle.live_plan.specs.Actors.{IsActorOf, LiveActorView, LiveAgrees}
+use Rattle.crew_turns.specs.declared.player.Player.{Player}
+use Rattle.live_plan.specs.declared.maker.Maker.{Maker}
+use Rattle.live_plan.specs.Actors.{LiveActorView, LiveAgrees}
 use Rattle.live_plan.specs.Books.{LiveView}
 use Rattle.live_plan.specs.Inside.Cells.{IsCellShelfOf, cell_state}
 use Rattle.live_plan.specs.Planners.{IsPlannerOf, PlannerView}
+use Rattle.live_plan.specs.Players.{LeadView, MemberView}
 
--- the actors of a live run of so many rounds: by number the cores' with their shelves, and those of the controller
--- and of the planner with theirs
+-- the actors of a live run of so many rounds: by number the cores', the controller, and the planner with its shelf
 pub record CrewView : Type 0 where
   pub rounds : ℕ
-  pub members : List Member
-  pub lead : Lead
+  pub members : List (Player MemberView)
+  pub lead : Player LeadView
   pub maker : Maker
 
-abbrev pub crew_view : ℕ → List Member → Lead → Maker → CrewView
+abbrev pub crew_view : ℕ → List (Player MemberView) → Player LeadView → Maker → CrewView
 crew_view rounds members lead maker =
     record { rounds = rounds; members = members; lead = lead; maker = maker }
 
-abbrev pub actor_in : Option Member → Option LiveActorView
+abbrev pub actor_in : Option (Player MemberView) → Option LiveActorView
 actor_in None = None
-actor_in (Some m) = Some m.actor
+actor_in (Some p) = Some p.actor.actor
 
 -- the actor of core c, if there is such a core
 abbrev pub actor_of : CrewView → ℕ → Option LiveActorView
@@ -41,12 +40,11 @@ planner_of crew = crew.maker.planner
 abbrev pub bare : LiveView → CourseView
 bare b = with_plans b.outline [] []
 
--- a core's actor and its shelf are of the book, and the core is c, in a run of so many rounds
-pub record IsMemberOf (b : LiveView) (rounds c : ℕ) (m : Member) : Type 0 where
-  pub actor : IsActorOf b m.actor
+-- the core is core c of the book, in a run of so many rounds
+pub record IsMemberOf (b : LiveView) (rounds c : ℕ) (m : MemberView) : Type 0 where
+  pub book_is : m.book ≡ b
   pub core : m.actor.state.core ≡ c
   pub rounds_is : m.actor.state.rounds ≡ rounds
-  pub shelf : IsCellShelfOf b m.shelf
 
 -- the planner and its shelf are of the book: the shelf was handed the values of the changes before the next
 pub record IsMakerOf (b : LiveView) (maker : Maker) : Type 0 where
@@ -59,14 +57,14 @@ pub record IsMakerOf (b : LiveView) (maker : Maker) : Type 0 where
 pub record IsCrewOf (b : LiveView) (crew : CrewView) : Type 0 where
   pub fits : FitsRounds (bare b) crew.rounds
   pub cores : length crew.members ≡ b.outline.cores
-  pub members : (c : ℕ) (m : Member) → slice_get crew.members c ≡ Some m → IsMemberOf b crew.rounds c m
-  pub lead : IsCellShelfOf b crew.lead.shelf
+  pub members : (c : ℕ) (p : Player MemberView) → slice_get crew.members c ≡ Some p → IsMemberOf b crew.rounds c p.actor
+  pub lead : crew.lead.actor.book ≡ b
   pub maker : IsMakerOf b crew.maker
 
 -- all actors whose parts the view holds agree with them
 pub record AllAgree (b : LiveView) (crew : CrewView) (v : View) : Type 0 where
   pub cores : (c : ℕ) (a : LiveActorView) → actor_of crew c ≡ Some a → holds v c ≡ true → LiveAgrees b a.state v
-  pub control : holds v controller ≡ true → HasPosted b.outline crew.lead.controller v
+  pub control : holds v controller ≡ true → HasPosted b.outline crew.lead.actor.control v
 
 -- the view holds the parts of all cores, and the controller's
 pub record HoldsAll (crew : CrewView) (v : View) : Type 0 where
@@ -76,9 +74,13 @@ pub record HoldsAll (crew : CrewView) (v : View) : Type 0 where
 -- every core's clock is at the run's end, and every event is posted
 pub record HaveFinished (b : LiveView) (crew : CrewView) : Type 0 where
   pub cores : (c : ℕ) (a : LiveActorView) → actor_of crew c ≡ Some a → HasFinished a.state
-  pub control : crew.lead.controller.posted ≡ length b.outline.ticks
+  pub control : crew.lead.actor.control.posted ≡ length b.outline.ticks
 
 -- memory ran out for this change, which the planner planned last, or for none
 abbrev pub StoppedAt : PlannerView → Option ℕ → Type 0
 StoppedAt p None = p.stopped ≡ false
 StoppedAt p (Some change) = (p.stopped ≡ true) × (p.next ≡ change + 1)
+
+-- all changes were reported, or one stopped
+abbrev pub HasPlanned : LiveView → PlannerView → Type 0
+HasPlanned b p = (p.next ≡ length b.changes) ⊎ (p.stopped ≡ true)

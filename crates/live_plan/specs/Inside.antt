@@ -8,4 +8,3 @@ pub mod Lists
 pub mod Making
 pub mod Outcomes
 pub mod Seeking
-pub mod Working

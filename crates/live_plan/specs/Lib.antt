@@ -9,6 +9,8 @@ pub mod Finding
 pub mod Inside
 pub mod Mades
 pub mod Planners
+pub mod PlayerLaws
+pub mod Players
 pub mod Shelves
 pub mod Telling
 pub mod Told

@@ -18,6 +18,8 @@ use Rattle.plan_book.proofs.CourseOfBook.{fits_rounds}
 use Rattle.round_words.specs.declared.view.View.{View}
 use Rattle.round_words.specs.Shown.{ViewInvariant}
 use Rattle.round_words.specs.Views.{IsStarted, just_started, part}
+use Rattle.crew_turns.specs.declared.player.Player.{Player}
+use Rattle.crew_turns.specs.Troops.{AreHeld}
 use Rattle.dispatch_core.specs.Accounts.{IsAccountOf}
 use Rattle.dispatch_core.specs.declared.account.CoreAccount.{CoreAccount}
 use Rattle.board_state.proofs.FinishedLemmas.{counts_used}
@@ -30,12 +32,11 @@ use Rattle.core_workers.specs.Crews.{IsFresh}
 use Rattle.course_run.specs.Runs.{AreAccountsOf, IsReportOfState, stints_of}
 use Rattle.trace_report.specs.ReportViews.{ReportView}
 use Rattle.trace_report.specs.RunReports.{IsReportOf}
-use Rattle.live_plan.specs.declared.team.Member.{Member}
 use Rattle.live_plan.specs.Actors.{LiveActorView, LiveAgrees}
 use Rattle.live_plan.specs.Books.{IsLiveBookOf, LiveView}
 use Rattle.live_plan.specs.Courses.{IsLiveCourse}
 use Rattle.live_plan.specs.Crews.{AllAgree, CrewView, HoldsAll, IsCrewOf, actor_in, actor_of, bare}
-use Rattle.live_plan.specs.Inside.Working.{IsHeld}
+use Rattle.live_plan.specs.Players.{MemberView, core_kind, lead_kind}
 use Rattle.live_plan.proofs.CoursesLemmas.{live_course}
 use Rattle.live_plan.proofs.CrewsLemmas.{held_crew, run, member_of}
 use Rattle.live_run.specs.Inside.Telling.{AreTold, accounts_of, first_used, used_in}
@@ -87,9 +88,9 @@ pub account_more : (crew : CrewView) (n : ℕ) (a : LiveActorView) → actor_of 
     → take (n + 1) (accounts_of crew) ≡ take n (accounts_of crew) ++ a.state.account ∷ []
 account_more crew n a at =
     let m = member_of (slice_get crew.members n) a at in
-    let x : CoreAccount = m.0.actor.state.account in
+    let x : CoreAccount = m.0.actor.actor.state.account in
     let here : slice_get (accounts_of crew) n ≡ Some x =
-    in_map (λ (k : Member). k.actor.state.account) crew.members n m.0 m.1 in
+    in_map (λ (k : Player MemberView). k.actor.actor.state.account) crew.members n m.0 m.1 in
     let lt : n < length (accounts_of crew) = slice_get_within (accounts_of crew) n x here in
     let next : n + 1 ≡ suc n = omega arith in
     rw next (take-suc (accounts_of crew) n x lt
@@ -98,7 +99,7 @@ account_more crew n a at =
 
 -- there is one for each member
 pub accounts_size : (crew : CrewView) → length (accounts_of crew) ≡ length crew.members
-accounts_size crew = length-map crew.members (λ (m : Member). m.actor.state.account)
+accounts_size crew = length-map crew.members (λ (m : Player MemberView). m.actor.actor.state.account)
 
 -- ---- the view
 
@@ -140,13 +141,13 @@ module _ (b : LiveView) (crew : CrewView) (v : View) (is : IsCrewOf b crew) (agr
     accounts_are = record {
       size = accounts_size crew ∙ (cores_are ∙ sym invariant.size);
       each = λ c x at.
-          let m = of_map (λ (k : Member). k.actor.state.account) crew.members c x at in
+          let m = of_map (λ (k : Player MemberView). k.actor.actor.state.account) crew.members c x at in
           let member = is.members c m.0 m.1 in
           let lt = slice_get_within crew.members c m.0 m.1 in
-          let agrees : LiveAgrees b m.0.actor.state v = agree.cores c m.0.actor (ap actor_in m.1) (all.cores c lt) in
+          let agrees : LiveAgrees b m.0.actor.actor.state v = agree.cores c m.0.actor.actor (ap actor_in m.1) (all.cores c lt) in
           let small : c < v.cores = omega (arith, lt, is.cores, started.cores_are) in
-          let here : IsAccountOf course c (part v c).stints m.0.actor.state.account =
-          subst (λ (k : ℕ). IsAccountOf course k (part v k).stints m.0.actor.state.account) member.core
+          let here : IsAccountOf course c (part v c).stints m.0.actor.actor.state.account =
+          subst (λ (k : ℕ). IsAccountOf course k (part v k).stints m.0.actor.actor.state.account) member.core
           (agrees.plans course live).account in
           subst (λ (stints : List Stint). IsAccountOf course c stints x) (sym (ap stints_of (is_core course v c small)))
           (subst (IsAccountOf course c (part v c).stints) (sym m.2) here);
@@ -157,11 +158,11 @@ module _ (b : LiveView) (crew : CrewView) (v : View) (is : IsCrewOf b crew) (agr
       few : length crew.members ≤ 32
       few = omega (arith, cores_are, kept.form.outline.few_cores)
 
-      held : IsHeld b crew.rounds crew.members crew.lead v
-      held = held_crew b crew v few is agree all
+      held : AreHeld core_kind lead_kind crew.members crew.lead v
+      held = held_crew b crew v (omega (arith, few, is.cores)) is agree all
 
       run_is : IsRunView course crew.rounds v
-      run_is = run b crew.rounds crew.members crew.lead crew.maker v held course live is.cores shown
+      run_is = run b crew v is held course live shown
 
       over : IsFinished crew.rounds v
       over = record {
@@ -181,10 +182,10 @@ module _ (b : LiveView) (crew : CrewView) (v : View) (is : IsCrewOf b crew) (agr
           first : 0 < length crew.members → (a : LiveActorView) × (actor_of crew 0 ≡ Some a)
           first lt = first_of crew.members lt
             where
-              first_of : (members : List Member) → 0 < length members
+              first_of : (members : List (Player MemberView)) → 0 < length members
                   → (a : LiveActorView) × (actor_in (slice_get members 0) ≡ Some a)
               first_of [] lt' = absurd (omega arith)
-              first_of (m ∷ members) lt' = (m.actor, refl)
+              first_of (m ∷ members) lt' = (m.actor.actor, refl)
 
       -- what the actors tell
       pub are_told : (rounds : ℕ) → crew.rounds ≡ rounds → rounds ≤ MAX_ROUNDS → AreTold course crew rounds

@@ -8,7 +8,7 @@ ghost use Rattle.core_workers.specs.Crews.{IsFresh};
 ghost use Rattle.live_plan.specs.Books.{IsLiveBookOf};
 ghost use Rattle.live_plan.specs.Crews.{AllAgree, IsCrewOf, bare};
 ghost use Rattle.live_run.specs.Inside.Readies.{HasRoomToTell, HasRun, IsReady};
-ghost use Rattle.live_run.specs.LiveRuns.{IsRunOf, IsUnplanned, LeavesView};
+ghost use Rattle.live_run.specs.LiveRuns.{IsRunOf, LeavesView};
 
 use crate::telling::tell;
 use core_workers::Gate;
@@ -81,28 +81,33 @@ pub fn run_script<R: Threads + Wait + Sync, G: Gate>(
     ensures board_left { IfErr result (λ r. IsSeatOf board.now r.0) }
     ensures left { IfErr result (λ r. LeavesView rounds host.now script.now r.1 (view_of r.0)) }
 {
-    let (live, crew) = match ready(rt, alloc, host, script, rounds) {
-        Ok(taken) => taken,
+    let live = match LiveBook::make(rt, alloc, host, script) {
+        Ok(live) => live,
         Err(fault) => return Err((seat, LiveFault::NotBegun(fault))),
     };
+    let Ok(crew) = crew_for(rt, alloc, host, script, rounds, &live) else {
+        return Err((seat, LiveFault::NotBegun(PlanFault::NoMemory)));
+    };
     let (seat, crew, stopped) = run_ready(rt, alloc, &live, crew, rounds, board, seat, gate);
-    match ran_of(rt, alloc, host, script, rounds, live, crew, &seat, stopped) {
+    match ran_of(
+        rt, alloc, host, script, rounds, &live, &crew, &seat, stopped,
+    ) {
         Ok(ran) => Ok((seat, ran)),
         Err(_) => Err((seat, LiveFault::Stopped)),
     }
 }
 
 // Starts the board and runs what is ready. The third part is the change for which memory ran out, if it did.
-fn run_ready<R: Threads + Wait + Sync, G: Gate>(
+fn run_ready<'a, R: Threads + Wait + Sync, G: Gate>(
     rt: &R,
     alloc: Global,
-    live: &LiveBook,
-    crew: LiveCrew,
+    live: &'a LiveBook,
+    crew: LiveCrew<'a>,
     rounds: u32,
     board: &RoundBoard,
     mut seat: RoundSeat,
     gate: &G,
-) -> (RoundSeat, LiveCrew, Option<u32>)
+) -> (RoundSeat, LiveCrew<'a>, Option<u32>)
     requires crew { IsCrewOf live.now crew }
     requires rounds { crew.rounds ≡ rounds }
     requires agree { (v : View) → IsFresh (bare live.now) v → AllAgree live.now crew v }
@@ -123,21 +128,21 @@ fn ran_of<R: Threads + Sync>(
     host: &Host,
     script: &Script,
     rounds: u32,
-    live: LiveBook,
-    crew: LiveCrew,
+    live: &LiveBook,
+    crew: &LiveCrew<'_>,
     seat: &RoundSeat,
     stopped: Option<u32>,
 ) -> Result<Ran, NoMemory>
     requires within { AreWithin (length host.now.vcpus) script.now }
     requires few { rounds ≤ MAX_ROUNDS }
-    requires live { IsLiveBookOf host.now script.now live }
-    requires ran { HasRun live rounds crew (view_of seat.now) stopped }
+    requires live { IsLiveBookOf host.now script.now live.now }
+    requires ran { HasRun live.now rounds crew.now (view_of seat.now) stopped }
     ensures { IfOk result (IsRunOf rounds host.now script.now (view_of seat.now)) }
 {
     if stopped.is_some() {
         return Err(AllocError);
     }
-    told(rt, alloc, host, script, rounds, live, &crew, seat)
+    told(rt, alloc, host, script, rounds, live, crew, seat)
 }
 
 // The run that was made, with what its actors tell of it.
@@ -147,14 +152,14 @@ fn told<R: Threads + Sync>(
     host: &Host,
     script: &Script,
     rounds: u32,
-    live: LiveBook,
-    crew: &LiveCrew,
+    live: &LiveBook,
+    crew: &LiveCrew<'_>,
     seat: &RoundSeat,
 ) -> Result<Ran, NoMemory>
     requires within { AreWithin (length host.now.vcpus) script.now }
     requires few { rounds ≤ MAX_ROUNDS }
-    requires live { IsLiveBookOf host.now script.now live }
-    requires ran { HasRun live rounds crew.now (view_of seat.now) None }
+    requires live { IsLiveBookOf host.now script.now live.now }
+    requires ran { HasRun live.now rounds crew.now (view_of seat.now) None }
     ensures { IfOk result (IsRunOf rounds host.now script.now (view_of seat.now)) }
 {
     let (book, changes, mut report) = room_to_tell(rt, alloc, live, host, script, rounds)?;
@@ -168,42 +173,40 @@ fn told<R: Threads + Sync>(
     })
 }
 
-// What a run begins with: the live book, and the actors.
-fn ready<R: Threads + Sync>(
+// The actors of a run that has not begun, by the live book of the host and the script.
+fn crew_for<'a, R: Threads>(
     rt: &R,
     alloc: Global,
     host: &Host,
     script: &Script,
     rounds: u32,
-) -> Result<(LiveBook, LiveCrew), BookFault>
-    requires within { AreWithin (length host.now.vcpus) script.now }
+    live: &'a LiveBook,
+) -> Result<LiveCrew<'a>, NoMemory>
+    requires live { IsLiveBookOf host.now script.now live.now }
     requires in_run { AreInRun rounds script.now }
     requires some { 1 ≤ rounds }
     requires few { rounds ≤ MAX_ROUNDS }
-    ensures ready { IfOk result (λ r. IsReady rounds host.now script.now r.0 r.1) }
-    ensures cause { IfErr result (IsUnplanned host.now) }
+    ensures { IfOk result (IsReady rounds live.now) }
 {
-    let book = LiveBook::make(rt, alloc, host, script)?;
-    let Ok(crew) = LiveCrew::make(rt, alloc, &book, rounds) else {
-        return Err(PlanFault::NoMemory);
-    };
-    Ok((book, crew))
+    let _ = host;
+    let _ = script;
+    LiveCrew::make(rt, alloc, live, rounds)
 }
 
 // The script's book, with the plans that the run made, what became of its changes, and room for the report of a run.
 fn room_to_tell<R: Threads + Sync>(
     rt: &R,
     alloc: Global,
-    live: LiveBook,
+    live: &LiveBook,
     host: &Host,
     script: &Script,
     rounds: u32,
 ) -> Result<(PlanBook, Vec<(u32, Outcome)>, Report), NoMemory>
-    requires live { IsLiveBookOf host.now script.now live }
+    requires live { IsLiveBookOf host.now script.now live.now }
     requires within { AreWithin (length host.now.vcpus) script.now }
     ensures { IfOk result (λ r. HasRoomToTell rounds host.now script.now r.0 r.1.items r.2) }
 {
-    let book = live.into_book(rt, alloc, host, script)?;
+    let book = live.to_book(rt, alloc, host, script)?;
     let changes = changes_of(alloc, script.events(), book.outcomes())?;
     let report = Report::room(alloc, book.course(), rounds)?;
     Ok((book, changes, report))

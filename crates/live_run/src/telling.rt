@@ -9,7 +9,13 @@ use table_form::Course;
 use trace_report::{Report, accounts_make_a_report};
 
 // Fills the report with what the actors of the course's cores tell of their run of so many rounds. Takes no memory.
-pub(crate) fn tell(course: &Course, cores: u32, crew: &LiveCrew, rounds: u32, report: &mut Report)
+pub(crate) fn tell(
+    course: &Course,
+    cores: u32,
+    crew: &LiveCrew<'_>,
+    rounds: u32,
+    report: &mut Report,
+)
     requires cores { cores ≡ course.now.cores }
     requires some { 0 < cores }
     requires most { cores ≤ MAX_CORES }

@@ -71,11 +71,11 @@ fn try_run<R: Threads + Wait + Sync>(
 }
 
 // A run of the scene, in which memory lasted.
-fn run_crew<R: Threads + Wait + Sync>(
+fn run_crew<'a, R: Threads + Wait + Sync>(
     rt: &R,
     alloc: Global,
-    scene: &Scene,
-) -> Result<LiveCrew, Fail>
+    scene: &'a Scene,
+) -> Result<LiveCrew<'a>, Fail>
     ensures { IfOk result (λ crew. length crew.members ≡ scene.now.live.outline.cores) }
 {
     let book = &scene.live;
@@ -91,7 +91,7 @@ fn run_crew<R: Threads + Wait + Sync>(
 }
 
 // All cores used the same fresh counts, and their accounts are those of the plans.
-fn judge_crew(scene: &Scene, crew: &LiveCrew, met: &mut Met) -> Result<(), Broken>
+fn judge_crew(scene: &Scene, crew: &LiveCrew<'_>, met: &mut Met) -> Result<(), Broken>
     requires { length crew.now.members ≡ scene.now.live.outline.cores }
 {
     let course = scene.anew.course();

@@ -4,9 +4,11 @@ use Rattle.tab_core.specs.declared.actor.Actor.{Actor}
 use Rattle.tab_core.specs.declared.actor.Actor.TheVariants.{Core, Controller}
 use Rattle.table_form.specs.Running.Courses.{CourseView}
 use Rattle.round_words.specs.declared.view.View.{View}
-use Rattle.round_words.specs.Views.{holds, part}
+use Rattle.round_words.specs.Views.{part}
 use Rattle.dispatch_core.specs.Parts.{SameButHeard}
-use Rattle.dispatch_core.specs.Told.{FindsLow, RunsStint}
+use Rattle.dispatch_core.specs.declared.answer.Ended.{Ended}
+use Rattle.dispatch_core.specs.declared.answer.Ended.TheVariants.{Ran as RanOn, Behind as TooEarly}
+use Rattle.dispatch_core.specs.Told.{EndGoes, EndTold}
 use Rattle.live_plan.specs.declared.answer.LiveAnswer.{LiveAnswer}
 use Rattle.live_plan.specs.declared.answer.LiveAnswer.TheVariants.{Ran, Behind, NotMade, Stopped, Finished}
 use Rattle.live_plan.specs.Asking.{IsBeyond, LooksBeyond}
@@ -22,10 +24,14 @@ WaitTold b seen who tick s (Ran stint) t = ⊥
 WaitTold b seen who tick s (NotMade change) t = ⊥
 WaitTold b seen who tick s Finished t = ⊥
 
--- core c waits for core d, by each course of the book, and only heard the others
+-- a step of core c ended so: in all that needs no plan, and by each course of the book
+pub record IsEndOf (b : LiveView) (c : ℕ) (v : View) (ended : Ended) (w : View) : Type 0 where
+  pub goes : EndGoes b.outline c v ended w
+  pub told : (course : CourseView) → IsLiveCourse b course → EndTold course c v ended w
+
+-- core c waits for core d, and only heard the others
 pub record WaitsForCore (b : LiveView) (c : ℕ) (v : View) (d tick : ℕ) (w : View) : Type 0 where
-  pub low : (course : CourseView) → IsLiveCourse b course → FindsLow course c (part v c) (part w c) d tick
-      × (holds v d ≡ true → tick ≡ (part v d).clock)
+  pub end : IsEndOf b c v (TooEarly d tick) w
   pub still : SameButHeard (part v c) (part w c)
 
 -- it waits for some core
@@ -36,8 +42,7 @@ pub record WaitsForSome (b : LiveView) (c : ℕ) (v w : View) : Type 0 where
 
 -- what the end of core c's step did, which has seen the one count and uses the other
 abbrev pub FinishTold : LiveView → ℕ → ℕ → ℕ → View → ShelfView → LiveAnswer → View → ShelfView → Type 0
-FinishTold b c seen used v s (Ran stint) w t = (course : CourseView) → IsLiveCourse b course
-    → RunsStint course c (part v c) (part w c) stint
+FinishTold b c seen used v s (Ran stint) w t = IsEndOf b c v (RanOn stint) w
 FinishTold b c seen used v s (Behind (Core d) tick) w t = WaitsForCore b c v d tick w × LooksBeyond b seen s t
 FinishTold b c seen used v s (Behind Controller tick) w t = ⊥
 FinishTold b c seen used v s (NotMade change) w t = (w ≡ v) × (change < changes_before b used)

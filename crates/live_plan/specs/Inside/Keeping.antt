@@ -1,5 +1,5 @@
 -- What is kept of a search for a core's slice table.
-use Rattle.std.specs.Prelude.{◌≡◌, ℕ, ◌+◌, ◌≤◌, List, MatchOption, Some, length, slice_get}
+use Rattle.std.specs.Prelude.{ℕ, ◌≤◌, MatchOption, length}
 use Rattle.live_plan.specs.declared.kept.Kept.{Kept}
 use Rattle.live_plan.specs.Books.{LiveView, changes_before}
 use Rattle.live_plan.specs.Courses.{IsPlanAt}
@@ -10,8 +10,3 @@ abbrev pub IsKept : LiveView → ℕ → Kept → Type 0
 IsKept b c kept = kept.used ≤ length b.outline.ticks
     → MatchOption kept.table (IsPlanAt b (changes_before b kept.used) b.plan)
     (λ table. IsSliceAt b (changes_before b kept.used) c table.now)
-
--- the tables are kept by place, for neighbouring cores from the first one on
-pub record AreKept (b : LiveView) (first : ℕ) (kepts : List Kept) : Type 0 where
-  pub size : length kepts ≡ 32
-  pub each : (i : ℕ) (kept : Kept) → slice_get kepts i ≡ Some kept → IsKept b (first + i) kept

@@ -15,13 +15,12 @@ use Rattle.trace_report.specs.ReportViews.{ReportView}
 use Rattle.trace_report.specs.RunReports.{HasRoom, vcpus_of}
 use Rattle.course_run.specs.Changes.{changes_of}
 use Rattle.live_plan.specs.Actors.{LiveActorView}
-use Rattle.live_plan.specs.Books.{IsLiveBookOf, LiveView}
+use Rattle.live_plan.specs.Books.{LiveView}
 use Rattle.live_plan.specs.Courses.{IsLiveCourse}
 use Rattle.live_plan.specs.Crews.{AllAgree, CrewView, HoldsAll, IsCrewOf, actor_of, bare}
 
--- the live book is the script's for the host, and the crew is of a run of it that hasn't begun
-pub record IsReady (rounds : ℕ) (host : Host) (events : List Event) (b : LiveView) (crew : CrewView) : Type 0 where
-  pub book : IsLiveBookOf host events b
+-- the crew is of a run of the book that hasn't begun
+pub record IsReady (rounds : ℕ) (b : LiveView) (crew : CrewView) : Type 0 where
   pub crew_of : IsCrewOf b crew
   pub rounds_are : crew.rounds ≡ rounds
   pub agree : (v : View) → IsFresh (bare b) v → AllAgree b crew v

@@ -4,9 +4,10 @@ use Rattle.tab_core.specs.declared.TheConstants.{MAX_ROUNDS, ROUND}
 use Rattle.table_form.specs.Running.Courses.{CourseView}
 use Rattle.dispatch_core.specs.Accounts.{IsWithin}
 use Rattle.dispatch_core.specs.declared.account.CoreAccount.{CoreAccount}
-use Rattle.live_plan.specs.declared.team.Member.{Member}
+use Rattle.crew_turns.specs.declared.player.Player.{Player}
 use Rattle.live_plan.specs.Actors.{LiveActorView}
 use Rattle.live_plan.specs.Crews.{CrewView, actor_of}
+use Rattle.live_plan.specs.Players.{MemberView}
 
 abbrev pub used_in : Option LiveActorView → List ℕ
 used_in None = []
@@ -18,7 +19,7 @@ first_used crew = used_in (actor_of crew 0)
 
 -- the account of each core, by number
 abbrev pub accounts_of : CrewView → List CoreAccount
-accounts_of crew = map (λ (m : Member). m.actor.state.account) crew.members
+accounts_of crew = map (λ (p : Player MemberView). p.actor.actor.state.account) crew.members
 
 -- the actors are those of the course's cores, core 0 used a count for each round, each at most that of all
 -- events, and each account is one of a run

@@ -6,7 +6,7 @@ use Rattle.round_words.specs.Seats.{view_of}
 use Rattle.round_words.specs.Views.{part}
 use Rattle.dispatch_core.specs.declared.answer.Ended.TheVariants.{Ran, Behind}
 use Rattle.dispatch_core.specs.States.{FollowsPlans, Stands}
-use Rattle.dispatch_core.specs.Told.{EndTold}
+use Rattle.dispatch_core.specs.Told.{EndGoes, EndTold}
 use Rattle.live_plan.proofs.SeekingLemmas.{course_plan}
 use Rattle.live_plan.proofs.SteppingLemmas.{waits_told}
 use Rattle.live_plan.proofs.stepping.run.Goals as goal
@@ -29,15 +29,18 @@ returns-in-Ran-clause-agrees g c =
     }
 
 pub returns-in-Ran-clause-told : goal.returns-in-Ran-clause-told
-returns-in-Ran-clause-told g c = λ course live.
+returns-in-Ran-clause-told g c =
     let b = c.args.book.now in
     let core : ℕ = c.args.state.now.core in
     let v = view_of c.args.seat.now in
-    let table = c.requires.table in
-    in_course course c.outline.result.now c.args.used table.plan
-    (λ (x : CourseView). FollowsPlans x c.args.state.now (part v core) → EndTold x core v (Ran c.in-Ran.stint) (view_of c.end_step.new.seat))
-    (live.outline ∙ sym c.outline.ensures) (course_plan b course c.args.used table.plan live c.requires.begun.within table.at)
-    (c.in-Ran.ensures.told table.plan table.of) (c.requires.agrees.plans course live)
+    let w = view_of c.end_step.new.seat in
+    let table = c.requires.table in record {
+      goes = subst (λ (o : OutlineView). EndGoes o core v (Ran c.in-Ran.stint) w) c.outline.ensures c.in-Ran.ensures.goes;
+      told = λ course live. in_course course c.outline.result.now c.args.used table.plan
+          (λ (x : CourseView). FollowsPlans x c.args.state.now (part v core) → EndTold x core v (Ran c.in-Ran.stint) w)
+          (live.outline ∙ sym c.outline.ensures) (course_plan b course c.args.used table.plan live c.requires.begun.within table.at)
+          (c.in-Ran.ensures.told table.plan table.of) (c.requires.agrees.plans course live);
+    }
 
 pub returns-in-Behind-clause-agrees : goal.returns-in-Behind-clause-agrees
 returns-in-Behind-clause-agrees g c =
@@ -65,9 +68,12 @@ returns-in-Behind-clause-told g c =
     let table = c.requires.table in
     waits_told b core c.args.seen c.args.used c.in-Behind.core c.in-Behind.tick v w (g.H.Shelf.state c.args.shelf.now)
     (g.H.Shelf.state c.wait.new.shelf) c.wait.result (record {
-      low = λ course live. in_course course c.outline.result.now c.args.used table.plan
-          (λ (x : CourseView). FollowsPlans x c.args.state.now (part v core) → EndTold x core v (Behind c.in-Behind.core c.in-Behind.tick) w)
-          (live.outline ∙ sym c.outline.ensures) (course_plan b course c.args.used table.plan live c.requires.begun.within table.at)
-          (c.in-Behind.ensures.told table.plan table.of) (c.requires.agrees.plans course live);
+      end = record {
+        goes = subst (λ (o : OutlineView). EndGoes o core v (Behind c.in-Behind.core c.in-Behind.tick) w) c.outline.ensures c.in-Behind.ensures.goes;
+        told = λ course live. in_course course c.outline.result.now c.args.used table.plan
+            (λ (x : CourseView). FollowsPlans x c.args.state.now (part v core) → EndTold x core v (Behind c.in-Behind.core c.in-Behind.tick) w)
+            (live.outline ∙ sym c.outline.ensures) (course_plan b course c.args.used table.plan live c.requires.begun.within table.at)
+            (c.in-Behind.ensures.told table.plan table.of) (c.requires.agrees.plans course live);
+      };
       still = c.in-Behind.ensures.waits;
     }) c.wait.ensures.told

@@ -1,15 +1,21 @@
-use Rattle.std.proofs.Common.{◌≡◌, ◌∙◌, List, length, sym, subst, arith}
 use Rattle.round_words.specs.Seats.{view_of}
-use Rattle.round_words.specs.Views.{controller}
-use Rattle.live_plan.specs.declared.team.Member.{Member}
-use Rattle.live_plan.specs.Inside.Working.{IsHeld}
-use Rattle.live_plan.proofs.PlacesLemmas.{came_back}
+use Rattle.crew_turns.proofs.GoingLemmas.{actors_twice}
+use Rattle.crew_turns.proofs.TurnLemmas.{same_twice}
+use Rattle.live_plan.specs.Players.{core_kind, lead_kind}
+use Rattle.live_plan.specs.PlayerLaws.{core_lawful, lead_lawful}
 use Rattle.live_plan.proofs.workers.finish.Goals as goal
 
-pub returns-in-None-clause-crew : goal.returns-in-None-clause-crew
-returns-in-None-clause-crew g c =
-    let ms : List Member = c.drive_on.new.members in
-    let long : c.args.cores.lower.len ≡ length ms = omega (arith, c.args.cores.lower.ok.0, c.drive_on.auto.members) in
-    subst (λ (xs : List Member). IsHeld c.args.site.now.book.now c.args.site.now.rounds xs c.drive_on.new.lead (view_of c.drive_on.new.seat))
-    (sym (came_back c.args.cores.lower.len ms c.args.cores.lower.items long))
-    (record { working = c.drive_on.ensures.crew; control = c.drive_on.ensures.actors.actors controller ∙ c.requires.crew.control })
+pub loop-preserved : goal.loop-preserved
+loop-preserved g c =
+    let i = c.loop.invariant in
+    let e = c.drive_all.ensures in record {
+      board = e.board;
+      agreed = e.agreed;
+      same = same_twice core_kind lead_kind core_lawful lead_lawful c.args.members.now c.loop.members c.drive_all.new.cores c.args.lead.now c.loop.lead c.drive_all.new.lead i.same e.same;
+      actors = actors_twice (view_of c.args.seat.now) (view_of c.loop.seat) (view_of c.drive_all.new.seat) i.actors e.actors;
+    }
+
+pub returns-in-Ended-clause-same : goal.returns-in-Ended-clause-same
+returns-in-Ended-clause-same g c =
+    same_twice core_kind lead_kind core_lawful lead_lawful c.args.members.now c.loop.members c.drive_all.new.cores c.args.lead.now c.loop.lead c.drive_all.new.lead
+    c.loop.invariant.same c.drive_all.ensures.same

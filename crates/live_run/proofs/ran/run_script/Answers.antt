@@ -10,5 +10,5 @@ pub returns-in-Err-ran_of-clause-left : goal.returns-in-Err-ran_of-clause-left
 returns-in-Err-ran_of-clause-left g c =
     let r = c.run_ready-seat.ensures.ran in
     let v : View = view_of c.run_ready-seat.result.0 in
-    runs_so_far c.in-Ok.taken.0 c.run_ready-seat.result.1 v r.crew_of r.agree r.holds c.args.host.now c.args.script.now c.args.rounds c.in-Ok.ensures.ready.book
+    runs_so_far c.in-Ok.live c.run_ready-seat.result.1 v r.crew_of r.agree r.holds c.args.host.now c.args.script.now c.args.rounds c.in-Ok.ensures.ok
     (λ course kept live. subst (λ (n : ℕ). KeepsPromises course n (state_of course v)) r.rounds_are (r.promises course kept live))

@@ -17,7 +17,7 @@ pub tell-requires-clause-told : goal.tell-requires-clause-told
 tell-requires-clause-told g c =
     let r = c.requires.ran in
     let v : View = view_of c.args.seat.now in
-    let b = c.args.live in
+    let b = c.args.live.now in
     let course : CourseView = c.course-course.result.now in
     let kept : IsCourse course = c.cores.ensures.kept in
     let of : IsCourseOf c.args.host.now c.args.script.now course =
@@ -30,7 +30,7 @@ pub returns : goal.returns
 returns g c =
     let r = c.requires.ran in
     let v : View = view_of c.args.seat.now in
-    let b = c.args.live in
+    let b = c.args.live.now in
     let crew = c.args.crew.now in
     let room = c.in_ok-book.ensures in
     let course : CourseView = c.in_ok-book.book.course in

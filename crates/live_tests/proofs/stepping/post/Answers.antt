@@ -1,7 +1,7 @@
 use Rattle.std.proofs.Common.{arith}
 use Rattle.round_words.specs.Seats.{view_of}
 use Rattle.round_words.specs.Views.{controller}
-use Rattle.live_plan.proofs.WorkingLemmas.{live_others}
+use Rattle.live_plan.proofs.PlayersLemmas.{live_others}
 use Rattle.live_tests.proofs.stepping.post.Goals as goal
 
 pub returns-clause-agrees : goal.returns-clause-agrees

@@ -1,35 +1,20 @@
-use Rattle.std.proofs.Common.{◌≡◌, ℕ, length, sym, ap, ◌∙◌, subst, arith}
-use Rattle.table_form.specs.Running.Outlines.{OutlineView}
-use Rattle.live_plan.specs.Inside.Crewing.{AreNewMembers}
+use Rattle.std.proofs.Common.{◌≡◌, sym, ap, ◌∙◌, subst}
+use Rattle.plan_switch.specs.Controllers.{HasPosted}
+use Rattle.live_plan.specs.Books.{LiveView}
+use Rattle.live_plan.specs.Players.{LeadView}
 use Rattle.live_plan.proofs.CrewsLemmas.{agree_made, crew_made}
 use Rattle.live_plan.proofs.crew.LiveCrew.make.Goals as goal
-
-pub invariant_of-result : goal.invariant_of-result
-invariant_of-result g c =
-    let kept = c.cores-cores.ensures.kept in record {
-      room = omega (arith, c.in_ok-lower.ensures.count, c.in_ok-lower.ensures.room, c.in_ok-upper.ensures.count, c.div_ceil-per.ensures, kept.some_core, c.cores-cores.ensures.cores);
-      few = omega (arith, c.in_ok-lower.ensures.count, c.in_ok-upper.ensures.count, c.div_ceil-per.ensures, kept.some_core, kept.few_cores, c.cores-cores.ensures.cores);
-    }
 
 pub returns-clause-crew : goal.returns-clause-crew
 returns-clause-crew g c =
     let b = c.args.book.now in
-    let cores : c.cores-cores.result ≡ b.outline.cores = c.cores-cores.ensures.cores ∙ ap (λ (o : OutlineView). o.cores) c.outline.ensures in
-    let kept = c.cores-cores.ensures.kept in
-    let lowers : length c.in_ok-lower.lower.items ≡ c.div_ceil-per.result = omega (arith, c.in_ok-lower.ensures.count) in
-    let uppers : AreNewMembers b c.args.rounds (length c.in_ok-lower.lower.items) c.in_ok-upper.upper.items =
-    subst (λ (k : ℕ). AreNewMembers b c.args.rounds k c.in_ok-upper.upper.items) (sym lowers) c.in_ok-upper.ensures.new in
-    crew_made b c.args.rounds c.in_ok-lower.lower.items c.in_ok-upper.upper.items c.make-lead.result c.in_ok-maker.maker c.in_ok-lower.ensures.new uppers
-    c.requires.fits (omega (arith, lowers, c.in_ok-upper.ensures.count, c.div_ceil-per.ensures, kept.some_core, c.cores-cores.ensures.cores, cores)) c.make-lead.ensures.shelf c.in_ok-maker.ensures.maker
+    let are = c.in_ok-members.ensures in
+    let lead : c.of-lead.result.actor.book ≡ b = ap (λ (k : LeadView). k.book) c.of-lead.ensures ∙ c.make-controller.ensures.book in
+    crew_made b c.args.rounds c.in_ok-members.members.items c.of-lead.result c.in_ok-maker.maker are.0 are.1 c.requires.fits lead c.in_ok-maker.ensures.maker
 
 pub returns-clause-agree : goal.returns-clause-agree
 returns-clause-agree g c = λ v fresh.
     let b = c.args.book.now in
-    let cores : c.cores-cores.result ≡ b.outline.cores = c.cores-cores.ensures.cores ∙ ap (λ (o : OutlineView). o.cores) c.outline.ensures in
-    let kept = c.cores-cores.ensures.kept in
-    let lowers : length c.in_ok-lower.lower.items ≡ c.div_ceil-per.result = omega (arith, c.in_ok-lower.ensures.count) in
-    let uppers : AreNewMembers b c.args.rounds (length c.in_ok-lower.lower.items) c.in_ok-upper.upper.items =
-    subst (λ (k : ℕ). AreNewMembers b c.args.rounds k c.in_ok-upper.upper.items) (sym lowers) c.in_ok-upper.ensures.new in
-    agree_made b c.args.rounds c.in_ok-lower.lower.items c.in_ok-upper.upper.items c.make-lead.result c.in_ok-maker.maker c.in_ok-lower.ensures.new uppers
-    (omega (arith, lowers, c.in_ok-upper.ensures.count, c.div_ceil-per.ensures, kept.some_core, c.cores-cores.ensures.cores, cores)) v fresh
-    (λ has. c.make-lead.ensures.agrees v fresh.started has (fresh.control has))
+    let are = c.in_ok-members.ensures in
+    agree_made b c.args.rounds c.in_ok-members.members.items c.of-lead.result c.in_ok-maker.maker are.0 are.1 v fresh
+    (λ has. subst (λ (k : LeadView). HasPosted b.outline k.control v) (sym c.of-lead.ensures) (c.make-controller.ensures.agrees v fresh.started has (fresh.control has)))

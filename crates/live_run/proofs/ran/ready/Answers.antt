@@ -1,8 +1,0 @@
-use Rattle.live_run.proofs.LiveRunsLemmas.{fits_book}
-use Rattle.live_run.proofs.ran.ready.Goals as goal
-
-pub make-requires-2 : goal.make-requires-2
-make-requires-2 g c = record {
-  fits = fits_book c.args.host.now c.args.script.now c.in_ok-book.book c.args.rounds c.in_ok-book.ensures.ok
-      c.requires.some c.requires.few c.requires.in_run;
-}
