@@ -1,11 +1,8 @@
-ghost use Rattle.std.specs.Prelude.{◌≡◌, ◌+◌, ◌-◌, ◌*◌, ◌/◌, ◌%◌, ◌^◌, ◌<◌, ◌≤◌, true, false, if◌then◌else◌, min, List, length};
+ghost use Rattle.std.specs.Prelude.{◌≡◌, ◌+◌, ◌-◌, ◌%◌, ◌^◌, ◌≤◌, true, false, if◌then◌else◌, min};
 ghost use Rattle.tab_core.specs.declared.TheConstants.{ROUND};
-ghost use Rattle.tab_core.specs.declared.stint.Stint.{Stint as StintValue};
-ghost use Rattle.table_form.specs.Running.Choice.{IsDispatch, IsPick, is_shared, last_after, last_shared, owner_runs, runs_other};
-ghost use Rattle.table_form.specs.Running.Courses.{InEachCourse};
-ghost use Rattle.table_form.specs.Tables.Plans.{PlanView};
-ghost use Rattle.table_form.specs.Tables.Spans.{IsSpan};
+ghost use Rattle.table_form.specs.Running.Choice.{IsPick, owner_runs, runs_other};
 ghost use Rattle.tab_core.specs.VcpuSets.{IsInBoth};
+ghost use Rattle.second_level.specs.Stints.{CanBegin, LeadsTo};
 
 use crate::round_robin::pick_common;
 use std::cmp::min;
@@ -39,30 +36,13 @@ pub struct Next {
 ///
 /// The owner of the slot runs if it is runnable, otherwise by round robin one of the span's sharers
 /// that are runnable. The stint ends with the span, and at the latest a lag after its begin, a shared
-/// one a quantum after it. All that is said of it holds in each course of the outline whose plan there
+/// one a quantum after it. `LeadsTo` says all of it, in each course of the outline whose plan there
 /// shows the core this span. The rules are this project's, `IsDispatch` in
 /// `table_form/specs/Running/Choice.antt`.
 #[inline(always)]
 pub fn next_stint(outline: &Outline, core: CoreNo, begin: &Begin, span: &Span<'_>) -> Next
-    requires from { begin.now.from ≤ 2 ^ 31 }
-    requires seen { begin.now.seen ≤ length outline.now.ticks }
-    requires after { begin.now.from % ROUND < span.now.end }
-    requires within { span.now.end ≤ ROUND }
-    ensures from { result.stint.from ≡ begin.now.from }
-    ensures seen { result.stint.seen ≡ begin.now.seen }
-    ensures used { result.stint.used ≡ begin.now.used }
-    ensures some { result.stint.from < result.stint.end }
-    ensures in_round { result.stint.end ≤ (result.stint.from / ROUND + 1) * ROUND }
-    ensures follows { (plan : PlanView) → IsSpan plan core (begin.now.from % ROUND) span.now.owner
-        span.now.sharers.now span.now.end → InEachCourse outline.now begin.now.used plan
-        (λ course. (earlier : List StintValue) → begin.now.last ≡ last_shared course core earlier
-        → IsDispatch course core earlier result.stint) }
-    ensures shared { (plan : PlanView) → IsSpan plan core (begin.now.from % ROUND) span.now.owner
-        span.now.sharers.now span.now.end → InEachCourse outline.now begin.now.used plan
-        (λ course. result.shared ≡ is_shared course core result.stint) }
-    ensures last { (plan : PlanView) → IsSpan plan core (begin.now.from % ROUND) span.now.owner
-        span.now.sharers.now span.now.end → InEachCourse outline.now begin.now.used plan
-        (λ course. result.last ≡ last_after course core begin.now.last result.stint) }
+    requires { CanBegin outline.now begin.now span.now }
+    ensures { LeadsTo outline.now core begin.now span.now result }
 {
     let start = begin.from - begin.from % ROUND;
     next_stint_in(outline, core, begin, start, span)
@@ -79,26 +59,8 @@ pub fn next_stint_in(
     span: &Span<'_>,
 ) -> Next
     requires start { start ≡ begin.now.from - begin.now.from % ROUND }
-    requires from { begin.now.from ≤ 2 ^ 31 }
-    requires seen { begin.now.seen ≤ length outline.now.ticks }
-    requires after { begin.now.from % ROUND < span.now.end }
-    requires within { span.now.end ≤ ROUND }
-    ensures from { result.stint.from ≡ begin.now.from }
-    ensures seen { result.stint.seen ≡ begin.now.seen }
-    ensures used { result.stint.used ≡ begin.now.used }
-    ensures some { result.stint.from < result.stint.end }
-    ensures in_round { result.stint.end ≤ (result.stint.from / ROUND + 1) * ROUND }
-    ensures follows { (plan : PlanView) → IsSpan plan core (begin.now.from % ROUND) span.now.owner
-        span.now.sharers.now span.now.end → InEachCourse outline.now begin.now.used plan
-        (λ course. (earlier : List StintValue) → begin.now.last ≡ last_shared course core earlier
-        → IsDispatch course core earlier result.stint) }
-    ensures shared { (plan : PlanView) → IsSpan plan core (begin.now.from % ROUND) span.now.owner
-        span.now.sharers.now span.now.end → InEachCourse outline.now begin.now.used plan
-        (λ course. result.shared ≡ is_shared course core result.stint) }
-    ensures last { (plan : PlanView) → IsSpan plan core (begin.now.from % ROUND) span.now.owner
-        span.now.sharers.now span.now.end → InEachCourse outline.now begin.now.used plan
-        (λ course. result.last ≡ last_after course core begin.now.last result.stint) }
-    ensures picked { result.last ≡ (if result.shared then result.stint.ran else begin.now.last) }
+    requires begins { CanBegin outline.now begin.now span.now }
+    ensures { LeadsTo outline.now core begin.now span.now result }
 {
     let Begin {
         from,

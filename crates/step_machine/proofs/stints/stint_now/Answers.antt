@@ -49,8 +49,8 @@ table_after-table-requires-clause-used c =
     (log.clock / ROUND) found.0 found.1) in
     omega (arith, c.requires.kept.posted_most)
 
-pub next_stint-requires-clause-seen : goal.next_stint-requires-clause-seen
-next_stint-requires-clause-seen c =
+pub next_stint-requires : goal.next_stint-requires
+next_stint-requires c =
     let p = c.args.machine.now in
     let log = c.index-log.result.now in
     let at = log_found c.args.course.now c.args.rounds p c.args.c log c.requires.kept
@@ -58,16 +58,12 @@ next_stint-requires-clause-seen c =
     let k = log_kept c.args.course.now c.args.rounds p c.args.c log c.requires.kept at in
     let most = (k.sight c.seen_by-seen.result c.seen_by-seen.ensures).seen_posted in
     let ticks = ap (λ (o : OutlineView). length o.ticks) c.outline-outline.ensures.outline in
-    omega (arith, c.requires.kept.posted_most)
-
-pub next_stint-requires-clause-from : goal.next_stint-requires-clause-from
-next_stint-requires-clause-from c =
-    let p = c.args.machine.now in
-    let log = c.index-log.result.now in
-    let at = log_found c.args.course.now c.args.rounds p c.args.c log c.requires.kept
-    c.requires.core c.index-log.ensures in
-    let k = log_kept c.args.course.now c.args.rounds p c.args.c log c.requires.kept at in
-    omega (arith, k.clock.in_run)
+    record {
+      from = omega (arith, k.clock.in_run);
+      seen = omega (arith, c.requires.kept.posted_most);
+      after = c.span-span.ensures.after;
+      within = c.span-span.ensures.within;
+    }
 
 -- the table is the core's of the plan that its round uses
 table_of : (c : goal.After-next_stint) → IsTableOf (plan_after c.args.course.now c.used_in-used.result) c.args.c
