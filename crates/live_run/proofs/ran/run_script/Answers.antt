@@ -6,8 +6,8 @@ use Rattle.board_state.specs.Readings.{state_of}
 use Rattle.live_run.proofs.LiveRunsLemmas.{runs_so_far}
 use Rattle.live_run.proofs.ran.run_script.Goals as goal
 
-pub returns-in-Err-ran_of-clause-left : goal.returns-in-Err-ran_of-clause-left
-returns-in-Err-ran_of-clause-left g c =
+pub returns-clause-left : goal.returns-clause-left
+returns-clause-left g c =
     let r = c.run_ready-seat.ensures.ran in
     let v : View = view_of c.run_ready-seat.result.0 in
     runs_so_far c.in-Ok.live c.run_ready-seat.result.1 v r.crew_of r.agree r.holds c.args.host.now c.args.script.now c.args.rounds c.in-Ok.ensures.ok
