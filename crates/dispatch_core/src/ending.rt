@@ -1,17 +1,12 @@
 ghost use Rattle.std.specs.Prelude.{◌≡◌, ◌+◌, ◌-◌, ◌*◌, ◌/◌, ◌%◌, ◌<◌, ◌≤◌, length, true};
 ghost use Rattle.tab_core.specs.declared.TheConstants.{ROUND};
-ghost use Rattle.table_form.specs.Running.Courses.{InEachCourse};
-ghost use Rattle.table_form.specs.Tables.Plans.{PlanView};
-ghost use Rattle.table_form.specs.Tables.Spans.{IsSpan};
-ghost use Rattle.slice_table.specs.Slices.{IsTableOf};
 ghost use Rattle.round_words.specs.Hearing.{HasHeardTo};
 ghost use Rattle.round_words.specs.Shown.{HoldsCore};
 ghost use Rattle.round_words.specs.Changes.{ChangesOnly};
 ghost use Rattle.round_words.specs.Seats.{view_of, IsSeatOf};
 ghost use Rattle.round_words.specs.Views.{part, runs};
-ghost use Rattle.dispatch_core.specs.Inside.Logs.{IsLog, log_view};
-ghost use Rattle.dispatch_core.specs.States.{FollowsPlans, HasBegun, IsSameCore, Stands};
-ghost use Rattle.dispatch_core.specs.Told.{BeginsNext, EndGoes, EndTold, StaysWhereBehind};
+ghost use Rattle.dispatch_core.specs.Inside.Ending.{BySpan, ByTable, EndsStep, IsToEnd};
+ghost use Rattle.dispatch_core.specs.Told.{BeginsNext};
 
 use crate::answer::Ended;
 use crate::log::{CoreLog, note, note_counts};
@@ -21,53 +16,45 @@ use slice_table::SliceTable;
 use tab_core::{CoreNo, ROUND, Stint};
 use table_form::{Outline, Span};
 
+// By what a step ends that has begun: how many events the core has seen, how many the plan of its round includes, and
+// the core's slice table of that plan.
+#[derive(Clone, Copy)]
+pub(crate) struct Due<'a> {
+    pub(crate) outline: &'a Outline,
+    pub(crate) seen: u32,
+    pub(crate) used: u32,
+    pub(crate) table: &'a SliceTable,
+}
+
 // The end of a step, on what a state keeps inside. `place` is a guess at the number of the span.
 #[inline(always)]
 pub(crate) fn end(
     board: &RoundBoard,
     seat: &mut RoundSeat,
-    outline: &Outline,
     log: &mut CoreLog,
     place: &mut u32,
-    seen: u32,
-    used: u32,
-    table: &SliceTable,
+    due: &Due<'_>,
 ) -> Ended
-    requires board { IsSeatOf board.now seat.old }
-    requires log { IsLog log.old }
-    requires stands { Stands outline.now (log_view log.old) (view_of seat.old) }
-    requires begun { HasBegun outline.now (log_view log.old) (view_of seat.old) seen used }
-    ensures board { IsSeatOf board.now seat.new }
-    ensures log { IsLog log.new }
-    ensures stands { Stands outline.now (log_view log.new) (view_of seat.new) }
-    ensures same { IsSameCore (log_view log.old) (log_view log.new) }
-    ensures changes { ChangesOnly (view_of seat.old) (view_of seat.new) log.old.core }
-    ensures told { (plan : PlanView) → IsTableOf plan log.old.core table.now → InEachCourse outline.now used plan
-        (λ course. FollowsPlans course (log_view log.old) (part (view_of seat.old) log.old.core)
-        → EndTold course log.old.core (view_of seat.old) result (view_of seat.new)) }
-    ensures waits { StaysWhereBehind log.old.core (view_of seat.old) result (view_of seat.new) }
-    ensures goes { EndGoes outline.now log.old.core (view_of seat.old) result (view_of seat.new) }
-    ensures plans { (plan : PlanView) → IsTableOf plan log.old.core table.now → InEachCourse outline.now used plan
-        (λ course. FollowsPlans course (log_view log.old) (part (view_of seat.old) log.old.core)
-        → FollowsPlans course (log_view log.new) (part (view_of seat.new) log.old.core)) }
+    requires { IsToEnd board.now due.now seat.old log.old }
+    ensures { EndsStep board.now due.now (ByTable due.now log.old) seat.old log.old result seat.new log.new }
 {
     seat.shown();
     // the clock's round is the last one that was entered
     let start = (log.used.len() as u32 - 1) * ROUND;
-    let Some(span) = table.span_guessed(log.clock - start, *place) else {
-        return end_otherwise(board, seat, outline, log, place, seen, used, table);
+    let Some(span) = due.table.span_guessed(log.clock - start, *place) else {
+        return end_otherwise(board, seat, log, place, due);
     };
     let begin = Begin {
         from: log.clock,
-        seen,
-        used,
+        seen: due.seen,
+        used: due.used,
         last: log.last,
     };
-    let next = next_stint_in(outline, CoreNo(log.core), &begin, start, &span);
-    let (cores, lag) = (outline.cores(), outline.lag());
+    let next = next_stint_in(due.outline, CoreNo(log.core), &begin, start, &span);
+    let (cores, lag) = (due.outline.cores(), due.outline.lag());
     let keeps = log.stints.len() < log.keep as usize;
     if keeps || !seat.is_near(log.core, cores, lag, next.stint.end) {
-        return end_otherwise(board, seat, outline, log, place, seen, used, table);
+        return end_otherwise(board, seat, log, place, due);
     }
     match hear_all(
         board,
@@ -97,32 +84,14 @@ pub(crate) fn end(
 fn end_otherwise(
     board: &RoundBoard,
     seat: &mut RoundSeat,
-    outline: &Outline,
     log: &mut CoreLog,
     place: &mut u32,
-    seen: u32,
-    used: u32,
-    table: &SliceTable,
+    due: &Due<'_>,
 ) -> Ended
-    requires board { IsSeatOf board.now seat.old }
-    requires log { IsLog log.old }
-    requires stands { Stands outline.now (log_view log.old) (view_of seat.old) }
-    requires begun { HasBegun outline.now (log_view log.old) (view_of seat.old) seen used }
-    ensures board { IsSeatOf board.now seat.new }
-    ensures log { IsLog log.new }
-    ensures stands { Stands outline.now (log_view log.new) (view_of seat.new) }
-    ensures same { IsSameCore (log_view log.old) (log_view log.new) }
-    ensures changes { ChangesOnly (view_of seat.old) (view_of seat.new) log.old.core }
-    ensures told { (plan : PlanView) → IsTableOf plan log.old.core table.now → InEachCourse outline.now used plan
-        (λ course. FollowsPlans course (log_view log.old) (part (view_of seat.old) log.old.core)
-        → EndTold course log.old.core (view_of seat.old) result (view_of seat.new)) }
-    ensures waits { StaysWhereBehind log.old.core (view_of seat.old) result (view_of seat.new) }
-    ensures goes { EndGoes outline.now log.old.core (view_of seat.old) result (view_of seat.new) }
-    ensures plans { (plan : PlanView) → IsTableOf plan log.old.core table.now → InEachCourse outline.now used plan
-        (λ course. FollowsPlans course (log_view log.old) (part (view_of seat.old) log.old.core)
-        → FollowsPlans course (log_view log.new) (part (view_of seat.new) log.old.core)) }
+    requires { IsToEnd board.now due.now seat.old log.old }
+    ensures { EndsStep board.now due.now (ByTable due.now log.old) seat.old log.old result seat.new log.new }
 {
-    match end_anew(board, seat, outline, log, place, seen, used, table) {
+    match end_anew(board, seat, log, place, *due) {
         Ended::Ran(stint) => Ended::Ran(stint),
         Ended::Behind { core, tick } => Ended::Behind { core, tick },
     }
@@ -135,36 +104,18 @@ fn end_otherwise(
 fn end_anew(
     board: &RoundBoard,
     seat: &mut RoundSeat,
-    outline: &Outline,
     log: &mut CoreLog,
     place: &mut u32,
-    seen: u32,
-    used: u32,
-    table: &SliceTable,
+    due: Due<'_>,
 ) -> Ended
-    requires board { IsSeatOf board.now seat.old }
-    requires log { IsLog log.old }
-    requires stands { Stands outline.now (log_view log.old) (view_of seat.old) }
-    requires begun { HasBegun outline.now (log_view log.old) (view_of seat.old) seen used }
-    ensures board { IsSeatOf board.now seat.new }
-    ensures log { IsLog log.new }
-    ensures stands { Stands outline.now (log_view log.new) (view_of seat.new) }
-    ensures same { IsSameCore (log_view log.old) (log_view log.new) }
-    ensures changes { ChangesOnly (view_of seat.old) (view_of seat.new) log.old.core }
-    ensures told { (plan : PlanView) → IsTableOf plan log.old.core table.now → InEachCourse outline.now used plan
-        (λ course. FollowsPlans course (log_view log.old) (part (view_of seat.old) log.old.core)
-        → EndTold course log.old.core (view_of seat.old) result (view_of seat.new)) }
-    ensures waits { StaysWhereBehind log.old.core (view_of seat.old) result (view_of seat.new) }
-    ensures goes { EndGoes outline.now log.old.core (view_of seat.old) result (view_of seat.new) }
-    ensures plans { (plan : PlanView) → IsTableOf plan log.old.core table.now → InEachCourse outline.now used plan
-        (λ course. FollowsPlans course (log_view log.old) (part (view_of seat.old) log.old.core)
-        → FollowsPlans course (log_view log.new) (part (view_of seat.new) log.old.core)) }
+    requires { IsToEnd board.now due seat.old log.old }
+    ensures { EndsStep board.now due.entry (ByTable due.entry log.old) seat.old log.old result seat.new log.new }
 {
     seat.shown();
     // the clock's round is the last one that was entered
     let start = (log.used.len() as u32 - 1) * ROUND;
-    let span = table.span_near(log.clock - start, place);
-    run_at(board, seat, outline, log, start, seen, used, &span)
+    let span = due.table.span_near(log.clock - start, place);
+    run_at(board, seat, log, &due, start, &span)
 }
 
 // A guess at the number of the next span, which is the one after where the stint ends this one, whose end is given.
@@ -179,50 +130,31 @@ fn place_behind(place: u32, stint: &Stint, end: u32) -> u32 {
 fn run_at(
     board: &RoundBoard,
     seat: &mut RoundSeat,
-    outline: &Outline,
     log: &mut CoreLog,
+    due: &Due<'_>,
     start: u32,
-    seen: u32,
-    used: u32,
     span: &Span<'_>,
 ) -> Ended
     requires start { start ≡ log.old.clock - log.old.clock % ROUND }
-    requires board { IsSeatOf board.now seat.old }
-    requires log { IsLog log.old }
-    requires stands { Stands outline.now (log_view log.old) (view_of seat.old) }
-    requires begun { HasBegun outline.now (log_view log.old) (view_of seat.old) seen used }
+    requires due { IsToEnd board.now due.now seat.old log.old }
     requires after { log.old.clock % ROUND < span.now.end }
     requires within { span.now.end ≤ ROUND }
-    ensures board { IsSeatOf board.now seat.new }
-    ensures log { IsLog log.new }
-    ensures stands { Stands outline.now (log_view log.new) (view_of seat.new) }
-    ensures same { IsSameCore (log_view log.old) (log_view log.new) }
-    ensures changes { ChangesOnly (view_of seat.old) (view_of seat.new) log.old.core }
-    ensures told { (plan : PlanView) → IsSpan plan log.old.core (log.old.clock % ROUND) span.now.owner
-        span.now.sharers.now span.now.end → InEachCourse outline.now used plan (λ course.
-        FollowsPlans course (log_view log.old) (part (view_of seat.old) log.old.core)
-        → EndTold course log.old.core (view_of seat.old) result (view_of seat.new)) }
-    ensures waits { StaysWhereBehind log.old.core (view_of seat.old) result (view_of seat.new) }
-    ensures goes { EndGoes outline.now log.old.core (view_of seat.old) result (view_of seat.new) }
-    ensures plans { (plan : PlanView) → IsSpan plan log.old.core (log.old.clock % ROUND) span.now.owner
-        span.now.sharers.now span.now.end → InEachCourse outline.now used plan (λ course.
-        FollowsPlans course (log_view log.old) (part (view_of seat.old) log.old.core)
-        → FollowsPlans course (log_view log.new) (part (view_of seat.new) log.old.core)) }
+    ensures { EndsStep board.now due.now (BySpan span.now log.old) seat.old log.old result seat.new log.new }
 {
     let begin = Begin {
         from: log.clock,
-        seen,
-        used,
+        seen: due.seen,
+        used: due.used,
         last: log.last,
     };
-    let next = next_stint_in(outline, CoreNo(log.core), &begin, start, span);
+    let next = next_stint_in(due.outline, CoreNo(log.core), &begin, start, span);
     match hear_all(
         board,
         seat,
         log.core,
         &mut log.known,
-        outline.cores(),
-        outline.lag(),
+        due.outline.cores(),
+        due.outline.lag(),
         next.stint.end,
     ) {
         Some(low) => Ended::Behind {

@@ -1,8 +1,10 @@
-use Rattle.std.proofs.Common.{◌≡◌, ◌-◌, ◌*◌, ◌/◌, ◌%◌, ◌++◌, ◌∷◌, [], ℕ, Bool, false, cond, nat_lt, length, refl, sym, ap, ◌∙◌, subst, arith}
+use Rattle.std.proofs.Common.{◌≡◌, ◌-◌, ◌*◌, ◌/◌, ◌%◌, ◌++◌, ◌∷◌, [], ℕ, Bool, false, cond, nat_lt, length, refl, sym, ap, ◌∙◌, subst, arith, rules}
 use Rattle.std.proofs.lemmas.Bool.{le-ltb}
 use Rattle.std.proofs.lemmas.Option.{slice_get_within}
 use Rattle.tab_core.specs.declared.TheConstants.{ROUND}
+use Rattle.table_form.specs.Tables.Plans.{PlanView}
 use Rattle.table_form.specs.Tables.Spans.{IsSpan}
+use Rattle.tab_core.specs.declared.stint.Stint.{Stint}
 use Rattle.table_form.specs.Running.Courses.{CourseView, with_plans}
 use Rattle.table_form.specs.Running.Outlines.{OutlineView}
 use Rattle.round_words.specs.declared.view.Part.{Part}
@@ -10,10 +12,14 @@ use Rattle.round_words.specs.declared.view.View.{View}
 use Rattle.round_words.specs.Hearing.{HearsCores}
 use Rattle.round_words.specs.Seats.{view_of}
 use Rattle.round_words.specs.Views.{part}
+use Rattle.round_words.proofs.ChangesLemmas.{changes_more}
 use Rattle.round_words.proofs.HearingLemmas.{heard_same}
+use Rattle.dispatch_core.specs.declared.ending.Due.{Due}
 use Rattle.dispatch_core.specs.declared.log.CoreLog.{CoreLog}
+use Rattle.dispatch_core.specs.Inside.Ending.{ByTable}
 use Rattle.dispatch_core.specs.Inside.Logs.{log_view}
 use Rattle.dispatch_core.specs.States.{FollowsPlans}
+use Rattle.dispatch_core.specs.Told.{BeginsNext}
 use Rattle.dispatch_core.proofs.EntryLemmas.{count_used}
 use Rattle.dispatch_core.proofs.PartLemmas.{SameRun}
 use Rattle.dispatch_core.proofs.StateLemmas.{plans_same, stands_same}
@@ -29,169 +35,146 @@ advance-requires-clause-sight c =
 pub advance-requires-clause-begins : goal.advance-requires-clause-begins
 advance-requires-clause-begins c =
     let log : CoreLog = c.args.log.now in
+    let due : Due = c.args.due.now in
+    let req = c.requires in
     let p : Part = part (view_of c.args.seat.now) log.core in
     let q : Part = part (view_of c.hear_all.new.seat) log.core in
     let n = c.next_stint_in-next.ensures in
     begins_same p q c.next_stint_in-next.result.stint (heard_same log.core _ _ _ p q c.in-None.ensures.heard)
-    (begins_next p c.next_stint_in-next.result.stint log.clock c.args.seen c.args.used log.used.items c.requires.stands.used c.requires.begun.entered
-    c.requires.stands.clock c.requires.begun.sight.last n.from n.seen n.used)
+    (begins_next p c.next_stint_in-next.result.stint log.clock due.seen due.used log.used.items req.stands.used req.begun.entered
+    req.stands.clock req.begun.sight.last n.from n.seen n.used)
 
-pub returns-in-Some-hear_all-clause-stands : goal.returns-in-Some-hear_all-clause-stands
-returns-in-Some-hear_all-clause-stands c =
+pub returns-in-Some-hear_all : goal.returns-in-Some-hear_all
+returns-in-Some-hear_all c =
     let log : CoreLog = c.args.log.now in
+    let due : Due = c.args.due.now in
+    let o : OutlineView = due.outline.now in
+    let req = c.requires in
+    let s = req.stands in
     let v : View = view_of c.args.seat.now in
     let w : View = view_of c.hear_all.new.seat in
-    let low = c.in-Some-hear_all.ensures.low in
-    stands_same c.args.outline.now (log_view log) v w c.hear_all.new.known c.requires.stands c.in-Some-hear_all.ensures.changes (low_same log.core _ _ _ _ (part v log.core) low.heard (part w log.core) low.near low.becomes) c.in-Some-hear_all.ensures.known
-
-pub returns-in-Some-hear_all-clause-told : goal.returns-in-Some-hear_all-clause-told
-returns-in-Some-hear_all-clause-told c = λ plan of plans numbers is follows.
-    let log : CoreLog = c.args.log.now in
-    let s = c.requires.stands in
-    let few = slice_get_within log.used.items (log.clock / ROUND) c.args.used c.requires.begun.entered in
-    let long : length log.used.items ≡ length (part (view_of c.args.seat.now) log.core).entries = ap length s.used ∙ count_used (part (view_of c.args.seat.now) log.core).entries in
-    let ahead = (c.shown.ensures.cores log.core s.core).timeline.ahead in
-    let place : log.clock - (c.len.result - 1) * ROUND ≡ log.clock % ROUND = omega (arith, c.len.ensures, few, long, ahead, s.clock) in
-    let span = c.in-Some.span in
-    let shown = subst (λ (x : ℕ). IsSpan plan log.core x span.owner span.sharers.now span.end) place (c.in-Some.ensures.span plan log.core of) in
-    let o : OutlineView = c.args.outline.now in
-    let p : Part = part (view_of c.args.seat.now) log.core in
+    let p : Part = part v log.core in
+    let stint : Stint = c.next_stint_in-next.result.stint in
     let n = c.next_stint_in-next.ensures in
-    let low = c.in-Some-hear_all.ensures.low in (
-      record {
-        stint = c.next_stint_in-next.result.stint;
-        next = record {
-          begins = begins_next p c.next_stint_in-next.result.stint log.clock c.args.seen c.args.used log.used.items c.requires.stands.used c.requires.begun.entered
-              c.requires.stands.clock c.requires.begun.sight.last n.from n.seen n.used;
-          follows = n.follows plan shown plans numbers is p.stints follows.last;
-        };
-        core = omega (arith, low.core, c.cores-cores.ensures.cores);
-        other = low.other;
-        heard = low.heard;
-        near = subst (λ (l : ℕ). HearsCores log.core l c.next_stint_in-next.result.stint.end c.in-Some-hear_all.other.core p low.heard) c.lag-lag.ensures.lag low.near;
-        low = omega (arith, low.low, c.lag-lag.ensures.lag);
-        becomes = low.becomes;
-      },
-      low.exact,
-    )
-
-pub returns-in-Some-hear_all-clause-waits : goal.returns-in-Some-hear_all-clause-waits
-returns-in-Some-hear_all-clause-waits c =
-    let core : ℕ = c.args.log.now.core in
+    let begins : BeginsNext p stint = begins_next p stint log.clock due.seen due.used log.used.items s.used req.begun.entered
+    s.clock req.begun.sight.last n.from n.seen n.used in
     let low = c.in-Some-hear_all.ensures.low in
-    low_stays core _ _ _ _ (part (view_of c.args.seat.now) core) low.heard (part (view_of c.hear_all.new.seat) core) low.near low.becomes
-
-pub returns-in-Some-hear_all-clause-goes : goal.returns-in-Some-hear_all-clause-goes
-returns-in-Some-hear_all-clause-goes c =
-    let core : ℕ = c.args.log.now.core in
-    let p : Part = part (view_of c.args.seat.now) core in
-    let low = c.in-Some-hear_all.ensures.low in (
-      record {
-        end = c.next_stint_in-next.result.stint.end;
-        core = omega (arith, low.core, c.cores-cores.ensures.cores);
-        other = low.other;
-        heard = low.heard;
-        near = subst (λ (l : ℕ). HearsCores core l c.next_stint_in-next.result.stint.end c.in-Some-hear_all.other.core p low.heard) c.lag-lag.ensures.lag low.near;
-        low = omega (arith, low.low, c.lag-lag.ensures.lag);
-        becomes = low.becomes;
-      },
-      low.exact,
-    )
-
-pub returns-in-Some-hear_all-clause-plans : goal.returns-in-Some-hear_all-clause-plans
-returns-in-Some-hear_all-clause-plans c = λ plan of plans numbers is follows.
-    let log : CoreLog = c.args.log.now in
-    let s = c.requires.stands in
-    let few = slice_get_within log.used.items (log.clock / ROUND) c.args.used c.requires.begun.entered in
-    let long : length log.used.items ≡ length (part (view_of c.args.seat.now) log.core).entries = ap length s.used ∙ count_used (part (view_of c.args.seat.now) log.core).entries in
+    let same : SameRun p (part w log.core) = low_same log.core _ _ _ _ p low.heard (part w log.core) low.near low.becomes in
+    let near = subst (λ (l : ℕ). HearsCores log.core l stint.end c.in-Some-hear_all.other.core p low.heard) c.lag-lag.ensures.lag low.near in
+    let few = slice_get_within log.used.items (log.clock / ROUND) due.used req.begun.entered in
+    let long : length log.used.items ≡ length p.entries = ap length s.used ∙ count_used p.entries in
     let ahead = (c.shown.ensures.cores log.core s.core).timeline.ahead in
     let place : log.clock - (c.len.result - 1) * ROUND ≡ log.clock % ROUND = omega (arith, c.len.ensures, few, long, ahead, s.clock) in
     let span = c.in-Some.span in
-    let shown = subst (λ (x : ℕ). IsSpan plan log.core x span.owner span.sharers.now span.end) place (c.in-Some.ensures.span plan log.core of) in
-    let v : View = view_of c.args.seat.now in
-    let w : View = view_of c.hear_all.new.seat in
-    let low = c.in-Some-hear_all.ensures.low in
-    let same : SameRun (part v log.core) (part w log.core) = low_same log.core _ _ _ _ (part v log.core) low.heard (part w log.core) low.near low.becomes in
-    plans_same _ (log_view log) _ (part v log.core) (part w log.core) refl refl refl same.stints follows
+    let shown = λ (plan : PlanView) (of : ByTable due log plan).
+    subst (λ (x : ℕ). IsSpan plan log.core x span.owner span.sharers.now span.end) place (c.in-Some.ensures.span plan log.core of) in
+    record {
+      board = c.in-Some-hear_all.ensures.board;
+      log = record {
+        small = req.log.small;
+        few = req.log.few;
+        used_room = req.log.used_room;
+        stints_room = req.log.stints_room;
+      };
+      stands = stands_same o (log_view log) v w c.hear_all.new.known s c.in-Some-hear_all.ensures.changes same c.in-Some-hear_all.ensures.known;
+      same = record { core = refl; rounds = refl; keep = refl };
+      changes = c.in-Some-hear_all.ensures.changes;
+      told = λ plan of plans numbers is follows. (
+        record {
+          stint = stint;
+          next = record {
+            begins = begins;
+            follows = n.follows plan (shown plan of) plans numbers is p.stints follows.last;
+          };
+          core = omega (arith, low.core, c.cores-cores.ensures.cores);
+          other = low.other;
+          heard = low.heard;
+          near = near;
+          low = omega (arith, low.low, c.lag-lag.ensures.lag);
+          becomes = low.becomes;
+        },
+        low.exact,
+      );
+      waits = low_stays log.core _ _ _ _ p low.heard (part w log.core) low.near low.becomes;
+      goes = (
+        record {
+          end = stint.end;
+          core = omega (arith, low.core, c.cores-cores.ensures.cores);
+          other = low.other;
+          heard = low.heard;
+          near = near;
+          low = omega (arith, low.low, c.lag-lag.ensures.lag);
+          becomes = low.becomes;
+        },
+        low.exact,
+      );
+      plans = λ plan of plans numbers is follows.
+          plans_same _ (log_view log) _ p (part w log.core) refl refl refl same.stints follows;
+    }
 
-pub returns-in-None-clause-stands : goal.returns-in-None-clause-stands
-returns-in-None-clause-stands c =
+pub returns-in-None : goal.returns-in-None
+returns-in-None c =
     let log : CoreLog = c.args.log.now in
+    let due : Due = c.args.due.now in
+    let o : OutlineView = due.outline.now in
+    let req = c.requires in
+    let s = req.stands in
     let v : View = view_of c.args.seat.now in
     let u : View = view_of c.hear_all.new.seat in
+    let p : Part = part v log.core in
     let q : Part = part u log.core in
-    let hs = heard_same log.core _ _ _ (part v log.core) q c.in-None.ensures.heard in
+    let stint : Stint = c.next_stint_in-next.result.stint in
     let n = c.next_stint_in-next.ensures in
+    let begins : BeginsNext p stint = begins_next p stint log.clock due.seen due.used log.used.items s.used req.begun.entered
+    s.clock req.begun.sight.last n.from n.seen n.used in
+    let hs = heard_same log.core _ _ _ p q c.in-None.ensures.heard in
+    let near = hears_same log.core c.lag-lag.result o.lag stint.end c.cores-cores.result o.cores p q c.lag-lag.ensures.lag c.cores-cores.ensures.cores c.in-None.ensures.heard in
     let t = c.note_counts.ensures in
     let full : nat_lt (length log.stints.items) log.keep ≡ false = le-ltb (length log.stints.items) log.keep (let f = c.if-keeps.false in omega (arith, c.len-2.ensures)) in
-    stands_ran c.args.outline.now (record (log_view log) { known = c.hear_all.new.known }) (log_view c.note_counts.new.log) u _ c.next_stint_in-next.result.stint c.next_stint_in-next.result.shared c.args.seen
-    (stands_same c.args.outline.now (log_view log) v u c.hear_all.new.known c.requires.stands c.in-None.ensures.changes (run_of_same (part v log.core) q hs) c.in-None.ensures.known)
-    c.requires.begun.unfinished (heard_seen c.args.outline.now c.args.seen (part v log.core) q hs c.requires.begun.sight)
-    (begins_same (part v log.core) q c.next_stint_in-next.result.stint hs
-    (begins_next (part v log.core) c.next_stint_in-next.result.stint log.clock c.args.seen c.args.used log.used.items c.requires.stands.used c.requires.begun.entered
-    c.requires.stands.clock c.requires.begun.sight.last n.from n.seen n.used))
-    n.some n.in_round c.advance.ensures.changes c.advance.ensures.becomes t.same.0 t.same.1 t.same.2 t.clock t.used.0 (t.stints ∙ sym (ap (λ (b : Bool). cond b (log.stints.items ++ c.next_stint_in-next.result.stint ∷ []) log.stints.items) full)) t.account t.known
-
-pub returns-in-None-clause-told : goal.returns-in-None-clause-told
-returns-in-None-clause-told c = λ plan of plans numbers is follows.
-    let log : CoreLog = c.args.log.now in
-    let s = c.requires.stands in
-    let few = slice_get_within log.used.items (log.clock / ROUND) c.args.used c.requires.begun.entered in
-    let long : length log.used.items ≡ length (part (view_of c.args.seat.now) log.core).entries = ap length s.used ∙ count_used (part (view_of c.args.seat.now) log.core).entries in
+    let few = slice_get_within log.used.items (log.clock / ROUND) due.used req.begun.entered in
+    let long : length log.used.items ≡ length p.entries = ap length s.used ∙ count_used p.entries in
     let ahead = (c.shown.ensures.cores log.core s.core).timeline.ahead in
     let place : log.clock - (c.len.result - 1) * ROUND ≡ log.clock % ROUND = omega (arith, c.len.ensures, few, long, ahead, s.clock) in
     let span = c.in-Some.span in
-    let shown = subst (λ (x : ℕ). IsSpan plan log.core x span.owner span.sharers.now span.end) place (c.in-Some.ensures.span plan log.core of) in
-    let o : OutlineView = c.args.outline.now in
-    let p : Part = part (view_of c.args.seat.now) log.core in
-    let q : Part = part (view_of c.hear_all.new.seat) log.core in
-    let n = c.next_stint_in-next.ensures in
+    let shown = λ (plan : PlanView) (of : ByTable due log plan).
+    subst (λ (x : ℕ). IsSpan plan log.core x span.owner span.sharers.now span.end) place (c.in-Some.ensures.span plan log.core of) in
     record {
-      next = record {
-        begins = begins_next p c.next_stint_in-next.result.stint log.clock c.args.seen c.args.used log.used.items c.requires.stands.used c.requires.begun.entered
-            c.requires.stands.clock c.requires.begun.sight.last n.from n.seen n.used;
-        follows = n.follows plan shown plans numbers is p.stints follows.last;
+      board = c.advance.ensures.board;
+      log = record {
+        small = omega (arith, t.same.0, req.log.small);
+        few = omega (arith, t.same.1, req.log.few);
+        used_room = omega (arith, t.same.1, t.used.1, req.log.used_room);
+        stints_room = omega (arith, t.same.2, t.room, req.log.stints_room);
       };
-      heard = q;
-      near = hears_same log.core c.lag-lag.result o.lag c.next_stint_in-next.result.stint.end c.cores-cores.result o.cores p q c.lag-lag.ensures.lag c.cores-cores.ensures.cores c.in-None.ensures.heard;
-      becomes = c.advance.ensures.becomes;
+      stands = stands_ran o (record (log_view log) { known = c.hear_all.new.known }) (log_view c.note_counts.new.log) u _ stint c.next_stint_in-next.result.shared due.seen
+          (stands_same o (log_view log) v u c.hear_all.new.known s c.in-None.ensures.changes (run_of_same p q hs) c.in-None.ensures.known)
+          req.begun.unfinished (heard_seen o due.seen p q hs req.begun.sight)
+          (begins_same p q stint hs begins)
+          n.some n.in_round c.advance.ensures.changes c.advance.ensures.becomes t.same.0 t.same.1 t.same.2 t.clock t.used.0 (t.stints ∙ sym (ap (λ (b : Bool). cond b (log.stints.items ++ stint ∷ []) log.stints.items) full)) t.account t.known;
+      same = record { core = t.same.0; rounds = t.same.1; keep = t.same.2 };
+      changes = changes_more v u _ log.core c.in-None.ensures.changes c.advance.ensures.changes;
+      told = λ plan of plans numbers is follows. record {
+        next = record {
+          begins = begins;
+          follows = n.follows plan (shown plan of) plans numbers is p.stints follows.last;
+        };
+        heard = q;
+        near = near;
+        becomes = c.advance.ensures.becomes;
+      };
+      waits = search rules;
+      goes = record {
+        begins = begins;
+        some = n.some;
+        heard = q;
+        near = near;
+        becomes = c.advance.ensures.becomes;
+      };
+      plans = λ plan of plans numbers is follows.
+          let course : CourseView = with_plans o plans numbers in
+          let heard : FollowsPlans course (log_view log) q = plans_same course (log_view log) (log_view log) p q refl refl refl hs.stints follows in
+          subst (FollowsPlans course (log_view c.note_counts.new.log)) (sym c.advance.ensures.becomes)
+          (plans_ran course (log_view log) (log_view c.note_counts.new.log) q stint c.next_stint_in-next.result.shared heard
+          (n.follows plan (shown plan of) plans numbers is q.stints heard.last) (n.shared plan (shown plan of) plans numbers is) t.same.0
+          (t.last ∙ (sym n.picked ∙ n.last plan (shown plan of) plans numbers is)) t.account);
     }
-
-pub returns-in-None-clause-goes : goal.returns-in-None-clause-goes
-returns-in-None-clause-goes c =
-    let log : CoreLog = c.args.log.now in
-    let o : OutlineView = c.args.outline.now in
-    let p : Part = part (view_of c.args.seat.now) log.core in
-    let q : Part = part (view_of c.hear_all.new.seat) log.core in
-    let n = c.next_stint_in-next.ensures in
-    record {
-      begins = begins_next p c.next_stint_in-next.result.stint log.clock c.args.seen c.args.used log.used.items c.requires.stands.used c.requires.begun.entered
-          c.requires.stands.clock c.requires.begun.sight.last n.from n.seen n.used;
-      some = n.some;
-      heard = q;
-      near = hears_same log.core c.lag-lag.result o.lag c.next_stint_in-next.result.stint.end c.cores-cores.result o.cores p q c.lag-lag.ensures.lag c.cores-cores.ensures.cores c.in-None.ensures.heard;
-      becomes = c.advance.ensures.becomes;
-    }
-
-pub returns-in-None-clause-plans : goal.returns-in-None-clause-plans
-returns-in-None-clause-plans c = λ plan of plans numbers is follows.
-    let log : CoreLog = c.args.log.now in
-    let s = c.requires.stands in
-    let few = slice_get_within log.used.items (log.clock / ROUND) c.args.used c.requires.begun.entered in
-    let long : length log.used.items ≡ length (part (view_of c.args.seat.now) log.core).entries = ap length s.used ∙ count_used (part (view_of c.args.seat.now) log.core).entries in
-    let ahead = (c.shown.ensures.cores log.core s.core).timeline.ahead in
-    let place : log.clock - (c.len.result - 1) * ROUND ≡ log.clock % ROUND = omega (arith, c.len.ensures, few, long, ahead, s.clock) in
-    let span = c.in-Some.span in
-    let shown = subst (λ (x : ℕ). IsSpan plan log.core x span.owner span.sharers.now span.end) place (c.in-Some.ensures.span plan log.core of) in
-    let v : View = view_of c.args.seat.now in
-    let u : View = view_of c.hear_all.new.seat in
-    let q : Part = part u log.core in
-    let hs = heard_same log.core _ _ _ (part v log.core) q c.in-None.ensures.heard in
-    let n = c.next_stint_in-next.ensures in
-    let t = c.note_counts.ensures in
-    let course : CourseView = with_plans c.args.outline.now plans numbers in
-    let heard : FollowsPlans course (log_view log) q = plans_same course (log_view log) (log_view log) (part v log.core) q refl refl refl hs.stints follows in
-    subst (FollowsPlans course (log_view c.note_counts.new.log)) (sym c.advance.ensures.becomes)
-    (plans_ran course (log_view log) (log_view c.note_counts.new.log) q c.next_stint_in-next.result.stint c.next_stint_in-next.result.shared heard
-    (n.follows plan shown plans numbers is q.stints heard.last) (n.shared plan shown plans numbers is) t.same.0
-    (t.last ∙ (sym n.picked ∙ n.last plan shown plans numbers is)) t.account)
