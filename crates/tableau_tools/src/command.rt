@@ -193,7 +193,7 @@ fn rows_arg<'a>(alloc: Global) -> Arg<'a> {
         .value_name("ROWS")
         .value_parser(["vcpu", "vm"].as_slice())
         .default_value("vcpu")
-        .help("A row for each vCPU, or for each VM: its name's part before the last dot")
+        .help("By vCPU, or by VM, which is a name's part before the last dot")
 }
 
 // The words of `diff`.
@@ -202,6 +202,9 @@ fn diff_command<'a>(alloc: Global) -> Result<Command<'a>, AllocError> {
         .about(
             "Writes what differs between two plans; ends with 1 where they differ, 3 for a fault",
         )
+        .arg(rows_arg(alloc))?
+        .arg(json_arg(alloc))?
+        .arg(csv_arg(alloc))?
         .arg(named_arg(alloc, "OLD", "A plan text"))?
         .arg(named_arg(alloc, "NEW", "Another plan text"))?
         .arg(tick_arg(alloc))
@@ -258,7 +261,7 @@ fn json_arg<'a>(alloc: Global) -> Arg<'a> {
     Arg::new(alloc, "json")
         .long("json")
         .action(ArgAction::SetTrue)
-        .help("One JSON object in place of tables")
+        .help("One JSON object in place of a text")
 }
 
 // Whether comma-separated values are written.
@@ -266,7 +269,7 @@ fn csv_arg<'a>(alloc: Global) -> Arg<'a> {
     Arg::new(alloc, "csv")
         .long("csv")
         .action(ArgAction::SetTrue)
-        .help("A line of comma-separated values for each vCPU, in place of tables")
+        .help("A line of comma-separated values for each vCPU, in place of a text")
 }
 
 // The trace to judge.
