@@ -193,8 +193,10 @@ fn put_changes<K: Sink>(
     ensures { Writes (K.state sink.old) (K.state sink.new)
         (changes tick_ns name.now old.now new.now wait now) result }
 {
+    let before = share_of(old);
+    let after = share_of(new);
     put_home(sink, name, old, new)?;
-    put_share(sink, b"vcpu ", name, share_of(old), share_of(new))?;
+    put_share(sink, b"vcpu ", name, before, after)?;
     put_period(sink, tick_ns, name, old, new)?;
     put_wait(sink, b"vcpu ", tick_ns, name, wait, now)
 }

@@ -1,4 +1,4 @@
-ghost use Rattle.std.specs.Prelude.{◌≤◌, length};
+ghost use Rattle.std.specs.Prelude.{◌≡◌, ◌≤◌, length};
 ghost use Rattle.tab_core.specs.declared.TheConstants.{MAX_VCPUS};
 ghost use Rattle.tab_io.specs.Sinks.{Writes};
 ghost use Rattle.tab_words.specs.Texts.{texts_below};
@@ -125,13 +125,16 @@ fn put_both<K: Sink>(
     ensures { Writes (K.state sink.old) (K.state sink.new) (vm_both tick_ns old.now new.now vm.now) result }
 {
     let count = count_in(old, vm);
+    let now_count = count_in(new, vm);
     let moves = moves_in(old, old_figures, new, new_figures, vm);
+    let share = share_in(old, vm);
+    let now_share = share_in(new, vm);
     let wait = wait_in(old, old_figures, vm);
-    let now = wait_in(new, new_figures, vm);
-    put_vcpus(sink, vm, count, count_in(new, vm))?;
+    let now_wait = wait_in(new, new_figures, vm);
+    put_vcpus(sink, vm, count, now_count)?;
     put_moves(sink, vm, moves, count)?;
-    put_share(sink, b"vm ", vm, share_in(old, vm), share_in(new, vm))?;
-    put_wait(sink, b"vm ", tick_ns, vm, wait, now)
+    put_share(sink, b"vm ", vm, share, now_share)?;
+    put_wait(sink, b"vm ", tick_ns, vm, wait, now_wait)
 }
 
 // Writes that a VM has another count of vCPUs.
