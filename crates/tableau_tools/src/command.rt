@@ -193,7 +193,7 @@ fn rows_arg<'a>(alloc: Global) -> Arg<'a> {
         .value_name("ROWS")
         .value_parser(["vcpu", "vm"].as_slice())
         .default_value("vcpu")
-        .help("By vCPU, or by VM, which is a name's part before the last dot")
+        .help("Rows or lines for vCPUs, or for VMs: a VM is a name's part before the last dot")
 }
 
 // The words of `diff`.
@@ -261,7 +261,7 @@ fn json_arg<'a>(alloc: Global) -> Arg<'a> {
     Arg::new(alloc, "json")
         .long("json")
         .action(ArgAction::SetTrue)
-        .help("One JSON object in place of a text")
+        .help("One JSON object, for programs")
 }
 
 // Whether comma-separated values are written.
@@ -269,7 +269,7 @@ fn csv_arg<'a>(alloc: Global) -> Arg<'a> {
     Arg::new(alloc, "csv")
         .long("csv")
         .action(ArgAction::SetTrue)
-        .help("A line of comma-separated values for each vCPU, in place of a text")
+        .help("A line of comma-separated values for each vCPU, for programs")
 }
 
 // The trace to judge.

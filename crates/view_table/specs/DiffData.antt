@@ -1,6 +1,6 @@
 -- What differs between two plans for other programs: as JSON, and as comma-separated values.
 -- Source: RFC 8259 and RFC 4180, but for the line ends. Names need no escape and no quotes.
-use Rattle.std.specs.Prelude.{ℕ, ◌+◌, ◌*◌, ◌++◌, true, false, if◌then◌else◌, List, [], codes, decimal, length, Option, Some, None, slice_get}
+use Rattle.std.specs.Prelude.{ℕ, ◌+◌, ◌*◌, ◌++◌, Bool, true, false, List, [], codes, decimal, length, Option, Some, None, slice_get}
 use Rattle.tab_words.specs.Texts.{texts_below}
 use Rattle.vcpu_names.specs.Names.{name_at}
 use Rattle.view_doc.specs.declared.view.Task.{Task}
@@ -106,10 +106,14 @@ old_loads view = loads_part (codes "],\"load_ppm\":{\"old\":[") view
 abbrev pub new_loads : View → List ℕ
 new_loads view = loads_part (codes "],\"new\":[") view
 
--- whether the segments are others
+-- what ends the text: whether the segments are others
+abbrev pub slots_end : Bool → List ℕ
+slots_end true = codes "]},\"slots_differ\":false}\n"
+slots_end false = codes "]},\"slots_differ\":true}\n"
+
 abbrev pub slots_part : View → View → List ℕ
-slots_part old new = if same_slots old.names.items new.names.items old.slots.items new.slots.items
-    then codes "]},\"slots_differ\":false}\n" else codes "]},\"slots_differ\":true}\n"
+slots_part old new =
+    slots_end (same_slots old.names.items new.names.items old.slots.items new.slots.items)
 
 -- the vCPUs of two plans, the loads of their cores, and whether the segments are others
 abbrev pub diff_json : ℕ → View → View → List ℕ

@@ -1,10 +1,11 @@
-ghost use Rattle.std.specs.Prelude.{◌<◌, ◌≤◌, ◌++◌, IfSome, Some, length};
+ghost use Rattle.std.specs.Prelude.{◌≡◌, ◌<◌, ◌≤◌, ◌++◌, IfSome, length, slice_get};
 ghost use Rattle.tab_core.specs.declared.TheConstants.{MAX_VCPUS};
 ghost use Rattle.tab_io.specs.Sinks.{Writes};
 ghost use Rattle.tab_words.specs.Texts.{texts_below};
 ghost use Rattle.view_table.specs.Data.{comma_before};
-ghost use Rattle.view_table.specs.DiffData.{added_row, both_rows, csv_name, csv_side, diff_csv, diff_head, diff_json, json_name, json_side, new_loads, new_part, new_row, no_side, old_loads, old_part, old_row, row_begin, row_end, row_middle, side_in, side_of, slots_part};
+ghost use Rattle.view_table.specs.DiffData.{added_row, both_rows, csv_name, csv_side, diff_csv, diff_head, diff_json, json_name, json_side, new_loads, new_part, new_row, no_side, old_loads, old_part, old_row, row_begin, row_end, row_middle, side_in, side_of, side_text, slots_end, slots_part};
 ghost use Rattle.view_table.specs.Figures.{AreFigures};
+ghost use Rattle.view_table.specs.Waits.{wait_of};
 
 use crate::data::{home_piece, number_or, period_piece, put_begin, put_comma, put_loads, wait_or};
 use crate::diff::{figure_of, have_same_slots, number_of};
@@ -330,8 +331,24 @@ fn put_side<K: Sink>(
 {
     match vcpu {
         None => put_no_side(sink, style.form),
-        Some(v) => put_task(sink, style, &view.tasks[v], figure_of(view, figures, v)),
+        Some(v) => put_there(sink, style, view, figures, v),
     }
+}
+
+fn put_there<K: Sink>(
+    sink: &mut K,
+    style: Style,
+    view: &View,
+    figures: &Figures,
+    vcpu: usize,
+) -> Result<(), WriteFault>
+    requires figures { AreFigures view.now figures.now }
+    requires low { vcpu < length view.now.tasks.items }
+    ensures { Writes (K.state sink.old) (K.state sink.new)
+        (side_of style (slice_get view.now.tasks.items vcpu) (wait_of view.now.slots.items vcpu)) result }
+{
+    let wait = figure_of(view, figures, vcpu);
+    put_task(sink, style.form, style.tick_ns, &view.tasks[vcpu], wait)
 }
 
 fn put_no_side<K: Sink>(sink: &mut K, form: Form) -> Result<(), WriteFault>
@@ -345,15 +362,16 @@ fn put_no_side<K: Sink>(sink: &mut K, form: Form) -> Result<(), WriteFault>
 
 fn put_task<K: Sink>(
     sink: &mut K,
-    style: Style,
+    form: Form,
+    tick_ns: u32,
     task: &Task,
     wait: u32,
 ) -> Result<(), WriteFault>
-    ensures { Writes (K.state sink.old) (K.state sink.new) (side_of style (Some task.now) wait) result }
+    ensures { Writes (K.state sink.old) (K.state sink.new) (side_text form tick_ns task.now wait) result }
 {
-    match style.form {
-        Form::Json => put_json_side(sink, style.tick_ns, task, wait),
-        Form::Csv => put_csv_side(sink, style.tick_ns, task, wait),
+    match form {
+        Form::Json => put_json_side(sink, tick_ns, task, wait),
+        Form::Csv => put_csv_side(sink, tick_ns, task, wait),
     }
 }
 
@@ -432,9 +450,15 @@ fn put_new_loads<K: Sink>(sink: &mut K, view: &View) -> Result<(), WriteFault>
 fn put_slots_part<K: Sink>(sink: &mut K, old: &View, new: &View) -> Result<(), WriteFault>
     ensures { Writes (K.state sink.old) (K.state sink.new) (slots_part old.now new.now) result }
 {
-    if have_same_slots(old, new) {
-        write_all(sink, b"]},\"slots_differ\":false}\n")
+    write_all(sink, slots_end(have_same_slots(old, new)))
+}
+
+fn slots_end(same: bool) -> &'static [u8]
+    ensures { result.now ≡ slots_end same }
+{
+    if same {
+        b"]},\"slots_differ\":false}\n"
     } else {
-        write_all(sink, b"]},\"slots_differ\":true}\n")
+        b"]},\"slots_differ\":true}\n"
     }
 }

@@ -5,7 +5,9 @@ ghost use Rattle.tab_words.specs.Texts.{texts_below};
 ghost use Rattle.view_table.specs.Figures.{AreFigures};
 ghost use Rattle.view_table.specs.VmDiff.{moves_change, moves_line, new_vm, new_vm_lines, old_vm, old_vm_lines, vcpus_change, vm_both, vm_diff_text, vm_moves};
 
-use crate::diff::{put_change, put_count_change, put_loads, put_lone, put_share, put_slots, put_wait};
+use crate::diff::{
+    put_change, put_count_change, put_loads, put_lone, put_share, put_slots, put_wait,
+};
 use crate::figures::Figures;
 use crate::groups::{count_in, has_vm, share_in, vm_at, wait_in};
 use crate::sums::{Matter, changes_there, is_first};
@@ -79,11 +81,12 @@ fn put_first<K: Sink>(
     requires few_new { length new.now.tasks.items ≤ MAX_VCPUS }
     ensures { Writes (K.state sink.old) (K.state sink.new) (old_vm_lines tick_ns old.now new.now vcpu) result }
 {
-    if !is_first(old, vcpu) {
-        return Ok(());
+    if is_first(old, vcpu) {
+        let vm = vm_at(&old.names, vcpu);
+        put_old_vm(sink, old, old_figures, new, new_figures, tick_ns, vm)
+    } else {
+        Ok(())
     }
-    let vm = vm_at(&old.names, vcpu);
-    put_old_vm(sink, old, old_figures, new, new_figures, tick_ns, vm)
 }
 
 fn put_old_vm<K: Sink>(
@@ -101,7 +104,8 @@ fn put_old_vm<K: Sink>(
     requires few_new { length new.now.tasks.items ≤ MAX_VCPUS }
     ensures { Writes (K.state sink.old) (K.state sink.new) (old_vm tick_ns old.now new.now vm.now) result }
 {
-    if has_vm(new, vm, new.tasks.len()) {
+    let count = new.tasks.len();
+    if has_vm(new, vm, count) {
         put_both(sink, old, old_figures, new, new_figures, tick_ns, vm)
     } else {
         put_lone(sink, b"vm ", vm, b" gone\n")
@@ -189,13 +193,7 @@ fn put_moves_line<'a, K: Sink>(
 }
 
 // How many of a VM's vCPUs of the old plan have another home.
-fn moves_in(
-    old: &View,
-    old_figures: &Figures,
-    new: &View,
-    new_figures: &Figures,
-    vm: &[u8],
-) -> u64
+fn moves_in(old: &View, old_figures: &Figures, new: &View, new_figures: &Figures, vm: &[u8]) -> u64
     requires old { AreFigures old.now old_figures.now }
     requires new { AreFigures new.now new_figures.now }
     ensures { result ≡ vm_moves old.now new.now vm.now }
@@ -228,17 +226,19 @@ fn put_new_first<K: Sink>(
 ) -> Result<(), WriteFault>
     ensures { Writes (K.state sink.old) (K.state sink.new) (new_vm_lines old.now new.now vcpu) result }
 {
-    if !is_first(new, vcpu) {
-        return Ok(());
+    if is_first(new, vcpu) {
+        let vm = vm_at(&new.names, vcpu);
+        put_new_vm(sink, old, vm)
+    } else {
+        Ok(())
     }
-    let vm = vm_at(&new.names, vcpu);
-    put_new_vm(sink, old, vm)
 }
 
 fn put_new_vm<K: Sink>(sink: &mut K, old: &View, vm: &[u8]) -> Result<(), WriteFault>
     ensures { Writes (K.state sink.old) (K.state sink.new) (new_vm old.now vm.now) result }
 {
-    if has_vm(old, vm, old.tasks.len()) {
+    let count = old.tasks.len();
+    if has_vm(old, vm, count) {
         Ok(())
     } else {
         put_lone(sink, b"vm ", vm, b" new\n")
