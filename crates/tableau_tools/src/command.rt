@@ -200,7 +200,7 @@ fn rows_arg<'a>(alloc: Global) -> Arg<'a> {
 fn diff_command<'a>(alloc: Global) -> Result<Command<'a>, AllocError> {
     Command::new(alloc, "diff")
         .about(
-            "Writes what differs between two plans; ends with 1 where they differ, 3 for a fault",
+            "Writes what differs between two plans; ends with 1 where they differ, 2 for a fault",
         )
         .arg(rows_arg(alloc))?
         .arg(json_arg(alloc))?
@@ -244,7 +244,7 @@ fn old_arg<'a>(alloc: Global) -> Arg<'a> {
 fn judge_command<'a>(alloc: Global) -> Result<Command<'a>, AllocError> {
     Command::new(alloc, "judge")
         .about(
-            "Writes whether a host kept its promises, by a trace of what ran; ends with 1 where it didn't, 3 for a fault",
+            "Writes whether a host kept its promises, by a trace of what ran; ends with 1 where it didn't, 2 for a fault",
         )
         .arg(named_arg(
             alloc,

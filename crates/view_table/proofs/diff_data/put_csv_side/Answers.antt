@@ -1,3 +1,4 @@
+use Rattle.std.proofs.Common.{append-nil}
 use Rattle.view_table.specs.DiffData.{csv_side}
 use Rattle.view_table.proofs.diff_data.put_csv_side.Goals as goal
 
@@ -9,4 +10,4 @@ returns g c = rw (
   ← c.wait_or-ended.ensures,
   ← c.number_or-wait_piece.ensures,
   ← c.home_piece-home.ensures,
-) c.put_pieces.ensures
+) (rw append-nil at c.put_pieces.ensures)
