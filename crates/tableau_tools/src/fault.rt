@@ -54,10 +54,6 @@ pub(crate) enum Fault {
     },
     #[error("{0}")]
     BadSizes(SizesFault),
-    #[error("two sizes make a vCPU of the name {name}: give each size a name of its own")]
-    SameName {
-        name: String,
-    },
     #[error("{place}the text is no plan")]
     NoPlan {
         place: String,
