@@ -10,12 +10,12 @@ pub returns-in_err-put_old_part : goal.returns-in_err-put_old_part
 returns-in_err-put_old_part g c =
     let p = err_from_is_err_and c.from_residual.result c.from_residual.ensures.1 in
     let name : c.name_at-name.result.now ≡ name_at c.args.old.now.names.items c.args.vcpu = search rules in
-    let other : c.number_of-other.result ≡ number_of c.args.new.now.names.items (length c.args.new.now.tasks.items) (name_at c.args.old.now.names.items c.args.vcpu) = rw ← name (search rules) in
+    let other : c.number_of-other.result ≡ number_of c.args.new.now.names.items (length c.args.new.now.tasks.items) (name_at c.args.old.now.names.items c.args.vcpu) = rw (← name) (search rules) in
     rw (p.1, ← other, ← name) (left_broken _ _ _ _ _ _ _ _ _ (all_left _ _) refl c.put_old_part.ensures c.in_err-put_old_part.was)
 
 pub returns : goal.returns
 returns g c =
     let name : c.name_at-name.result.now ≡ name_at c.args.old.now.names.items c.args.vcpu = search rules in
-    let other : c.number_of-other.result ≡ number_of c.args.new.now.names.items (length c.args.new.now.tasks.items) (name_at c.args.old.now.names.items c.args.vcpu) = rw ← name (search rules) in
+    let other : c.number_of-other.result ≡ number_of c.args.new.now.names.items (length c.args.new.now.tasks.items) (name_at c.args.old.now.names.items c.args.vcpu) = rw (← name) (search rules) in
     let at0 = left_behind _ _ _ _ _ _ _ _ _ (all_left _ _) refl c.put_old_part.ensures c.in_ok-put_old_part.was in
     rw (← other, ← name) (left_last _ _ _ _ _ _ at0 c.put_new_part.ensures)
