@@ -6,7 +6,7 @@ _tableau_tools() {
   # how many arguments are before the word
   for ((at = 2; at < COMP_CWORD; at++)); do
     case $command,${COMP_WORDS[at]} in
-      table,--by | table,--tick | chart,--by | chart,--cores | chart,--vcpus | chart,--from | chart,--to | chart,--width | chart,--tick | diff,--tick | report,--old | export,--tick | export,--first-cpu | export,--map | judge,--window | host,--cores | host,--tick | fit,--cores | fit,--tick) ((at++)) ;;
+      table,--by | table,--tick | chart,--by | chart,--cores | chart,--vcpus | chart,--from | chart,--to | chart,--width | chart,--tick | diff,--by | diff,--tick | report,--old | export,--tick | export,--first-cpu | export,--map | judge,--window | host,--cores | host,--tick | fit,--cores | fit,--tick) ((at++)) ;;
       *,-?*) ;;
       *) ((place++)) ;;
     esac
@@ -17,6 +17,7 @@ _tableau_tools() {
     case $command,$before in
       table,--by) words='vcpu vm' ;;
       chart,--by) words='core vcpu' ;;
+      diff,--by) words='vcpu vm' ;;
       report,--old) files=yes ;;
       export,--map) files=yes ;;
       table,--tick | chart,--cores | chart,--vcpus | chart,--from | chart,--to | chart,--width | chart,--tick | diff,--tick | export,--tick | export,--first-cpu | judge,--window | host,--cores | host,--tick | fit,--cores | fit,--tick) ;;
@@ -24,7 +25,7 @@ _tableau_tools() {
         case $command,$word in
           table,-*) words='--by --json --csv --tick --help' ;;
           chart,-*) words='--text --by --cores --vcpus --from --to --width --tick --help' ;;
-          diff,-*) words='--tick --help' ;;
+          diff,-*) words='--by --json --csv --tick --help' ;;
           report,-*) words='--old --help' ;;
           export,-*) words='--tick --first-cpu --full --map --help' ;;
           judge,-*) words='--window --json --help' ;;

@@ -193,15 +193,18 @@ fn rows_arg<'a>(alloc: Global) -> Arg<'a> {
         .value_name("ROWS")
         .value_parser(["vcpu", "vm"].as_slice())
         .default_value("vcpu")
-        .help("A row for each vCPU, or for each VM: its name's part before the last dot")
+        .help("Rows or lines for vCPUs, or for VMs: a VM is a name's part before the last dot")
 }
 
 // The words of `diff`.
 fn diff_command<'a>(alloc: Global) -> Result<Command<'a>, AllocError> {
     Command::new(alloc, "diff")
         .about(
-            "Writes what differs between two plans; ends with 1 where they differ, 3 for a fault",
+            "Writes what differs between two plans; ends with 1 where they differ, 2 for a fault",
         )
+        .arg(rows_arg(alloc))?
+        .arg(json_arg(alloc))?
+        .arg(csv_arg(alloc))?
         .arg(named_arg(alloc, "OLD", "A plan text"))?
         .arg(named_arg(alloc, "NEW", "Another plan text"))?
         .arg(tick_arg(alloc))
@@ -241,7 +244,7 @@ fn old_arg<'a>(alloc: Global) -> Arg<'a> {
 fn judge_command<'a>(alloc: Global) -> Result<Command<'a>, AllocError> {
     Command::new(alloc, "judge")
         .about(
-            "Writes whether a host kept its promises, by a trace of what ran; ends with 1 where it didn't, 3 for a fault",
+            "Writes whether a host kept its promises, by a trace of what ran; ends with 1 where it didn't, 2 for a fault",
         )
         .arg(named_arg(
             alloc,
@@ -258,7 +261,7 @@ fn json_arg<'a>(alloc: Global) -> Arg<'a> {
     Arg::new(alloc, "json")
         .long("json")
         .action(ArgAction::SetTrue)
-        .help("One JSON object in place of tables")
+        .help("One JSON object, for programs")
 }
 
 // Whether comma-separated values are written.
@@ -266,7 +269,7 @@ fn csv_arg<'a>(alloc: Global) -> Arg<'a> {
     Arg::new(alloc, "csv")
         .long("csv")
         .action(ArgAction::SetTrue)
-        .help("A line of comma-separated values for each vCPU, in place of tables")
+        .help("A line of comma-separated values for each vCPU, for programs")
 }
 
 // The trace to judge.

@@ -2,13 +2,16 @@ ghost use Rattle.std.specs.Prelude.{◌≤◌, length};
 ghost use Rattle.tab_core.specs.declared.TheConstants.{MAX_VCPUS};
 
 use crate::fault::Fault;
+use crate::form::{Form, form_of};
 use crate::output::{finish, output_of};
 use crate::planned::{planned_of, tick_of};
 use clap::ArgMatches;
 use std::alloc::Global;
 use tab_io::{MemSink, write_all};
 use view_doc::View;
-use view_table::{figures_of, write_diff, write_sums};
+use view_table::{
+    figures_of, write_diff, write_diff_csv, write_diff_json, write_sums, write_vm_diff,
+};
 
 // More bytes than what differs between two plans takes.
 const ROOM: usize = 1_048_576;
@@ -16,11 +19,12 @@ const ROOM: usize = 1_048_576;
 /// Does `diff`: it reads two plans, each alone or beside its host, writes what differs between them, and says whether
 /// anything does.
 pub(crate) fn diff(rt: &HostRuntime, matches: &ArgMatches<'_>) -> Result<bool, Fault> {
+    let form = form_of(matches)?;
     let old = planned_of(rt, matches.get_str("OLD"))?;
     let new = planned_of(rt, matches.get_str("NEW"))?;
     let host_tick = shared_tick(old.tick_ns(), new.tick_ns())?;
     let tick_ns = tick_of(rt, matches, host_tick);
-    put_differences(rt, &old.view, &new.view, tick_ns)
+    put_differences(rt, form, &old.view, &new.view, tick_ns)
 }
 
 // Nanoseconds of a tick of the hosts, if there is one, which is the same of both.
@@ -32,14 +36,50 @@ fn shared_tick(old: Option<u32>, new: Option<u32>) -> Result<Option<u32>, Fault>
     }
 }
 
-// Writes what differs, and says whether anything does.
-fn put_differences(rt: &HostRuntime, old: &View, new: &View, tick_ns: u32) -> Result<bool, Fault>
+// Writes what differs, and says whether anything does: whether there is a text by vCPU.
+fn put_differences(
+    rt: &HostRuntime,
+    form: Form,
+    old: &View,
+    new: &View,
+    tick_ns: u32,
+) -> Result<bool, Fault>
     requires old { length old.now.tasks.items ≤ MAX_VCPUS }
     requires new { length new.now.tasks.items ≤ MAX_VCPUS }
 {
     let text = differences_of(rt.alloc(), old, new, tick_ns)?;
-    put_text(rt, text.bytes())?;
+    put_form(rt, form, text.bytes(), old, new, tick_ns)?;
     Ok(!text.bytes().is_empty())
+}
+
+// Writes what differs in this form to standard output. The text is that by vCPU.
+fn put_form(
+    rt: &HostRuntime,
+    form: Form,
+    text: &[u8],
+    old: &View,
+    new: &View,
+    tick_ns: u32,
+) -> Result<(), Fault>
+    requires old { length old.now.tasks.items ≤ MAX_VCPUS }
+    requires new { length new.now.tasks.items ≤ MAX_VCPUS }
+{
+    let old_figures = figures_of(rt.alloc(), old)?;
+    let new_figures = figures_of(rt.alloc(), new)?;
+    let mut sink = output_of(rt)?;
+    match form {
+        Form::ByVcpu => write_all(&mut sink, text)?,
+        Form::ByVm if text.is_empty() => {}
+        Form::ByVm => {
+            write_vm_diff(&mut sink, old, &old_figures, new, &new_figures, tick_ns)?;
+            write_sums(&mut sink, old, &old_figures, new, &new_figures)?;
+        }
+        Form::Json => {
+            write_diff_json(&mut sink, old, &old_figures, new, &new_figures, tick_ns)?;
+        }
+        Form::Csv => write_diff_csv(&mut sink, old, &old_figures, new, &new_figures, tick_ns)?,
+    }
+    finish(&mut sink)
 }
 
 /// What differs between two plans, and after it the sums, if anything does.
@@ -62,11 +102,4 @@ pub(crate) fn differences_of(
         write_sums(&mut text, old, &old_figures, new, &new_figures)?;
     }
     Ok(text)
-}
-
-// Writes a text to standard output.
-fn put_text(rt: &HostRuntime, text: &[u8]) -> Result<(), Fault> {
-    let mut sink = output_of(rt)?;
-    write_all(&mut sink, text)?;
-    finish(&mut sink)
 }

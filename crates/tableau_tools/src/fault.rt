@@ -119,7 +119,7 @@ pub(crate) enum Fault {
     BadLanes,
     #[error("--cores chooses lanes of cores, and --vcpus those of --by vcpu")]
     OtherLanes,
-    #[error("--json, --csv and --by vm are three forms of a table: name one")]
+    #[error("--json, --csv and --by vm are three forms of what is written: name one")]
     OtherForms,
     #[error("a text has lines of cores: --text doesn't go with --by vcpu")]
     TextByVcpu,

@@ -11,6 +11,7 @@ mod diff;
 mod export;
 mod fault;
 mod fit;
+mod form;
 mod host;
 mod input;
 mod judge;

@@ -2,6 +2,7 @@ ghost use Rattle.std.specs.Prelude.{◌≤◌, length};
 ghost use Rattle.tab_core.specs.declared.TheConstants.{MAX_CORES, MAX_VCPUS};
 
 use crate::fault::Fault;
+use crate::form::{Form, form_of};
 use crate::output::{finish, output_of};
 use crate::planned::{Planned, planned_of, tick_of};
 use crate::shown::shown;
@@ -15,19 +16,6 @@ use view_table::{figures_of, write_table, write_table_csv, write_table_json, wri
 // A share below this, in parts per million, is rarely what was meant.
 const SMALL_PPM: u64 = 1000;
 
-// What is written of a plan.
-#[derive(Clone, Copy)]
-enum Form {
-    // Tables, with a row for each vCPU.
-    ByVcpu,
-    // Tables, with a row for each VM.
-    ByVm,
-    // JSON.
-    Json,
-    // Comma-separated values.
-    Csv,
-}
-
 /// Does `table`: it reads a plan, or a host and its plan, and writes their tables.
 pub(crate) fn table(rt: &HostRuntime, matches: &ArgMatches<'_>) -> Result<(), Fault> {
     let form = form_of(matches)?;
@@ -37,18 +25,6 @@ pub(crate) fn table(rt: &HostRuntime, matches: &ArgMatches<'_>) -> Result<(), Fa
         None => put_tables(rt, form, None, &view, tick_of(rt, matches, None))?,
     }
     Ok(tell_small(rt, &view)?)
-}
-
-// What the words ask for.
-fn form_of(matches: &ArgMatches<'_>) -> Result<Form, Fault> {
-    let by_vm = matches.get_str("by") == Some("vm");
-    match (by_vm, matches.get_flag("json"), matches.get_flag("csv")) {
-        (false, false, false) => Ok(Form::ByVcpu),
-        (true, false, false) => Ok(Form::ByVm),
-        (false, true, false) => Ok(Form::Json),
-        (false, false, true) => Ok(Form::Csv),
-        _ => Err(Fault::OtherForms),
-    }
 }
 
 // Writes the tables to standard output.

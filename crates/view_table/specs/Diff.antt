@@ -21,13 +21,17 @@ number_of names (suc v) name = if bytes_eq (name_at names v) name then Some v el
 
 -- ---- lines
 
--- a vCPU that the other plan hasn't
-unfoldable pub lone_line : List ℕ → List ℕ → List ℕ
-lone_line name word = codes "vcpu " ++ (name ++ word)
+-- what a line is about
+abbrev pub vcpu_word : List ℕ
+vcpu_word = codes "vcpu "
 
--- something of a vCPU that was one thing and is another
-unfoldable pub change_line : List ℕ → List ℕ → List ℕ → List ℕ → List ℕ → List ℕ
-change_line name what old new unit = codes "vcpu " ++ (name ++ (what ++ (old ++ (codes " to " ++ (new ++ unit)))))
+-- a vCPU that the other plan hasn't, or a VM
+unfoldable pub lone_line : List ℕ → List ℕ → List ℕ → List ℕ
+lone_line kind name word = kind ++ (name ++ word)
+
+-- something of a vCPU, or of a VM, that was one thing and is another
+unfoldable pub change_line : List ℕ → List ℕ → List ℕ → List ℕ → List ℕ → List ℕ → List ℕ
+change_line kind name what old new unit = kind ++ (name ++ (what ++ (old ++ (codes " to " ++ (new ++ unit)))))
 
 -- nothing where two numbers are one
 abbrev pub unless_same : ℕ → ℕ → List ℕ → List ℕ
@@ -39,25 +43,25 @@ wait_word tick wait = if nat_lt wait (2 * ROUND) then millis_cell 0 (wait * tick
 
 abbrev pub home_change : List ℕ → Task → Task → List ℕ
 home_change name t u = unless_same t.home u.home
-    (change_line name (codes " home ") (count_cell 0 t.home) (count_cell 0 u.home) (codes "\n"))
+    (change_line vcpu_word name (codes " home ") (count_cell 0 t.home) (count_cell 0 u.home) (codes "\n"))
 
-abbrev pub share_change : List ℕ → Task → Task → List ℕ
-share_change name t u = unless_same (share_of t) (share_of u)
-    (change_line name (codes " share ") (percent_cell 0 (share_of t)) (percent_cell 0 (share_of u)) (codes " %\n"))
+abbrev pub share_change : List ℕ → List ℕ → ℕ → ℕ → List ℕ
+share_change kind name a b = unless_same a b
+    (change_line kind name (codes " share ") (percent_cell 0 a) (percent_cell 0 b) (codes " %\n"))
 
 abbrev pub period_change : ℕ → List ℕ → Task → Task → List ℕ
 period_change tick name t u = unless_same t.period u.period
-    (change_line name (codes " period ") (millis_cell 0 (t.period * tick)) (millis_cell 0 (u.period * tick))
+    (change_line vcpu_word name (codes " period ") (millis_cell 0 (t.period * tick)) (millis_cell 0 (u.period * tick))
     (codes " ms\n"))
 
-abbrev pub wait_change : ℕ → List ℕ → ℕ → ℕ → List ℕ
-wait_change tick name a b = unless_same a b
-    (change_line name (codes " wait ") (wait_word tick a) (wait_word tick b) (codes " ms\n"))
+abbrev pub wait_change : List ℕ → ℕ → List ℕ → ℕ → ℕ → List ℕ
+wait_change kind tick name a b = unless_same a b
+    (change_line kind name (codes " wait ") (wait_word tick a) (wait_word tick b) (codes " ms\n"))
 
 -- what changed of a vCPU that both plans have
 abbrev pub changes : ℕ → List ℕ → Task → Task → ℕ → ℕ → List ℕ
-changes tick name t u a b = home_change name t u ++ (share_change name t u
-    ++ (period_change tick name t u ++ wait_change tick name a b))
+changes tick name t u a b = home_change name t u ++ (share_change vcpu_word name (share_of t) (share_of u)
+    ++ (period_change tick name t u ++ wait_change vcpu_word tick name a b))
 
 abbrev pub changes_of : ℕ → List ℕ → Option Task → Option Task → ℕ → ℕ → List ℕ
 changes_of tick name None u a b = []
@@ -70,7 +74,7 @@ number_in view name = number_of view.names.items (length view.tasks.items) name
 
 -- the lines of a vCPU of the old plan
 abbrev pub old_found : ℕ → View → View → ℕ → Option ℕ → List ℕ
-old_found tick old new v None = lone_line (name_at old.names.items v) (codes " gone\n")
+old_found tick old new v None = lone_line vcpu_word (name_at old.names.items v) (codes " gone\n")
 old_found tick old new v (Some w) = changes_of tick (name_at old.names.items v) (slice_get old.tasks.items v)
     (slice_get new.tasks.items w) (wait_of old.slots.items v) (wait_of new.slots.items w)
 
@@ -79,7 +83,7 @@ old_lines tick old new v = old_found tick old new v (number_in new (name_at old.
 
 -- the line of a vCPU of the new plan that the old one hasn't
 abbrev pub new_found : List ℕ → Option ℕ → List ℕ
-new_found name None = lone_line name (codes " new\n")
+new_found name None = lone_line vcpu_word name (codes " new\n")
 new_found name (Some v) = []
 
 abbrev pub new_lines : View → View → ℕ → List ℕ

@@ -1,5 +1,6 @@
 pub mod Data
 pub mod Diff
+pub mod DiffData
 pub mod Figures
 pub mod Groups
 pub mod Inside
@@ -8,4 +9,5 @@ pub mod Sums
 pub mod Table
 pub mod TableTexts
 pub mod Totals
+pub mod VmDiff
 pub mod Waits

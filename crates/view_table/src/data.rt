@@ -66,7 +66,7 @@ pub fn write_table_csv<K: Sink>(
 }
 
 #[tactic(auto, unfolding(crate::specs::Data::json_begin))]
-fn put_begin<K: Sink>(sink: &mut K, tick_ns: u32) -> Result<(), WriteFault>
+pub(crate) fn put_begin<K: Sink>(sink: &mut K, tick_ns: u32) -> Result<(), WriteFault>
     ensures { Writes (K.state sink.old) (K.state sink.new) (json_begin tick_ns) result }
 {
     put_numbered(sink, b"{\"form\":1,\"tick_ns\":", tick_ns, b",\"vcpus\":[")
@@ -166,7 +166,7 @@ fn put_json_named<K: Sink>(
     put_json_facts(sink, tick_ns, name, &asked, task, wait)
 }
 
-fn put_comma<K: Sink>(sink: &mut K, number: usize) -> Result<(), WriteFault>
+pub(crate) fn put_comma<K: Sink>(sink: &mut K, number: usize) -> Result<(), WriteFault>
     ensures { Writes (K.state sink.old) (K.state sink.new) (comma_before number) result }
 {
     if number == 0 {
@@ -440,21 +440,21 @@ fn put_csv_home<K: Sink>(
 }
 
 // A period in nanoseconds, as a piece of a text.
-fn period_piece(task: &Task, tick_ns: u32) -> TextPiece<'static>
+pub(crate) fn period_piece(task: &Task, tick_ns: u32) -> TextPiece<'static>
     ensures { piece_text result ≡ decimal (task.now.period * tick_ns) }
 {
     TextPiece::Wide(u64::from(task.period) * u64::from(tick_ns))
 }
 
 // The number of a home, as a piece of a text.
-fn home_piece(task: &Task) -> TextPiece<'static>
+pub(crate) fn home_piece(task: &Task) -> TextPiece<'static>
     ensures { piece_text result ≡ decimal task.now.home }
 {
     TextPiece::Number(task.home.0)
 }
 
 // A number, or this where there is none.
-fn number_or<'a>(nothing: &'a [u8], number: Option<u64>) -> TextPiece<'a>
+pub(crate) fn number_or<'a>(nothing: &'a [u8], number: Option<u64>) -> TextPiece<'a>
     ensures { piece_text result ≡ number_or nothing.now number }
 {
     match number {
@@ -491,7 +491,7 @@ fn latency_or(asked: &Option<Reservation>) -> Option<u64>
     }
 }
 
-fn wait_or(tick_ns: u32, wait: u32) -> Option<u64>
+pub(crate) fn wait_or(tick_ns: u32, wait: u32) -> Option<u64>
     ensures { result ≡ wait_or tick_ns wait }
 {
     if wait < 2 * ROUND {
@@ -598,7 +598,7 @@ fn stands_on(view: &View, figures: &Figures, vcpu: usize, core: u32) -> bool
 }
 
 // Writes the load of each core.
-fn put_loads<K: Sink>(sink: &mut K, view: &View) -> Result<(), WriteFault>
+pub(crate) fn put_loads<K: Sink>(sink: &mut K, view: &View) -> Result<(), WriteFault>
     ensures { Writes (K.state sink.old) (K.state sink.new)
         (texts_below (load_data view.now.slots.items) view.now.cores) result }
 {

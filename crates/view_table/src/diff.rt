@@ -2,7 +2,7 @@ ghost use Rattle.std.specs.Prelude.{◌≡◌, ◌<◌, ◌*◌, ◌==◌, IfSom
 ghost use Rattle.tab_io.specs.Sinks.{Writes};
 ghost use Rattle.tab_words.specs.Texts.{texts_below};
 ghost use Rattle.table_cells.specs.Cells.{count_cell, millis_cell, percent_cell};
-ghost use Rattle.view_table.specs.Diff.{change_line, changes, count_change, count_line, diff_text, home_change, is_shared_named, is_slot_named, load_change, load_line, load_lines, lone_line, new_lines, number_of, old_lines, period_change, same_slot, same_slots, same_use, share_change, slots_change, wait_change, wait_word};
+ghost use Rattle.view_table.specs.Diff.{change_line, changes, count_change, count_line, diff_text, home_change, is_shared_named, is_slot_named, load_change, load_line, load_lines, lone_line, new_lines, number_of, old_lines, period_change, same_slot, same_slots, same_use, share_change, slots_change, vcpu_word, wait_change, wait_word};
 ghost use Rattle.view_table.specs.Figures.{AreFigures};
 ghost use Rattle.table_cells.specs.CellTexts.{cell_text};
 ghost use Rattle.view_table.specs.Waits.{wait_of};
@@ -38,7 +38,7 @@ pub fn write_diff<K: Sink>(
     put_slots(sink, old, new)
 }
 
-fn put_count_change<K: Sink>(sink: &mut K, old: u32, new: u32) -> Result<(), WriteFault>
+pub(crate) fn put_count_change<K: Sink>(sink: &mut K, old: u32, new: u32) -> Result<(), WriteFault>
     ensures { Writes (K.state sink.old) (K.state sink.new) (count_change old new) result }
 {
     if old == new {
@@ -126,7 +126,7 @@ fn put_old_vcpu<K: Sink>(
 {
     let name = name_at(&old.names, vcpu);
     let Some(other) = number_of(&new.names, new.tasks.len(), name) else {
-        return put_lone(sink, name, b" gone\n");
+        return put_lone(sink, b"vcpu ", name, b" gone\n");
     };
     let wait = figure_of(old, old_figures, vcpu);
     let now = figure_of(new, new_figures, other);
@@ -164,13 +164,19 @@ pub(crate) fn number_of(names: &[Name], count: usize, name: &[u8]) -> Option<usi
     found
 }
 
+// Writes that a vCPU or a VM is in one of the plans alone.
 #[tactic(auto, unfolding(crate::specs::Diff::lone_line))]
-fn put_lone<'a, K: Sink>(sink: &mut K, name: &'a [u8], word: &'a [u8]) -> Result<(), WriteFault>
-    ensures { Writes (K.state sink.old) (K.state sink.new) (lone_line name.now word.now) result }
+pub(crate) fn put_lone<'a, K: Sink>(
+    sink: &mut K,
+    kind: &'a [u8],
+    name: &'a [u8],
+    word: &'a [u8],
+) -> Result<(), WriteFault>
+    ensures { Writes (K.state sink.old) (K.state sink.new) (lone_line kind.now name.now word.now) result }
 {
     put_cells(
         sink,
-        &[Cell::Text(b"vcpu "), Cell::Text(name), Cell::Text(word)],
+        &[Cell::Text(kind), Cell::Text(name), Cell::Text(word)],
     )
 }
 
@@ -187,10 +193,12 @@ fn put_changes<K: Sink>(
     ensures { Writes (K.state sink.old) (K.state sink.new)
         (changes tick_ns name.now old.now new.now wait now) result }
 {
+    let before = share_of(old);
+    let after = share_of(new);
     put_home(sink, name, old, new)?;
-    put_share(sink, name, old, new)?;
+    put_share(sink, b"vcpu ", name, before, after)?;
     put_period(sink, tick_ns, name, old, new)?;
-    put_wait(sink, tick_ns, name, wait, now)
+    put_wait(sink, b"vcpu ", tick_ns, name, wait, now)
 }
 
 fn put_home<K: Sink>(sink: &mut K, name: &[u8], old: &Task, new: &Task) -> Result<(), WriteFault>
@@ -201,6 +209,7 @@ fn put_home<K: Sink>(sink: &mut K, name: &[u8], old: &Task, new: &Task) -> Resul
     }
     put_change(
         sink,
+        b"vcpu ",
         name,
         b" home ",
         &count_of(old.home.0),
@@ -209,16 +218,22 @@ fn put_home<K: Sink>(sink: &mut K, name: &[u8], old: &Task, new: &Task) -> Resul
     )
 }
 
-fn put_share<K: Sink>(sink: &mut K, name: &[u8], old: &Task, new: &Task) -> Result<(), WriteFault>
-    ensures { Writes (K.state sink.old) (K.state sink.new) (share_change name.now old.now new.now) result }
+// Writes that a share is another.
+pub(crate) fn put_share<K: Sink>(
+    sink: &mut K,
+    kind: &[u8],
+    name: &[u8],
+    before: u64,
+    now: u64,
+) -> Result<(), WriteFault>
+    ensures { Writes (K.state sink.old) (K.state sink.new) (share_change kind.now name.now before now) result }
 {
-    let before = share_of(old);
-    let now = share_of(new);
     if before == now {
         return Ok(());
     }
     put_change(
         sink,
+        kind,
         name,
         b" share ",
         &share_cell(before),
@@ -242,6 +257,7 @@ fn put_period<K: Sink>(
     }
     put_change(
         sink,
+        b"vcpu ",
         name,
         b" period ",
         &ticks_cell(old.period, tick_ns),
@@ -250,20 +266,24 @@ fn put_period<K: Sink>(
     )
 }
 
-fn put_wait<K: Sink>(
+// Writes that a longest wait is another.
+pub(crate) fn put_wait<K: Sink>(
     sink: &mut K,
+    kind: &[u8],
     tick_ns: u32,
     name: &[u8],
     wait: u32,
     now: u32,
 ) -> Result<(), WriteFault>
-    ensures { Writes (K.state sink.old) (K.state sink.new) (wait_change tick_ns name.now wait now) result }
+    ensures { Writes (K.state sink.old) (K.state sink.new)
+        (wait_change kind.now tick_ns name.now wait now) result }
 {
     if wait == now {
         return Ok(());
     }
     put_change(
         sink,
+        kind,
         name,
         b" wait ",
         &wait_word(tick_ns, wait),
@@ -272,10 +292,11 @@ fn put_wait<K: Sink>(
     )
 }
 
-// Writes that something of a vCPU was one thing and is another.
+// Writes that something of a vCPU or of a VM was one thing and is another.
 #[tactic(auto, unfolding(crate::specs::Diff::change_line))]
-fn put_change<'a, K: Sink>(
+pub(crate) fn put_change<'a, K: Sink>(
     sink: &mut K,
+    kind: &'a [u8],
     name: &'a [u8],
     what: &'a [u8],
     old: &Cell<'a>,
@@ -283,12 +304,12 @@ fn put_change<'a, K: Sink>(
     unit: &'a [u8],
 ) -> Result<(), WriteFault>
     ensures { Writes (K.state sink.old) (K.state sink.new)
-        (change_line name.now what.now (cell_text old.now) (cell_text new.now) unit.now) result }
+        (change_line kind.now name.now what.now (cell_text old.now) (cell_text new.now) unit.now) result }
 {
     put_cells(
         sink,
         &[
-            Cell::Text(b"vcpu "),
+            Cell::Text(kind),
             Cell::Text(name),
             Cell::Text(what),
             *old,
@@ -320,13 +341,13 @@ fn put_new_vcpu<K: Sink>(
 {
     let name = name_at(&new.names, vcpu);
     match number_of(&old.names, old.tasks.len(), name) {
-        None => put_lone(sink, name, b" new\n"),
+        None => put_lone(sink, b"vcpu ", name, b" new\n"),
         Some(_) => Ok(()),
     }
 }
 
 // Writes the line of each core whose load is another.
-fn put_loads<K: Sink>(sink: &mut K, old: &View, new: &View) -> Result<(), WriteFault>
+pub(crate) fn put_loads<K: Sink>(sink: &mut K, old: &View, new: &View) -> Result<(), WriteFault>
     ensures { Writes (K.state sink.old) (K.state sink.new)
         (texts_below (load_lines old.now new.now) (min old.now.cores new.now.cores)) result }
 {
@@ -378,7 +399,7 @@ fn put_load_line<K: Sink>(sink: &mut K, core: u32, before: u32, now: u32) -> Res
 }
 
 // Writes whether the slots are others.
-fn put_slots<K: Sink>(sink: &mut K, old: &View, new: &View) -> Result<(), WriteFault>
+pub(crate) fn put_slots<K: Sink>(sink: &mut K, old: &View, new: &View) -> Result<(), WriteFault>
     ensures { Writes (K.state sink.old) (K.state sink.new) (slots_change old.now new.now) result }
 {
     if have_same_slots(old, new) {
@@ -388,7 +409,7 @@ fn put_slots<K: Sink>(sink: &mut K, old: &View, new: &View) -> Result<(), WriteF
     }
 }
 
-fn have_same_slots(old: &View, new: &View) -> bool
+pub(crate) fn have_same_slots(old: &View, new: &View) -> bool
     ensures { result ≡ same_slots old.now.names.items new.now.names.items old.now.slots.items
         new.now.slots.items }
 {

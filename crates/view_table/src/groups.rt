@@ -304,7 +304,7 @@ pub(crate) fn has_vm(view: &View, vm: &[u8], count: usize) -> bool
 }
 
 // How many vCPUs the VM has.
-fn count_in(view: &View, vm: &[u8]) -> u64
+pub(crate) fn count_in(view: &View, vm: &[u8]) -> u64
     requires { length view.now.tasks.items ≤ MAX_VCPUS }
     ensures { result ≡ count_where (is_of view.now.names.items vm.now) (length view.now.tasks.items) }
 {
@@ -318,7 +318,7 @@ fn count_in(view: &View, vm: &[u8]) -> u64
 }
 
 // The shares of the VM's vCPUs together.
-fn share_in(view: &View, vm: &[u8]) -> u64
+pub(crate) fn share_in(view: &View, vm: &[u8]) -> u64
     requires { length view.now.tasks.items ≤ MAX_VCPUS }
     ensures { result ≡ sum_in (λ v. share_in (slice_get view.now.tasks.items v)) view.now.names.items vm.now
         (length view.now.tasks.items) }
@@ -395,7 +395,7 @@ fn lesser(least: Option<u64>, asked: &Option<Reservation>) -> Option<u64>
 }
 
 // The longest of the VM's vCPUs' waits.
-fn wait_in(view: &View, figures: &Figures, vm: &[u8]) -> u32
+pub(crate) fn wait_in(view: &View, figures: &Figures, vm: &[u8]) -> u32
     requires { AreFigures view.now figures.now }
     ensures { result ≡ most_in (wait_of view.now.slots.items) view.now.names.items vm.now
         (length view.now.tasks.items) }

@@ -6,6 +6,7 @@
 
 mod data;
 mod diff;
+mod diff_data;
 mod figures;
 mod groups;
 mod laws;
@@ -13,12 +14,15 @@ mod rows;
 mod sums;
 mod table;
 mod totals;
+mod vm_diff;
 mod waits;
 
 pub use data::{write_table_csv, write_table_json};
 pub use diff::write_diff;
+pub use diff_data::{write_diff_csv, write_diff_json};
 pub use figures::{Figures, figures_of};
 pub use groups::write_vm_table;
 pub use laws::a_shown_wait_is_the_longest;
 pub use sums::write_sums;
 pub use table::write_table;
+pub use vm_diff::write_vm_diff;

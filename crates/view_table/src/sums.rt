@@ -233,7 +233,7 @@ fn vm_changes(
     is_first(old, vcpu) && changes_in(matter, old, old_figures, new, new_figures, vm)
 }
 
-fn is_first(view: &View, vcpu: usize) -> bool
+pub(crate) fn is_first(view: &View, vcpu: usize) -> bool
     ensures { result ≡ is_first view.now vcpu }
 {
     !has_vm(view, vm_at(&view.names, vcpu), vcpu)
@@ -261,7 +261,7 @@ fn changes_in(
     found
 }
 
-fn changes_there(
+pub(crate) fn changes_there(
     matter: Matter,
     old: &View,
     old_figures: &Figures,

@@ -1,0 +1,25 @@
+use Rattle.std.proofs.lemmas.Result.{err_from_is_err_and}
+use Rattle.tab_words.proofs.NumberedTextLemmas.{all_written, next_broken, next_written, none_written}
+use Rattle.std.proofs.Common.{◌≡◌, length, rules}
+use Rattle.view_table.specs.DiffData.{new_row}
+use Rattle.view_table.proofs.diff_data.put_new_rows.Goals as goal
+
+pub loop-vcpu-init : goal.loop-vcpu-init
+loop-vcpu-init g c = none_written _ _ (tt {0})
+
+pub returns-in_err-put_new_row : goal.returns-in_err-put_new_row
+returns-in_err-put_new_row g c =
+    let p = err_from_is_err_and c.from_residual.result c.from_residual.ensures.1 in
+    let count : c.len-vcpu-end.result ≡ length c.args.new.now.tasks.items = search rules in
+    rw (p.1, ← count) (next_broken _ _ _ (new_row c.args.style c.args.old.now c.args.new.now) c.loop-vcpu.vcpu _ (tt {0}) _ c.in_err-put_new_row.field-0.0
+    c.loop-vcpu-test.true c.loop-vcpu.invariant c.put_new_row.ensures c.in_err-put_new_row.was)
+
+pub loop-vcpu-preserved : goal.loop-vcpu-preserved
+loop-vcpu-preserved g c = next_written _ _ _ (new_row c.args.style c.args.old.now c.args.new.now) c.loop-vcpu.vcpu (tt {0}) c.in_ok-put_new_row.field-0 _
+    c.loop-vcpu.invariant c.put_new_row.ensures c.in_ok-put_new_row.was
+
+pub returns : goal.returns
+returns g c =
+    let count : c.len-vcpu-end.result ≡ length c.args.new.now.tasks.items = search rules in
+    rw (← count) (all_written _ _ (new_row c.args.style c.args.old.now c.args.new.now) c.loop-vcpu.vcpu _ (tt {0}) c.loop-vcpu.auto.vcpu-end
+    c.loop-vcpu-test.false c.loop-vcpu.invariant)
