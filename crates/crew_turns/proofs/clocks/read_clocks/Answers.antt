@@ -18,7 +18,7 @@ loop-core-preserved g c =
           let at : slice_get c.args.cores.now l.core ≡ Some p = slice_get-get_or c.args.cores.now l.core w.index-cores-core.result c.loop-core-test.true in
           let has = sym c.holds.ensures ∙ w.if-holds.true in
           let agrees = c.requires.agree l.core p at has in
-          let clock : c.if-holds.ticks ≡ g.C.Stepper.kind.place p.actor = w.ticks-is ∙ w.clock.ensures in
+          let clock : c.if-holds.ticks ≡ g.C.Stepper.kind.place p.actor = w.ticks-is ∙ w.place.ensures in
           inr (omega (arith, clock, g.C.Stepper.lawful.within p.actor v agrees, g.met.C.CoreStepper.is_short p.actor v agrees), p, at, has, clock))
       | else-holds w ↦ inl (w.ticks-is, λ p at has. absurd (true≢false (sym has ∙ (sym c.holds.ensures ∙ w.if-holds.false))))
     ] in

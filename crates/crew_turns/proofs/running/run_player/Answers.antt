@@ -21,10 +21,10 @@ running-preserved g c =
       same = laws.further c.args.player.now.actor c.running.player.actor c.step_player-turn.new.player.actor i.same e.same;
       changes = changes_more u v w (g.C.Stepper.kind.number c.args.player.now.actor) i.changes (subst (ChangesOnly v w) number e.changes);
       parts = parts_more u v w i.parts e.parts;
-      clock = c.clock-place-in-Moved.ensures;
+      clock = c.place-clock-in-Moved.ensures;
       on = inl (elim i.on [
-        | inl further ↦ omega (arith, further, i.clock, c.in-Moved.ensures.told, c.clock-place-in-Moved.ensures)
-        | inr here ↦ omega (arith, here.0, i.clock, c.in-Moved.ensures.told, c.clock-place-in-Moved.ensures)
+        | inl further ↦ omega (arith, further, i.clock, c.in-Moved.ensures.told, c.place-clock-in-Moved.ensures)
+        | inr here ↦ omega (arith, here.0, i.clock, c.in-Moved.ensures.told, c.place-clock-in-Moved.ensures)
       ]);
     }
 
