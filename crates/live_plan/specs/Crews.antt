@@ -14,7 +14,7 @@ use Rattle.live_plan.specs.Inside.Cells.{IsCellShelfOf, cell_state}
 use Rattle.live_plan.specs.Planners.{IsPlannerOf, PlannerView}
 use Rattle.live_plan.specs.Players.{LeadView, MemberView}
 
--- the actors of a live run of so many rounds: by number the cores', the controller, and the planner with its shelf
+-- the actors of a live run of so many rounds: by number the cores, the controller, and the planner with its shelf
 pub record CrewView : Type 0 where
   pub rounds : ℕ
   pub members : List (Player MemberView)

@@ -18,8 +18,8 @@ use std::marker::Model;
 use std::thread::Threads;
 use tab_core::{CoreNo, NoMemory};
 
-/// All actors of a live run: one for each core, the controller and the planner, each with a shelf of its own. Each worker
-/// has the crew's patience.
+/// All actors of a live run: one for each core, the controller and the planner, each with a shelf of its own.
+/// Each worker has the crew's patience.
 #[derive(Drop)]
 pub struct LiveCrew<'a> {
     pub(crate) rounds: u32,

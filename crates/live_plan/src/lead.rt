@@ -13,8 +13,8 @@ use std::marker::Model;
 // the controller's number as an actor
 const CONTROLLER: u32 = 32;
 
-/// The controller of a live run as one of a crew: the book, the controller and its shelf. Contracts see the book and what the
-/// controller keeps.
+/// The controller of a live run as one of a crew: the book, the controller and its shelf. Contracts see the book
+/// and what the controller keeps.
 #[derive(Drop)]
 pub(crate) struct Lead<'a> {
     book: &'a LiveBook,

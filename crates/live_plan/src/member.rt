@@ -16,8 +16,8 @@ use std::alloc::Global;
 use std::marker::Model;
 use tab_core::{CoreNo, NoMemory};
 
-/// A live core as one of a crew: the book, its actor and its shelf, and what its steps found last. Contracts see the book
-/// and the actor.
+/// A live core as one of a crew: the book, its actor and its shelf, and what its steps found last. Contracts
+/// see the book and the actor.
 #[derive(Drop)]
 pub(crate) struct Member<'a> {
     book: &'a LiveBook,

@@ -53,9 +53,9 @@ fn finish<R: Wait, G: Gate>(
     unreachable!()
 }
 
-/// The whole live run: each core's actor steps in a thread of its own, and the controller beside them, while the planner
-/// plans the changes in one more. At last all seats meet, and all but the planner go on together until they have finished,
-/// or not at all where memory ran out for a change.
+/// The whole live run: each core's actor steps in a thread of its own, and the controller beside them, while the
+/// planner plans the changes in one more. At last all seats meet, and all but the planner go on together until
+/// they have finished, or not at all where memory ran out for a change.
 ///
 /// The seat holds the parts of all cores and of the controller, with which the crew's actors agree, and the crew was
 /// made of the book. It may wait for the threads that it has started, and at last for what is made of a change.

@@ -1,21 +1,16 @@
-use Rattle.std.proofs.Common.{rules, ◌≡◌, ◌≤◌, ℕ, List, Some, sym, ap, ◌∙◌, subst, arith}
-use Rattle.std.specs.Prelude.{IfNone}
+use Rattle.std.proofs.Common.{rules, ◌≤◌, List, sym, ap, ◌∙◌, subst, arith}
 use Rattle.std.specs.Vec.{with_items}
 use Rattle.std.proofs.lemmas.List.{with_items_is}
-use Rattle.table_form.specs.Running.Courses.{CourseView}
 use Rattle.table_form.specs.Running.Outlines.{OutlineView}
-use Rattle.table_form.specs.Running.Complete.{IsComplete}
 use Rattle.round_words.specs.declared.view.View.{View}
 use Rattle.round_words.specs.Seats.{view_of}
-use Rattle.board_state.specs.Readings.{state_of}
 use Rattle.crew_turns.specs.declared.player.Player.{Player}
-use Rattle.crew_turns.specs.Troops.{AllHaveEnded, AreAgreed, AreSame}
+use Rattle.crew_turns.specs.Troops.{AreAgreed, AreSame}
 use Rattle.crew_turns.proofs.GoingLemmas.{actors_twice}
-use Rattle.live_plan.specs.Actors.{LiveActorView}
-use Rattle.live_plan.specs.Courses.{IsLiveCourse}
-use Rattle.live_plan.specs.Crews.{AllAgree, CrewView, HaveFinished, HoldsAll, IsCrewOf, actor_of, crew_view}
+use Rattle.live_plan.specs.Crews.{AllAgree, CrewView, HoldsAll, IsCrewOf, crew_view}
 use Rattle.live_plan.specs.Players.{MemberView, core_kind, lead_kind}
 use Rattle.live_plan.proofs.CrewsLemmas.{ComesBack, agree_back, comes_back, complete, counts, finished_back, held_agreed, held_crew, holds_back, kept, none_more, promises}
+use Rattle.live_plan.proofs.workers.run_live.Given.{Over}
 use Rattle.live_plan.proofs.workers.run_live.Goals as goal
 
 pub join-maker-requires-after_bounds : goal.join-maker-requires-after_bounds
@@ -38,50 +33,30 @@ finish-requires-clause-agreed g c κs within =
     subst (λ (ps : List (Player MemberView)). AreAgreed core_kind lead_kind ps j.2 (view_of j.0)) (sym c.deref_mut.ensures.value)
     (held_agreed j.1.items j.2 (view_of j.0) c.join-maker.ensures.second.1)
 
-pub returns-clause-crew : goal.returns-clause-crew
-returns-clause-crew g c =
+-- the crew that comes back
+abbrev crew_after : (g : Over) → goal.After-shown g → CrewView
+crew_after g c = crew_view c.crew.inside.rounds (with_items c.join-maker.result.1.1 c.finish.new.members).items c.finish.new.lead c.join-maker.result.0
+
+back : (g : Over) (c : goal.After-shown g) → ComesBack c.args.book.now (crew_after g c) (view_of c.finish.new.seat) c.stopped_at-stopped.result
+back g c =
     let b = c.args.book.now in
     let t = c.crew.inside in
     let j = c.join-maker.result in
     let e = c.finish.ensures in
-    let w : View = view_of c.finish.new.seat in
-    let y : CrewView = crew_view t.rounds (with_items j.1.1 c.finish.new.members).items c.finish.new.lead j.0 in
     let two = subst (λ (ps : List (Player MemberView)). AreSame core_kind lead_kind ps j.1.2 c.finish.new.members c.finish.new.lead) c.deref_mut.ensures.value e.same in
-    let back : ComesBack b y w c.stopped_at-stopped.result = comes_back b t.rounds t.members.items j.1.1.items c.finish.new.members t.lead j.1.2 c.finish.new.lead t.maker j.0
-    (view_of j.1.0) w c.stopped_at-stopped.result (subst (IsCrewOf b) (sym c.crew.view_is) c.requires.crew) c.join-maker.ensures.first.0
+    comes_back b t.rounds t.members.items j.1.1.items c.finish.new.members t.lead j.1.2 c.finish.new.lead t.maker j.0
+    (view_of j.1.0) (view_of c.finish.new.seat) c.stopped_at-stopped.result (subst (IsCrewOf b) (sym c.crew.view_is) c.requires.crew) c.join-maker.ensures.first.0
     (with_items j.1.1 c.finish.new.members).items (with_items_is j.1.1 c.finish.new.members (two.count ∙ sym j.1.1.ok.0))
-    c.join-maker.ensures.second.2 c.join-maker.ensures.second.1 two e.actors e.agreed e.ended in
-    back.is
+    c.join-maker.ensures.second.2 c.join-maker.ensures.second.1 two e.actors e.agreed e.ended
+
+pub returns-clause-crew : goal.returns-clause-crew
+returns-clause-crew g c = (back g c).is
 
 pub returns-clause-agree : goal.returns-clause-agree
-returns-clause-agree g c =
-    let b = c.args.book.now in
-    let t = c.crew.inside in
-    let j = c.join-maker.result in
-    let e = c.finish.ensures in
-    let w : View = view_of c.finish.new.seat in
-    let y : CrewView = crew_view t.rounds (with_items j.1.1 c.finish.new.members).items c.finish.new.lead j.0 in
-    let two = subst (λ (ps : List (Player MemberView)). AreSame core_kind lead_kind ps j.1.2 c.finish.new.members c.finish.new.lead) c.deref_mut.ensures.value e.same in
-    let back : ComesBack b y w c.stopped_at-stopped.result = comes_back b t.rounds t.members.items j.1.1.items c.finish.new.members t.lead j.1.2 c.finish.new.lead t.maker j.0
-    (view_of j.1.0) w c.stopped_at-stopped.result (subst (IsCrewOf b) (sym c.crew.view_is) c.requires.crew) c.join-maker.ensures.first.0
-    (with_items j.1.1 c.finish.new.members).items (with_items_is j.1.1 c.finish.new.members (two.count ∙ sym j.1.1.ok.0))
-    c.join-maker.ensures.second.2 c.join-maker.ensures.second.1 two e.actors e.agreed e.ended in
-    agree_back b y w back.is back.held
+returns-clause-agree g c = agree_back c.args.book.now (crew_after g c) (view_of c.finish.new.seat) (back g c).is (back g c).held
 
 pub returns-clause-holds : goal.returns-clause-holds
-returns-clause-holds g c =
-    let b = c.args.book.now in
-    let t = c.crew.inside in
-    let j = c.join-maker.result in
-    let e = c.finish.ensures in
-    let w : View = view_of c.finish.new.seat in
-    let y : CrewView = crew_view t.rounds (with_items j.1.1 c.finish.new.members).items c.finish.new.lead j.0 in
-    let two = subst (λ (ps : List (Player MemberView)). AreSame core_kind lead_kind ps j.1.2 c.finish.new.members c.finish.new.lead) c.deref_mut.ensures.value e.same in
-    let back : ComesBack b y w c.stopped_at-stopped.result = comes_back b t.rounds t.members.items j.1.1.items c.finish.new.members t.lead j.1.2 c.finish.new.lead t.maker j.0
-    (view_of j.1.0) w c.stopped_at-stopped.result (subst (IsCrewOf b) (sym c.crew.view_is) c.requires.crew) c.join-maker.ensures.first.0
-    (with_items j.1.1 c.finish.new.members).items (with_items_is j.1.1 c.finish.new.members (two.count ∙ sym j.1.1.ok.0))
-    c.join-maker.ensures.second.2 c.join-maker.ensures.second.1 two e.actors e.agreed e.ended in
-    holds_back b y w back.is back.held
+returns-clause-holds g c = holds_back c.args.book.now (crew_after g c) (view_of c.finish.new.seat) (back g c).is (back g c).held
 
 pub returns-clause-actors : goal.returns-clause-actors
 returns-clause-actors g c =
@@ -89,79 +64,20 @@ returns-clause-actors g c =
 
 pub returns-clause-finished : goal.returns-clause-finished
 returns-clause-finished g c =
-    let b = c.args.book.now in
-    let t = c.crew.inside in
-    let j = c.join-maker.result in
-    let e = c.finish.ensures in
-    let w : View = view_of c.finish.new.seat in
-    let y : CrewView = crew_view t.rounds (with_items j.1.1 c.finish.new.members).items c.finish.new.lead j.0 in
-    let two = subst (λ (ps : List (Player MemberView)). AreSame core_kind lead_kind ps j.1.2 c.finish.new.members c.finish.new.lead) c.deref_mut.ensures.value e.same in
-    let back : ComesBack b y w c.stopped_at-stopped.result = comes_back b t.rounds t.members.items j.1.1.items c.finish.new.members t.lead j.1.2 c.finish.new.lead t.maker j.0
-    (view_of j.1.0) w c.stopped_at-stopped.result (subst (IsCrewOf b) (sym c.crew.view_is) c.requires.crew) c.join-maker.ensures.first.0
-    (with_items j.1.1 c.finish.new.members).items (with_items_is j.1.1 c.finish.new.members (two.count ∙ sym j.1.1.ok.0))
-    c.join-maker.ensures.second.2 c.join-maker.ensures.second.1 two e.actors e.agreed e.ended in
-    none_more c.stopped_at-stopped.result (AllHaveEnded core_kind lead_kind y.members y.lead w) (HaveFinished b y) (finished_back b y w back.is back.held) back.ended
+    none_more c.stopped_at-stopped.result _ _ (finished_back c.args.book.now (crew_after g c) (view_of c.finish.new.seat) (back g c).is (back g c).held) (back g c).ended
 
 pub returns-clause-kept : goal.returns-clause-kept
-returns-clause-kept g c =
-    let b = c.args.book.now in
-    let t = c.crew.inside in
-    let j = c.join-maker.result in
-    let e = c.finish.ensures in
-    let w : View = view_of c.finish.new.seat in
-    let y : CrewView = crew_view t.rounds (with_items j.1.1 c.finish.new.members).items c.finish.new.lead j.0 in
-    let two = subst (λ (ps : List (Player MemberView)). AreSame core_kind lead_kind ps j.1.2 c.finish.new.members c.finish.new.lead) c.deref_mut.ensures.value e.same in
-    let back : ComesBack b y w c.stopped_at-stopped.result = comes_back b t.rounds t.members.items j.1.1.items c.finish.new.members t.lead j.1.2 c.finish.new.lead t.maker j.0
-    (view_of j.1.0) w c.stopped_at-stopped.result (subst (IsCrewOf b) (sym c.crew.view_is) c.requires.crew) c.join-maker.ensures.first.0
-    (with_items j.1.1 c.finish.new.members).items (with_items_is j.1.1 c.finish.new.members (two.count ∙ sym j.1.1.ok.0))
-    c.join-maker.ensures.second.2 c.join-maker.ensures.second.1 two e.actors e.agreed e.ended in
-    λ course live. kept b y w back.is back.held course live c.shown.ensures
+returns-clause-kept g c course live =
+    kept c.args.book.now (crew_after g c) (view_of c.finish.new.seat) (back g c).is (back g c).held course live c.shown.ensures
 
 pub returns-clause-promises : goal.returns-clause-promises
-returns-clause-promises g c =
-    let b = c.args.book.now in
-    let t = c.crew.inside in
-    let j = c.join-maker.result in
-    let e = c.finish.ensures in
-    let w : View = view_of c.finish.new.seat in
-    let y : CrewView = crew_view t.rounds (with_items j.1.1 c.finish.new.members).items c.finish.new.lead j.0 in
-    let two = subst (λ (ps : List (Player MemberView)). AreSame core_kind lead_kind ps j.1.2 c.finish.new.members c.finish.new.lead) c.deref_mut.ensures.value e.same in
-    let back : ComesBack b y w c.stopped_at-stopped.result = comes_back b t.rounds t.members.items j.1.1.items c.finish.new.members t.lead j.1.2 c.finish.new.lead t.maker j.0
-    (view_of j.1.0) w c.stopped_at-stopped.result (subst (IsCrewOf b) (sym c.crew.view_is) c.requires.crew) c.join-maker.ensures.first.0
-    (with_items j.1.1 c.finish.new.members).items (with_items_is j.1.1 c.finish.new.members (two.count ∙ sym j.1.1.ok.0))
-    c.join-maker.ensures.second.2 c.join-maker.ensures.second.1 two e.actors e.agreed e.ended in
-    λ course ok live. promises b y w back.is back.held course live c.shown.ensures ok
+returns-clause-promises g c course ok live =
+    promises c.args.book.now (crew_after g c) (view_of c.finish.new.seat) (back g c).is (back g c).held course live c.shown.ensures ok
 
 pub returns-clause-complete : goal.returns-clause-complete
-returns-clause-complete g c =
-    let b = c.args.book.now in
-    let t = c.crew.inside in
-    let j = c.join-maker.result in
-    let e = c.finish.ensures in
-    let w : View = view_of c.finish.new.seat in
-    let y : CrewView = crew_view t.rounds (with_items j.1.1 c.finish.new.members).items c.finish.new.lead j.0 in
-    let two = subst (λ (ps : List (Player MemberView)). AreSame core_kind lead_kind ps j.1.2 c.finish.new.members c.finish.new.lead) c.deref_mut.ensures.value e.same in
-    let back : ComesBack b y w c.stopped_at-stopped.result = comes_back b t.rounds t.members.items j.1.1.items c.finish.new.members t.lead j.1.2 c.finish.new.lead t.maker j.0
-    (view_of j.1.0) w c.stopped_at-stopped.result (subst (IsCrewOf b) (sym c.crew.view_is) c.requires.crew) c.join-maker.ensures.first.0
-    (with_items j.1.1 c.finish.new.members).items (with_items_is j.1.1 c.finish.new.members (two.count ∙ sym j.1.1.ok.0))
-    c.join-maker.ensures.second.2 c.join-maker.ensures.second.1 two e.actors e.agreed e.ended in
-    none_more c.stopped_at-stopped.result (AllHaveEnded core_kind lead_kind y.members y.lead w)
-    ((course : CourseView) → IsLiveCourse b course → IsComplete course t.rounds (state_of course w))
-    (λ ended course live. complete b y w back.is back.held course live c.shown.ensures ended) back.ended
+returns-clause-complete g c = none_more c.stopped_at-stopped.result _ _
+    (λ ended course live. complete c.args.book.now (crew_after g c) (view_of c.finish.new.seat) (back g c).is (back g c).held course live c.shown.ensures ended) (back g c).ended
 
 pub returns-clause-counts : goal.returns-clause-counts
-returns-clause-counts g c =
-    let b = c.args.book.now in
-    let t = c.crew.inside in
-    let j = c.join-maker.result in
-    let e = c.finish.ensures in
-    let w : View = view_of c.finish.new.seat in
-    let y : CrewView = crew_view t.rounds (with_items j.1.1 c.finish.new.members).items c.finish.new.lead j.0 in
-    let two = subst (λ (ps : List (Player MemberView)). AreSame core_kind lead_kind ps j.1.2 c.finish.new.members c.finish.new.lead) c.deref_mut.ensures.value e.same in
-    let back : ComesBack b y w c.stopped_at-stopped.result = comes_back b t.rounds t.members.items j.1.1.items c.finish.new.members t.lead j.1.2 c.finish.new.lead t.maker j.0
-    (view_of j.1.0) w c.stopped_at-stopped.result (subst (IsCrewOf b) (sym c.crew.view_is) c.requires.crew) c.join-maker.ensures.first.0
-    (with_items j.1.1 c.finish.new.members).items (with_items_is j.1.1 c.finish.new.members (two.count ∙ sym j.1.1.ok.0))
-    c.join-maker.ensures.second.2 c.join-maker.ensures.second.1 two e.actors e.agreed e.ended in
-    none_more c.stopped_at-stopped.result (AllHaveEnded core_kind lead_kind y.members y.lead w)
-    ((course : CourseView) → IsLiveCourse b course → (i : ℕ) (a : LiveActorView) → actor_of y i ≡ Some a → a.state.used ≡ (state_of course w).decided)
-    (λ ended course live. counts b y w back.is back.held course live c.shown.ensures ended) back.ended
+returns-clause-counts g c = none_more c.stopped_at-stopped.result _ _
+    (λ ended course live. counts c.args.book.now (crew_after g c) (view_of c.finish.new.seat) (back g c).is (back g c).held course live c.shown.ensures ended) (back g c).ended

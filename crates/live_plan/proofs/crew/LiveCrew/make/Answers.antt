@@ -1,6 +1,5 @@
 use Rattle.std.proofs.Common.{◌≡◌, sym, ap, ◌∙◌, subst}
 use Rattle.plan_switch.specs.Controllers.{HasPosted}
-use Rattle.live_plan.specs.Books.{LiveView}
 use Rattle.live_plan.specs.Players.{LeadView}
 use Rattle.live_plan.proofs.CrewsLemmas.{agree_made, crew_made}
 use Rattle.live_plan.proofs.crew.LiveCrew.make.Goals as goal
