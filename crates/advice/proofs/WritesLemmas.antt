@@ -34,13 +34,13 @@ pub tells_nothing : (IsText : List ℕ → Type 0) (s : SinkView) → ((other : 
 tells_nothing IsText s none = record { text = []; is = inr (none, refl); writes = writes_nothing s (tt {0}) }
 
 -- such a text is also such another one
-pub writes_as : {IsText IsOther : List ℕ → Type 0} (as : (text : List ℕ) → IsText text → IsOther text)
+pub writes_as : {IsText IsOther : List ℕ → Type 0} (also : (text : List ℕ) → IsText text → IsOther text)
     (s t : SinkView) (r : Result (Unit {0}) AdviceFault) → WritesSome IsText s t r → WritesSome IsOther s t r
-writes_as as s t (Ok done) wrote =
-    record { text = wrote.text; is = as wrote.text wrote.is; writes = wrote.writes }
-writes_as as s t (Err (fault.Sink of_write)) wrote =
-    record { text = wrote.text; is = as wrote.text wrote.is; writes = wrote.writes }
-writes_as as s t (Err fault.NoMemory) same = same
+writes_as also s t (Ok done) wrote =
+    record { text = wrote.text; is = also wrote.text wrote.is; writes = wrote.writes }
+writes_as also s t (Err (fault.Sink of_write)) wrote =
+    record { text = wrote.text; is = also wrote.text wrote.is; writes = wrote.writes }
+writes_as also s t (Err fault.NoMemory) same = same
 
 -- after the words of `plan stay` its advice was written
 pub writes_to_stay : (words : List (List ℕ)) (IsText IsOther : List ℕ → Type 0) (s t : SinkView)

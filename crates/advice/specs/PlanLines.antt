@@ -48,13 +48,14 @@ plan_line_text plan number cores names tasks = found_text plan number ++ wanted_
 -- what is wanted on this line of an earlier plan's text, whichever host it was made for
 abbrev pub old_wanted_text : ℕ → List ℕ
 old_wanted_text number = if nat_le number 1
-    then codes "tableau: wanted is plan cores CORES vcpus COUNT, the first line that tableau plan writes\n"
-    else codes "tableau: wanted are lines vcpu NAME period TICKS cost TICKS home CORE, then for each core its line core C\ntableau: and END NAME or END - of its segments, and end as the last line\n"
+    then codes "is plan cores CORES vcpus COUNT, the first line that tableau plan writes"
+    else codes "are lines vcpu NAME period TICKS cost TICKS home CORE, then for each core its line core C\ntableau: and END NAME or END - of its segments, and end as the last line"
 
 abbrev pub old_line_text : List ℕ → ℕ → List ℕ
 old_line_text plan number = codes "tableau: plan line "
     ++ (decimal number ++ (codes " is " ++ (quoted (line_at number plan)
-    ++ (codes ", and no line of a plan text there\n" ++ old_wanted_text number))))
+    ++ (codes ", and no line of a plan text there\ntableau: wanted "
+    ++ (old_wanted_text number ++ codes "\n")))))
 
 abbrev pub shape_text : ℕ → ℕ → List ℕ
 shape_text core place = codes "tableau: behind core "

@@ -145,7 +145,11 @@ fn admitted_at(tasks: &[Option<Periodic>], behind: u32) -> Option<(VcpuNo, Perio
 }
 
 // Writes the advice on an earlier plan's text whose line of this number is none.
-pub(crate) fn put_old_line<K: Sink>(sink: &mut K, plan: &[u8], number: u32) -> Result<(), WriteFault>
+pub(crate) fn put_old_line<K: Sink>(
+    sink: &mut K,
+    plan: &[u8],
+    number: u32,
+) -> Result<(), WriteFault>
     ensures { Writes (K.state sink.old) (K.state sink.new) (old_line_text plan.now number) result }
 {
     put_parts(
@@ -155,8 +159,9 @@ pub(crate) fn put_old_line<K: Sink>(sink: &mut K, plan: &[u8], number: u32) -> R
             Part::Number(number),
             Part::Text(b" is "),
             Part::Quoted(line_at(plan, number)),
-            Part::Text(b", and no line of a plan text there\n"),
+            Part::Text(b", and no line of a plan text there\ntableau: wanted "),
             Part::Text(old_wanted_text(number)),
+            Part::Text(b"\n"),
         ],
     )
 }
@@ -166,9 +171,9 @@ fn old_wanted_text(number: u32) -> &'static [u8]
     ensures { result.now ≡ old_wanted_text number }
 {
     if number <= 1 {
-        b"tableau: wanted is plan cores CORES vcpus COUNT, the first line that tableau plan writes\n"
+        b"is plan cores CORES vcpus COUNT, the first line that tableau plan writes"
     } else {
-        b"tableau: wanted are lines vcpu NAME period TICKS cost TICKS home CORE, then for each core its line core C\ntableau: and END NAME or END - of its segments, and end as the last line\n"
+        b"are lines vcpu NAME period TICKS cost TICKS home CORE, then for each core its line core C\ntableau: and END NAME or END - of its segments, and end as the last line"
     }
 }
 

@@ -97,11 +97,7 @@ pub(crate) fn put_planned<K: Sink>(sink: &mut K, demand: u64, room: u64) -> Resu
 }
 
 // Writes that `plan` has none either.
-pub(crate) fn put_unplanned<K: Sink>(
-    sink: &mut K,
-    demand: u64,
-    room: u64,
-) -> Result<(), WriteFault>
+pub(crate) fn put_unplanned<K: Sink>(sink: &mut K, demand: u64, room: u64) -> Result<(), WriteFault>
     ensures { Writes (K.state sink.old) (K.state sink.new) (unplanned_text demand room) result }
 {
     if let Err(fault) = put_asked(sink, demand, room) {
@@ -113,10 +109,7 @@ pub(crate) fn put_unplanned<K: Sink>(
 fn put_none_either<K: Sink>(sink: &mut K, demand: u64, room: u64) -> Result<(), WriteFault>
     ensures { Writes (K.state sink.old) (K.state sink.new) (none_text demand room) result }
 {
-    if let Err(fault) = write_all(
-        sink,
-        b"tableau: tableau plan has no plan for them either\n",
-    ) {
+    if let Err(fault) = write_all(sink, b"tableau: tableau plan has no plan for them either\n") {
         return Err(fault);
     }
     put_remedy(sink, demand, room)

@@ -11,4 +11,5 @@ returns-then-is_plan_stay g c = writes_to_stay (texts c.args.words.now)
 pub returns-else-is_plan_stay : goal.returns-else-is_plan_stay
 returns-else-is_plan_stay g c = writes_otherwise (texts c.args.words.now)
     (WhereThereIs (IsStayText c.args.section.now)) (WhereThereIs (IsRoomText c.args.section.now)) _ _ _
-    (λ stay. cc (c.is_plan_stay.ensures.1 stay)) c.put_no_room.ensures
+    (λ stay. let no = c.if-is_plan_stay.false in let yes = c.is_plan_stay.ensures.1 stay in absurd cc)
+    c.put_no_room.ensures
