@@ -95,7 +95,11 @@ fn put_line_advice<K: Sink>(
 fn is_plan_stay(words: &[String]) -> bool
     ensures { IsTrue result ↔ IsCommand (texts words.now) CommandValue.PlanStay }
 {
-    matches!(read_words(words), Ok(Command::PlanStay))
+    match read_words(words) {
+        Ok(Command::PlanStay) => true,
+        Ok(_) => false,
+        Err(_) => false,
+    }
 }
 
 // Writes the advice on a refusal that needs no second look at the host.
