@@ -34,14 +34,14 @@ pub no_member_is_told : (section : List ℕ) (told : Members → List ℕ) → I
 no_member_is_told section told none other tells = none tells.0 tells.1
 
 -- no text says anything of the budgets of what is no host
-pub no_host_is_told : (section : List ℕ) (told : Host → List (Option Periodic) → List ℕ) → IsNoHost section
-    → (other : List ℕ) → ¬ (TellsOfTasks section told other)
-no_host_is_told section told none other tells = none tells.host tells.is_host
+pub no_host_is_told : (section : List ℕ) (Told : Host → List (Option Periodic) → List ℕ → Type 0)
+    → IsNoHost section → (other : List ℕ) → ¬ (TellsOfTasks section Told other)
+no_host_is_told section Told none other tells = none tells.host tells.is_host
 
 -- no text says anything of the budgets of a host of which a vCPU has no period
-pub no_task_is_told : (section : List ℕ) (told : Host → List (Option Periodic) → List ℕ) (host : Host)
-    → IsHostText section host → LacksTasks host → (other : List ℕ) → ¬ (TellsOfTasks section told other)
-no_task_is_told section told host is_host none other tells =
+pub no_task_is_told : (section : List ℕ) (Told : Host → List (Option Periodic) → List ℕ → Type 0) (host : Host)
+    → IsHostText section host → LacksTasks host → (other : List ℕ) → ¬ (TellsOfTasks section Told other)
+no_task_is_told section Told host is_host none other tells =
     let same : tells.host ≡ host = one_host section tells.host host tells.is_host is_host in
     none tells.tasks (subst (λ (h : Host). AreTasksOf h tells.tasks) same tells.are_tasks)
 

@@ -9,7 +9,9 @@ use Rattle.tab_io.specs.declared.sink.WriteFault.{WriteFault}
 use Rattle.tab_io.proofs.SinkLemmas.{writes_nothing}
 use Rattle.host_doc.specs.Document.{IsHostText}
 use Rattle.period_choice.specs.Tasks.{AreTasksOf}
-use Rattle.advice.specs.Advice.{IsPeriodText, IsVcpuText, TellsOfTasks, WhereThereIs, WritesSome}
+use Rattle.tab_words.specs.Commands.{IsCommand}
+use Rattle.tab_words.specs.declared.command.Command.TheVariants.{PlanStay}
+use Rattle.advice.specs.Advice.{IsPeriodText, IsVcpuText, TellsOfTasks, WhereThereIs, WhetherToStay, WritesSome}
 use Rattle.advice.specs.Faults.{of_sink}
 use Rattle.advice.specs.declared.fault.AdviceFault.{AdviceFault}
 use Rattle.advice.specs.declared.fault.AdviceFault.TheVariants as fault
@@ -31,14 +33,36 @@ pub tells_nothing : (IsText : List ℕ → Type 0) (s : SinkView) → ((other : 
     → WritesSome (WhereThereIs IsText) s s (Ok (tt {0}))
 tells_nothing IsText s none = record { text = []; is = inr (none, refl); writes = writes_nothing s (tt {0}) }
 
+-- such a text is also such another one
+pub writes_as : {IsText IsOther : List ℕ → Type 0} (also : (text : List ℕ) → IsText text → IsOther text)
+    (s t : SinkView) (r : Result (Unit {0}) AdviceFault) → WritesSome IsText s t r → WritesSome IsOther s t r
+writes_as also s t (Ok done) wrote =
+    record { text = wrote.text; is = also wrote.text wrote.is; writes = wrote.writes }
+writes_as also s t (Err (fault.Sink of_write)) wrote =
+    record { text = wrote.text; is = also wrote.text wrote.is; writes = wrote.writes }
+writes_as also s t (Err fault.NoMemory) same = same
+
+-- after the words of `plan stay` its advice was written
+pub writes_to_stay : (words : List (List ℕ)) (IsText IsOther : List ℕ → Type 0) (s t : SinkView)
+    (r : Result (Unit {0}) AdviceFault) → IsCommand words PlanStay → WritesSome IsText s t r
+    → WritesSome (WhetherToStay words IsText IsOther) s t r
+writes_to_stay words IsText IsOther s t r stay wrote = writes_as (λ text told. inl (stay, told)) s t r wrote
+
+-- after any other words the other one was written
+pub writes_otherwise : (words : List (List ℕ)) (IsText IsOther : List ℕ → Type 0) (s t : SinkView)
+    (r : Result (Unit {0}) AdviceFault) → ¬ (IsCommand words PlanStay) → WritesSome IsOther s t r
+    → WritesSome (WhetherToStay words IsText IsOther) s t r
+writes_otherwise words IsText IsOther s t r others wrote =
+    writes_as (λ text told. inr (others, told)) s t r wrote
+
 -- a text that tells of the host's budgets was written
-pub tells_tasks : (section : List ℕ) (told : Host → List (Option Periodic) → List ℕ) (host : Host)
-    (tasks : List (Option Periodic)) (s t : SinkView) (r : Result (Unit {0}) WriteFault)
-    → IsHostText section host → AreTasksOf host tasks → Writes s t (told host tasks) r
-    → WritesSome (WhereThereIs (TellsOfTasks section told)) s t (of_sink r)
-tells_tasks section told host tasks s t r is_host are_tasks writes =
-    tells_it (TellsOfTasks section told) (told host tasks) s t r
-    (record { host = host; tasks = tasks; is_host = is_host; are_tasks = are_tasks; is = refl }) writes
+pub tells_tasks : (section : List ℕ) (Told : Host → List (Option Periodic) → List ℕ → Type 0) (host : Host)
+    (tasks : List (Option Periodic)) (s t : SinkView) (r : Result (Unit {0}) AdviceFault)
+    → IsHostText section host → AreTasksOf host tasks → WritesSome (Told host tasks) s t r
+    → WritesSome (WhereThereIs (TellsOfTasks section Told)) s t r
+tells_tasks section Told host tasks s t r is_host are_tasks wrote = writes_as (λ text told.
+    inl (record { host = host; tasks = tasks; is_host = is_host; are_tasks = are_tasks; tells = told }))
+    s t r wrote
 
 -- what may tell of a vCPU may tell of the host's
 told_of_host : (section : List ℕ) (number : ℕ) (host : Host) (vcpu : Vcpu) (text : List ℕ)
@@ -54,14 +78,5 @@ pub tells_vcpu : (section : List ℕ) (number : ℕ) (host : Host) (vcpu : Vcpu)
     (r : Result (Unit {0}) AdviceFault) → IsHostText section host → slice_get host.vcpus number ≡ Some vcpu
     → WritesSome (WhereThereIs (IsVcpuText vcpu host.tick_ns)) s t r
     → WritesSome (WhereThereIs (IsPeriodText section number)) s t r
-tells_vcpu section number host vcpu s t (Ok done) is_host at told = record {
-  text = told.text;
-  is = told_of_host section number host vcpu told.text is_host at told.is;
-  writes = told.writes;
-}
-tells_vcpu section number host vcpu s t (Err (fault.Sink of_write)) is_host at told = record {
-  text = told.text;
-  is = told_of_host section number host vcpu told.text is_host at told.is;
-  writes = told.writes;
-}
-tells_vcpu section number host vcpu s t (Err fault.NoMemory) is_host at same = same
+tells_vcpu section number host vcpu s t r is_host at wrote =
+    writes_as (λ text told. told_of_host section number host vcpu text is_host at told) s t r wrote

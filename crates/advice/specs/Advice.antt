@@ -18,6 +18,10 @@ use Rattle.host_doc.specs.declared.fault.Key.TheVariants.{Unknown}
 use Rattle.host_doc.specs.declared.fault.Path.{Path}
 use Rattle.period_choice.specs.Choice.{HasPeriod}
 use Rattle.period_choice.specs.Tasks.{AreTasksOf}
+use Rattle.plan_make.specs.Planned.{IsPlanned}
+use Rattle.tab_words.specs.Commands.{IsCommand}
+use Rattle.tab_words.specs.declared.command.Command.TheVariants.{PlanStay}
+use Rattle.table_form.specs.Tables.Plans.{PlanView}
 use Rattle.toml.specs.Data.{Members}
 use Rattle.vcpu_names.specs.Names.{names_of}
 use Rattle.advice.specs.Hosts.{many_text, toml_text}
@@ -25,8 +29,8 @@ use Rattle.advice.specs.Keys.{other_text, rule_text, same_text, vcpu_key_text}
 use Rattle.advice.specs.Least.{IsLeastLatency, IsLeastShare}
 use Rattle.advice.specs.Lines.{section_at}
 use Rattle.advice.specs.Periods.{period_text}
-use Rattle.advice.specs.PlanLines.{plan_line_text, shape_text, short_text, twice_text}
-use Rattle.advice.specs.Room.{due_of, room_text}
+use Rattle.advice.specs.PlanLines.{old_line_text, plan_line_text, shape_text, short_text, twice_text}
+use Rattle.advice.specs.Room.{due_of, planned_text, room_text, unplanned_text}
 use Rattle.advice.specs.Scripts.{script_text}
 use Rattle.advice.specs.Sections.{sections_text}
 use Rattle.advice.specs.Steps.{bad_step_text, due_text, waits_text}
@@ -70,13 +74,13 @@ pub record IsPeriodText (section : List ℕ) (number : ℕ) (text : List ℕ) : 
   pub tells : IsVcpuText vcpu host.tick_ns text
 
 -- the section is a host with these budgets, of which the text tells
-pub record TellsOfTasks (section : List ℕ) (told : Host → List (Option Periodic) → List ℕ) (text : List ℕ)
-    : Type 0 where
+pub record TellsOfTasks (section : List ℕ) (Told : Host → List (Option Periodic) → List ℕ → Type 0)
+    (text : List ℕ) : Type 0 where
   pub host : Host
   pub tasks : List (Option Periodic)
   pub is_host : IsHostText section host
   pub are_tasks : AreTasksOf host tasks
-  pub is : text ≡ told host tasks
+  pub tells : Told host tasks text
 
 -- the text tells of the host's first unknown key
 abbrev pub IsOtherText : List ℕ → List ℕ → Type 0
@@ -90,19 +94,52 @@ IsVcpuKeyText section vcpu key text = TellsOfDocument section (λ members. vcpu_
 abbrev pub IsSameText : List ℕ → ℕ → List ℕ → Type 0
 IsSameText section vcpu text = TellsOfDocument section (λ members. same_text members vcpu) text
 
--- the text tells what the vCPUs are due, and what all cores have
-abbrev pub IsRoomText : List ℕ → List ℕ → Type 0
-IsRoomText section text =
-    TellsOfTasks section (λ host tasks. room_text (due_of tasks) (host.cores * ROUND)) text
+-- what the vCPUs are due, and what all cores have
+abbrev pub TellsRoom : Host → List (Option Periodic) → List ℕ → Type 0
+TellsRoom host tasks text = text ≡ room_text (due_of tasks) (host.cores * ROUND)
 
--- the text tells of this line of the plan text, and of the line that is wanted there
+abbrev pub IsRoomText : List ℕ → List ℕ → Type 0
+IsRoomText section text = TellsOfTasks section TellsRoom text
+
+-- the host has a plan of `plan`
+abbrev pub HasPlan : Host → Type 0
+HasPlan host = (plan : PlanView) × IsPlanned host plan
+
+-- what the vCPUs are due, what all cores have, and whether `plan` has a plan
+abbrev pub TellsOfPlan : Host → List (Option Periodic) → List ℕ → Type 0
+TellsOfPlan host tasks text =
+    (HasPlan host × (text ≡ planned_text (due_of tasks) (host.cores * ROUND)))
+    ⊎ (¬ (HasPlan host) × (text ≡ unplanned_text (due_of tasks) (host.cores * ROUND)))
+
+abbrev pub IsStayText : List ℕ → List ℕ → Type 0
+IsStayText section text = TellsOfTasks section TellsOfPlan text
+
+-- this line of the plan text, and the line that is wanted there
+abbrev pub TellsOfLine : List ℕ → ℕ → Host → List (Option Periodic) → List ℕ → Type 0
+TellsOfLine plan line host tasks text =
+    text ≡ plan_line_text plan line host.cores (names_of host.vcpus) tasks
+
 abbrev pub IsPlanText : List ℕ → List ℕ → ℕ → List ℕ → Type 0
-IsPlanText section plan line text = TellsOfTasks section
-    (λ host tasks. plan_line_text plan line host.cores (names_of host.vcpus) tasks) text
+IsPlanText section plan line text = TellsOfTasks section (TellsOfLine plan line) text
 
 -- the text is such a one; where there is none, nothing is written
 abbrev pub WhereThereIs : (List ℕ → Type 0) → List ℕ → Type 0
 WhereThereIs IsText text = IsText text ⊎ (((other : List ℕ) → ¬ (IsText other)) × (text ≡ []))
+
+-- one advice after `plan stay`, and the other after any other words
+abbrev pub WhetherToStay : List (List ℕ) → (List ℕ → Type 0) → (List ℕ → Type 0) → List ℕ → Type 0
+WhetherToStay words IsText IsOther text =
+    (IsCommand words PlanStay × IsText text) ⊎ (¬ (IsCommand words PlanStay) × IsOther text)
+
+-- the advice on a vCPU of the host that finds no room
+abbrev pub IsNoRoomAdvice : List (List ℕ) → List ℕ → List ℕ → Type 0
+IsNoRoomAdvice words section text =
+    WhetherToStay words (WhereThereIs (IsStayText section)) (WhereThereIs (IsRoomText section)) text
+
+-- the advice on this line of a plan text, which `plan stay` reads without its host
+abbrev pub IsLineAdvice : List (List ℕ) → List ℕ → List ℕ → ℕ → List ℕ → Type 0
+IsLineAdvice words section plan line text = WhetherToStay words
+    (λ old. old ≡ old_line_text plan line) (WhereThereIs (IsPlanText section plan line)) text
 
 -- the advice on a key of the host: of a known one what it has to be, whatever the document has
 abbrev pub IsHostKeyAdvice : List ℕ → Key → List ℕ → Type 0
@@ -158,9 +195,9 @@ abbrev pub IsAdvice : List (List ℕ) → List ℕ → Refusal → List ℕ → 
 IsAdvice words input (refusal.Host fault) text = IsHostAdvice (section_at 0 input) fault text
 IsAdvice words input (refusal.NoPeriod vcpu) text =
     WhereThereIs (IsPeriodText (section_at 0 input) vcpu) text
-IsAdvice words input refusal.NoRoom text = WhereThereIs (IsRoomText (section_at 0 input)) text
+IsAdvice words input refusal.NoRoom text = IsNoRoomAdvice words (section_at 0 input) text
 IsAdvice words input (refusal.BadPlanLine line) text =
-    WhereThereIs (IsPlanText (section_at 0 input) (section_at 1 input) line) text
+    IsLineAdvice words (section_at 0 input) (section_at 1 input) line text
 IsAdvice words input other text = text ≡ plain_text words input other
 
 -- the call wrote such a text, or a prefix of it and the sink failed

@@ -45,6 +45,18 @@ wanted_text number cores names tasks = if nat_le number 1
 abbrev pub plan_line_text : List ℕ → ℕ → ℕ → List (List ℕ) → List (Option Periodic) → List ℕ
 plan_line_text plan number cores names tasks = found_text plan number ++ wanted_text number cores names tasks
 
+-- what is wanted on this line of an earlier plan's text, whichever host it was made for
+abbrev pub old_wanted_text : ℕ → List ℕ
+old_wanted_text number = if nat_le number 1
+    then codes "is plan cores CORES vcpus COUNT, the first line that tableau plan writes"
+    else codes "are lines vcpu NAME period TICKS cost TICKS home CORE, then for each core its line core C\ntableau: and END NAME or END - of its segments, and end as the last line"
+
+abbrev pub old_line_text : List ℕ → ℕ → List ℕ
+old_line_text plan number = codes "tableau: plan line "
+    ++ (decimal number ++ (codes " is " ++ (quoted (line_at number plan)
+    ++ (codes ", and no line of a plan text there\ntableau: wanted "
+    ++ (old_wanted_text number ++ codes "\n")))))
+
 abbrev pub shape_text : ℕ → ℕ → List ℕ
 shape_text core place = codes "tableau: behind core "
     ++ (decimal core ++ (codes ", segment " ++ (decimal place

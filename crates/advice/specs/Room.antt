@@ -40,3 +40,15 @@ remedy_text due room = if nat_le due room
 
 abbrev pub room_text : ℕ → ℕ → List ℕ
 room_text due room = ask_text due room ++ remedy_text due room
+
+-- beside those that stay there is no room, but `plan` has a plan
+abbrev pub planned_text : ℕ → ℕ → List ℕ
+planned_text due room = ask_text due room
+    ++ codes "tableau: tableau plan has a plan for them, which may move others\n"
+
+-- `plan` has none either, and what to do
+abbrev pub none_text : ℕ → ℕ → List ℕ
+none_text due room = codes "tableau: tableau plan has no plan for them either\n" ++ remedy_text due room
+
+abbrev pub unplanned_text : ℕ → ℕ → List ℕ
+unplanned_text due room = ask_text due room ++ none_text due room

@@ -9,7 +9,7 @@ abbrev pub wanted_texts : ℕ → List ℕ
 wanted_texts wanted = if wanted == 1 then codes " text is wanted, a host, and no line %%"
     else (if wanted == 3
     then codes " texts are wanted, a line %% between each two: a host, a script and a list of steps"
-    else codes " texts are wanted, a line %% between them: a host and a plan text for check, a host and a script for run")
+    else codes " texts are wanted, a line %% between them: a host and a plan text for check and plan stay, a host and a script for run")
 
 -- what is before the count of the texts that there are
 abbrev pub here_words : ℕ → List ℕ

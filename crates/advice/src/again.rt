@@ -1,14 +1,17 @@
 //! What is read again of an input that was refused: none where there is no such thing in it.
-ghost use Rattle.std.specs.Prelude.{◌≡◌, IfErr, IfOk, MatchOption};
+ghost use Rattle.std.specs.Prelude.{◌≡◌, ◌↔◌, IfErr, IfOk, IsTrue, MatchOption};
 ghost use Rattle.toml.specs.View.{table_view};
 ghost use Rattle.host_doc.specs.Document.{IsDocument, IsHostText};
 ghost use Rattle.period_choice.specs.Tasks.{AreTasksOf};
+ghost use Rattle.advice.specs.Advice.{HasPlan};
 ghost use Rattle.advice.specs.Inside.Again.{IsNoDocument, IsNoHost, LacksTasks};
 
 use crate::fault::AdviceFault;
 use host_doc::{HostFault, read_host};
 use period_choice::{TaskFault, tasks_of};
+use plan_make::{PlanFault, plan_with};
 use std::alloc::Global;
+use std::thread::Threads;
 use tab_core::{Host, Tasks};
 use toml::Table;
 
@@ -51,5 +54,24 @@ pub(crate) fn tasks_again(alloc: Global, host: &Host) -> Result<Option<Tasks>, A
         Ok(tasks) => Ok(Some(tasks)),
         Err(TaskFault::NoMemory) => Err(AdviceFault::NoMemory),
         Err(TaskFault::NoPeriod { .. }) => Ok(None),
+    }
+}
+
+// Whether `plan` has a plan of the host, whose vCPUs have these budgets.
+pub(crate) fn has_plan<R: Threads + Sync>(
+    rt: &R,
+    alloc: Global,
+    host: &Host,
+    tasks: Tasks,
+) -> Result<bool, AdviceFault>
+    requires { AreTasksOf host.now tasks }
+    ensures found { IfOk result (λ found. IsTrue found ↔ HasPlan host.now) }
+    ensures cause { IfErr result (λ fault. fault ≡ AdviceFault.NoMemory) }
+{
+    match plan_with(rt, alloc, host, tasks) {
+        Ok(_) => Ok(true),
+        Err(PlanFault::NoRoom { .. }) => Ok(false),
+        Err(PlanFault::NoPeriod { .. }) => Ok(false),
+        Err(PlanFault::NoMemory) => Err(AdviceFault::NoMemory),
     }
 }

@@ -1,20 +1,22 @@
 ghost use Rattle.std.specs.Prelude.{◌*◌, ◌≤◌};
 ghost use Rattle.tab_core.specs.declared.TheConstants.{MAX_TICK_NS, MIN_TICK_NS, ROUND};
 ghost use Rattle.tab_io.specs.Sinks.{Writes};
-ghost use Rattle.advice.specs.Advice.{IsHostAdvice, IsHostKeyAdvice, IsOtherText, IsPathAdvice, IsPeriodText, IsPlanText, IsRoomText, IsSameText, IsTomlText, IsVcpuKeyText, IsVcpuText, WhereThereIs, WritesSome};
+ghost use Rattle.period_choice.specs.Tasks.{AreTasksOf};
+ghost use Rattle.advice.specs.Advice.{IsHostAdvice, IsHostKeyAdvice, IsOtherText, IsPathAdvice, IsPeriodText, IsPlanText, IsRoomText, IsSameText, IsStayText, IsTomlText, IsVcpuKeyText, IsVcpuText, TellsOfPlan, WhereThereIs, WritesSome};
 ghost use Rattle.advice.specs.Periods.{period_text};
 ghost use Rattle.advice.specs.Room.{due_of, room_text};
 
-use crate::again::{host_again, table_again, tasks_again};
+use crate::again::{has_plan, host_again, table_again, tasks_again};
 use crate::fault::{AdviceFault, of_sink};
 use crate::host_keys::{put_other_key, put_rule, put_same_name, put_vcpu_key};
 use crate::host_text::{put_toml_fault, put_too_many};
 use crate::least::{least_latency, least_share};
 use crate::part::{Part, put_parts};
 use crate::plan_lines::put_plan_line;
-use crate::room::{due_of, put_room};
+use crate::room::{due_of, put_planned, put_room, put_unplanned};
 use host_doc::{HostFault, Key, Path};
 use std::alloc::Global;
+use std::thread::Threads;
 use tab_core::{Host, ROUND, Reservation, Tasks, Vcpu, VcpuNo};
 use tab_io::{Sink, WriteFault};
 
@@ -223,6 +225,44 @@ fn put_room_of<K: Sink>(sink: &mut K, host: &Host, tasks: &Tasks) -> Result<(), 
         due_of(tasks),
         u64::from(host.cores) * u64::from(ROUND),
     )
+}
+
+// Writes the advice on a host of which a vCPU can't be split beside those that stay.
+pub(crate) fn put_no_room_to_stay<R: Threads + Sync, K: Sink>(
+    rt: &R,
+    alloc: Global,
+    sink: &mut K,
+    section: &[u8],
+) -> Result<(), AdviceFault>
+    ensures { WritesSome (WhereThereIs (IsStayText section.now)) (K.state sink.old) (K.state sink.new) result }
+{
+    let Some(host) = host_again(alloc, section)? else {
+        return Ok(());
+    };
+    match tasks_again(alloc, &host)? {
+        Some(tasks) => put_whether_planned(rt, alloc, sink, &host, tasks),
+        None => Ok(()),
+    }
+}
+
+// Writes what the host's vCPUs are due, and whether `plan` has a plan for them.
+fn put_whether_planned<R: Threads + Sync, K: Sink>(
+    rt: &R,
+    alloc: Global,
+    sink: &mut K,
+    host: &Host,
+    tasks: Tasks,
+) -> Result<(), AdviceFault>
+    requires { AreTasksOf host.now tasks }
+    ensures { WritesSome (TellsOfPlan host.now tasks) (K.state sink.old) (K.state sink.new) result }
+{
+    let due = due_of(&tasks);
+    let room = u64::from(host.cores) * u64::from(ROUND);
+    if has_plan(rt, alloc, host, tasks)? {
+        of_sink(put_planned(sink, due, room))
+    } else {
+        of_sink(put_unplanned(sink, due, room))
+    }
 }
 
 // Writes the advice on a plan text whose line of this number is none for the host of the section.

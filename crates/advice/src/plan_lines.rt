@@ -2,7 +2,7 @@ ghost use Rattle.std.specs.Prelude.{◌≡◌, ◌≤◌, length, slice_get};
 ghost use Rattle.tab_core.specs.declared.TheConstants.{MAX_VCPUS};
 ghost use Rattle.tab_io.specs.Sinks.{Writes};
 ghost use Rattle.vcpu_names.specs.Names.{names_of};
-ghost use Rattle.advice.specs.PlanLines.{admitted_from, behind_head, found_text, head_text, plan_line_text, shape_text, short_text, table_text, twice_text, vcpu_text, wanted_text};
+ghost use Rattle.advice.specs.PlanLines.{admitted_from, behind_head, found_text, head_text, old_line_text, old_wanted_text, plan_line_text, shape_text, short_text, table_text, twice_text, vcpu_text, wanted_text};
 
 use crate::line::line_at;
 use crate::part::{Part, put_parts};
@@ -42,7 +42,7 @@ fn put_found<K: Sink>(sink: &mut K, plan: &[u8], number: u32) -> Result<(), Writ
     )
 }
 
-// Writes the line that has to are there.
+// Writes the line that has to be there.
 fn put_wanted<K: Sink>(
     sink: &mut K,
     number: u32,
@@ -142,6 +142,39 @@ fn admitted_at(tasks: &[Option<Periodic>], behind: u32) -> Option<(VcpuNo, Perio
         }
     }
     None
+}
+
+// Writes the advice on an earlier plan's text whose line of this number is none.
+pub(crate) fn put_old_line<K: Sink>(
+    sink: &mut K,
+    plan: &[u8],
+    number: u32,
+) -> Result<(), WriteFault>
+    ensures { Writes (K.state sink.old) (K.state sink.new) (old_line_text plan.now number) result }
+{
+    put_parts(
+        sink,
+        &[
+            Part::Text(b"tableau: plan line "),
+            Part::Number(number),
+            Part::Text(b" is "),
+            Part::Quoted(line_at(plan, number)),
+            Part::Text(b", and no line of a plan text there\ntableau: wanted "),
+            Part::Text(old_wanted_text(number)),
+            Part::Text(b"\n"),
+        ],
+    )
+}
+
+// What is wanted on this line of an earlier plan's text.
+fn old_wanted_text(number: u32) -> &'static [u8]
+    ensures { result.now ≡ old_wanted_text number }
+{
+    if number <= 1 {
+        b"is plan cores CORES vcpus COUNT, the first line that tableau plan writes"
+    } else {
+        b"are lines vcpu NAME period TICKS cost TICKS home CORE, then for each core its line core C\ntableau: and END NAME or END - of its segments, and end as the last line"
+    }
 }
 
 // Writes the advice on segments of a core that make no row.

@@ -1,7 +1,7 @@
 ghost use Rattle.std.specs.Prelude.{◌≡◌, ◌<◌, ◌≤◌};
 ghost use Rattle.tab_core.specs.declared.TheConstants.{ROUND};
 ghost use Rattle.tab_io.specs.Sinks.{Writes};
-ghost use Rattle.advice.specs.Room.{ask_text, beyond_text, cores_text, due_of, due_of_task, more_text, remedy_text, room_text};
+ghost use Rattle.advice.specs.Room.{ask_text, beyond_text, cores_text, due_of, due_of_task, more_text, none_text, planned_text, remedy_text, room_text, unplanned_text};
 
 use crate::part::{Part, put_parts};
 use reservation::demand_of;
@@ -81,6 +81,38 @@ fn put_beyond<K: Sink>(sink: &mut K, cores: u64) -> Result<(), WriteFault>
             Part::Text(b" cores, and a host has at most 32\n"),
         ],
     )
+}
+
+// Writes that `plan` has a plan for such vCPUs.
+pub(crate) fn put_planned<K: Sink>(sink: &mut K, demand: u64, room: u64) -> Result<(), WriteFault>
+    ensures { Writes (K.state sink.old) (K.state sink.new) (planned_text demand room) result }
+{
+    if let Err(fault) = put_asked(sink, demand, room) {
+        return Err(fault);
+    }
+    write_all(
+        sink,
+        b"tableau: tableau plan has a plan for them, which may move others\n",
+    )
+}
+
+// Writes that `plan` has none either.
+pub(crate) fn put_unplanned<K: Sink>(sink: &mut K, demand: u64, room: u64) -> Result<(), WriteFault>
+    ensures { Writes (K.state sink.old) (K.state sink.new) (unplanned_text demand room) result }
+{
+    if let Err(fault) = put_asked(sink, demand, room) {
+        return Err(fault);
+    }
+    put_none_either(sink, demand, room)
+}
+
+fn put_none_either<K: Sink>(sink: &mut K, demand: u64, room: u64) -> Result<(), WriteFault>
+    ensures { Writes (K.state sink.old) (K.state sink.new) (none_text demand room) result }
+{
+    if let Err(fault) = write_all(sink, b"tableau: tableau plan has no plan for them either\n") {
+        return Err(fault);
+    }
+    put_remedy(sink, demand, room)
 }
 
 // The ticks of a round that these budgets are due together.

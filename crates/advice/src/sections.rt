@@ -77,7 +77,7 @@ fn wanted_texts(wanted: u32) -> &'static [u8]
     } else if wanted == 3 {
         b" texts are wanted, a line %% between each two: a host, a script and a list of steps"
     } else {
-        b" texts are wanted, a line %% between them: a host and a plan text for check, a host and a script for run"
+        b" texts are wanted, a line %% between them: a host and a plan text for check and plan stay, a host and a script for run"
     }
 }
 

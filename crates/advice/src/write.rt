@@ -1,12 +1,13 @@
-ghost use Rattle.std.specs.Prelude.{◌≡◌, ◌<◌, ◌^◌, length};
+ghost use Rattle.std.specs.Prelude.{◌≡◌, ◌↔◌, ◌<◌, ◌^◌, IsTrue, length};
 ghost use Rattle.tab_io.specs.Sinks.{Writes};
-ghost use Rattle.tab_words.specs.Commands.{texts};
-ghost use Rattle.advice.specs.Advice.{IsAdvice, WritesSome, known_text, plain_text};
+ghost use Rattle.tab_words.specs.Commands.{IsCommand, texts};
+ghost use Rattle.tab_words.specs.declared.command.Command.{Command as CommandValue};
+ghost use Rattle.advice.specs.Advice.{IsAdvice, IsLineAdvice, IsNoRoomAdvice, WritesSome, known_text, plain_text};
 
 use crate::fault::{AdviceFault, of_sink};
-use crate::hosts::{put_host, put_no_period, put_no_room, put_plan};
+use crate::hosts::{put_host, put_no_period, put_no_room, put_no_room_to_stay, put_plan};
 use crate::line::section_at;
-use crate::plan_lines::{put_shape, put_short, put_twice};
+use crate::plan_lines::{put_old_line, put_shape, put_short, put_twice};
 use crate::refusal::Refusal;
 use crate::room::put_room;
 use crate::script_lines::put_script;
@@ -14,16 +15,20 @@ use crate::sections::put_sections;
 use crate::step_lines::{put_bad_step, put_due, put_waits};
 use crate::usage::put_usage;
 use std::alloc::Global;
+use std::thread::Threads;
 use tab_io::{Sink, WriteFault, write_all};
+use tab_words::{Command, read_words};
 
 /// Writes the advice on a refusal of these words with this input, of less than 2^32 bytes: where the fault
 /// is and what to do, in up to four lines that begin with `tableau: `.
 ///
 /// The host is read again where its text is no TOML, has an unknown key or a fault of a vCPU, where it has no
 /// plan, and where it isn't that of a plan text. Where it isn't refused so, there is then no advice, and nothing
-/// is written. Nor is anything where memory runs out (`NoMemory`). A fault of the sink leaves a prefix of the
+/// is written. Nor is anything where memory runs out (`NoMemory`). A host without room for `plan stay` is planned
+/// afresh, in the calling thread, to say whether `plan` has a plan. A fault of the sink leaves a prefix of the
 /// advice in it. Nothing is settled.
-pub fn write_advice<K: Sink>(
+pub fn write_advice<R: Threads + Sync, K: Sink>(
+    rt: &R,
     alloc: Global,
     words: &[String],
     input: &[u8],
@@ -37,15 +42,63 @@ pub fn write_advice<K: Sink>(
     match refusal {
         Refusal::Host(fault) => put_host(alloc, sink, section_at(input, 0), fault),
         Refusal::NoPeriod { vcpu } => put_no_period(alloc, sink, section_at(input, 0), vcpu),
-        Refusal::NoRoom => put_no_room(alloc, sink, section_at(input, 0)),
-        Refusal::BadPlanLine { line } => put_plan(
+        Refusal::NoRoom => put_room_advice(rt, alloc, words, sink, section_at(input, 0)),
+        Refusal::BadPlanLine { line } => put_line_advice(
             alloc,
+            words,
             sink,
             section_at(input, 0),
             section_at(input, 1),
             *line,
         ),
         _ => of_sink(put_plain(words, input, refusal, sink)),
+    }
+}
+
+// Writes the advice on a host of which a vCPU finds no room, for the command of these words.
+fn put_room_advice<R: Threads + Sync, K: Sink>(
+    rt: &R,
+    alloc: Global,
+    words: &[String],
+    sink: &mut K,
+    section: &[u8],
+) -> Result<(), AdviceFault>
+    ensures { WritesSome (IsNoRoomAdvice (texts words.now) section.now)
+        (K.state sink.old) (K.state sink.new) result }
+{
+    if is_plan_stay(words) {
+        put_no_room_to_stay(rt, alloc, sink, section)
+    } else {
+        put_no_room(alloc, sink, section)
+    }
+}
+
+// Writes the advice on a plan text's line, for the command of these words.
+fn put_line_advice<K: Sink>(
+    alloc: Global,
+    words: &[String],
+    sink: &mut K,
+    section: &[u8],
+    plan: &[u8],
+    line: u32,
+) -> Result<(), AdviceFault>
+    ensures { WritesSome (IsLineAdvice (texts words.now) section.now plan.now line)
+        (K.state sink.old) (K.state sink.new) result }
+{
+    if is_plan_stay(words) {
+        of_sink(put_old_line(sink, plan, line))
+    } else {
+        put_plan(alloc, sink, section, plan, line)
+    }
+}
+
+fn is_plan_stay(words: &[String]) -> bool
+    ensures { IsTrue result ↔ IsCommand (texts words.now) CommandValue.PlanStay }
+{
+    match read_words(words) {
+        Ok(Command::PlanStay) => true,
+        Ok(_) => false,
+        Err(_) => false,
     }
 }
 

@@ -1,5 +1,6 @@
 use Rattle.std.proofs.Common.{List, ℕ, subst}
-use Rattle.advice.specs.Advice.{IsPeriodText, IsPlanText, IsRoomText, WhereThereIs, WritesSome}
+use Rattle.tab_words.specs.Commands.{texts}
+use Rattle.advice.specs.Advice.{IsLineAdvice, IsNoRoomAdvice, IsPeriodText, WhereThereIs, WritesSome}
 use Rattle.advice.specs.Lines.{section_at}
 use Rattle.advice.proofs.write.write_advice.Goals as goal
 
@@ -11,17 +12,17 @@ returns-in-NoPeriod g c = rw c.in-NoPeriod.is (subst
 
 pub returns-in-NoRoom : goal.returns-in-NoRoom
 returns-in-NoRoom g c = rw c.in-NoRoom.is (subst
-    (λ (section : List ℕ). WritesSome (WhereThereIs (IsRoomText section))
-    (g.K.Sink.state c.args.sink.now) (g.K.Sink.state c.put_no_room.new.sink) c.put_no_room.result)
-    c.section_at-in-NoRoom.ensures c.put_no_room.ensures)
+    (λ (section : List ℕ). WritesSome (IsNoRoomAdvice (texts c.args.words.now) section)
+    (g.K.Sink.state c.args.sink.now) (g.K.Sink.state c.put_room_advice.new.sink) c.put_room_advice.result)
+    c.section_at-in-NoRoom.ensures c.put_room_advice.ensures)
 
 pub returns-in-BadPlanLine : goal.returns-in-BadPlanLine
 returns-in-BadPlanLine g c =
-    let of_plan = subst (λ (plan : List ℕ). WritesSome (WhereThereIs
-    (IsPlanText c.section_at-in-BadPlanLine.result.now plan c.in-BadPlanLine.line))
-    (g.K.Sink.state c.args.sink.now) (g.K.Sink.state c.put_plan.new.sink) c.put_plan.result)
-    c.section_at-in-BadPlanLine-2.ensures c.put_plan.ensures in
-    rw c.in-BadPlanLine.is (subst (λ (section : List ℕ). WritesSome (WhereThereIs
-    (IsPlanText section (section_at 1 c.args.input.now) c.in-BadPlanLine.line))
-    (g.K.Sink.state c.args.sink.now) (g.K.Sink.state c.put_plan.new.sink) c.put_plan.result)
+    let of_plan = subst (λ (plan : List ℕ). WritesSome
+    (IsLineAdvice (texts c.args.words.now) c.section_at-in-BadPlanLine.result.now plan c.in-BadPlanLine.line)
+    (g.K.Sink.state c.args.sink.now) (g.K.Sink.state c.put_line_advice.new.sink) c.put_line_advice.result)
+    c.section_at-in-BadPlanLine-2.ensures c.put_line_advice.ensures in
+    rw c.in-BadPlanLine.is (subst (λ (section : List ℕ). WritesSome
+    (IsLineAdvice (texts c.args.words.now) section (section_at 1 c.args.input.now) c.in-BadPlanLine.line)
+    (g.K.Sink.state c.args.sink.now) (g.K.Sink.state c.put_line_advice.new.sink) c.put_line_advice.result)
     c.section_at-in-BadPlanLine.ensures of_plan)
