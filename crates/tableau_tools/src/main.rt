@@ -11,6 +11,7 @@ mod diff;
 mod export;
 mod fault;
 mod fit;
+mod fleet;
 mod host;
 mod input;
 mod judge;
@@ -18,6 +19,7 @@ mod lines;
 mod map;
 mod mistaken;
 mod output;
+mod place;
 mod plan;
 mod planned;
 mod report;
@@ -37,7 +39,7 @@ use std::thread::Threads;
 // The status of `diff` and of `judge` for a fault, since their 1 says that the plans differ, or that a promise was broken.
 const NO_ANSWER: u8 = 2;
 
-// The status of `fit` where the host has no plan, as of `tableau plan`.
+// The status of `fit` where the host has no plan, as of `tableau plan`, and of `place` where VMs are left over.
 const NO_PLAN: u8 = 3;
 
 fn main(rt: HostRuntime) -> ExitCode {
@@ -120,6 +122,11 @@ fn dispatch<T: Threads + Sync>(
         Some(("sections", matches)) => sections::sections(rt, matches)?,
         Some(("host", matches)) => host::host(rt, matches)?,
         Some(("fit", matches)) => return Ok(if fit::fit(rt, threads, matches)? {
+            0
+        } else {
+            NO_PLAN
+        }),
+        Some(("place", matches)) => return Ok(if place::place_vms(rt, threads, matches)? {
             0
         } else {
             NO_PLAN
