@@ -84,8 +84,16 @@ pub(crate) enum Fault {
     },
     #[error("--hosts N with --cores N, or --kinds FILE, says which hosts there are")]
     NoFleet,
-    #[error("there are more than 65535 hosts")]
-    TooManyHosts,
+    #[error("{place}there are more than 65535 hosts")]
+    TooManyHosts {
+        place: String,
+    },
+    #[error("there are more than 16776960 VMs, which 65535 hosts of 256 vCPUs can't have")]
+    TooManyVms,
+    #[error("--host, --documents and --summary are three texts of a placing: name one")]
+    OtherTexts,
+    #[error("standard input is read once: --kinds, --stay and the sizes can't share it")]
+    InputTwice,
     #[error("{place}the text is no plan")]
     NoPlan {
         place: String,
@@ -179,7 +187,9 @@ impl Fault {
             | Fault::TooNarrow
             | Fault::OldOfRun
             | Fault::NoSuchHost { .. }
-            | Fault::NoFleet => 1,
+            | Fault::NoFleet
+            | Fault::OtherTexts
+            | Fault::InputTwice => 1,
             Fault::Unread { .. } | Fault::ReadFault { .. } => 4,
             Fault::WriteFault => 5,
             Fault::NoMemory => 6,

@@ -8,6 +8,9 @@
 mod chart;
 mod command;
 mod diff;
+mod documents;
+mod earlier;
+mod enough;
 mod export;
 mod fault;
 mod fit;
@@ -27,6 +30,7 @@ mod sections;
 mod shown;
 mod table;
 mod unkept;
+mod vms;
 
 use clap::error::ErrorKind;
 use clap::{ArgMatches, Error};
@@ -121,19 +125,16 @@ fn dispatch<T: Threads + Sync>(
         Some(("report", matches)) => report::report(rt, matches)?,
         Some(("sections", matches)) => sections::sections(rt, matches)?,
         Some(("host", matches)) => host::host(rt, matches)?,
-        Some(("fit", matches)) => return Ok(if fit::fit(rt, threads, matches)? {
-            0
-        } else {
-            NO_PLAN
-        }),
-        Some(("place", matches)) => return Ok(if place::place_vms(rt, threads, matches)? {
-            0
-        } else {
-            NO_PLAN
-        }),
+        Some(("fit", matches)) => return Ok(status_of(fit::fit(rt, threads, matches)?)),
+        Some(("place", matches)) => return Ok(status_of(place::place_vms(rt, threads, matches)?)),
         Some(("diff", matches)) => return Ok(u8::from(diff::diff(rt, matches)?)),
         Some(("judge", matches)) => return Ok(u8::from(!judge::judge(rt, matches)?)),
         _ => {}
     }
     Ok(0)
+}
+
+// The status of `fit` and `place` by what they answer.
+fn status_of(is_planned: bool) -> u8 {
+    if is_planned { 0 } else { NO_PLAN }
 }
