@@ -4,6 +4,7 @@ ghost use Rattle.std.specs.Prelude.{◌≡◌, length};
 use crate::fault::Fault;
 use crate::fleet::bad_line;
 use crate::input::{Input, input_of};
+use crate::vms::{NamedVm, numbers_of};
 use fleet_place::{Group, Vm};
 use script_doc::is_skipped;
 use std::alloc::Global;
@@ -18,17 +19,28 @@ pub(crate) struct Stay {
     host: u64,
 }
 
-/// The VMs that were on hosts, in the order of the lines. A line of a VM that isn't there any more is passed over.
+/// The VMs that were on hosts by the lines of a file, in their order; none without a file. A line of a VM that isn't there
+/// any more is passed over. No two VMs may have one name.
 pub(crate) fn stays_of(
     rt: &HostRuntime,
     path: Option<&str>,
+    vms: &[NamedVm<'_>],
+) -> Result<Vec<Stay>, Fault> {
+    let numbers = numbers_of(rt.alloc(), vms)?;
+    match path {
+        Some(path) => stays_in(rt, path, &numbers),
+        None => Ok(Vec::new(rt.alloc())),
+    }
+}
+
+// The VMs that were on hosts by the lines of the file of this path.
+fn stays_in(
+    rt: &HostRuntime,
+    path: &str,
     numbers: &BTreeMap<&[u8], usize, Global>,
 ) -> Result<Vec<Stay>, Fault> {
-    let mut stays = Vec::new(rt.alloc());
-    let Some(path) = path else {
-        return Ok(stays);
-    };
     let Input { place, bytes } = input_of(rt, Some(path))?;
+    let mut stays = Vec::new(rt.alloc());
     let mut number = 0u32;
     for line in Lines::over(&bytes) {
         number = number.saturating_add(1);
@@ -73,27 +85,45 @@ fn place_of_line(line: &[u8]) -> Option<(Option<u64>, &[u8])> {
     }
 }
 
-/// Puts the VMs that were on a host into its group, and gives the others in their order. A VM is on the first host that a
-/// line names for it; one whose host isn't there is with the others.
+/// Puts the VMs that were on a host into its group, and gives the others in their order. A VM is on the first host that is
+/// there of those that lines name for it, and with the others if none is.
 pub(crate) fn put_back<'a>(
     alloc: Global,
     groups: &mut [Group<'a>],
     vms: &[Vm<'a>],
     stays: &[Stay],
-) -> Result<Vec<Vm<'a>>, NoMemory>
-    ensures { length groups.new ≡ length groups.old }
-{
+) -> Result<Vec<Vm<'a>>, NoMemory> {
     let mut is_back = vec![in alloc; false; vms.len()]?;
+    put_on(groups, vms, stays, &mut is_back)?;
+    others_of(alloc, vms, &is_back)
+}
+
+// Puts the VMs that were on a host into its group, and notes which were.
+fn put_on<'a>(
+    groups: &mut [Group<'a>],
+    vms: &[Vm<'a>],
+    stays: &[Stay],
+    is_back: &mut [bool],
+) -> Result<(), NoMemory>
+    requires { length is_back.old ≡ length vms.now }
+{
     for stay in stays {
         let (vm, host) = (stay.vm, stay.host);
-        if vm < vms.len() && vm < is_back.len() && host < groups.len() as u64 && !is_back[vm] {
+        if vm < vms.len() && host < groups.len() as u64 && !is_back[vm] {
             is_back[vm] = true;
             groups[host as usize].vms.push(vms[vm])?;
         }
     }
+    Ok(())
+}
+
+// The VMs that aren't back on a host.
+fn others_of<'a>(alloc: Global, vms: &[Vm<'a>], is_back: &[bool]) -> Result<Vec<Vm<'a>>, NoMemory>
+    requires { length is_back.now ≡ length vms.now }
+{
     let mut others = Vec::new(alloc);
-    for (vm, is_back) in vms.iter().zip(is_back.iter()) {
-        if !*is_back {
+    for (number, vm) in vms.iter().enumerate() {
+        if !is_back[number] {
             others.push(*vm)?;
         }
     }

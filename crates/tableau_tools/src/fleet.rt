@@ -25,10 +25,7 @@ pub(crate) struct Fleet<'a> {
 }
 
 /// The hosts that the words name: so many of so many cores, or those of a file of kinds.
-pub(crate) fn fleet_of<'a>(
-    rt: &HostRuntime,
-    matches: &ArgMatches<'_>,
-) -> Result<Fleet<'a>, Fault> {
+pub(crate) fn fleet_of<'a>(rt: &HostRuntime, matches: &ArgMatches<'_>) -> Result<Fleet<'a>, Fault> {
     match (
         matches.get_str("kinds"),
         matches.get_one::<u32>("hosts"),

@@ -1,4 +1,4 @@
-ghost use Rattle.std.specs.Prelude.{◌≡◌, ◌≤◌, IfOk, length};
+ghost use Rattle.std.specs.Prelude.{◌≡◌, ◌<◌, ◌≤◌, ◌^◌, IfOk, length};
 ghost use Rattle.tab_core.specs.declared.TheConstants.{MAX_TICK_NS, MIN_TICK_NS};
 ghost use Rattle.tableau_tools.specs.declared.fleet.TheConstants.{MAX_HOSTS};
 ghost use Rattle.tableau_tools.specs.declared.vms.TheConstants.{MAX_VMS};
@@ -10,10 +10,9 @@ use crate::fault::Fault;
 use crate::fleet::{Fleet, fleet_of};
 use crate::host::text_of;
 use crate::output::{finish, output_of};
-use crate::vms::{NamedVm, named_vms, numbers_of, vms_of};
+use crate::vms::{NamedVm, named_vms, vms_of};
 use clap::ArgMatches;
 use fleet_place::{FleetHost, Group, Placing, Vm, place, write_placing, write_summary};
-use sizes_doc::read_sizes;
 use std::alloc::Global;
 use std::thread::Threads;
 use tab_core::{MAX_TICK_NS, MIN_TICK_NS, TICK_NS};
@@ -31,6 +30,18 @@ enum Form {
     Summary,
 }
 
+// What the words ask for, beside hosts and sizes.
+#[derive(Clone, Copy)]
+struct Asked<'w> {
+    form: Form,
+    // The file of an earlier placing.
+    stay: Option<&'w str>,
+    // Nanoseconds of a tick.
+    tick_ns: u32,
+    ghost least_tick: { MIN_TICK_NS ≤ tick_ns },
+    ghost most_tick: { tick_ns ≤ MAX_TICK_NS },
+}
+
 /// Does `place`: it writes which VM goes on which host, a summary, or documents of hosts. It answers whether each VM has
 /// a host.
 pub(crate) fn place_vms<T: Threads + Sync>(
@@ -38,25 +49,45 @@ pub(crate) fn place_vms<T: Threads + Sync>(
     threads: &T,
     matches: &ArgMatches<'_>,
 ) -> Result<bool, Fault> {
-    let form = form_of(matches)?;
-    read_once(matches)?;
-    let Fleet { hosts } = fleet_of(rt, matches)?;
-    has_host(form, hosts.len())?;
+    let asked = asked_of(matches)?;
+    let fleet = fleet_of(rt, matches)?;
+    has_host(asked.form, fleet.hosts.len())?;
     let text = text_of(rt, matches)?;
-    let sizes = match read_sizes(rt.alloc(), &text) {
-        Ok(sizes) => sizes,
-        Err(fault) => return Err(Fault::from(fault)),
-    };
-    let vms = named_vms(rt.alloc(), &sizes)?;
-    let tick_ns = tick_of(matches);
-    let placing = placing_of(rt, threads, matches.get_str("stay"), tick_ns, hosts, &vms)?;
-    let more = more_hosts(threads, rt.alloc(), tick_ns, &placing)?;
-    put(rt, form, tick_ns, &placing)?;
+    place_sizes(rt, threads, &asked, fleet, &text)
+}
+
+// Places the VMs of the sizes of a text.
+fn place_sizes<T: Threads + Sync>(
+    rt: &HostRuntime,
+    threads: &T,
+    asked: &Asked<'_>,
+    fleet: Fleet<'_>,
+    text: &[u8],
+) -> Result<bool, Fault>
+    requires { length text.now < 2 ^ 32 }
+{
+    let vms = named_vms(rt.alloc(), text)?;
+    let placing = placing_of(rt, threads, asked, fleet, &vms)?;
+    let more = more_hosts(threads, rt.alloc(), asked.tick_ns, &placing)?;
+    put(rt, asked, &placing)?;
     tell_left(rt, &placing, more);
     Ok(placing.left.is_empty())
 }
 
-// What the words ask for.
+// What the words ask for. (They were refused where the tick is out of its range.)
+fn asked_of<'w>(matches: &ArgMatches<'w>) -> Result<Asked<'w>, Fault> {
+    read_once(matches)?;
+    Ok(Asked {
+        form: form_of(matches)?,
+        stay: matches.get_str("stay"),
+        tick_ns: matches
+            .get_one::<u32>("tick")
+            .unwrap_or(TICK_NS)
+            .clamp(MIN_TICK_NS, MAX_TICK_NS),
+    })
+}
+
+// Which text the words ask for.
 fn form_of(matches: &ArgMatches<'_>) -> Result<Form, Fault> {
     match (
         matches.get_one::<u32>("host"),
@@ -91,36 +122,24 @@ fn has_host(form: Form, count: usize) -> Result<(), Fault> {
     }
 }
 
-// Nanoseconds of a tick. (The words were refused where they are out of their range.)
-fn tick_of(matches: &ArgMatches<'_>) -> u32
-    ensures least { MIN_TICK_NS ≤ result }
-    ensures most { result ≤ MAX_TICK_NS }
-{
-    matches
-        .get_one::<u32>("tick")
-        .unwrap_or(TICK_NS)
-        .clamp(MIN_TICK_NS, MAX_TICK_NS)
-}
-
-// Places the VMs on the hosts, where those stay that were there by the lines of a file.
+// Places the VMs on the hosts, where those stay that were there by the lines of an earlier placing.
 fn placing_of<'a, T: Threads + Sync>(
     rt: &HostRuntime,
     threads: &T,
-    stay: Option<&str>,
-    tick_ns: u32,
-    mut hosts: Vec<Group<'a>>,
+    asked: &Asked<'_>,
+    fleet: Fleet<'a>,
     vms: &'a [NamedVm<'_>],
 ) -> Result<Placing<'a>, Fault>
-    requires few { length vms.now ≤ MAX_VMS }
-    requires least_tick { MIN_TICK_NS ≤ tick_ns }
-    requires most_tick { tick_ns ≤ MAX_TICK_NS }
-    ensures { IfOk result (λ placing. length placing.hosts.items ≡ length hosts.items) }
+    requires { length vms.now ≤ MAX_VMS }
+    ensures some { IfOk result (λ placing. 1 ≤ length placing.hosts.items) }
+    ensures few { IfOk result (λ placing. length placing.hosts.items ≤ MAX_HOSTS) }
 {
-    let numbers = numbers_of(rt.alloc(), vms)?;
-    let stays = stays_of(rt, stay, &numbers)?;
-    let all = vms_of(rt.alloc(), tick_ns, vms)?;
+    let Fleet { mut hosts } = fleet;
+    let stays = stays_of(rt, asked.stay, vms)?;
+    let all = vms_of(rt.alloc(), asked.tick_ns, vms)?;
     let others = put_back(rt.alloc(), &mut hosts, &all, &stays)?;
-    placed(threads, rt.alloc(), tick_ns, &hosts, &others)
+    let placing = placed(threads, rt.alloc(), asked.tick_ns, &hosts, &others)?;
+    Ok(placing)
 }
 
 /// The VMs of the groups and the others, placed.
@@ -142,17 +161,15 @@ pub(crate) fn placed<'a, T: Threads + Sync>(
 }
 
 // Writes what the words ask for.
-fn put(rt: &HostRuntime, form: Form, tick_ns: u32, placing: &Placing<'_>) -> Result<(), Fault>
+fn put(rt: &HostRuntime, asked: &Asked<'_>, placing: &Placing<'_>) -> Result<(), Fault>
     requires some { 1 ≤ length placing.now.hosts.items }
     requires few { length placing.now.hosts.items ≤ MAX_HOSTS }
-    requires least_tick { MIN_TICK_NS ≤ tick_ns }
-    requires most_tick { tick_ns ≤ MAX_TICK_NS }
 {
     let hosts = placing.hosts.as_slice();
-    match form {
+    match asked.form {
         Form::Lines => put_lines(rt, hosts, &placing.left),
-        Form::Document(number) => put_documents(rt, tick_ns, alone(hosts, number)),
-        Form::Documents => put_documents(rt, tick_ns, hosts),
+        Form::Document(number) => put_documents(rt, asked.tick_ns, alone(hosts, number)),
+        Form::Documents => put_documents(rt, asked.tick_ns, hosts),
         Form::Summary => put_summary(rt, hosts, &placing.left),
     }
 }

@@ -1,12 +1,12 @@
 //! The VMs of sizes, each by itself.
-ghost use Rattle.std.specs.Prelude.{◌≡◌, ◌≤◌, IfOk, length};
+ghost use Rattle.std.specs.Prelude.{◌<◌, ◌≤◌, ◌^◌, IfOk, length};
 ghost use Rattle.tab_core.specs.declared.TheConstants.{MAX_TICK_NS, MIN_TICK_NS};
 ghost use Rattle.tableau_tools.specs.declared.vms.TheConstants.{MAX_VMS};
 
 use crate::fault::Fault;
 use crate::shown::shown;
 use fleet_place::Vm;
-use sizes_doc::Size;
+use sizes_doc::{Size, read_sizes};
 use std::alloc::{AllocError, Global};
 use std::collections::BTreeMap;
 
@@ -35,8 +35,20 @@ impl<'a> NamedVm<'a> {
     }
 }
 
-/// All VMs of the sizes, each under its name: that of its size, with its number after it where there may be several.
-pub(crate) fn named_vms<'a>(alloc: Global, sizes: &[Size<'a>]) -> Result<Vec<NamedVm<'a>>, Fault>
+/// All VMs of the sizes of a text, each under its name: that of its size, with its number after it where there may be
+/// several.
+pub(crate) fn named_vms(alloc: Global, text: &[u8]) -> Result<Vec<NamedVm<'_>>, Fault>
+    requires { length text.now < 2 ^ 32 }
+    ensures { IfOk result (λ vms. length vms.items ≤ MAX_VMS) }
+{
+    match read_sizes(alloc, text) {
+        Ok(sizes) => vms_of_sizes(alloc, &sizes),
+        Err(fault) => Err(Fault::from(fault)),
+    }
+}
+
+// All VMs of the sizes.
+fn vms_of_sizes<'a>(alloc: Global, sizes: &[Size<'a>]) -> Result<Vec<NamedVm<'a>>, Fault>
     ensures { IfOk result (λ vms. length vms.items ≤ MAX_VMS) }
 {
     let mut vms = Vec::new(alloc);

@@ -1,6 +1,6 @@
 use Rattle.std.proofs.Common.{◌≤◌, length}
 use Rattle.tableau_tools.specs.declared.vms.TheConstants.{MAX_VMS}
-use Rattle.tableau_tools.proofs.vms.named_vms.Given as goal
+use Rattle.tableau_tools.proofs.vms.vms_of_sizes.Given as goal
 
 -- the VMs so far are few
 abbrev pub invariant-loop-size : goal.invariant-loop-size
