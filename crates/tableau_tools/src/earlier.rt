@@ -111,7 +111,8 @@ fn put_on<'a>(
         let (vm, host) = (stay.vm, stay.host);
         if vm < vms.len() && host < groups.len() as u64 && !is_back[vm] {
             is_back[vm] = true;
-            groups[host as usize].vms.push(vms[vm])?;
+            let group = &mut groups[host as usize];
+            group.vms.push(vms[vm])?;
         }
     }
     Ok(())
