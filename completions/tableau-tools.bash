@@ -6,13 +6,13 @@ _tableau_tools() {
   # how many arguments are before the word
   for ((at = 2; at < COMP_CWORD; at++)); do
     case $command,${COMP_WORDS[at]} in
-      table,--by | table,--tick | chart,--by | chart,--cores | chart,--vcpus | chart,--from | chart,--to | chart,--width | chart,--tick | diff,--by | diff,--tick | report,--old | export,--tick | export,--first-cpu | export,--map | judge,--window | host,--cores | host,--tick | fit,--cores | fit,--tick) ((at++)) ;;
+      table,--by | table,--tick | chart,--by | chart,--cores | chart,--vcpus | chart,--from | chart,--to | chart,--width | chart,--tick | diff,--by | diff,--tick | report,--old | export,--tick | export,--first-cpu | export,--map | judge,--window | host,--cores | host,--tick | fit,--cores | fit,--tick | place,--hosts | place,--cores | place,--kinds | place,--stay | place,--host | place,--tick) ((at++)) ;;
       *,-?*) ;;
       *) ((place++)) ;;
     esac
   done
   if [ "$COMP_CWORD" -eq 1 ]; then
-    words='table chart diff report export judge sections host fit --help --version'
+    words='table chart diff report export judge sections host fit place --help --version'
   else
     case $command,$before in
       table,--by) words='vcpu vm' ;;
@@ -20,7 +20,9 @@ _tableau_tools() {
       diff,--by) words='vcpu vm' ;;
       report,--old) files=yes ;;
       export,--map) files=yes ;;
-      table,--tick | chart,--cores | chart,--vcpus | chart,--from | chart,--to | chart,--width | chart,--tick | diff,--tick | export,--tick | export,--first-cpu | judge,--window | host,--cores | host,--tick | fit,--cores | fit,--tick) ;;
+      place,--kinds) files=yes ;;
+      place,--stay) files=yes ;;
+      table,--tick | chart,--cores | chart,--vcpus | chart,--from | chart,--to | chart,--width | chart,--tick | diff,--tick | export,--tick | export,--first-cpu | judge,--window | host,--cores | host,--tick | fit,--cores | fit,--tick | place,--hosts | place,--cores | place,--host | place,--tick) ;;
       *)
         case $command,$word in
           table,-*) words='--by --json --csv --tick --help' ;;
@@ -32,6 +34,7 @@ _tableau_tools() {
           sections,-*) words='--help' ;;
           host,-*) words='--cores --tick --help' ;;
           fit,-*) words='--cores --tick --help' ;;
+          place,-*) words='--hosts --cores --kinds --stay --host --documents --summary --tick --help' ;;
           *)
             case $command,$place in
               table,0) files=yes ;;

@@ -3,7 +3,7 @@ function __tableau_tools_at
   set -l words (commandline -opc)
   contains -- "$words[2]" $argv
 end
-complete -c tableau-tools -n '__tableau_tools_at \'\' host fit' -f
+complete -c tableau-tools -n '__tableau_tools_at \'\' host fit place' -f
 complete -c tableau-tools -n '__tableau_tools_at \'\'' -a table -d 'Writes the shares, waits and loads of a plan, beside what its host asks for'
 complete -c tableau-tools -n '__tableau_tools_at \'\'' -a chart -d 'Draws a plan, replay or trace as a picture, in SVG or as a text'
 complete -c tableau-tools -n '__tableau_tools_at \'\'' -a diff -d 'Writes what differs between two plans'
@@ -13,6 +13,7 @@ complete -c tableau-tools -n '__tableau_tools_at \'\'' -a judge -d 'Writes wheth
 complete -c tableau-tools -n '__tableau_tools_at \'\'' -a sections -d 'Writes files as the sections of one text, with a line %% between each two'
 complete -c tableau-tools -n '__tableau_tools_at \'\'' -a host -d 'Writes the host document of sizes of VMs'
 complete -c tableau-tools -n '__tableau_tools_at \'\'' -a fit -d 'Writes how VMs of sizes fit a host, and how many more of each would'
+complete -c tableau-tools -n '__tableau_tools_at \'\'' -a place -d 'Writes which VM of sizes goes on which host'
 complete -c tableau-tools -n '__tableau_tools_at \'\'' -l help -d 'Print help'
 complete -c tableau-tools -n '__tableau_tools_at \'\'' -l version -d 'Print version'
 complete -c tableau-tools -n '__tableau_tools_at table' -l by -x -a 'vcpu vm' -d 'Rows or lines for vCPUs, or for VMs: a VM is a name\'s part before the last dot'
@@ -52,3 +53,12 @@ complete -c tableau-tools -n '__tableau_tools_at host' -l help -d 'Print help'
 complete -c tableau-tools -n '__tableau_tools_at fit' -l cores -x -d 'The host\'s cores, 1 to 32'
 complete -c tableau-tools -n '__tableau_tools_at fit' -l tick -x -d 'Nanoseconds of a tick'
 complete -c tableau-tools -n '__tableau_tools_at fit' -l help -d 'Print help'
+complete -c tableau-tools -n '__tableau_tools_at place' -l hosts -x -d 'The hosts, 1 to 65535'
+complete -c tableau-tools -n '__tableau_tools_at place' -l cores -x -d 'The cores of each host, 1 to 32'
+complete -c tableau-tools -n '__tableau_tools_at place' -l kinds -r -F -d 'Hosts of several kinds, in place of --hosts and --cores: lines KIND CORES COUNT'
+complete -c tableau-tools -n '__tableau_tools_at place' -l stay -r -F -d 'The lines of an earlier placing: VMs stay on their hosts where they can'
+complete -c tableau-tools -n '__tableau_tools_at place' -l host -x -d 'The document of host K, from 0, in place of lines'
+complete -c tableau-tools -n '__tableau_tools_at place' -l documents -d 'The documents of all hosts, with a line %% between each two'
+complete -c tableau-tools -n '__tableau_tools_at place' -l summary -d 'How full each host is, in place of lines'
+complete -c tableau-tools -n '__tableau_tools_at place' -l tick -x -d 'Nanoseconds of a tick'
+complete -c tableau-tools -n '__tableau_tools_at place' -l help -d 'Print help'

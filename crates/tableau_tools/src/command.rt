@@ -27,7 +27,8 @@ pub(crate) fn command<'a>(alloc: Global) -> Result<Command<'a>, AllocError> {
     let command = with_command(command, judge_command(alloc))?;
     let command = with_command(command, sections_command(alloc))?;
     let command = with_command(command, host_command(alloc))?;
-    with_command(command, fit_command(alloc))
+    let command = with_command(command, fit_command(alloc))?;
+    with_command(command, place_command(alloc))
 }
 
 // The command with another below it. (One alone is held where memory runs out: to let go of several takes minutes
@@ -319,6 +320,77 @@ fn fit_command<'a>(alloc: Global) -> Result<Command<'a>, AllocError> {
         .arg(cores_arg(alloc))?
         .arg(tick_arg(alloc))?
         .arg(sizes_arg(alloc))
+}
+
+// The words of `place`.
+fn place_command<'a>(alloc: Global) -> Result<Command<'a>, AllocError> {
+    let command = Command::new(alloc, "place")
+        .about("Writes which VM of sizes goes on which host; ends with 3 where VMs are left over")
+        .arg(hosts_arg(alloc))?
+        .arg(fleet_cores_arg(alloc))?
+        .arg(path_arg(
+            alloc,
+            "kinds",
+            "Hosts of several kinds, in place of --hosts and --cores: lines KIND CORES COUNT",
+        ))?;
+    let command = with_wanted(alloc, command)?;
+    command.arg(tick_arg(alloc))?.arg(sizes_arg(alloc))
+}
+
+// The command with what is kept, and what is written.
+fn with_wanted<'a>(alloc: Global, command: Command<'a>) -> Result<Command<'a>, AllocError> {
+    command
+        .arg(path_arg(
+            alloc,
+            "stay",
+            "The lines of an earlier placing: VMs stay on their hosts where they can",
+        ))?
+        .arg(number_arg(
+            alloc,
+            "host",
+            "K",
+            "The document of host K, from 0, in place of lines",
+        ))?
+        .arg(flag_arg(
+            alloc,
+            "documents",
+            "The documents of all hosts, with a line %% between each two",
+        ))?
+        .arg(flag_arg(alloc, "summary", "How full each host is, in place of lines"))
+}
+
+// How many hosts there are.
+fn hosts_arg<'a>(alloc: Global) -> Arg<'a> {
+    Arg::new(alloc, "hosts")
+        .long("hosts")
+        .value_name("N")
+        .value_parser(value_parser!(u32).range(1..=65_535))
+        .help("The hosts, 1 to 65535")
+}
+
+// How many cores each of them has.
+fn fleet_cores_arg<'a>(alloc: Global) -> Arg<'a> {
+    Arg::new(alloc, "cores")
+        .long("cores")
+        .value_name("N")
+        .value_parser(value_parser!(u32).range(1..=i64::from(MAX_CORES)))
+        .help("The cores of each host, 1 to 32")
+}
+
+// The path of a file.
+fn path_arg<'a>(alloc: Global, name: &'a str, help: &'a str) -> Arg<'a> {
+    Arg::new(alloc, name)
+        .long(name)
+        .value_name("FILE")
+        .help(help)
+}
+
+// A word that is given or not.
+fn flag_arg<'a>(alloc: Global, name: &'a str, help: &'a str) -> Arg<'a> {
+    Arg::new(alloc, name)
+        .long(name)
+        .action(ArgAction::SetTrue)
+        .help(help)
 }
 
 // How many cores the host has.

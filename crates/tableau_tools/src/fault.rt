@@ -1,4 +1,5 @@
 use crate::unkept::Refusal;
+use fleet_place::PlaceFault;
 use host_doc::HostFault;
 use sizes_doc::SizesFault;
 use std::alloc::{AllocError, AllocFailed};
@@ -54,6 +55,45 @@ pub(crate) enum Fault {
     },
     #[error("{0}")]
     BadSizes(SizesFault),
+    #[error("{place}line {line} isn't {wanted}: '{text}'")]
+    BadFleetLine {
+        place: String,
+        line: u32,
+        wanted: &'static str,
+        text: String,
+    },
+    #[error("{place}no line is KIND CORES COUNT")]
+    NoHosts {
+        place: String,
+    },
+    #[error("vm {name} is there twice: each VM needs a name of its own")]
+    SameVm {
+        name: String,
+    },
+    #[error("vm {name} fits no host, even alone: give it fewer vCPUs or a smaller share, or hosts with more cores")]
+    Misfit {
+        name: String,
+    },
+    #[error("vm {name} fits no host: no period meets its latency; give it a longer one, or a larger share")]
+    NoPeriod {
+        name: String,
+    },
+    #[error("there is no such host: the {count} hosts are counted from 0")]
+    NoSuchHost {
+        count: usize,
+    },
+    #[error("--hosts N with --cores N, or --kinds FILE, says which hosts there are")]
+    NoFleet,
+    #[error("{place}there are more than 65535 hosts")]
+    TooManyHosts {
+        place: String,
+    },
+    #[error("there are more than 16776960 VMs, which 65535 hosts of 256 vCPUs can't have")]
+    TooManyVms,
+    #[error("--host, --documents and --summary are three texts of a placing: name one")]
+    OtherTexts,
+    #[error("standard input is read once: --kinds, --stay and the sizes can't share it")]
+    InputTwice,
     #[error("{place}the text is no plan")]
     NoPlan {
         place: String,
@@ -145,7 +185,11 @@ impl Fault {
             | Fault::OtherForms
             | Fault::TextByVcpu
             | Fault::TooNarrow
-            | Fault::OldOfRun => 1,
+            | Fault::OldOfRun
+            | Fault::NoSuchHost { .. }
+            | Fault::NoFleet
+            | Fault::OtherTexts
+            | Fault::InputTwice => 1,
             Fault::Unread { .. } | Fault::ReadFault { .. } => 4,
             Fault::WriteFault => 5,
             Fault::NoMemory => 6,
@@ -187,6 +231,15 @@ impl From<SizesFault> for Fault {
         match fault {
             SizesFault::NoMemory => Fault::NoMemory,
             fault => Fault::BadSizes(fault),
+        }
+    }
+}
+
+impl From<PlaceFault> for Fault {
+    fn from(fault: PlaceFault) -> Fault {
+        match fault {
+            PlaceFault::NoMemory => Fault::NoMemory,
+            PlaceFault::NoHost(fault) => Fault::from(fault),
         }
     }
 }

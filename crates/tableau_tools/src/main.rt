@@ -8,9 +8,13 @@
 mod chart;
 mod command;
 mod diff;
+mod documents;
+mod earlier;
+mod enough;
 mod export;
 mod fault;
 mod fit;
+mod fleet;
 mod form;
 mod host;
 mod input;
@@ -19,6 +23,7 @@ mod lines;
 mod map;
 mod mistaken;
 mod output;
+mod place;
 mod plan;
 mod planned;
 mod report;
@@ -26,6 +31,7 @@ mod sections;
 mod shown;
 mod table;
 mod unkept;
+mod vms;
 
 use clap::error::ErrorKind;
 use clap::{ArgMatches, Error};
@@ -38,7 +44,7 @@ use std::thread::Threads;
 // The status of `diff` and of `judge` for a fault, since their 1 says that the plans differ, or that a promise was broken.
 const NO_ANSWER: u8 = 2;
 
-// The status of `fit` where the host has no plan, as of `tableau plan`.
+// The status of `fit` where the host has no plan, as of `tableau plan`, and of `place` where VMs are left over.
 const NO_PLAN: u8 = 3;
 
 fn main(rt: HostRuntime) -> ExitCode {
@@ -120,14 +126,16 @@ fn dispatch<T: Threads + Sync>(
         Some(("report", matches)) => report::report(rt, matches)?,
         Some(("sections", matches)) => sections::sections(rt, matches)?,
         Some(("host", matches)) => host::host(rt, matches)?,
-        Some(("fit", matches)) => return Ok(if fit::fit(rt, threads, matches)? {
-            0
-        } else {
-            NO_PLAN
-        }),
+        Some(("fit", matches)) => return Ok(status_of(fit::fit(rt, threads, matches)?)),
+        Some(("place", matches)) => return Ok(status_of(place::place_vms(rt, threads, matches)?)),
         Some(("diff", matches)) => return Ok(u8::from(diff::diff(rt, matches)?)),
         Some(("judge", matches)) => return Ok(u8::from(!judge::judge(rt, matches)?)),
         _ => {}
     }
     Ok(0)
+}
+
+// The status of `fit` and `place` by what they answer.
+fn status_of(is_planned: bool) -> u8 {
+    if is_planned { 0 } else { NO_PLAN }
 }
