@@ -27,6 +27,7 @@ unfoldable pub virsh_line : List ℕ → List ℕ → ℕ → List ℕ
 virsh_line guest number cpu = codes "virsh vcpupin " ++ (guest ++ (codes " " ++ (number ++ (codes " "
     ++ (decimal cpu ++ codes "\n")))))
 
+-- the command that pins the vCPU of this name to the CPU of its home, where core 0 is the first CPU
 abbrev pub virsh_of : ℕ → List ℕ → Task → List ℕ
 virsh_of first name t = virsh_line (guest_of name) (number_of name) (first + t.home)
 
@@ -41,6 +42,8 @@ schedinfo_line guest period budget = codes "virsh schedinfo " ++ (guest ++ (code
 unfoldable pub pin_part : List ℕ → ℕ → List ℕ
 pin_part number cpu = codes "<vcpupin vcpu='" ++ (number ++ (codes "' cpuset='" ++ (decimal cpu ++ codes "'/>")))
 
+-- the XML that pins the vCPU of this name, if it is the guest's, to the CPU of its home, where core 0 is
+-- the first CPU
 abbrev pub pin_part_of : ℕ → List ℕ → List ℕ → Task → List ℕ
 pin_part_of first guest name t =
     if bytes_eq (guest_of name) guest then pin_part (number_of name) (first + t.home) else []
@@ -69,11 +72,13 @@ libvirt_at first tick names tasks v = vcpu_text (virsh_of first) names tasks v
     ++ (if has_one_below names (guest_of (name_at names v)) v then []
     else vcpu_text (guest_lines first tick names tasks) names tasks v)
 
--- the text of a plan of these vCPUs, and of a view
+-- the text for libvirt of a plan of these vCPUs, where core 0 is the first CPU and a tick has so many
+-- nanoseconds
 abbrev pub libvirt_text_of : ℕ → ℕ → ℕ → List (List ℕ) → List Task → List ℕ
 libvirt_text_of first tick cores names tasks = LIBVIRT_HEAD.now
     ++ (made_line cores (length tasks) tick first
     ++ texts_below (libvirt_at first tick names tasks) (length tasks))
 
+-- the text for libvirt of the plan that a view shows
 abbrev pub libvirt_text : ℕ → ℕ → View → List ℕ
 libvirt_text first tick view = libvirt_text_of first tick view.cores view.names.items view.tasks.items

@@ -44,7 +44,7 @@ rtds_line guest number period budget extra = codes "xl sched-rtds -d " ++ (guest
     ++ (number ++ (codes " -p " ++ (decimal period ++ (codes " -b " ++ (decimal budget
     ++ (codes " -e " ++ (decimal extra ++ codes "\n")))))))))
 
--- whether unused time is taken
+-- what the command says of unused time: 0 for a capped vCPU, which takes none, else 1
 abbrev pub extra_of : Bool → ℕ
 extra_of true = 0
 extra_of false = 1
@@ -55,11 +55,13 @@ rtds_of first tick host name t = pin_line (guest_of name) (number_of name) (firs
     ++ rtds_line (guest_of name) (number_of name) (period_in Rtds tick t) (budget_in Rtds tick t)
     (extra_of (is_capped host name))
 
--- the text for Xen's RTDS, of a plan of these vCPUs, and of a view
+-- the text for Xen's RTDS of a plan of these vCPUs, where core 0 is the first CPU and a tick has so many
+-- nanoseconds
 abbrev pub rtds_text_of : ℕ → ℕ → List Vcpu → ℕ → List (List ℕ) → List Task → List ℕ
 rtds_text_of first tick host cores names tasks = RTDS_HEAD.now ++ (made_line cores (length tasks) tick first
     ++ texts_below (vcpu_text (rtds_of first tick host) names tasks) (length tasks))
 
+-- the text for Xen's RTDS of the plan that a view shows
 abbrev pub rtds_text : ℕ → ℕ → List Vcpu → View → List ℕ
 rtds_text first tick host view =
     rtds_text_of first tick host view.cores view.names.items view.tasks.items
@@ -83,14 +85,16 @@ chrt_line period budget = codes "chrt --deadline --sched-runtime " ++ (decimal b
     ++ (codes " --sched-deadline " ++ (decimal period ++ (codes " --sched-period " ++ (decimal period
     ++ codes " --pid 0 \"$task\"\n")))))
 
+-- the lines that make the thread of the vCPU of this name a deadline task on the CPU of its home
 abbrev pub deadline_of : Scheduler → ℕ → ℕ → List ℕ → Task → List ℕ
 deadline_of s first tick name t = into_line (guest_of name) (number_of name) (first + t.home)
     ++ chrt_line (period_in s tick t) (budget_in s tick t)
 
--- the CPUs of the cores
+-- the CPU that a core is, after a space
 abbrev pub cpu_word : ℕ → ℕ → List ℕ
 cpu_word first core = codes " " ++ decimal (first + core)
 
+-- the line that names the CPUs of so many cores, from the first CPU on
 abbrev pub cpus_line : ℕ → ℕ → List ℕ
 cpus_line first cores = codes "cpus=\"" ++ (texts_below (cpu_word first) cores ++ codes "\"\n")
 
@@ -101,12 +105,14 @@ admitted Deadline = ADMITTED.now
 admitted FullDeadline = ADMIT_ALL.now
 admitted Quota = ADMITTED.now
 
--- the text for deadline tasks, of a plan of these vCPUs, and of a view
+-- the text for deadline tasks of a plan of these vCPUs, where core 0 is the first CPU and a tick has so many
+-- nanoseconds
 abbrev pub deadline_text_of : Scheduler → ℕ → ℕ → ℕ → List (List ℕ) → List Task → List ℕ
 deadline_text_of s first tick cores names tasks = shell_head DEADLINE_HEAD.now
     ++ (made_line cores (length tasks) tick first ++ (admitted s ++ (cpus_line first cores ++ (PARTITIONS.now
     ++ texts_below (vcpu_text (deadline_of s first tick) names tasks) (length tasks)))))
 
+-- the text for deadline tasks of the plan that a view shows
 abbrev pub deadline_text : Scheduler → ℕ → ℕ → View → List ℕ
 deadline_text s first tick view =
     deadline_text_of s first tick view.cores view.names.items view.tasks.items

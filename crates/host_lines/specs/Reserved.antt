@@ -18,12 +18,14 @@ abbrev pub is_capped : List Vcpu → List ℕ → Bool
 is_capped [] name = false
 is_capped (vcpu ∷ vcpus) name = if bytes_eq vcpu.name name then vcpu.capped else is_capped vcpus name
 
--- a budget in each period keeps a reservation: it is the share of the period, and what it leaves of two periods
--- is within the latency, where the scheduler bounds waits
+-- a budget in each period, in the scheduler's unit of time, keeps a latency in nanoseconds: what it leaves of
+-- two periods is within it, where the scheduler bounds waits
 abbrev pub is_wait_kept : Scheduler → ℕ → ℕ → ℕ → Bool
 is_wait_kept s period budget latency = not (bounds_wait s)
     || nat_le (unit_of s * ((period - budget) + (period - budget))) latency
 
+-- a budget in each period, in the scheduler's unit of time, keeps a reservation: its share, and its latency
+-- where the scheduler bounds waits
 abbrev pub is_kept : Scheduler → ℕ → ℕ → Reservation → Bool
 is_kept s period budget r = nat_le (r.share_ppm * period) (WHOLE_PPM * budget)
     && is_wait_kept s period budget r.latency_ns

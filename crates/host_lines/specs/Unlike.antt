@@ -12,11 +12,12 @@ use Rattle.host_lines.specs.Budgets.{budget_in, period_in}
 use Rattle.host_lines.specs.Guests.{guest_of}
 use Rattle.host_lines.specs.Unkept.{first_below}
 
--- two have different periods or quotas
+-- two tasks would have different periods or quotas, where a tick has so many nanoseconds
 abbrev pub is_unlike : ℕ → Task → Task → Bool
 is_unlike tick one other = not (period_in Quota tick one == period_in Quota tick other)
     || not (budget_in Quota tick one == budget_in Quota tick other)
 
+-- both vCPUs have lines in the plan, and would have different periods or quotas
 abbrev pub are_unlike : ℕ → Option Task → Option Task → Bool
 are_unlike tick None other = false
 are_unlike tick (Some one) None = false

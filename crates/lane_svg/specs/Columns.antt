@@ -20,6 +20,7 @@ abbrev pub level_box : ℕ → ℕ → ℕ → ℕ → List ℕ
 level_box foot low top j =
     if nat_lt low top then box_path (9400 + j * 513) (foot - top) (9400 + j * 513 + 513) (foot - low) else []
 
+-- the box of a vCPU's ticks in the column of a number: from the level of the lower vCPUs to its own
 abbrev pub column_box : Frame → ℕ → ℕ → List Bar → ℕ → ℕ → List ℕ
 column_box f y high bars v j =
     level_box (y + high) (level_of f high bars v j) (level_of f high bars (v + 1) j) j

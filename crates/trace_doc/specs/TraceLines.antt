@@ -26,6 +26,7 @@ pub record Fields : Type 0 where
   pub state : List ℕ
   pub cpu : Option (List ℕ)
 
+-- the fields of a line in their order, three or four
 abbrev pub field_list : Fields → List (List ℕ)
 field_list fields = fields.time ∷ fields.name ∷ fields.state ∷ option_to_list fields.cpu
 

@@ -27,6 +27,7 @@ end_of marks = latest 0 marks
 
 -- ---- one vCPU
 
+-- the vCPU that a mark names, if it is one of the host's, has this number
 abbrev pub is_vcpu : ℕ → Option ℕ → Bool
 is_vcpu vcpu None = false
 is_vcpu vcpu (Some other) = other == vcpu

@@ -41,11 +41,12 @@ slots_from None tolds = []
 slots_from (Some place) [] = []
 slots_from (Some place) (told ∷ tolds) = slots_in place told ++ slots_from (place_behind place told) tolds
 
--- how many cores the last head counts, and so many without one
+-- how many cores the last head counts after this line, and so many without one
 abbrev pub cores_behind : ℕ → Told → ℕ
 cores_behind cores (head more vcpus) = more
 cores_behind cores _ = cores
 
+-- how many cores the last head of these lines counts, and so many without one
 abbrev pub cores_after : ℕ → List Told → ℕ
 cores_after cores [] = cores
 cores_after cores (told ∷ tolds) = cores_after (cores_behind cores told) tolds

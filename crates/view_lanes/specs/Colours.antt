@@ -28,10 +28,11 @@ runs_on stretches core v = list_any (λ s. (s.core == core) && has_it s.by v) st
 abbrev pub stands_on : List Stretch → List Task → ℕ → ℕ → Bool
 stands_on stretches tasks core v = runs_on stretches core v || is_home (slice_get tasks v) core
 
--- two are on one core, of those below a number
+-- one of the cores below a number has both vCPUs
 abbrev pub meets_below : (ℕ → ℕ → Bool) → ℕ → ℕ → ℕ → Bool
 meets_below on u v cores = any_below (λ core. on core u && on core v) cores
 
+-- some core has both vCPUs
 abbrev pub meets : (ℕ → ℕ → Bool) → ℕ → ℕ → Bool
 meets on u v = meets_below on u v MAX_CORES
 
@@ -75,10 +76,11 @@ abbrev pub twice_below : (ℕ → Bool) → ℕ → Bool
 twice_below test zero = false
 twice_below test (suc n) = twice_below test n || (test n && any_below test n)
 
--- the vCPU has slots on several cores of the plan
+-- the vCPU has a slot on the core
 abbrev pub stands_at : Figures → ℕ → ℕ → Bool
 stands_at figures v core = slice_index_or figures.stands.items (v * MAX_CORES + core) false
 
+-- the vCPU has slots on several cores of the plan
 abbrev pub is_split : Figures → ℕ → Bool
 is_split figures v = twice_below (stands_at figures v) MAX_CORES
 

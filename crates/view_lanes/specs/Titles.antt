@@ -25,11 +25,11 @@ head_of f stretches cores vcpus lanes = record {
   picture = f.picture;
 }
 
--- more than one
+-- the letter of a plural, where there are more than one
 abbrev pub plural : ℕ → List ℕ
 plural n = if n == 1 then [] else codes "s"
 
--- what it is
+-- what is shown, a plan or a run
 abbrev pub kind_word : Bool → List ℕ
 kind_word false = codes "Plan"
 kind_word true = codes "Run"
@@ -39,10 +39,12 @@ abbrev pub lanes_word : Bool → List ℕ
 lanes_word false = []
 lanes_word true = codes ", by vCPU"
 
+-- the title of a plan or a run of so many cores and vCPUs, each count with its letter of a plural
 unfoldable pub title_of : List ℕ → ℕ → List ℕ → ℕ → List ℕ → List ℕ
 title_of kind cores many vcpus more = kind ++ (codes " of " ++ (decimal cores ++ (codes " core" ++ (many
     ++ (codes ", " ++ (decimal vcpus ++ (codes " vCPU" ++ more)))))))
 
+-- the title up to the count of vCPUs
 abbrev pub kind_text : Head → List ℕ
 kind_text h = title_of (kind_word h.is_run) h.cores (plural h.cores) h.vcpus (plural h.vcpus)
 
@@ -51,10 +53,12 @@ unfoldable pub counts_of : ℕ → List ℕ → ℕ → List ℕ → List ℕ
 counts_of rounds many stints more = codes ", " ++ (decimal rounds ++ (codes " round" ++ (many ++ (codes ", "
     ++ (decimal stints ++ (codes " stint" ++ more))))))
 
+-- how many rounds and stints a run has; nothing of a plan
 abbrev pub counts_text : Bool → ℕ → ℕ → List ℕ
 counts_text false rounds stints = []
 counts_text true rounds stints = counts_of rounds (plural rounds) stints (plural stints)
 
+-- the whole title: what is shown, its counts, and whose the lanes are
 abbrev pub title_text : Head → List ℕ
 title_text h = kind_text h ++ (counts_text h.is_run h.rounds h.stints ++ lanes_word h.by_vcpu)
 
@@ -73,8 +77,10 @@ abbrev pub lanes_note : Bool → List ℕ
 lanes_note false = codes ". A line is the longest wait for a slot; right of it how long that is."
 lanes_note true = codes ". The lanes are the vCPUs', the boxes the cores'."
 
+-- the end of the line below the title: what is on the lanes of vCPUs, or how much of the lanes vCPUs have
 abbrev pub sub_end : Head → List ℕ
 sub_end h = if h.by_vcpu then lanes_note h.is_run else share_text h.share
 
+-- the line below the title: which ticks are shown, how long they last, and what of them
 abbrev pub sub_text : Head → List ℕ
 sub_text h = ticks_text h.from h.to h.lasting ++ sub_end h

@@ -22,11 +22,12 @@ given_below tasks n = sum_where each (λ v. share_in (slice_get tasks v)) n
 abbrev pub asked_below : List Vcpu → List (List ℕ) → ℕ → ℕ
 asked_below vcpus names n = sum_where each (λ v. ppm_of (asked_at vcpus names v)) n
 
--- the host admits a vCPU of the name of this number
+-- something was reserved
 abbrev pub is_asked : Option Reservation → Bool
 is_asked None = false
 is_asked (Some r) = true
 
+-- the host admits a vCPU of the name of this number
 abbrev pub is_admitted : List Vcpu → List (List ℕ) → ℕ → Bool
 is_admitted vcpus names v = is_asked (asked_at vcpus names v)
 
@@ -68,6 +69,7 @@ total_of (Some vcpus) tick names tasks slots cores =
     (count_where (has_all tick vcpus names tasks slots) (length tasks))
     (count_where (is_admitted vcpus names) (length tasks))
 
+-- the line of totals of a view
 abbrev pub total_text : Option (List Vcpu) → ℕ → View → List ℕ
 total_text host tick view =
     total_of host tick view.names.items view.tasks.items view.slots.items view.cores
