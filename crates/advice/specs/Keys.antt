@@ -51,6 +51,7 @@ is_two None = false
 is_two (Some (pos n)) = n == 2
 is_two (Some other) = false
 
+-- a host document of these members says that it is of format 2
 abbrev pub is_second : Members → Bool
 is_second members = is_two (option_and_then as_integer (get_member (codes "format") members))
 

@@ -19,6 +19,7 @@ rest_of_quote bytes = flat_map shown_byte (take 60 bytes) ++ end_of_quote bytes
 abbrev pub quoted : List ℕ → List ℕ
 quoted bytes = codes "'" ++ rest_of_quote bytes
 
+-- the bytes that a part of an advice writes
 abbrev pub part_text : Part → List ℕ
 part_text (Text bytes) = bytes.now
 part_text (Number n) = decimal n

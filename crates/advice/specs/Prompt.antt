@@ -17,6 +17,7 @@ typed_text words = flat_map spaced words ++ codes " < FILE\n"
 abbrev pub ending_text : List (List ℕ) → List ℕ
 ending_text words = codes "tableau: end the input with Ctrl-D, or use: tableau" ++ typed_text words
 
+-- the prompt of a command of these words that reads these texts from a terminal
 abbrev pub asking_text : List (List ℕ) → List ℕ → List ℕ
 asking_text words input = reading_text input ++ ending_text words
 
