@@ -34,6 +34,7 @@ actor_in (Some m) = Some m.actor
 abbrev pub actor_of : CrewView → ℕ → Option LiveActorView
 actor_of crew c = actor_in (slice_get crew.members c)
 
+-- the planner of a crew
 abbrev pub planner_of : CrewView → PlannerView
 planner_of crew = crew.maker.planner
 
