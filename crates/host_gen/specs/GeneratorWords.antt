@@ -22,10 +22,10 @@ unfoldable pub state_at : ℕ → ℕ → ℕ
 state_at seed zero = state_of_seed seed
 state_at seed (suc number) = state_after (state_after (state_at seed number))
 
--- its first word
+-- the first of the two words of the vCPU of this number
 abbrev pub first_word : ℕ → ℕ → ℕ
 first_word seed number = word_of (state_at seed number)
 
--- its second word
+-- the second of the two words of the vCPU of this number
 abbrev pub second_word : ℕ → ℕ → ℕ
 second_word seed number = word_of (state_after (state_at seed number))

@@ -8,7 +8,7 @@ use Rattle.trace_doc.specs.declared.mark.State.TheVariants.{Run, Wait, Block}
 use Rattle.trace_judge.specs.Courses.{Course, time_between}
 use Rattle.trace_judge.specs.declared.report.LeastShare.{LeastShare}
 
--- it runs or waits to
+-- a vCPU in this state runs or waits to run
 abbrev pub is_runnable : Option State → Bool
 is_runnable (Some Run) = true
 is_runnable (Some Wait) = true
