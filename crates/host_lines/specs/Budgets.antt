@@ -83,7 +83,7 @@ period_in s tick t = periods_of s (rounded_cost s tick t) * rounded_period s tic
 abbrev pub budget_in : Scheduler → ℕ → Task → ℕ
 budget_in s tick t = periods_of s (rounded_cost s tick t) * rounded_cost s tick t
 
--- its cost is at least a tick and at most its period, and its period at most a round
+-- a task's cost is at least a tick and at most its period, and its period at most a round
 abbrev pub is_task : Task → Bool
 is_task t = nat_le 1 t.cost && (nat_le t.cost t.period && nat_le t.period ROUND)
 

@@ -31,7 +31,7 @@ virsh_line guest number cpu = codes "virsh vcpupin " ++ (guest ++ (codes " " ++ 
 abbrev pub virsh_of : ℕ → List ℕ → Task → List ℕ
 virsh_of first name t = virsh_line (guest_of name) (number_of name) (first + t.home)
 
--- each vCPU of the guest gets no more than this budget in each period, in microseconds
+-- each vCPU of a guest gets no more than this budget in each period, in microseconds
 unfoldable pub schedinfo_line : List ℕ → ℕ → ℕ → List ℕ
 schedinfo_line guest period budget = codes "virsh schedinfo " ++ (guest ++ (codes " --set vcpu_period="
     ++ (decimal period ++ (codes " vcpu_quota=" ++ (decimal budget ++ codes "\n")))))

@@ -38,7 +38,8 @@ unfoldable pub pin_line : List ℕ → List ℕ → ℕ → List ℕ
 pin_line guest number cpu = codes "xl vcpu-pin " ++ (guest ++ (codes " " ++ (number ++ (codes " "
     ++ (decimal cpu ++ (codes " " ++ (decimal cpu ++ codes "\n")))))))
 
--- it has this period and this budget, in microseconds, and takes unused time or doesn't
+-- the vCPU of this number of a guest has this period and this budget, in microseconds, and takes unused time
+-- or doesn't
 unfoldable pub rtds_line : List ℕ → List ℕ → ℕ → ℕ → ℕ → List ℕ
 rtds_line guest number period budget extra = codes "xl sched-rtds -d " ++ (guest ++ (codes " -v "
     ++ (number ++ (codes " -p " ++ (decimal period ++ (codes " -b " ++ (decimal budget
@@ -79,7 +80,7 @@ unfoldable pub into_line : List ℕ → List ℕ → ℕ → List ℕ
 into_line guest number cpu = codes "into " ++ (guest ++ (codes " " ++ (number ++ (codes " "
     ++ (decimal cpu ++ codes "\n")))))
 
--- it gets this budget in each period, in nanoseconds
+-- a vCPU's thread gets this budget in each period, in nanoseconds
 unfoldable pub chrt_line : ℕ → ℕ → List ℕ
 chrt_line period budget = codes "chrt --deadline --sched-runtime " ++ (decimal budget
     ++ (codes " --sched-deadline " ++ (decimal period ++ (codes " --sched-period " ++ (decimal period

@@ -15,7 +15,8 @@ unfoldable pub own_lines : List ℕ → List ℕ → ℕ → List ℕ
 own_lines guest number cpu = codes "vcpu " ++ (guest ++ (codes " " ++ (number ++ (codes "\necho "
     ++ (decimal cpu ++ codes " > \"$own/cpuset.cpus\"\n")))))
 
--- it gets no more than this budget in each period, in microseconds, and weighs so much beside others
+-- a vCPU's group gets no more than this budget in each period, in microseconds, and weighs so much beside
+-- others
 unfoldable pub max_lines : ℕ → ℕ → ℕ → List ℕ
 max_lines period budget weight = codes "echo " ++ (decimal budget ++ (codes " " ++ (decimal period
     ++ (codes " > \"$own/cpu.max\"\necho " ++ (decimal weight ++ codes " > \"$own/cpu.weight\"\n")))))

@@ -8,12 +8,12 @@ use Rattle.tab_core.specs.declared.vcpu.Vcpu.{Vcpu}
 use Rattle.host_lines.specs.declared.scheduler.Scheduler.{Scheduler}
 use Rattle.host_lines.specs.Budgets.{bounds_wait, unit_of}
 
--- what it has reserved, if one of this name is admitted
+-- what the host's vCPU of this name has reserved, if one of this name is admitted
 abbrev pub reserved_of : List Vcpu → List ℕ → Option Reservation
 reserved_of [] name = None
 reserved_of (vcpu ∷ vcpus) name = if bytes_eq vcpu.name name then vcpu.reservation else reserved_of vcpus name
 
--- whether it is capped
+-- the host's vCPU of this name is capped
 abbrev pub is_capped : List Vcpu → List ℕ → Bool
 is_capped [] name = false
 is_capped (vcpu ∷ vcpus) name = if bytes_eq vcpu.name name then vcpu.capped else is_capped vcpus name

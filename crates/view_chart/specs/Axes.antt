@@ -106,6 +106,6 @@ tick_axis_of f y marks = texts_below (tick_number f y) marks ++ ticks_word y
 abbrev pub tick_axis : Frame → ℕ → List ℕ
 tick_axis f foot = tick_axis_of f (foot + 1300) (end_tick f - first_tick f)
 
--- both axes of lanes that end there
+-- the axis of time and the axis of ticks, of lanes that end there
 abbrev pub axis_text : Frame → ℕ → List ℕ
 axis_text f foot = time_axis f foot ++ tick_axis f foot

@@ -100,6 +100,6 @@ abbrev pub legend_text : Frame → ℕ → List (List ℕ) → List Task → Lis
 legend_text f foot names tasks colours lanes = texts_below (head_at f foot tasks) (min (listed_in lanes names) 4)
     ++ texts_below (listed_at f.tick foot names tasks colours lanes) (length names)
 
--- where it ends: below its last row
+-- where the list of so many keys ends, below its last row
 abbrev pub end_of : ℕ → ℕ → ℕ
 end_of foot count = foot + 5500 + (count + 3) / 4 * 1400

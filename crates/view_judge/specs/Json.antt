@@ -11,7 +11,7 @@ use Rattle.view_judge.specs.Verdicts.{is_kept}
 
 -- ---- the members of a vCPU's object
 
--- its name, and how long it was in each state
+-- the members of a vCPU's name, and of how long it was in each state
 unfoldable pub times_text : List ℕ → VcpuReport → List ℕ
 times_text name report = codes "{\"name\":\"" ++ (name ++ (codes "\",\"run_ns\":" ++ (decimal report.run_ns
     ++ (codes ",\"wait_ns\":" ++ (decimal report.wait_ns ++ (codes ",\"block_ns\":" ++ (decimal report.block_ns

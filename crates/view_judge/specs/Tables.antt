@@ -126,7 +126,7 @@ abbrev pub lines_text : Report → List ℕ
 lines_text report = count_text shared_kind report.shared ++ (count_text doubled_kind report.doubled
     ++ (count_text fall_kind report.falls ++ count_text unknown_kind report.unknown))
 
--- both tables, with names in a column of a width
+-- the tables of shares and of waits, with names in a column of so many bytes
 abbrev pub rows_text : ℕ → List Vcpu → List VcpuReport → List ℕ
 rows_text width vcpus reports = share_head width ++ (texts_below (share_row width vcpus reports) (length reports)
     ++ (wait_head width ++ texts_below (wait_row width vcpus reports) (length reports)))

@@ -76,13 +76,13 @@ json_shares name asked t = codes "{\"name\":\"" ++ (name
     ++ (codes "\",\"asked_ppm\":" ++ (number_or (codes "null") (share_or asked)
     ++ (codes ",\"given_ppm\":" ++ (decimal (share_of t) ++ codes ",")))))
 
--- its period, its longest wait, and the latency that it was promised
+-- a vCPU's period, its longest wait, and the latency that it was promised, in nanoseconds
 unfoldable pub json_times : ℕ → Option Reservation → Task → ℕ → List ℕ
 json_times tick asked t wait = codes "\"period_ns\":" ++ (decimal (t.period * tick)
     ++ (codes ",\"wait_ns\":" ++ (number_or (codes "null") (wait_or tick wait)
     ++ (codes ",\"promised_ns\":" ++ (number_or (codes "null") (latency_or asked) ++ codes ",")))))
 
--- whether it has what it was promised, and its home
+-- whether a vCPU has what it was promised, and its home
 unfoldable pub json_home : ℕ → Option Reservation → Task → ℕ → List ℕ
 json_home tick asked t wait = codes "\"kept\":" ++ (json_kept tick asked (share_of t) wait
     ++ (codes ",\"home\":" ++ (decimal t.home ++ codes ",\"cores\":[")))
@@ -133,12 +133,12 @@ unfoldable pub csv_shares : List ℕ → Option Reservation → Task → List �
 csv_shares name asked t = name ++ (codes "," ++ (number_or [] (share_or asked)
     ++ (codes "," ++ (decimal (share_of t) ++ codes ","))))
 
--- its period, its longest wait, and the latency that it was promised
+-- a vCPU's period, its longest wait, and the latency that it was promised, in nanoseconds
 unfoldable pub csv_times : ℕ → Option Reservation → Task → ℕ → List ℕ
 csv_times tick asked t wait = decimal (t.period * tick) ++ (codes "," ++ (number_or [] (wait_or tick wait)
     ++ (codes "," ++ (number_or [] (latency_or asked) ++ codes ","))))
 
--- whether it has what it was promised, and its home
+-- whether a vCPU has what it was promised, and its home
 unfoldable pub csv_home : ℕ → Option Reservation → Task → ℕ → List ℕ
 csv_home tick asked t wait = csv_kept tick asked (share_of t) wait
     ++ (codes "," ++ (decimal t.home ++ codes ","))

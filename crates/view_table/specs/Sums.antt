@@ -29,7 +29,8 @@ same_share old new v w = share_in (slice_get old.tasks.items v) == share_in (sli
 abbrev pub same_wait : View → View → ℕ → ℕ → Bool
 same_wait old new v w = wait_of old.slots.items v == wait_of new.slots.items w
 
--- this of the one is another of the other
+-- by the matter, the home, the share or the wait of a vCPU of the old plan and of one of the new plan differ,
+-- or any of them
 abbrev pub is_other : Matter → View → View → ℕ → ℕ → Bool
 is_other Home old new v w = not (same_home old new v w)
 is_other Share old new v w = not (same_share old new v w)
@@ -43,18 +44,19 @@ is_any Share = false
 is_any Wait = false
 is_any Any = true
 
--- this of a vCPU of the old plan is another in the new plan, where it has this number or is gone
+-- the home, the share or the wait of a vCPU of the old plan is another in the new plan, where the vCPU has
+-- this number or is gone
 abbrev pub changed_to : Matter → View → View → ℕ → Option ℕ → Bool
 changed_to matter old new v None = is_any matter
 changed_to matter old new v (Some w) = is_other matter old new v w
 
--- this of the old plan's vCPU of a number is another in the new plan
+-- the home, the share or the wait of the old plan's vCPU of a number is another in the new plan
 abbrev pub is_changed : Matter → View → View → ℕ → Bool
 is_changed matter old new v = changed_to matter old new v (number_in new (name_at old.names.items v))
 
 -- ---- VMs
 
--- this is another of the vCPU, which is one of the VM's
+-- the vCPU is one of the VM's, and its home, share or wait is another
 abbrev pub changes_there : Matter → View → View → List ℕ → ℕ → Bool
 changes_there matter old new vm v = is_of old.names.items vm v && is_changed matter old new v
 
@@ -66,7 +68,7 @@ vm_at view v = vm_of (name_at view.names.items v)
 abbrev pub is_first : View → ℕ → Bool
 is_first view v = not (any_below (is_of view.names.items (vm_at view v)) v)
 
--- it is, and this of one of the VM's vCPUs is another
+-- the vCPU is the first of its VM, and one of the VM's vCPUs has another home, share or wait
 abbrev pub vm_changes : Matter → View → View → ℕ → Bool
 vm_changes matter old new v =
     is_first old v && any_below (changes_there matter old new (vm_at old v)) (length old.tasks.items)
@@ -80,11 +82,11 @@ sum_line count what homes shares waits changed = codes "total: of " ++ (count_ce
     ++ (codes " another share, " ++ (count_cell 0 waits ++ (codes " another wait; "
     ++ (count_cell 0 (count - changed) ++ codes " stayed\n")))))))))
 
--- how many vCPUs of the old plan are changed in this
+-- how many vCPUs of the old plan have another home, share or wait
 abbrev pub changed_below : Matter → View → View → ℕ
 changed_below matter old new = count_where (is_changed matter old new) (length old.tasks.items)
 
--- how many VMs of the old plan have a vCPU that is changed in this
+-- how many VMs of the old plan have a vCPU with another home, share or wait
 abbrev pub vms_changed : Matter → View → View → ℕ
 vms_changed matter old new = count_where (vm_changes matter old new) (length old.tasks.items)
 

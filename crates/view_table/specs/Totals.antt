@@ -31,7 +31,7 @@ is_asked (Some r) = true
 abbrev pub is_admitted : List Vcpu → List (List ℕ) → ℕ → Bool
 is_admitted vcpus names v = is_asked (asked_at vcpus names v)
 
--- it is admitted, and has what it was promised
+-- the vCPU of a number is admitted, and has what it was promised
 abbrev pub has_all : ℕ → List Vcpu → List (List ℕ) → List Task → List Stretch → ℕ → Bool
 has_all tick vcpus names tasks slots v =
     is_admitted vcpus names v && not (is_broken tick vcpus names tasks slots v)
