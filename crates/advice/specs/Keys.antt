@@ -34,7 +34,7 @@ abbrev pub member_at : ℕ → Members → Option Members
 member_at number members = option_and_then as_table (option_and_then (get_item number)
     (option_and_then as_array (get_member (codes "vcpu") members)))
 
--- its name, where that is a text
+-- the name of the vCPU of a number in a host document, where it is a text
 abbrev pub name_at : ℕ → Members → Option (List ℕ)
 name_at number members = option_and_then as_str
     (option_and_then (get_member (codes "name")) (member_at number members))

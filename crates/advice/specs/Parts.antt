@@ -26,7 +26,7 @@ part_text (Number n) = decimal n
 part_text (Wide n) = decimal n
 part_text (Quoted bytes) = quoted bytes.now
 
--- such a word or line where there is one
+-- a word or a line in quotes, where there is one
 abbrev pub quote_of : Option (List ℕ) → List ℕ
 quote_of None = []
 quote_of (Some bytes) = quoted bytes

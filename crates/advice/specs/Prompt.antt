@@ -5,7 +5,7 @@ use Rattle.tab_words.specs.declared.command.Command.{Command}
 use Rattle.tab_words.specs.declared.command.Command.TheVariants.{Plan, PlanStay, PlanWhole, Check, Replay, Run}
 use Rattle.advice.specs.Usage.{spaced}
 
--- these texts are read
+-- the line that says which texts are read
 abbrev pub reading_text : List ℕ → List ℕ
 reading_text input = codes "tableau: reading " ++ (input ++ codes " from the terminal\n")
 

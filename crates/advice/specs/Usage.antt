@@ -103,7 +103,7 @@ abbrev pub shell_text : List (List ℕ) → List ℕ → List ℕ
 shell_text front word = codes "tableau: a file goes to standard input: tableau"
     ++ (flat_map spaced front ++ file_text front word)
 
--- there is a word
+-- some word is right
 abbrev pub is_begun : List (List ℕ) → Bool
 is_begun [] = false
 is_begun (word ∷ words) = true
@@ -115,14 +115,14 @@ hint_text front word = if is_begun front
     else (if read_behind front then shell_text front word else []))
     else []
 
--- this word is wrong after those
+-- the advice on a word at this place that is wrong after the words before it
 abbrev pub found_text : List (List ℕ) → List ℕ → ℕ → List ℕ
 found_text front word place = codes "tableau: word "
     ++ (decimal place ++ (codes ", " ++ (quoted word
     ++ (codes ", isn't " ++ (name_text (wanted_behind front) (codes "expected")
     ++ (codes ": " ++ (wanted_text (wanted_behind front) ++ codes "\n")))))))
 
--- a word is missing after those
+-- the advice on words after which one is missing
 abbrev pub missing_text : List (List ℕ) → List ℕ
 missing_text front = codes "tableau: "
     ++ (name_text (wanted_behind front) (codes "a word")
