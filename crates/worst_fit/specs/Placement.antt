@@ -15,7 +15,7 @@ least_load [] = 0
 least_load (load ∷ []) = load
 least_load (load ∷ next ∷ loads) = min load (least_load (next ∷ loads))
 
--- the lowest core that has it
+-- the lowest core of least load
 abbrev pub least_core : List ℕ → ℕ
 least_core [] = 0
 least_core (load ∷ []) = 0
