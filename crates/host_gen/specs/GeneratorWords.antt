@@ -13,7 +13,7 @@ state_of_seed seed = from_le_bytes w64 (to_le_bytes w64 seed)
 unfoldable pub word_of : ℕ → ℕ
 word_of state = (mix_u64 state).0
 
--- the state after it
+-- the state of the generator after it gave a word
 unfoldable pub state_after : ℕ → ℕ
 state_after state = (mix_u64 state).1
 

@@ -15,7 +15,7 @@ Line = List (List ℕ)
 abbrev pub key_words : List ℕ → List ℕ → Line
 key_words key value = key ∷ codes "=" ∷ value ∷ []
 
--- between quotation marks
+-- a text between quotation marks
 abbrev pub quoted : List ℕ → List ℕ
 quoted text = 34 ∷ (text ++ 34 ∷ [])
 

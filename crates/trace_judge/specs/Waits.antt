@@ -5,7 +5,7 @@ use Rattle.trace_doc.specs.declared.mark.State.TheVariants.{Wait}
 use Rattle.trace_judge.specs.Courses.{Course, is_in}
 use Rattle.trace_judge.specs.declared.report.LongestWait.{LongestWait}
 
--- how long it has been waiting without an end when a time comes
+-- how many ns a vCPU has been waiting without an end when a time comes
 abbrev pub waited : Course → ℕ → ℕ
 waited course zero = 0
 waited course (suc t) = if is_in Wait (course t) then waited course t + 1 else 0

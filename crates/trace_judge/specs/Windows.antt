@@ -20,7 +20,7 @@ pub record IsWindow (course : Course) (window time start : ℕ) : Type 0 where
   pub within : start + window ≤ time
   pub runnable : (t : ℕ) → start ≤ t → t < start + window → is_runnable (course t) ≡ true
 
--- how long it runs in the window
+-- how many ns a vCPU runs in the window
 abbrev pub run_in : Course → ℕ → ℕ → ℕ
 run_in course window start = time_between course Run start (start + window)
 
