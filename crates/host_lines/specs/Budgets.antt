@@ -110,7 +110,7 @@ weight_of t = if t.period == 0 then 1 else div_ceil (t.cost * 10000) t.period
 abbrev pub part_of : ℕ → ℕ → ℕ
 part_of period budget = (budget * PARTS + (period - 1)) / period
 
--- the parts of its home that a task is given there
+-- the parts of the core that a task is given there, if it is the task's home
 abbrev pub part_on : Scheduler → ℕ → ℕ → Task → ℕ
 part_on s tick core t = if (t.home == core) && is_taken s tick t
     then part_of (period_in s tick t) (budget_in s tick t) else 0

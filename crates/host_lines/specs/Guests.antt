@@ -34,6 +34,6 @@ is_number word = (nat_le 1 (length word) && list_all is_digit word)
 abbrev pub is_guest : List ℕ → Bool
 is_guest word = nat_le 1 (length word) && not (slice_index word 0 == 45)
 
--- the name has both
+-- the name of a vCPU has a guest and a number
 abbrev pub has_guest : List ℕ → Bool
 has_guest name = is_guest (guest_of name) && is_number (number_of name)

@@ -38,7 +38,7 @@ schedinfo_line guest period budget = codes "virsh schedinfo " ++ (guest ++ (code
 
 -- ---- XML
 
--- the vCPU's CPU, if it is this guest's
+-- the XML that pins the vCPU of this number to this CPU
 unfoldable pub pin_part : List ℕ → ℕ → List ℕ
 pin_part number cpu = codes "<vcpupin vcpu='" ++ (number ++ (codes "' cpuset='" ++ (decimal cpu ++ codes "'/>")))
 
@@ -48,7 +48,7 @@ abbrev pub pin_part_of : ℕ → List ℕ → List ℕ → Task → List ℕ
 pin_part_of first guest name t =
     if bytes_eq (guest_of name) guest then pin_part (number_of name) (first + t.home) else []
 
--- the period and the quota
+-- the XML of the period and the quota, in microseconds, which ends the comment
 unfoldable pub quota_part : ℕ → ℕ → List ℕ
 quota_part period budget = codes "<period>" ++ (decimal period ++ (codes "</period><quota>"
     ++ (decimal budget ++ codes "</quota></cputune>\n")))
@@ -60,7 +60,7 @@ cputune_line first names tasks guest period budget = codes "# <cputune>"
 
 -- ---- all
 
--- what is said of the guest of a vCPU, by that vCPU
+-- the lines of a guest, by its first vCPU
 abbrev pub guest_lines : ℕ → ℕ → List (List ℕ) → List Task → List ℕ → Task → List ℕ
 guest_lines first tick names tasks name t =
     schedinfo_line (guest_of name) (period_in Quota tick t) (budget_in Quota tick t)

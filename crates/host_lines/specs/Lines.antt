@@ -16,7 +16,8 @@ use Rattle.host_lines.specs.Reserved.{is_capped}
 
 -- ---- what it is made from
 
--- the comment that says so, for so many cores and vCPUs, and with the CPU that core 0 is
+-- the comment that says for what the lines were made: so many cores and vCPUs, the tick, and the CPU that
+-- core 0 is
 unfoldable pub made_line : ℕ → ℕ → ℕ → ℕ → List ℕ
 made_line cores vcpus tick first = codes "# The plan has " ++ (decimal cores ++ (codes " cores and "
     ++ (decimal vcpus ++ (codes " vCPUs, in ticks of " ++ (decimal tick ++ (codes " ns. Its core 0 is CPU "
@@ -50,7 +51,7 @@ abbrev pub extra_of : Bool → ℕ
 extra_of true = 0
 extra_of false = 1
 
--- the lines of a vCPU, of a host with a tick of so many nanoseconds, where core 0 is the first CPU
+-- the lines of a vCPU for Xen's RTDS, where core 0 is the first CPU and a tick has so many nanoseconds
 abbrev pub rtds_of : ℕ → ℕ → List Vcpu → List ℕ → Task → List ℕ
 rtds_of first tick host name t = pin_line (guest_of name) (number_of name) (first + t.home)
     ++ rtds_line (guest_of name) (number_of name) (period_in Rtds tick t) (budget_in Rtds tick t)
@@ -99,7 +100,7 @@ cpu_word first core = codes " " ++ decimal (first + core)
 abbrev pub cpus_line : ℕ → ℕ → List ℕ
 cpus_line first cores = codes "cpus=\"" ++ (texts_below (cpu_word first) cores ++ codes "\"\n")
 
--- how much of a CPU the kernel admits
+-- how much of a CPU the kernel admits, as the line that says so
 abbrev pub admitted : Scheduler → List ℕ
 admitted Rtds = ADMITTED.now
 admitted Deadline = ADMITTED.now

@@ -63,7 +63,7 @@ slot_fault tasks core Idle = None
 slot_fault tasks core (Slot v) = if is_away (slice_get tasks v) core then Some (Split v) else None
 slot_fault tasks core (Shared v) = None
 
--- the first such slot
+-- the fault of the first slot on another core than its vCPU's home
 abbrev pub split_fault : List Task → List Stretch → Option Unkept
 split_fault tasks [] = None
 split_fault tasks (s ∷ ss) = option_or (slot_fault tasks s.core s.by) (split_fault tasks ss)

@@ -29,7 +29,7 @@ unlike_pair tick names tasks v other =
     if bytes_eq (guest_of (name_at names other)) (guest_of (name_at names v))
     && are_unlike tick (slice_get tasks other) (slice_get tasks v) then Some (Unlike v) else None
 
--- beside those before it
+-- the fault of a vCPU beside those before it: one of them is of its guest, and unlike it
 abbrev pub unlike_fault : ℕ → List (List ℕ) → List Task → ℕ → Option Unkept
 unlike_fault tick names tasks v = first_below (unlike_pair tick names tasks v) v
 

@@ -33,7 +33,7 @@ column_path f y high names tasks colours bars v =
     (note_of f (name_at names v) (slice_get tasks v)) []
     else []
 
--- the lane
+-- a lane that is drawn in columns: a path for each key that has a bar there
 abbrev pub columns_text : Frame → ℕ → ℕ → List (List ℕ) → List Task → List ℕ → List Bar → List ℕ
 columns_text f y high names tasks colours bars =
     texts_below (column_path f y high names tasks colours bars) (length names)

@@ -4,7 +4,7 @@ use Rattle.std.specs.Prelude.{ℕ, ◌+◌, ◌-◌, ◌*◌, ◌/◌, nat_le, i
 use Rattle.tab_core.specs.declared.TheConstants.{ROUND}
 use Rattle.view_lanes.specs.declared.frame.Frame.{Frame}
 
--- where a tick is
+-- where a tick is, from the left
 abbrev pub x_at : Frame → ℕ → ℕ
 x_at f t = 9400 + (t - f.from) * ROUND / (f.to - f.from)
 

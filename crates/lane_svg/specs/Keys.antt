@@ -29,7 +29,8 @@ count_below test (suc n) = count_below test n + (if test n then 1 else 0)
 abbrev pub rows_of : ℕ → ℕ
 rows_of high = max 1 ((high + high / 5) / 1000)
 
--- how many places they have: four in a row beside a core's lane, and six, which begin right of the wait, beside a vCPU's
+-- how many places the rows beside a lane have: four in a row beside a core's lane, and six, which begin right
+-- of the wait, beside a vCPU's
 abbrev pub key_room : Bool → ℕ → ℕ
 key_room false high = 4 * rows_of high
 key_room true high = 6 * rows_of high

@@ -184,7 +184,7 @@ abbrev pub is_late : ℕ → ℕ → Option ℕ → Bool
 is_late tick wait None = false
 is_late tick wait (Some latency) = not (nat_lt wait (2 * ROUND) && nat_le (wait * tick) latency)
 
--- how its length is written
+-- the class of a wait's length: of one that is longer than promised, or of another
 abbrev pub wait_class : Bool → List ℕ
 wait_class false = codes "dim"
 wait_class true = codes "late"
@@ -225,7 +225,7 @@ abbrev pub wait_text : Frame → ℕ → ℕ → ℕ → ℕ → Option ℕ → 
 wait_text f y high wait mark promise =
     wait_at f (y + high / 2) (mark - wait) mark (line_in y high 800) wait promise
 
--- the lane of a vCPU of a plan has its longest wait
+-- the longest wait of a vCPU on its lane, if its end is known
 abbrev pub ending_text : Frame → ℕ → ℕ → ℕ → Option ℕ → Option ℕ → List ℕ
 ending_text f y high wait None promise = []
 ending_text f y high wait (Some mark) promise = wait_text f y high wait mark promise

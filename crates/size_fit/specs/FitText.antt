@@ -70,7 +70,7 @@ rooms_text rooms = size_head ++ flat_map size_row rooms
 abbrev pub fit_text : ℕ → ℕ → List ℕ → List Room → List ℕ
 fit_text vcpus cores loads rooms = head_line vcpus cores ++ (loads_text loads ++ rooms_text rooms)
 
--- what is written where they don't fit: the line of the planner's refusal
+-- what is written where the VMs don't fit: the line of the planner's refusal
 abbrev pub refusal_line : List Vcpu → PlanFault → List ℕ
 refusal_line vcpus (plan.NoPeriod vcpu) = no_period_line (name_at (names_of vcpus) vcpu)
 refusal_line vcpus (plan.NoRoom vcpu rest over) = no_room_line (name_at (names_of vcpus) vcpu) rest over

@@ -19,7 +19,7 @@ pub record IsNumber (word : List ℕ) : Type 0 where
   pub value : ℕ
   pub spelled : Spells word value
 
--- the word is there rightly
+-- the word may be in this place of a line
 abbrev pub Fills : List ℕ → Blank → Type 0
 Fills word (this other) = word ≡ other
 Fills word a_number = IsNumber word

@@ -35,7 +35,7 @@ abbrev pub slots_in : Place → Told → List Told
 slots_in (Row cores c from) (segment to holder) = stint c from to 0 0 holder ∷ []
 slots_in _ _ = []
 
--- the segments of the lines from a place on, if these may are there
+-- the segments of the lines from a place on, if these may be there
 abbrev pub slots_from : Option Place → List Told → List Told
 slots_from None tolds = []
 slots_from (Some place) [] = []

@@ -46,7 +46,7 @@ abbrev pub least_text : Option LeastShare → List ℕ
 least_text None = codes "\"least_share_ppm\":null,\"least_share_at_ns\":null,"
 least_text (Some least) = share_text least
 
--- whether all was kept, which ends its object
+-- the member of whether all was kept, which ends a vCPU's object
 abbrev pub kept_text : Bool → List ℕ
 kept_text true = codes "\"kept\":true}"
 kept_text false = codes "\"kept\":false}"

@@ -101,7 +101,7 @@ abbrev pub first_text : List ℕ → ℕ → Option ℕ → List ℕ
 first_text kind count None = []
 first_text kind count (Some first) = line_text kind count first
 
--- nothing where none is
+-- the line of lines of a kind, and nothing where there is no such line
 abbrev pub count_text : List ℕ → LineCount → List ℕ
 count_text kind lines = first_text kind lines.count lines.first
 
@@ -131,7 +131,7 @@ abbrev pub rows_text : ℕ → List Vcpu → List VcpuReport → List ℕ
 rows_text width vcpus reports = share_head width ++ (texts_below (share_row width vcpus reports) (length reports)
     ++ (wait_head width ++ texts_below (wait_row width vcpus reports) (length reports)))
 
--- what is after them
+-- what is after the tables: the verdict, and what is wrong with the lines of the trace
 abbrev pub end_text : Bool → Report → List ℕ
 end_text kept report = verdict_text report.end_ns report.window_ns (kept_word kept) ++ lines_text report
 

@@ -40,7 +40,7 @@ meets on u v = meets_below on u v MAX_CORES
 abbrev pub taken_below : (ℕ → ℕ → Bool) → List ℕ → ℕ → ℕ → ℕ → Bool
 taken_below on colours v k n = any_below (λ u. (slice_index colours u == k) && meets on u v) n
 
--- a lower one has it
+-- a lower vCPU that this one meets has the colour
 abbrev pub is_taken : (ℕ → ℕ → Bool) → List ℕ → ℕ → ℕ → Bool
 is_taken on colours v k = taken_below on colours v k v
 
@@ -60,7 +60,7 @@ colours_below on vcpus zero = []
 colours_below on vcpus (suc v) =
     colours_below on vcpus v ++ next_colour on vcpus (colours_below on vcpus v) v ∷ []
 
--- the colours of all
+-- the colours of all vCPUs, by number
 abbrev pub colours_of : List Stretch → List Task → ℕ → List ℕ
 colours_of stretches tasks vcpus = colours_below (stands_on stretches tasks) vcpus vcpus
 

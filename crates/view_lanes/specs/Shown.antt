@@ -33,7 +33,7 @@ last_end (s ∷ ss) = max s.end (last_end ss)
 abbrev pub rounds_of : List Stretch → ℕ
 rounds_of stretches = max 1 ((last_end stretches + (ROUND - 1)) / ROUND)
 
--- where the last of them ends; ticks are below 2^32
+-- the tick at which the last of the rounds ends that the stretches reach; ticks are below 2^32
 abbrev pub whole_of : List Stretch → ℕ
 whole_of stretches = min (rounds_of stretches * ROUND) (2 ^ 32 - 1)
 
@@ -61,7 +61,7 @@ rows_in view options = if options.by_vcpu then length view.names.items else core
 abbrev pub lanes_of : View → ChartOptions → ℕ
 lanes_of view options = min (options.last + 1) (rows_in view options) - options.first
 
--- the vCPU has it
+-- the vCPU has the ticks of the stretch
 abbrev pub has_it : Use → ℕ → Bool
 has_it Idle v = false
 has_it (Slot owner) v = owner == v

@@ -7,7 +7,7 @@ use Rattle.view_lanes.specs.declared.frame.Bar.{Bar}
 use Rattle.view_lanes.specs.declared.frame.Frame.{Frame}
 use Rattle.view_lanes.specs.declared.titles.Head.{Head}
 
--- what the head says
+-- what the head of a picture of these lanes says
 unfoldable pub head_of : Frame → List Stretch → ℕ → ℕ → List (List Bar) → Head
 head_of f stretches cores vcpus lanes = record {
   is_run = f.is_run;
@@ -34,7 +34,7 @@ abbrev pub kind_word : Bool → List ℕ
 kind_word false = codes "Plan"
 kind_word true = codes "Run"
 
--- what the lanes are, where it isn't cores
+-- what is said of the lanes where they aren't the cores'
 abbrev pub lanes_word : Bool → List ℕ
 lanes_word false = []
 lanes_word true = codes ", by vCPU"
@@ -67,7 +67,7 @@ unfoldable pub ticks_text : ℕ → ℕ → ℕ → List ℕ
 ticks_text from to lasting = codes "Ticks " ++ (decimal from ++ (codes " to " ++ (decimal to ++ (codes ": "
     ++ (decimal (lasting / 10) ++ (codes "." ++ (decimal (lasting % 10) ++ codes " ms")))))))
 
--- how much of them is somebody's, in tenths of a percent
+-- how much of the shown ticks vCPUs have, in tenths of a percent
 unfoldable pub share_text : ℕ → List ℕ
 share_text share = codes ", of which vCPUs have " ++ (decimal (share / 10) ++ (codes "." ++ (decimal (share % 10)
     ++ codes " %.")))

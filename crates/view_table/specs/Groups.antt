@@ -37,7 +37,7 @@ unfoldable pub sum_where : (ℕ → Bool) → (ℕ → ℕ) → ℕ → ℕ
 sum_where test figure zero = 0
 sum_where test figure (suc v) = sum_where test figure v + (if test v then figure v else 0)
 
--- how many of them pass
+-- how many of the vCPUs below n pass
 abbrev pub count_where : (ℕ → Bool) → ℕ → ℕ
 count_where test n = sum_where test (λ v. 1) n
 

@@ -10,7 +10,7 @@ use Rattle.view_doc.specs.declared.view.View.{View}
 use Rattle.view_table.specs.Groups.{asked_at, count_where, is_broken, ppm_of, share_in, sum_where}
 use Rattle.view_table.specs.Loads.{load_of}
 
--- each vCPU passes
+-- the test that each vCPU passes
 abbrev pub each : ℕ → Bool
 each v = true
 
@@ -18,7 +18,7 @@ each v = true
 abbrev pub given_below : List Task → ℕ → ℕ
 given_below tasks n = sum_where each (λ v. share_in (slice_get tasks v)) n
 
--- the shares together that the host has for them
+-- the shares together that the host has for the vCPUs below n, in parts per million
 abbrev pub asked_below : List Vcpu → List (List ℕ) → ℕ → ℕ
 asked_below vcpus names n = sum_where each (λ v. ppm_of (asked_at vcpus names v)) n
 
