@@ -100,7 +100,7 @@ abbrev pub IsPlanText : List ℕ → List ℕ → ℕ → List ℕ → Type 0
 IsPlanText section plan line text = TellsOfTasks section
     (λ host tasks. plan_line_text plan line host.cores (names_of host.vcpus) tasks) text
 
--- the text is such a one; where there is none, nothing is written
+-- the text is one of which this holds; where there is no such text, nothing is written
 abbrev pub WhereThereIs : (List ℕ → Type 0) → List ℕ → Type 0
 WhereThereIs IsText text = IsText text ⊎ (((other : List ℕ) → ¬ (IsText other)) × (text ≡ []))
 
@@ -163,15 +163,15 @@ IsAdvice words input (refusal.BadPlanLine line) text =
     WhereThereIs (IsPlanText (section_at 0 input) (section_at 1 input) line) text
 IsAdvice words input other text = text ≡ plain_text words input other
 
--- the call wrote such a text, or a prefix of it and the sink failed
+-- the call wrote a text of which this holds, or a prefix of it and the sink failed
 pub record WritesSuch (IsText : List ℕ → Type 0) (old new : SinkView) (result : Result (Unit {0}) WriteFault)
     : Type 0 where
   pub text : List ℕ
   pub is : IsText text
   pub writes : Writes old new text result
 
--- the call wrote such a text, or a prefix of it and the sink failed, or memory ran out and nothing
--- was written
+-- the call wrote a text of which this holds, or a prefix of it and the sink failed, or memory ran out and
+-- nothing was written
 abbrev pub WritesSome : (List ℕ → Type 0) → SinkView → SinkView → Result (Unit {0}) AdviceFault → Type 0
 WritesSome IsText old new (Ok done) = WritesSuch IsText old new (Ok done)
 WritesSome IsText old new (Err (fault.Sink of_write)) = WritesSuch IsText old new (Err of_write)

@@ -9,7 +9,7 @@ use Rattle.advice.specs.Usage.{spaced}
 abbrev pub reading_text : List ℕ → List ℕ
 reading_text input = codes "tableau: reading " ++ (input ++ codes " from the terminal\n")
 
--- the words, and a file after them
+-- the line to type: the words of the command, and a file after them
 abbrev pub typed_text : List (List ℕ) → List ℕ
 typed_text words = flat_map spaced words ++ codes " < FILE\n"
 

@@ -35,7 +35,7 @@ beyond_text cores = codes "tableau: take fewer or smaller shares; these want "
 abbrev pub cores_text : ℕ → List ℕ
 cores_text cores = if nat_le cores MAX_CORES then more_text cores else beyond_text cores
 
--- where all fit together, a whole-host plan has room for them
+-- what to do for vCPUs without room: a whole-host plan where all of them fit together, else more cores
 abbrev pub remedy_text : ℕ → ℕ → List ℕ
 remedy_text due room = if nat_le due room
     then codes "tableau: tableau plan whole has a plan for them; or take smaller shares, longer latencies\ntableau: or one core more\n"

@@ -1,4 +1,4 @@
--- The advice on words that are no command: what may are at the place of the fault, and what to type.
+-- The advice on words that are no command: what may be at the place of the fault, and what to type.
 use Rattle.std.specs.Prelude.{ℕ, Bool, false, true, ◌==◌, ◌&&◌, ◌||◌, nat_le, if◌then◌else◌, List, [], ◌∷◌, ◌++◌, bytes_eq, codes, decimal, flat_map, Option, Some, None, slice_get, slice_index, take}
 use Rattle.std.specs.List.{list_all, list_any}
 use Rattle.advice.specs.Parts.{quoted}
@@ -29,7 +29,7 @@ wanted_behind (word ∷ second ∷ []) = wanted_second word
 wanted_behind (word ∷ second ∷ third ∷ []) = wanted_third word
 wanted_behind (word ∷ second ∷ third ∷ fourth ∷ more) = Nothing
 
--- the name of what has to are there; where nothing has to, these other words
+-- the name of what has to be there; where nothing has to, these other words
 abbrev pub name_text : Wanted → List ℕ → List ℕ
 name_text Command other = codes "a command"
 name_text Rounds other = codes "a count of rounds"
@@ -38,7 +38,7 @@ name_text Cores other = codes "a count of cores"
 name_text Vcpus other = codes "a count of vCPUs"
 name_text wanted other = other
 
--- what may are there, in words
+-- what may be there, in words
 abbrev pub wanted_text : Wanted → List ℕ
 wanted_text Command =
     codes "the commands are plan, check, run, replay, gen and selftest; for help type: tableau --help"

@@ -42,7 +42,7 @@ fn put_found<K: Sink>(sink: &mut K, plan: &[u8], number: u32) -> Result<(), Writ
     )
 }
 
-// Writes the line that has to are there.
+// Writes the line that has to be there.
 fn put_wanted<K: Sink>(
     sink: &mut K,
     number: u32,
