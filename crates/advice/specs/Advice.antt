@@ -94,10 +94,11 @@ IsVcpuKeyText section vcpu key text = TellsOfDocument section (λ members. vcpu_
 abbrev pub IsSameText : List ℕ → ℕ → List ℕ → Type 0
 IsSameText section vcpu text = TellsOfDocument section (λ members. same_text members vcpu) text
 
--- what the vCPUs are due, and what all cores have
+-- the text says what the vCPUs of a host with these budgets are due, and what all cores have
 abbrev pub TellsRoom : Host → List (Option Periodic) → List ℕ → Type 0
 TellsRoom host tasks text = text ≡ room_text (due_of tasks) (host.cores * ROUND)
 
+-- the text is the advice on the host of this section, in which some vCPU has no room
 abbrev pub IsRoomText : List ℕ → List ℕ → Type 0
 IsRoomText section text = TellsOfTasks section TellsRoom text
 
@@ -105,24 +106,26 @@ IsRoomText section text = TellsOfTasks section TellsRoom text
 abbrev pub HasPlan : Host → Type 0
 HasPlan host = (plan : PlanView) × IsPlanned host plan
 
--- what the vCPUs are due, what all cores have, and whether `plan` has a plan
+-- the text says what the vCPUs are due, what all cores have, and whether `plan` has a plan
 abbrev pub TellsOfPlan : Host → List (Option Periodic) → List ℕ → Type 0
 TellsOfPlan host tasks text =
     (HasPlan host × (text ≡ planned_text (due_of tasks) (host.cores * ROUND)))
     ⊎ (¬ (HasPlan host) × (text ≡ unplanned_text (due_of tasks) (host.cores * ROUND)))
 
+-- the text is the advice on the host of this section, in which some vCPU has no room beside those that stay
 abbrev pub IsStayText : List ℕ → List ℕ → Type 0
 IsStayText section text = TellsOfTasks section TellsOfPlan text
 
--- this line of the plan text, and the line that is wanted there
+-- the text says what this line of the plan text is, and which line is wanted there
 abbrev pub TellsOfLine : List ℕ → ℕ → Host → List (Option Periodic) → List ℕ → Type 0
 TellsOfLine plan line host tasks text =
     text ≡ plan_line_text plan line host.cores (names_of host.vcpus) tasks
 
+-- the text is the advice on this line of the plan text, beside the host of this section
 abbrev pub IsPlanText : List ℕ → List ℕ → ℕ → List ℕ → Type 0
 IsPlanText section plan line text = TellsOfTasks section (TellsOfLine plan line) text
 
--- the text is such a one; where there is none, nothing is written
+-- the text is one of which this holds; where there is no such text, nothing is written
 abbrev pub WhereThereIs : (List ℕ → Type 0) → List ℕ → Type 0
 WhereThereIs IsText text = IsText text ⊎ (((other : List ℕ) → ¬ (IsText other)) × (text ≡ []))
 
@@ -200,15 +203,15 @@ IsAdvice words input (refusal.BadPlanLine line) text =
     IsLineAdvice words (section_at 0 input) (section_at 1 input) line text
 IsAdvice words input other text = text ≡ plain_text words input other
 
--- the call wrote such a text, or a prefix of it and the sink failed
+-- the call wrote a text of which this holds, or a prefix of it and the sink failed
 pub record WritesSuch (IsText : List ℕ → Type 0) (old new : SinkView) (result : Result (Unit {0}) WriteFault)
     : Type 0 where
   pub text : List ℕ
   pub is : IsText text
   pub writes : Writes old new text result
 
--- the call wrote such a text, or a prefix of it and the sink failed, or memory ran out and nothing
--- was written
+-- the call wrote a text of which this holds, or a prefix of it and the sink failed, or memory ran out and
+-- nothing was written
 abbrev pub WritesSome : (List ℕ → Type 0) → SinkView → SinkView → Result (Unit {0}) AdviceFault → Type 0
 WritesSome IsText old new (Ok done) = WritesSuch IsText old new (Ok done)
 WritesSome IsText old new (Err (fault.Sink of_write)) = WritesSuch IsText old new (Err of_write)

@@ -34,7 +34,7 @@ abbrev pub member_at : ℕ → Members → Option Members
 member_at number members = option_and_then as_table (option_and_then (get_item number)
     (option_and_then as_array (get_member (codes "vcpu") members)))
 
--- its name, where that is a text
+-- the name of the vCPU of a number in a host document, where it is a text
 abbrev pub name_at : ℕ → Members → Option (List ℕ)
 name_at number members = option_and_then as_str
     (option_and_then (get_member (codes "name")) (member_at number members))
@@ -51,6 +51,7 @@ is_two None = false
 is_two (Some (pos n)) = n == 2
 is_two (Some other) = false
 
+-- a host document of these members says that it is of format 2
 abbrev pub is_second : Members → Bool
 is_second members = is_two (option_and_then as_integer (get_member (codes "format") members))
 

@@ -19,13 +19,14 @@ rest_of_quote bytes = flat_map shown_byte (take 60 bytes) ++ end_of_quote bytes
 abbrev pub quoted : List ℕ → List ℕ
 quoted bytes = codes "'" ++ rest_of_quote bytes
 
+-- the bytes that a part of an advice writes
 abbrev pub part_text : Part → List ℕ
 part_text (Text bytes) = bytes.now
 part_text (Number n) = decimal n
 part_text (Wide n) = decimal n
 part_text (Quoted bytes) = quoted bytes.now
 
--- such a word or line where there is one
+-- a word or a line in quotes, where there is one
 abbrev pub quote_of : Option (List ℕ) → List ℕ
 quote_of None = []
 quote_of (Some bytes) = quoted bytes

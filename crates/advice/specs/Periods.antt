@@ -2,7 +2,8 @@
 use Rattle.std.specs.Prelude.{ℕ, List, ◌++◌, codes, decimal}
 use Rattle.tab_core.specs.declared.reservation.Reservation.{Reservation}
 
--- what it asks, and the least latency in nanoseconds and the least share in parts per million that go with it
+-- the advice on a vCPU without a period: what it asks, the least latency in nanoseconds for its share,
+-- and the least share in parts per million for its latency
 abbrev pub period_text : List ℕ → Reservation → ℕ → ℕ → List ℕ
 period_text name reservation latency share = codes "tableau: "
     ++ (name ++ (codes " asks share_ppm " ++ (decimal reservation.share_ppm

@@ -11,6 +11,7 @@ admitted_from number [] = []
 admitted_from number (None ∷ tasks) = admitted_from (number + 1) tasks
 admitted_from number (Some task ∷ tasks) = (number, task) ∷ admitted_from (number + 1) tasks
 
+-- the bad line of a plan text: its number, from 1, and the line itself in quotes
 abbrev pub found_text : List ℕ → ℕ → List ℕ
 found_text plan number = codes "tableau: plan line "
     ++ (decimal number ++ (codes " is " ++ (quoted (line_at number plan)
@@ -32,6 +33,8 @@ abbrev pub table_text : List ℕ
 table_text =
     codes "tableau: wanted is END NAME or END - of a segment, core C before the first of each core, or the last line end\n"
 
+-- what is wanted after a plan text's first line: the line of this admitted vCPU, or where none is left,
+-- of the tables
 abbrev pub behind_head : List (List ℕ) → Option (ℕ × Periodic) → List ℕ
 behind_head names (Some admitted) = vcpu_text (name_at names admitted.0) admitted.1
 behind_head names None = table_text
@@ -42,6 +45,7 @@ wanted_text number cores names tasks = if nat_le number 1
     then head_text cores (length (admitted_from 0 tasks))
     else behind_head names (slice_get (admitted_from 0 tasks) (number - 2))
 
+-- the advice on a plan text whose line of this number, from 1, is wrong: that line, and what is wanted there
 abbrev pub plan_line_text : List ℕ → ℕ → ℕ → List (List ℕ) → List (Option Periodic) → List ℕ
 plan_line_text plan number cores names tasks = found_text plan number ++ wanted_text number cores names tasks
 
@@ -51,22 +55,26 @@ old_wanted_text number = if nat_le number 1
     then codes "is plan cores CORES vcpus COUNT, the first line that tableau plan writes"
     else codes "are lines vcpu NAME period TICKS cost TICKS home CORE, then for each core its line core C\ntableau: and END NAME or END - of its segments, and end as the last line"
 
+-- the advice on an earlier plan's text whose line of this number, from 1, is wrong, and what is wanted there
 abbrev pub old_line_text : List ℕ → ℕ → List ℕ
 old_line_text plan number = codes "tableau: plan line "
     ++ (decimal number ++ (codes " is " ++ (quoted (line_at number plan)
     ++ (codes ", and no line of a plan text there\ntableau: wanted "
     ++ (old_wanted_text number ++ codes "\n")))))
 
+-- the advice on a plan whose segment of this place on a core, from 0, doesn't end where it may
 abbrev pub shape_text : ℕ → ℕ → List ℕ
 shape_text core place = codes "tableau: behind core "
     ++ (decimal core ++ (codes ", segment " ++ (decimal place
     ++ codes " (from 0) has to end above the one before it, and at 102600 at most,\ntableau: where the last one ends\n")))
 
+-- the advice on a plan that has a vCPU on two cores at this tick of the round
 abbrev pub twice_text : ℕ → ℕ → ℕ → List ℕ
 twice_text tick core other = codes "tableau: a vCPU has one core at a time; take tick "
     ++ (decimal tick ++ (codes " from it on core " ++ (decimal core ++ (codes " or on core "
     ++ (decimal other ++ codes "\n")))))
 
+-- the advice on a plan that gives a vCPU these ticks in its period of a number, in place of its cost
 abbrev pub short_text : ℕ → ℕ → ℕ → List ℕ
 short_text period_no got cost = codes "tableau: its segments have to sum to "
     ++ (decimal cost ++ (codes " ticks in each of its periods, and sum to " ++ (decimal got

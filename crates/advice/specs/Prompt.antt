@@ -5,11 +5,11 @@ use Rattle.tab_words.specs.declared.command.Command.{Command}
 use Rattle.tab_words.specs.declared.command.Command.TheVariants.{Plan, PlanStay, PlanWhole, Check, Replay, Run}
 use Rattle.advice.specs.Usage.{spaced}
 
--- these texts are read
+-- the line that says which texts are read
 abbrev pub reading_text : List ℕ → List ℕ
 reading_text input = codes "tableau: reading " ++ (input ++ codes " from the terminal\n")
 
--- the words, and a file after them
+-- the line to type: the words of the command, and a file after them
 abbrev pub typed_text : List (List ℕ) → List ℕ
 typed_text words = flat_map spaced words ++ codes " < FILE\n"
 
@@ -17,6 +17,7 @@ typed_text words = flat_map spaced words ++ codes " < FILE\n"
 abbrev pub ending_text : List (List ℕ) → List ℕ
 ending_text words = codes "tableau: end the input with Ctrl-D, or use: tableau" ++ typed_text words
 
+-- the prompt of a command of these words that reads these texts from a terminal
 abbrev pub asking_text : List (List ℕ) → List ℕ → List ℕ
 asking_text words input = reading_text input ++ ending_text words
 

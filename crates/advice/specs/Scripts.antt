@@ -10,6 +10,7 @@ abbrev pub script_line_text : List ℕ → ℕ → List ℕ → List ℕ
 script_line_text text number what = codes "tableau: script line "
     ++ (decimal number ++ (codes ", " ++ (quoted (line_at number text) ++ (codes ": " ++ (what ++ codes "\n")))))
 
+-- the advice on a fault of a script: its line, and what is wrong there; nothing where memory ran out
 abbrev pub script_text : List ℕ → ScriptFault → List ℕ
 script_text text (script.BadLine line) = script_line_text text line
     (codes "wanted is TICK wake NAME, TICK block NAME, TICK burst NAME WORK, or TICK change and edits,\ntableau: each set NAME PPM NS or leave NAME; a tick is a whole number (5 ms are 4995), a comment\ntableau: has a line of its own, and lines end in LF alone")

@@ -15,6 +15,7 @@ wanted_texts wanted = if wanted == 1 then codes " text is wanted, a host, and no
 abbrev pub here_words : ℕ → List ℕ
 here_words found = if found == 1 then codes "; here is " else codes "; here are "
 
+-- how many texts a command wants, which these are, and how many its input has
 abbrev pub count_text : ℕ → ℕ → List ℕ
 count_text found wanted = codes "tableau: "
     ++ (decimal wanted ++ (wanted_texts wanted
@@ -30,11 +31,13 @@ abbrev pub near_from : ℕ → List (List ℕ) → Option (ℕ × List ℕ)
 near_from number [] = None
 near_from number (line ∷ lines) = if is_near line then Some (number, line) else near_from (number + 1) lines
 
+-- the line of this number, from 1, is almost a separator: what may be wrong with it
 abbrev pub near_text : ℕ → List ℕ → List ℕ
 near_text number line = codes "tableau: line "
     ++ (decimal number ++ (codes ", " ++ (quoted line
     ++ codes ", isn't exactly %%; the line before may lack its line feed, or this one end in CR LF\n")))
 
+-- what is said of a line that is almost a separator; nothing where there is none
 abbrev pub near_part : Option (ℕ × List ℕ) → List ℕ
 near_part None = []
 near_part (Some near) = near_text near.0 near.1

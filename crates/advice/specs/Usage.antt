@@ -1,21 +1,23 @@
--- The advice on words that are no command: what may are at the place of the fault, and what to type.
+-- The advice on words that are no command: what may be at the place of the fault, and what to type.
 use Rattle.std.specs.Prelude.{ℕ, Bool, false, true, ◌==◌, ◌&&◌, ◌||◌, nat_le, if◌then◌else◌, List, [], ◌∷◌, ◌++◌, bytes_eq, codes, decimal, flat_map, Option, Some, None, slice_get, slice_index, take}
 use Rattle.std.specs.List.{list_all, list_any}
 use Rattle.advice.specs.Parts.{quoted}
 use Rattle.advice.specs.declared.usage.Wanted.{Wanted}
 use Rattle.advice.specs.declared.usage.Wanted.TheVariants.{Command, Nothing, Whole, Rounds, Mode, Seed, Cores, Vcpus}
 
--- what may be after one word, after two of which it is the first, and after three
+-- what may be after this word, which is the only one so far
 abbrev pub wanted_first : List ℕ → Wanted
 wanted_first word = if bytes_eq word (codes "plan") then Whole
     else (if bytes_eq word (codes "replay") || bytes_eq word (codes "run") then Rounds
     else (if bytes_eq word (codes "gen") || bytes_eq word (codes "selftest") then Seed
     else Nothing))
 
+-- what may be after two words, of which this is the first
 abbrev pub wanted_second : List ℕ → Wanted
 wanted_second word = if bytes_eq word (codes "run") then Mode
     else (if bytes_eq word (codes "gen") then Cores else Nothing)
 
+-- what may be after three words, of which this is the first
 abbrev pub wanted_third : List ℕ → Wanted
 wanted_third word = if bytes_eq word (codes "gen") then Vcpus else Nothing
 
@@ -27,7 +29,7 @@ wanted_behind (word ∷ second ∷ []) = wanted_second word
 wanted_behind (word ∷ second ∷ third ∷ []) = wanted_third word
 wanted_behind (word ∷ second ∷ third ∷ fourth ∷ more) = Nothing
 
--- the name of what has to are there; where nothing has to, these other words
+-- the name of what has to be there; where nothing has to, these other words
 abbrev pub name_text : Wanted → List ℕ → List ℕ
 name_text Command other = codes "a command"
 name_text Rounds other = codes "a count of rounds"
@@ -36,7 +38,7 @@ name_text Cores other = codes "a count of cores"
 name_text Vcpus other = codes "a count of vCPUs"
 name_text wanted other = other
 
--- what may are there, in words
+-- what may be there, in words
 abbrev pub wanted_text : Wanted → List ℕ
 wanted_text Command =
     codes "the commands are plan, check, run, replay, gen and selftest; for help type: tableau --help"
@@ -57,6 +59,7 @@ abbrev pub reads : List ℕ → Bool
 reads word = bytes_eq word (codes "plan") || (bytes_eq word (codes "check")
     || (bytes_eq word (codes "run") || bytes_eq word (codes "replay")))
 
+-- the words begin with the name of a command that reads its input
 abbrev pub read_behind : List (List ℕ) → Bool
 read_behind [] = false
 read_behind (word ∷ words) = reads word
@@ -66,19 +69,23 @@ abbrev pub is_plain_byte : ℕ → Bool
 is_plain_byte byte = (nat_le 97 byte && nat_le byte 122) || ((nat_le 65 byte && nat_le byte 90)
     || ((nat_le 45 byte && nat_le byte 57) || (byte == 95)))
 
--- the word looks like a file's name: it has a dot, and needs no quotes
+-- the word has a dot
 abbrev pub has_dot : List ℕ → Bool
 has_dot word = list_any (λ byte. byte == 46) word
 
+-- the word has plain bytes alone: letters, digits and `-./_`
 abbrev pub are_plain : List ℕ → Bool
 are_plain word = list_all is_plain_byte word
 
+-- the word looks like a file's name: it has a dot, and needs no quotes in a shell
 abbrev pub is_file_word : List ℕ → Bool
 is_file_word word = has_dot word && are_plain word
 
+-- the file of the line to type: the word itself if it looks like one, else FILE
 abbrev pub file_word : List ℕ → List ℕ
 file_word word = if is_file_word word then word else codes "FILE"
 
+-- a word after a space
 abbrev pub spaced : List ℕ → List ℕ
 spaced word = codes " " ++ word
 
@@ -96,7 +103,7 @@ abbrev pub shell_text : List (List ℕ) → List ℕ → List ℕ
 shell_text front word = codes "tableau: a file goes to standard input: tableau"
     ++ (flat_map spaced front ++ file_text front word)
 
--- there is a word
+-- some word is right
 abbrev pub is_begun : List (List ℕ) → Bool
 is_begun [] = false
 is_begun (word ∷ words) = true
@@ -108,19 +115,20 @@ hint_text front word = if is_begun front
     else (if read_behind front then shell_text front word else []))
     else []
 
--- this word is wrong after those
+-- the advice on a word at this place that is wrong after the words before it
 abbrev pub found_text : List (List ℕ) → List ℕ → ℕ → List ℕ
 found_text front word place = codes "tableau: word "
     ++ (decimal place ++ (codes ", " ++ (quoted word
     ++ (codes ", isn't " ++ (name_text (wanted_behind front) (codes "expected")
     ++ (codes ": " ++ (wanted_text (wanted_behind front) ++ codes "\n")))))))
 
--- a word is missing after those
+-- the advice on words after which one is missing
 abbrev pub missing_text : List (List ℕ) → List ℕ
 missing_text front = codes "tableau: "
     ++ (name_text (wanted_behind front) (codes "a word")
     ++ (codes " is missing: " ++ (wanted_text (wanted_behind front) ++ codes "\n")))
 
+-- the advice on what comes after words that are right: the word at this place is wrong, or none is there
 abbrev pub behind_text : List (List ℕ) → ℕ → Option (List ℕ) → List ℕ
 behind_text front place None = missing_text front
 behind_text front place (Some word) = found_text front word place ++ hint_text front word

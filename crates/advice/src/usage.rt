@@ -80,7 +80,7 @@ fn word_at(words: &[String], place: u32) -> Option<&[u8]>
     }
 }
 
-// Writes what has to are after all the words.
+// Writes what has to be after all the words.
 fn put_missing<K: Sink>(sink: &mut K, front: &[String]) -> Result<(), WriteFault>
     ensures { Writes (K.state sink.old) (K.state sink.new) (missing_text (texts front.now)) result }
 {
@@ -96,7 +96,7 @@ fn put_missing<K: Sink>(sink: &mut K, front: &[String]) -> Result<(), WriteFault
     )
 }
 
-// Writes what has to are in this word's place, and what to type.
+// Writes what has to be in this word's place, and what to type.
 fn put_found<K: Sink>(
     sink: &mut K,
     front: &[String],
@@ -202,14 +202,14 @@ fn put_spaced_word<K: Sink>(sink: &mut K, word: &String) -> Result<(), WriteFaul
     put_parts(sink, &[Part::Text(b" "), Part::Text(word.as_bytes())])
 }
 
-// The name of what has to are after these words; where nothing has to, these other words.
+// The name of what has to be after these words; where nothing has to, these other words.
 fn name_words<'a>(front: &[String], other: &'a [u8]) -> &'a [u8]
     ensures { result.now ≡ name_text (wanted_behind (texts front.now)) other.now }
 {
     name_text(wanted_behind(front), other)
 }
 
-// What may are after these words, in words.
+// What may be after these words, in words.
 fn wanted_words(front: &[String]) -> &'static [u8]
     ensures { result.now ≡ wanted_text (wanted_behind (texts front.now)) }
 {
@@ -222,7 +222,7 @@ fn rounds_words(front: &[String]) -> &'static [u8]
     rounds_text(wanted_behind(front))
 }
 
-// What may are after these words.
+// What may be after these words.
 fn wanted_behind(front: &[String]) -> Wanted
     ensures { result ≡ wanted_behind (texts front.now) }
 {

@@ -6,7 +6,7 @@ use Rattle.table_form.specs.Running.State.{State}
 use Rattle.burst_bound.specs.Bursts.{IsBurstBound, IsDoneAt, IsSeenAt}
 use Rattle.burst_bound.specs.declared.answer.BurstAnswer.{BurstAnswer}
 
--- the tick is such a one, and there is none only where no tick is
+-- the tick is one of which this holds, and there is none only where it holds of no tick
 abbrev pub IsOneIfAny : (ℕ → Type 0) → Option ℕ → Type 0
 IsOneIfAny Is tick = MatchOption tick ((x : ℕ) → ¬ (Is x)) Is
 

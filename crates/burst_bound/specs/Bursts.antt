@@ -33,7 +33,7 @@ pub record IsDoneAt (rounds : ℕ) (s : State) (vcpu work x done : ℕ) : Type 0
   pub enough : work ≤ ticks_run s vcpu x (done - x)
   pub least : (e : ℕ) → x ≤ e → work ≤ ticks_run s vcpu x (e - x) → done ≤ e
 
--- there is a task, of so many ticks in each period of this length
+-- a task that was found has this cost in each of its periods, in ticks, and this period
 pub record IsBudget (found : Option Periodic) (cost period : ℕ) : Type 0 where
   pub task : Periodic
   pub is : found ≡ Some task

@@ -25,13 +25,13 @@ burst_report_view answers rounds stints events = record {
   events = events;
 }
 
--- there is room for so many rounds, for the script's events and for the stints of the run
+-- the report has room for so many rounds, for the script's events and for the stints of the run
 pub record HasRoomFor (rounds : ℕ) (s : State) (events : List Event) (report : BurstReportView) : Type 0 where
   pub rounds_fit : rounds ≤ report.rounds
   pub stints_fit : stints_in s ≤ report.stints
   pub events_fit : length events ≤ report.events
 
--- there is an answer for each burst of the script, in their order
+-- the answers are those on the bursts of the script, one for each, in their order
 pub record AreBurstAnswers (course : CourseView) (rounds : ℕ) (s : State) (events : List Event)
     (answers : List BurstAnswer) : Type 0 where
   pub size : length answers ≡ length (bursts_of events)

@@ -28,19 +28,19 @@ pub record Left : Type 0 where
   pub from : ℕ
   pub rest : ℕ
 
--- all of it, before it is split
+-- what is left of a vCPU before it is split: all of its cost
 abbrev pub all_of : ℕ → Periodic → Left
 all_of vcpu task = record { vcpu = vcpu; period = task.period; from = 0; rest = task.cost }
 
--- what is left after a cut of so many ticks
+-- what is left of a vCPU after a cut of so many ticks
 abbrev pub behind : Left → ℕ → Left
 behind left cost = record left { from = left.from + cost; rest = left.rest - cost }
 
--- all that is left, as one subtask
+-- all that is left of a vCPU, as one subtask
 abbrev pub rest_of : Left → Subtask
 rest_of left = remainder left.vcpu left.rest left.from left.period
 
--- a cut of it, which has no slack
+-- a cut of so many ticks of what is left, which has no slack
 abbrev pub cut_of : Left → ℕ → Subtask
 cut_of left cost = tight left.vcpu cost left.from left.period
 
@@ -50,14 +50,14 @@ ComesFirst cores c d =
     (load (pieces_on cores c) < load (pieces_on cores d))
     ⊎ ((load (pieces_on cores c) ≡ load (pieces_on cores d)) × (c < d))
 
--- of the unused cores that do so, the first
+-- the core is the first of the unused cores that do this
 pub record IsFirstCore (cores : List (List Piece)) (unused : List ℕ) (Does : ℕ → Type 0)
     (core : ℕ) : Type 0 where
   pub unused_core : Contains unused core
   pub does : Does core
   pub first : (other : ℕ) → Contains unused other → Does other → other ≢ core → ComesFirst cores core other
 
--- no unused core does so
+-- no unused core does this
 abbrev pub NoneDoes : List ℕ → (ℕ → Type 0) → Type 0
 NoneDoes unused Does = (core : ℕ) → Contains unused core → Does core → ⊥
 
@@ -93,7 +93,7 @@ pub record IsStuck (cores : List (List Piece)) (left : Left) (unused : List ℕ)
 abbrev pub IsOverloadWith : List (List Piece) → Subtask → ℕ → Over → Type 0
 IsOverloadWith cores s core over = IsReported core (jobs_of (pieces_on cores core) ++ jobs_of_subtask s) over
 
--- the unused cores without one of them
+-- the unused cores but this one
 abbrev pub without : ℕ → List ℕ → List ℕ
 without core unused = filter (λ other. not (other == core)) unused
 
@@ -108,7 +108,7 @@ pub data Splits (cores : List (List Piece)) : Left → List ℕ → List Piece �
       Splits cores (behind left cost) (without core unused) pieces
       → Splits cores left unused (piece ∷ pieces)
 
--- by the rules it ends without room for the last `rest` ticks, which would make these overloaded
+-- by the rules splitting ends without room for the last `rest` ticks, which would make these overloaded
 -- intervals on the unused cores, one on each in their order
 pub data Refuses (cores : List (List Piece)) : Left → List ℕ → ℕ → List Over → Type 0 where
   NoRoom : (left : Left) (unused : List ℕ) (over : List Over) → IsStuck cores left unused
@@ -127,6 +127,6 @@ core_numbers cores = range_with_len 0 (length cores)
 abbrev pub IsSplit : List (List Piece) → ℕ → Periodic → List Piece → Type 0
 IsSplit cores vcpu task pieces = Splits cores (all_of vcpu task) (core_numbers cores) pieces
 
--- splitting it over all cores ends without room for the last `rest` ticks
+-- by the rules splitting the vCPU over all cores ends without room for its last `rest` ticks
 abbrev pub IsSplitRefused : List (List Piece) → ℕ → Periodic → ℕ → List Over → Type 0
 IsSplitRefused cores vcpu task rest over = Refuses cores (all_of vcpu task) (core_numbers cores) rest over

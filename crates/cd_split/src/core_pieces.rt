@@ -30,7 +30,7 @@ impl Model for CorePieces {
 }
 
 impl CorePieces {
-    /// The pieces of each core, by core number, where they keep what this type keeps.
+    /// The pieces of each core, by core number: those of a core are on it, of distinct vCPUs, and fit.
     pub fn of(items: Vec<Pieces>) -> CorePieces
         requires { KeepCores items.items }
         ensures { result ≡ items.items }
@@ -38,7 +38,7 @@ impl CorePieces {
         CorePieces { cores: items }
     }
 
-    /// This many cores, none with a piece.
+    /// So many cores, at most 32, none with a piece. Fails only when memory runs out.
     pub fn empty(alloc: Global, cores: u32) -> Result<CorePieces, NoMemory>
         requires { cores ≤ MAX_CORES }
         ensures { IfOk result (λ pieces. pieces ≡ replicate cores []) }
@@ -58,7 +58,7 @@ impl CorePieces {
         &self.cores
     }
 
-    /// The number of cores.
+    /// How many cores there are, at most 32.
     pub fn cores(&self) -> u32
         ensures count { result ≡ length self.now }
         ensures few { result ≤ MAX_CORES }
@@ -66,7 +66,7 @@ impl CorePieces {
         self.cores.len() as u32
     }
 
-    /// The pieces on the core.
+    /// The pieces on the core, which are of distinct vCPUs and fit.
     pub fn of_core(&self, core: CoreNo) -> &[Piece]
         requires { core < length self.now }
         ensures same { result.now ≡ pieces_on self.now core }
@@ -77,7 +77,10 @@ impl CorePieces {
         self.cores[core.index()].items()
     }
 
-    /// Adds a piece after the others of its core, whose vCPU has none there yet.
+    /// Adds a piece after the others of its core, whose vCPU has none there yet, and beside which it
+    /// fits.
+    ///
+    /// Fails only when memory runs out, and leaves the pieces as they were then.
     pub fn add(&mut self, piece: Piece) -> Result<(), NoMemory>
         requires there { piece.core < length self.old }
         requires new { LackVcpu piece.vcpu (pieces_on self.old piece.core) }

@@ -22,16 +22,21 @@ use Rattle.core_workers.specs.Waiting.{AwaitsCore, AwaitsEvent, CoreWaits, LeadW
 
 -- laws of actors that are the same
 
+-- each state is one of the same core as itself, in a run of as many rounds, and keeps as many stints
 pub same_actor : (a : StateView) → IsSameCore a a
 same_actor a = record { core = refl; rounds = refl; keep = refl }
 
+-- states of the same core: where the second is one of the first's, and the third of the second's,
+-- the third is one of the first's
 pub same_more : (a b c : StateView) → IsSameCore a b → IsSameCore b c → IsSameCore a c
 same_more a b c x y = record { core = y.core ∙ x.core; rounds = y.rounds ∙ x.rounds; keep = y.keep ∙ x.keep }
 
--- a core agrees with each view of the board that has its part, and so does the controller
+-- each view of a board says that it was started with this lag and these counts, if one view does
 started_on : (lag cores events : ℕ) (v w : View) → IsSameBoard v w → IsStarted lag cores events v → IsStarted lag cores events w
 started_on lag cores events v w board is = record { started = board.started ∙ is.started; lag_is = board.lag ∙ is.lag_is; cores_are = board.cores ∙ is.cores_are; events_are = board.events ∙ is.events_are }
 
+-- a core's state agrees, in what needs no plan, with each view of the board that holds the core's part as it
+-- was
 pub stands_part : (o : OutlineView) (a : StateView) (v w : View) → Stands o a v → IsSameBoard v w → holds w a.core ≡ true → part w a.core ≡ part v a.core → Stands o a w
 stands_part o a v w stands board has is = record {
   of_outline = started_on o.lag o.cores (length o.ticks) v w board stands.of_outline;
@@ -44,12 +49,14 @@ stands_part o a v w stands board has is = record {
   within = stands.within;
 }
 
+-- a core's state agrees with each view of the board that holds the core's part as it was
 pub agrees_part : (course : CourseView) (a : StateView) (v w : View) → AgreesWith course a v → IsSameBoard v w → holds w a.core ≡ true → part w a.core ≡ part v a.core → AgreesWith course a w
 agrees_part course a v w agrees board has is = record {
   stands = stands_part (outline_of course) a v w agrees.stands board has is;
   plans = subst (FollowsPlans course a) (sym is) agrees.plans;
 }
 
+-- the controller's state agrees with each view of the board that holds the controller's part as it was
 pub lead_part : (o : OutlineView) (k : ControlState) (v w : View) → controllers.HasPosted o k v → IsSameBoard v w → holds w controller ≡ true → part w controller ≡ part v controller → controllers.HasPosted o k w
 lead_part o k v w agrees board has is = record {
   of_outline = started_on o.lag o.cores (length o.ticks) v w board agrees.of_outline;
@@ -61,6 +68,7 @@ lead_part o k v w agrees board has is = record {
 
 -- who waits by what it did since v did that since what was before v too
 module _ (course : CourseView) (u v w : View) (on : PartsGoOn u v) where
+  -- an actor that waits for a clock by what it did since v also waits by what it did since u, an earlier view
   core_since : (a tick : ℕ) → AwaitsCore course a tick v w → AwaitsCore course a tick u w
   core_since a tick awaits = record {
     before = awaits.before;
@@ -74,6 +82,7 @@ module _ (course : CourseView) (u v w : View) (on : PartsGoOn u v) where
     exact = awaits.exact;
   }
 
+  -- a core that waits for an event by what it did since v also waits by what it did since u, an earlier view
   event_since : (c : ℕ) → AwaitsEvent course c v w → AwaitsEvent course c u w
   event_since c awaits = record {
     before = awaits.before;
@@ -85,17 +94,20 @@ module _ (course : CourseView) (u v w : View) (on : PartsGoOn u v) where
     exact = awaits.exact;
   }
 
+  -- a core that waits by what it did since v also waits by what it did since u, an earlier view
   pub waits_since : (c : ℕ) → CoreWaits course c v w → CoreWaits course c u w
   waits_since c waits = elim waits [
     | inl event ↦ inl (event_since c event)
     | inr other ↦ inr (record { stint = other.stint; next = other.next; seen = other.seen; awaits = core_since c other.stint.end other.awaits })
   ]
 
+  -- the controller, if it waits by what it did since v, also waits by what it did since u, an earlier view
   pub lead_since : (n : ℕ) → LeadWaits course n v w → LeadWaits course n u w
   lead_since n waits = record { some = waits.some; awaits = core_since controller (tick_at course n) waits.awaits }
 
 -- who waits still does where nobody got on and its part is as it was
 module _ (course : CourseView) (u v w : View) (quiet : IsQuiet v w) where
+  -- an actor that waits for a clock still does where nobody got on and its part is as it was
   core_stays : (a tick : ℕ) → part w a ≡ part v a → AwaitsCore course a tick u v → AwaitsCore course a tick u w
   core_stays a tick is awaits = record {
     before = awaits.before;
@@ -109,6 +121,7 @@ module _ (course : CourseView) (u v w : View) (quiet : IsQuiet v w) where
     exact = λ has. awaits.exact (sym (quiet.actors.actors awaits.core) ∙ has) ∙ sym (quiet.clocks awaits.core);
   }
 
+  -- a core that waits for an event still does where nobody got on and its part is as it was
   event_stays : (c : ℕ) → part w c ≡ part v c → AwaitsEvent course c u v → AwaitsEvent course c u w
   event_stays c is awaits = record {
     before = awaits.before;
@@ -120,6 +133,7 @@ module _ (course : CourseView) (u v w : View) (quiet : IsQuiet v w) where
     exact = λ has. awaits.exact (sym (quiet.actors.actors controller) ∙ has) ∙ sym (ap length (quiet.floors controller));
   }
 
+  -- a core that waits still does where nobody got on and its part is as it was
   pub waits_stay : (c : ℕ) → part w c ≡ part v c → CoreWaits course c u v → CoreWaits course c u w
   waits_stay c is waits = elim waits [
     | inl event ↦ inl (event_stays c is event)
@@ -131,10 +145,11 @@ module _ (course : CourseView) (u v w : View) (quiet : IsQuiet v w) where
     })
   ]
 
+  -- the controller, if it waits, still does where nobody got on and its part is as it was
   pub lead_stays : (n : ℕ) → part w controller ≡ part v controller → LeadWaits course n u v → LeadWaits course n u w
   lead_stays n is waits = record { some = waits.some; awaits = core_stays controller (tick_at course n) is waits.awaits }
 
--- the laws
+-- the cores of runs are a lawful kind of actor
 pub core_lawful : IsLawful core_kind
 core_lawful = record {
   begun = λ a v agrees. agrees.agrees.stands.of_outline.started;
@@ -157,6 +172,7 @@ core_lawful = record {
 pub core_short : (a : ActorView) (v : View) → CoreAgrees a v → a.state.rounds * ROUND < OUT
 core_short a v agrees = omega (arith, agrees.fits.few_rounds)
 
+-- the controllers of runs are a lawful kind of actor
 pub lead_lawful : IsLawful lead_kind
 lead_lawful = record {
   begun = λ k v agrees. agrees.of_outline.started;

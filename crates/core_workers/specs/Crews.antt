@@ -66,7 +66,7 @@ HasPosted crew = crew.control.posted ≡ length crew.course.ticks
 abbrev pub CoresFinished : CrewView → View → Type 0
 CoresFinished crew v = (c : ℕ) (a : StateView) → actor_of crew c ≡ Some a → holds v c ≡ true → HasFinished a
 
--- those whose parts the view holds have finished
+-- the actors whose parts the view holds have finished
 pub record HeldFinished (crew : CrewView) (v : View) : Type 0 where
   pub cores : CoresFinished crew v
   pub control : holds v controller ≡ true → HasPosted crew

@@ -58,8 +58,8 @@ pub record LeadWaits (course : CourseView) (n : ℕ) (v w : View) : Type 0 where
   pub some : n < length course.ticks
   pub awaits : AwaitsCore course controller (tick_at course n) v w
 
--- Those whose parts are held are at rest in w, after steps that began in v: the cores have finished or one
--- of least clock waits, and the controller has posted all events or waits
+-- The actors whose parts are held are at rest in w, after steps that began in v: the cores have finished or
+-- one of least clock waits, and the controller has posted all events or waits
 pub record AreAtRest (crew : CrewView) (v w : View) : Type 0 where
   pub cores : CoresFinished crew w ⊎ LeastWaits crew.course v w
   pub control : holds w controller ≡ true → HasPosted crew ⊎ LeadWaits crew.course crew.control.posted v w

@@ -34,7 +34,7 @@ pub record IsAccountOf (course : CourseView) (c : ℕ) (stints : List Stint) (ac
   pub shared : (v : ℕ) → v < MAX_VCPUS → slice_index account.shared v ≡ sum_by (shared_ticks course c v) stints
   pub idle : account.idle ≡ sum_by idle_ticks stints
 
--- none of its numbers exceeds the tick
+-- no number of the account exceeds the tick
 pub record IsWithin (account : CoreAccount) (tick : ℕ) : Type 0 where
   pub slots : (v : ℕ) → v < MAX_VCPUS → slice_index account.slots v ≤ tick
   pub shared : (v : ℕ) → v < MAX_VCPUS → slice_index account.shared v ≤ tick

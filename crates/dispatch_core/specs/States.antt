@@ -51,8 +51,8 @@ pub record Stands (o : OutlineView) (s : StateView) (v : View) : Type 0 where
   pub known : KnowsClocks s.known (part v s.core)
   pub within : IsWithin s.account s.clock
 
--- The rest of it: by the plans of the course the part's stints are those that the rules choose, and the last
--- shared pick and the account are what they give.
+-- The state and its core's part follow the plans of the course: the part's stints are those that the rules
+-- choose, and the last shared pick and the account are what these stints give.
 pub record FollowsPlans (course : CourseView) (s : StateView) (p : Part) : Type 0 where
   pub dispatched : AreDispatched course s.core p.stints
   pub last : s.last ≡ last_shared course s.core p.stints

@@ -107,14 +107,14 @@ CoreTold course rounds c v (Behind (Core d) tick) w = (count : ℕ) × (entered 
     × (holds v d ≡ true → tick ≡ (part v d).clock)
 CoreTold course rounds c v Finished w = ((part v c).clock ≡ rounds * ROUND) × (w ≡ v)
 
--- what its begin did; t is what the core's actor keeps afterwards
+-- what the beginning of a core's step did; t is what the core's actor keeps afterwards
 abbrev pub BegunTold : OutlineView → ℕ → ℕ → View → Begun → StateView → View → Type 0
 BegunTold o rounds c v (At seen used) t w = BeginsStep o rounds c v seen (part w c) × HasBegun o t w seen used
 BegunTold o rounds c v (Unseen seen tick) t w = ((part v c).clock < rounds * ROUND)
     × (lacks : LacksEvent o c v w tick) × (lacks.count ≡ seen)
 BegunTold o rounds c v Over t w = ((part v c).clock ≡ rounds * ROUND) × (w ≡ v)
 
--- what its end did
+-- what the end of a core's step did
 abbrev pub EndTold : CourseView → ℕ → View → Ended → View → Type 0
 EndTold course c v (RanOn s) w = RunsStint course c (part v c) (part w c) s
 EndTold course c v (TooEarly d tick) w = FindsLow course c (part v c) (part w c) d tick

@@ -13,10 +13,11 @@ use Rattle.fleet_place.specs.declared.vm.Vm.{Vm}
 abbrev pub with_vm : Held → Vm → Held
 with_vm held vm = record { cores = held.cores; vms = held.vms ++ vm ∷ [] }
 
--- the VM fits the host beside those that are there, or why it doesn't
+-- the VM fits the host beside the VMs that are there
 abbrev pub Joins : ℕ → Held → Vm → Type 0
 Joins tick held vm = Fits tick held.cores (held.vms ++ vm ∷ [])
 
+-- the VM doesn't fit the host beside the VMs that are there
 abbrev pub JoinsNot : ℕ → Held → Vm → Type 0
 JoinsNot tick held vm = FitsNot tick held.cores (held.vms ++ vm ∷ [])
 

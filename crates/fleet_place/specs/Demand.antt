@@ -5,7 +5,8 @@ use Rattle.reservation.specs.Cost.{demand}
 use Rattle.period_choice.specs.Choice.{IsChosen}
 use Rattle.sizes_doc.specs.declared.size.Size.{Size}
 
--- with the budget that planning chooses for each, they take so many ticks of a round together
+-- with the budget that planning chooses for each vCPU of the size, all of them take so many ticks of a
+-- round together
 pub record Takes (tick : ℕ) (size : Size) (ticks : ℕ) : Type 0 where
   pub task : Periodic
   pub chosen : IsChosen size.reservation tick task

@@ -23,6 +23,7 @@ left_line vm = codes "left vm " ++ (vm.size.name.now ++ codes "\n")
 abbrev pub no_host : Held
 no_host = record { cores = 0; vms = [] }
 
+-- the lines of the VMs on the host of this number, in the order in which it holds them
 abbrev pub host_lines : List Held → ℕ → List ℕ
 host_lines hosts host = flat_map (vm_line host) (get_or hosts host no_host).vms
 
@@ -32,6 +33,7 @@ placing_text hosts left = texts_below (host_lines hosts) (length hosts) ++ flat_
 
 -- ---- the summary
 
+-- the summary's first row, which names the columns
 abbrev pub summary_head : List ℕ
 summary_head = codes "host  cores   VMs  vCPUs    load %  headroom %\n"
 
@@ -41,14 +43,16 @@ full_cells cores vms vcpus load = count_cell 7 cores ++ (count_cell 6 vms ++ (co
     ++ (percent_cell 5 (ppm_of load (cores * ROUND))
     ++ (percent_cell 7 (ppm_of (cores * ROUND - load) (cores * ROUND)) ++ codes "\n"))))
 
+-- the summary's row of the host of this number: its cores, VMs and vCPUs, its load and what is left
 abbrev pub host_row : List Held → ℕ → List ℕ
 host_row hosts host = let held = get_or hosts host no_host in
     count_cell 4 host ++ full_cells held.cores (length held.vms) (count_of held.vms) (load_of held.vms)
 
--- that of all hosts together
+-- the summary's row of all hosts together
 abbrev pub fleet_row : List Held → List ℕ
 fleet_row hosts = codes " all" ++ full_cells (sum_by (λ held. held.cores) hosts) (sum_by (λ held. length held.vms) hosts)
     (sum_by (λ held. count_of held.vms) hosts) (sum_by (λ held. load_of held.vms) hosts)
 
+-- the summary of a placing: a row for each host, by number, and one for all together
 abbrev pub summary_text : List Held → List ℕ
 summary_text hosts = summary_head ++ (texts_below (host_row hosts) (length hosts) ++ fleet_row hosts)

@@ -15,11 +15,11 @@ pub record Held : Type 0 where
 abbrev pub sizes_in : List Vm → List Size
 sizes_in vms = map (λ vm. vm.size) vms
 
--- the ticks of a round that VMs take
+-- the ticks of a round that the VMs take together
 abbrev pub load_of : List Vm → ℕ
 load_of vms = sum_by (λ vm. vm.demand) vms
 
--- their vCPUs
+-- how many vCPUs the VMs have together
 abbrev pub count_of : List Vm → ℕ
 count_of vms = sum_by (λ vm. vm.size.machines * vm.size.vcpus) vms
 

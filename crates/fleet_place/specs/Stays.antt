@@ -14,7 +14,7 @@ pub record IsStay (tick : ℕ) (group : Group) (held : Held) (moved : List Vm) :
   pub longest : (more rest : List Vm) → moved ≡ more ++ rest → 1 ≤ length more
       → FitsNot tick held.cores (held.vms ++ more)
 
--- each host keeps its own in that way, one after the other, and these move in all
+-- one host after the other keeps what it can of its own VMs, and these VMs move in all
 pub data Stay (tick : ℕ) : List Group → List Held → List Vm → Type 0 where
   NoHost : Stay tick [] [] []
   NextHost : (groups : List Group) (hosts : List Held) (moved : List Vm) (group : Group) (held : Held) (mine : List Vm)

@@ -31,7 +31,7 @@ impl<'a> Model for FleetHost<'a> {
 }
 
 impl<'a> FleetHost<'a> {
-    /// A host without VMs.
+    /// A host of so many cores without VMs.
     pub fn empty(alloc: Global, cores: u32) -> FleetHost<'a>
         requires some { 1 ≤ cores }
         requires few { cores ≤ MAX_CORES }
@@ -45,6 +45,7 @@ impl<'a> FleetHost<'a> {
         }
     }
 
+    /// How many cores the host has.
     pub fn cores(&self) -> u32
         ensures value { result ≡ self.now.cores }
         ensures some { 1 ≤ result }
@@ -68,7 +69,7 @@ impl<'a> FleetHost<'a> {
         self.load
     }
 
-    /// The vCPUs of its VMs.
+    /// How many vCPUs the host's VMs have together.
     pub fn vcpus(&self) -> u32
         ensures value { result ≡ count_of self.now.vms }
         ensures few { result ≤ MAX_VCPUS }
@@ -83,7 +84,9 @@ impl<'a> FleetHost<'a> {
         u64::from(self.cores) * u64::from(ROUND) - self.load
     }
 
-    /// Whether the VM is within its limits, beside its VMs.
+    /// Whether the VM is within the host's limits beside its VMs: together they take no more ticks of a
+    /// round than the cores have, and have no more than 256 vCPUs. Whether the planner accepts it is
+    /// another question.
     pub fn has_space(&self, vm: &Vm<'_>) -> bool
         ensures much { IsTrue result → load_of self.now.vms + vm.now.demand ≤ self.now.cores * ROUND }
         ensures many { IsTrue result → count_of self.now.vms + vm.now.size.machines * vm.now.size.vcpus ≤ MAX_VCPUS }
@@ -94,7 +97,8 @@ impl<'a> FleetHost<'a> {
         fits && self.vcpus + vm.size.machines * vm.size.vcpus <= MAX_VCPUS
     }
 
-    /// Adds a VM that is within its limits. Without memory nothing changes.
+    /// Adds a VM that is within the host's limits, as `has_space` says. Fails only when memory runs
+    /// out.
     pub fn push(&mut self, vm: &Vm<'a>) -> Result<(), NoMemory>
         requires much { load_of self.old.vms + vm.now.demand ≤ self.old.cores * ROUND }
         requires many { count_of self.old.vms + vm.now.size.machines * vm.now.size.vcpus ≤ MAX_VCPUS }

@@ -49,6 +49,6 @@ pub record IsNet (l : Load) (rows lacks : List (List ℕ)) (room : List ℕ) (ho
 abbrev pub fluid : Load → ℕ → ℕ → ℕ
 fluid l v i = l.cost v * span l i / l.period v
 
--- all that flows
+-- the ticks that all jobs get together
 abbrev pub flow_sum : Load → List (List ℕ) → ℕ
 flow_sum l rows = total (used l (flow_of rows)) l.count

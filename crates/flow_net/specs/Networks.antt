@@ -15,7 +15,7 @@ pub record DemandsView : Type 0 where
   pub marks : List ℕ
   pub cores : ℕ
 
--- the demands as functions
+-- the demands, the marks and the cores as a load
 abbrev pub load : DemandsView → Load
 load d = load_of d.costs d.periods d.marks d.cores
 
@@ -31,7 +31,7 @@ pub record NetView : Type 0 where
 abbrev pub lacks_of : NetView → ℕ
 lacks_of net = all_lacks (load net.demands) net.lacks
 
--- all that flows
+-- the ticks that all jobs get together in the network
 abbrev pub flow_in : NetView → ℕ
 flow_in net = flow_sum (load net.demands) net.rows
 
@@ -64,7 +64,7 @@ pub record IsToSink (l : Load) (edge i : ℕ) : Type 0 where
   pub interval : i < l.count
   pub number : edge ≡ job_count l + (l.count * admitted l + i)
 
--- what can still go to a job, or be taken back from it
+-- the ticks that a job can still get from the source, or that can be taken back from it
 abbrev pub left_to_job : NetView → ℕ → ℕ → Bool → ℕ
 left_to_job net v k back =
     let l = load net.demands in

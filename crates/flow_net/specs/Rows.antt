@@ -14,7 +14,7 @@ ticks_at rows i place = slice_index (row_at rows i) place
 abbrev pub with_ticks : List (List ℕ) → ℕ → ℕ → ℕ → List (List ℕ)
 with_ticks rows i place n = slice_set rows i (slice_set (row_at rows i) place n)
 
--- there is such a place
+-- the rows have a row i, and it has this place
 pub record IsPlace (rows : List (List ℕ)) (i place : ℕ) : Type 0 where
   pub row : i < length rows
   pub within : place < length (row_at rows i)

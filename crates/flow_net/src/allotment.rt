@@ -33,7 +33,8 @@ impl Marks {
     }
 }
 
-/// One list of ticks by vCPU number for each interval. Contracts see the list of lists.
+/// For each interval the ticks that each vCPU gets there, by vCPU number. Contracts see the list of
+/// lists.
 #[derive(Drop)]
 pub struct Rows {
     items: Vec<Ticks>,
@@ -48,14 +49,14 @@ impl Model for Rows {
 }
 
 impl Rows {
-    /// The list of these lists.
+    /// The list of these lists, by interval.
     pub fn of(items: Vec<Ticks>) -> Rows
         ensures { result ≡ items.items }
     {
         Rows { items }
     }
 
-    /// The lists, by interval.
+    /// The ticks of each interval, in the order of the intervals.
     pub fn items(&self) -> &[Ticks]
         ensures { result.now ≡ self.now }
     {

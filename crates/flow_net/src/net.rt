@@ -47,9 +47,11 @@ impl Model for Net {
 
 impl Net {
     /// The network of these tasks with the opening flow: on each edge from a job to an interval what
-    /// the fluid schedule gives there, in whole ticks, rounded down.
+    /// the fluid schedule gives there, in whole ticks, rounded down. There are at most 32 cores, and
+    /// the demands fit them.
     ///
-    /// The fluid schedule gives each vCPU its share of a core at every instant.
+    /// The fluid schedule gives each vCPU its share of a core at every instant. Fails only when memory
+    /// runs out.
     pub fn of(alloc: Global, tasks: &Tasks, cores: u32) -> Result<Net, NoMemory>
         requires cores { cores ≤ MAX_CORES }
         requires fits { demands tasks.now ≤ cores * ROUND }

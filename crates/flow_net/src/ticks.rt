@@ -3,7 +3,7 @@ ghost use Rattle.flow_net.specs.Rows.{IsPlace, row_at, ticks_at, with_ticks};
 
 use std::marker::Model;
 
-/// Ticks by number. Contracts see the list.
+/// Numbers of ticks, one for each vCPU or for each job, by number. Contracts see the list.
 #[derive(Drop)]
 pub struct Ticks {
     items: Vec<u32>,

@@ -17,11 +17,11 @@ limited path None = Err (BadKey path)
 limited path (Some items) = if nat_le (count_of items) 256 then Ok items
     else Err (TooMany (count_of items))
 
--- such an array, or its default
+-- an array of at most 256 values, or its default where nothing is there
 abbrev pub items_or : Path → Items → Option Data → Result Items HostFault
 items_or path default None = Ok default
 items_or path default (Some found) = limited path (as_array found)
 
--- such an array at a key
+-- an array of at most 256 values at a key, or its default where nothing is there
 abbrev pub items_at : Path → Items → Members → Result Items HostFault
 items_at path default members = items_or path default (found_at path members)

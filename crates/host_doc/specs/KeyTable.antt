@@ -57,23 +57,23 @@ document_keys members = if is_second (format_of members) then TickNs ∷ first_k
 abbrev pub name_of : ℕ → Members → Result (List ℕ) HostFault
 name_of number = name_text_at (of_vcpu number Name)
 
--- whether it is admitted
+-- whether the vCPU of a number is admitted
 abbrev pub admitted_of : ℕ → Members → Result Bool HostFault
 admitted_of number = truth_at (of_vcpu number Admitted) true
 
--- whether it wants to run as the run begins
+-- whether the vCPU of a number wants to run as the run begins
 abbrev pub runnable_of : ℕ → Members → Result Bool HostFault
 runnable_of number = truth_at (of_vcpu number Runnable) true
 
--- its share, in parts per million
+-- the share of the vCPU of a number, in parts per million
 abbrev pub share_of : ℕ → Members → Result ℕ HostFault
 share_of number = integer_at (of_vcpu number Share) 1 1000000 None
 
--- its latency, in nanoseconds
+-- the latency of the vCPU of a number, in nanoseconds
 abbrev pub latency_of : ℕ → Members → Result ℕ HostFault
 latency_of number = integer_at (of_vcpu number Latency) 0 1000000000000 None
 
--- whether it runs in its slots alone
+-- whether the vCPU of a number runs in its slots alone
 abbrev pub capped_of : ℕ → Members → Result Bool HostFault
 capped_of number = truth_at (of_vcpu number Capped) false
 

@@ -12,7 +12,7 @@ abbrev pub text_in : Path → Option Data → Result (List ℕ) HostFault
 text_in path None = Err (BadKey path)
 text_in path (Some found) = ok_or (as_str found) (BadKey path)
 
--- such a text at a key
+-- a text at a key, which is required
 abbrev pub text_at : Path → Members → Result (List ℕ) HostFault
 text_at path members = text_in path (found_at path members)
 

@@ -17,12 +17,12 @@ in_range path least most (Some (pos n)) = if nat_le least n && nat_le n most the
     else Err (OutOfRange path)
 in_range path least most (Some (negsuc n)) = Err (OutOfRange path)
 
--- such a number, or where nothing is there its default, if it has one
+-- a whole number from `least` to `most`, or where nothing is there its default, if it has one
 abbrev pub integer_or : Path → ℕ → ℕ → Option ℕ → Option Data → Result ℕ HostFault
 integer_or path least most default None = ok_or default (BadKey path)
 integer_or path least most default (Some found) = in_range path least most (as_integer found)
 
--- such a number at a key
+-- a whole number from `least` to `most` at a key, or where nothing is there its default, if it has one
 abbrev pub integer_at : Path → ℕ → ℕ → Option ℕ → Members → Result ℕ HostFault
 integer_at path least most default members = integer_or path least most default (found_at path members)
 
@@ -31,6 +31,6 @@ abbrev pub truth_or : Path → Bool → Option Data → Result Bool HostFault
 truth_or path default None = Ok default
 truth_or path default (Some found) = ok_or (as_bool found) (BadKey path)
 
--- such a value at a key
+-- a truth value at a key, or its default
 abbrev pub truth_at : Path → Bool → Members → Result Bool HostFault
 truth_at path default members = truth_or path default (found_at path members)

@@ -21,11 +21,11 @@ percent_of most word = 1 + word % most
 abbrev pub whole_periods : List ℕ
 whole_periods = 100 ∷ 300 ∷ 900 ∷ 2700 ∷ 5700 ∷ 11400 ∷ []
 
--- the one that a vCPU's latency is made of
+-- the period in ticks that a vCPU's latency is made of
 abbrev pub period_of : ℕ → ℕ
 period_of word = slice_index whole_periods (word % 6)
 
--- it wants to run as the run begins, but in one of four cases
+-- the vCPU wants to run as the run begins: in three of four cases
 abbrev pub is_runnable : ℕ → Bool
 is_runnable word = not (word / 6 % 4 == 0)
 

@@ -13,7 +13,7 @@ state_of_seed seed = from_le_bytes w64 (to_le_bytes w64 seed)
 unfoldable pub word_of : ℕ → ℕ
 word_of state = (mix_u64 state).0
 
--- the state after it
+-- the state of the generator after it gave a word
 unfoldable pub state_after : ℕ → ℕ
 state_after state = (mix_u64 state).1
 
@@ -22,10 +22,10 @@ unfoldable pub state_at : ℕ → ℕ → ℕ
 state_at seed zero = state_of_seed seed
 state_at seed (suc number) = state_after (state_after (state_at seed number))
 
--- its first word
+-- the first of the two words of the vCPU of this number
 abbrev pub first_word : ℕ → ℕ → ℕ
 first_word seed number = word_of (state_at seed number)
 
--- its second word
+-- the second of the two words of the vCPU of this number
 abbrev pub second_word : ℕ → ℕ → ℕ
 second_word seed number = word_of (state_after (state_at seed number))

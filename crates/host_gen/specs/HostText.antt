@@ -15,7 +15,7 @@ Line = List (List ℕ)
 abbrev pub key_words : List ℕ → List ℕ → Line
 key_words key value = key ∷ codes "=" ∷ value ∷ []
 
--- between quotation marks
+-- a text between quotation marks
 abbrev pub quoted : List ℕ → List ℕ
 quoted text = 34 ∷ (text ++ 34 ∷ [])
 
@@ -34,7 +34,7 @@ format_lines None = key_words (codes "format") (codes "1") ∷ []
 format_lines (Some tick_ns) =
     key_words (codes "format") (codes "2") ∷ key_words (codes "tick_ns") (decimal tick_ns) ∷ []
 
--- those of the other numbers of the host itself
+-- the lines of the host's cores, and of its lag, sliver and quantum in ticks
 abbrev pub number_lines : Host → List Line
 number_lines host =
     key_words (codes "cores") (decimal host.cores)

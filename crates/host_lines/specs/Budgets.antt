@@ -14,40 +14,43 @@ use Rattle.host_lines.specs.declared.scheduler.Scheduler.TheVariants.{Rtds, Dead
 
 -- ---- schedulers
 
--- the nanoseconds of a unit of time
+-- the nanoseconds of a scheduler's unit of time
 abbrev pub unit_of : Scheduler → ℕ
 unit_of Rtds = 1000
 unit_of Deadline = 1
 unit_of FullDeadline = 1
 unit_of Quota = 1000
 
--- the least and the greatest period, and the least budget, in that unit
+-- the least period that a scheduler takes, in its unit of time
 abbrev pub least_period : Scheduler → ℕ
 least_period Rtds = 10
 least_period Deadline = 100000
 least_period FullDeadline = 100000
 least_period Quota = 1000
 
+-- the greatest period that a scheduler takes, in its unit of time
 abbrev pub most_period : Scheduler → ℕ
 most_period Rtds = 4294967295
 most_period Deadline = 4194304000
 most_period FullDeadline = 4194304000
 most_period Quota = 1000000
 
+-- the least budget that a scheduler takes, in its unit of time
 abbrev pub least_budget : Scheduler → ℕ
 least_budget Rtds = 10
 least_budget Deadline = 1024
 least_budget FullDeadline = 1024
 least_budget Quota = 1000
 
--- the parts of a core that are given away: all, or 95 percent
+-- the parts of a core that a scheduler gives away: all, or 95 percent
 abbrev pub parts_of : Scheduler → ℕ
 parts_of Rtds = PARTS
 parts_of Deadline = PARTS / 100 * 95
 parts_of FullDeadline = PARTS
 parts_of Quota = PARTS
 
--- whether it sets out to give each budget in each period, by which no wait is longer than what the budgets leave of two
+-- whether a scheduler sets out to give each budget in each period, by which no wait is longer than what
+-- the budgets leave of two
 abbrev pub bounds_wait : Scheduler → Bool
 bounds_wait Rtds = true
 bounds_wait Deadline = true
@@ -56,28 +59,31 @@ bounds_wait Quota = false
 
 -- ---- tasks
 
--- a task of a plan, with a tick of so many nanoseconds: its period is rounded down, and its cost up
+-- the period of a plan's task in the scheduler's unit of time, rounded down; a tick has so many nanoseconds
 abbrev pub rounded_period : Scheduler → ℕ → Task → ℕ
 rounded_period s tick t = t.period * tick / unit_of s
 
+-- the cost of a plan's task in the scheduler's unit of time, rounded up; a tick has so many nanoseconds
 abbrev pub rounded_cost : Scheduler → ℕ → Task → ℕ
 rounded_cost s tick t = (t.cost * tick + (unit_of s - 1)) / unit_of s
 
--- how many of its periods are one there: with quotas the fewest whose costs together are the least quota, or more
+-- how many periods of a task of this rounded cost make one on the scheduler: with quotas the fewest whose
+-- costs together are the least quota, or more; else one
 abbrev pub periods_of : Scheduler → ℕ → ℕ
 periods_of Rtds cost = 1
 periods_of Deadline cost = 1
 periods_of FullDeadline cost = 1
 periods_of Quota cost = if cost == 0 then 1 else div_ceil 1000 cost
 
--- its period and its budget there
+-- the period that a plan's task has on the scheduler, in its unit of time; a tick has so many nanoseconds
 abbrev pub period_in : Scheduler → ℕ → Task → ℕ
 period_in s tick t = periods_of s (rounded_cost s tick t) * rounded_period s tick t
 
+-- the budget that a plan's task has on the scheduler in each period there, in its unit of time
 abbrev pub budget_in : Scheduler → ℕ → Task → ℕ
 budget_in s tick t = periods_of s (rounded_cost s tick t) * rounded_cost s tick t
 
--- its cost is at least a tick and at most its period, and its period at most a round
+-- a task's cost is at least a tick and at most its period, and its period at most a round
 abbrev pub is_task : Task → Bool
 is_task t = nat_le 1 t.cost && (nat_le t.cost t.period && nat_le t.period ROUND)
 
@@ -86,6 +92,7 @@ abbrev pub is_within : Scheduler → ℕ → ℕ → Bool
 is_within s period budget =
     nat_le (least_period s) period && (nat_le period (most_period s) && nat_le (least_budget s) budget)
 
+-- a period and a budget that the scheduler takes, and the budget is no longer than the period
 abbrev pub fits_period : Scheduler → ℕ → ℕ → Bool
 fits_period s period budget = is_within s period budget && nat_le budget period
 
@@ -103,7 +110,7 @@ weight_of t = if t.period == 0 then 1 else div_ceil (t.cost * 10000) t.period
 abbrev pub part_of : ℕ → ℕ → ℕ
 part_of period budget = (budget * PARTS + (period - 1)) / period
 
--- the parts of its home that a task is given there
+-- the parts of the core that a task is given there, if it is the task's home
 abbrev pub part_on : Scheduler → ℕ → ℕ → Task → ℕ
 part_on s tick core t = if (t.home == core) && is_taken s tick t
     then part_of (period_in s tick t) (budget_in s tick t) else 0

@@ -9,15 +9,19 @@ unfoldable pub dot_below : List ℕ → ℕ → ℕ
 dot_below name zero = length name
 dot_below name (suc k) = if slice_index name k == 46 then k else dot_below name k
 
+-- where the last dot of a vCPU's name is, in bytes from 0; the name's length where it has none
 abbrev pub dot_of : List ℕ → ℕ
 dot_of name = dot_below name (length name)
 
+-- the guest of the vCPU of this name: what is before the last dot
 abbrev pub guest_of : List ℕ → List ℕ
 guest_of name = take (dot_of name) name
 
+-- the number of the vCPU of this name in its guest, in digits: what is after the last dot
 abbrev pub number_of : List ℕ → List ℕ
 number_of name = drop (dot_of name + 1) name
 
+-- the byte is a decimal digit of ASCII
 abbrev pub is_digit : ℕ → Bool
 is_digit byte = nat_le 48 byte && nat_le byte 57
 
@@ -30,6 +34,6 @@ is_number word = (nat_le 1 (length word) && list_all is_digit word)
 abbrev pub is_guest : List ℕ → Bool
 is_guest word = nat_le 1 (length word) && not (slice_index word 0 == 45)
 
--- the name has both
+-- the name of a vCPU has a guest and a number
 abbrev pub has_guest : List ℕ → Bool
 has_guest name = is_guest (guest_of name) && is_number (number_of name)

@@ -27,25 +27,28 @@ unfoldable pub virsh_line : List ℕ → List ℕ → ℕ → List ℕ
 virsh_line guest number cpu = codes "virsh vcpupin " ++ (guest ++ (codes " " ++ (number ++ (codes " "
     ++ (decimal cpu ++ codes "\n")))))
 
+-- the command that pins the vCPU of this name to the CPU of its home, where core 0 is the first CPU
 abbrev pub virsh_of : ℕ → List ℕ → Task → List ℕ
 virsh_of first name t = virsh_line (guest_of name) (number_of name) (first + t.home)
 
--- each vCPU of the guest gets no more than this budget in each period, in microseconds
+-- each vCPU of a guest gets no more than this budget in each period, in microseconds
 unfoldable pub schedinfo_line : List ℕ → ℕ → ℕ → List ℕ
 schedinfo_line guest period budget = codes "virsh schedinfo " ++ (guest ++ (codes " --set vcpu_period="
     ++ (decimal period ++ (codes " vcpu_quota=" ++ (decimal budget ++ codes "\n")))))
 
 -- ---- XML
 
--- the vCPU's CPU, if it is this guest's
+-- the XML that pins the vCPU of this number to this CPU
 unfoldable pub pin_part : List ℕ → ℕ → List ℕ
 pin_part number cpu = codes "<vcpupin vcpu='" ++ (number ++ (codes "' cpuset='" ++ (decimal cpu ++ codes "'/>")))
 
+-- the XML that pins the vCPU of this name, if it is the guest's, to the CPU of its home, where core 0 is
+-- the first CPU
 abbrev pub pin_part_of : ℕ → List ℕ → List ℕ → Task → List ℕ
 pin_part_of first guest name t =
     if bytes_eq (guest_of name) guest then pin_part (number_of name) (first + t.home) else []
 
--- the period and the quota
+-- the XML of the period and the quota, in microseconds, which ends the comment
 unfoldable pub quota_part : ℕ → ℕ → List ℕ
 quota_part period budget = codes "<period>" ++ (decimal period ++ (codes "</period><quota>"
     ++ (decimal budget ++ codes "</quota></cputune>\n")))
@@ -57,7 +60,7 @@ cputune_line first names tasks guest period budget = codes "# <cputune>"
 
 -- ---- all
 
--- what is said of the guest of a vCPU, by that vCPU
+-- the lines of a guest, by its first vCPU
 abbrev pub guest_lines : ℕ → ℕ → List (List ℕ) → List Task → List ℕ → Task → List ℕ
 guest_lines first tick names tasks name t =
     schedinfo_line (guest_of name) (period_in Quota tick t) (budget_in Quota tick t)
@@ -69,11 +72,13 @@ libvirt_at first tick names tasks v = vcpu_text (virsh_of first) names tasks v
     ++ (if has_one_below names (guest_of (name_at names v)) v then []
     else vcpu_text (guest_lines first tick names tasks) names tasks v)
 
--- the text of a plan of these vCPUs, and of a view
+-- the text for libvirt of a plan of these vCPUs, where core 0 is the first CPU and a tick has so many
+-- nanoseconds
 abbrev pub libvirt_text_of : ℕ → ℕ → ℕ → List (List ℕ) → List Task → List ℕ
 libvirt_text_of first tick cores names tasks = LIBVIRT_HEAD.now
     ++ (made_line cores (length tasks) tick first
     ++ texts_below (libvirt_at first tick names tasks) (length tasks))
 
+-- the text for libvirt of the plan that a view shows
 abbrev pub libvirt_text : ℕ → ℕ → View → List ℕ
 libvirt_text first tick view = libvirt_text_of first tick view.cores view.names.items view.tasks.items

@@ -16,7 +16,8 @@ use Rattle.host_lines.specs.Reserved.{is_capped}
 
 -- ---- what it is made from
 
--- the comment that says so, for so many cores and vCPUs, and with the CPU that core 0 is
+-- the comment that says for what the lines were made: so many cores and vCPUs, the tick, and the CPU that
+-- core 0 is
 unfoldable pub made_line : ℕ → ℕ → ℕ → ℕ → List ℕ
 made_line cores vcpus tick first = codes "# The plan has " ++ (decimal cores ++ (codes " cores and "
     ++ (decimal vcpus ++ (codes " vCPUs, in ticks of " ++ (decimal tick ++ (codes " ns. Its core 0 is CPU "
@@ -38,28 +39,31 @@ unfoldable pub pin_line : List ℕ → List ℕ → ℕ → List ℕ
 pin_line guest number cpu = codes "xl vcpu-pin " ++ (guest ++ (codes " " ++ (number ++ (codes " "
     ++ (decimal cpu ++ (codes " " ++ (decimal cpu ++ codes "\n")))))))
 
--- it has this period and this budget, in microseconds, and takes unused time or doesn't
+-- the vCPU of this number of a guest has this period and this budget, in microseconds, and takes unused time
+-- or doesn't
 unfoldable pub rtds_line : List ℕ → List ℕ → ℕ → ℕ → ℕ → List ℕ
 rtds_line guest number period budget extra = codes "xl sched-rtds -d " ++ (guest ++ (codes " -v "
     ++ (number ++ (codes " -p " ++ (decimal period ++ (codes " -b " ++ (decimal budget
     ++ (codes " -e " ++ (decimal extra ++ codes "\n")))))))))
 
--- whether unused time is taken
+-- what the command says of unused time: 0 for a capped vCPU, which takes none, else 1
 abbrev pub extra_of : Bool → ℕ
 extra_of true = 0
 extra_of false = 1
 
--- the lines of a vCPU, of a host with a tick of so many nanoseconds, where core 0 is the first CPU
+-- the lines of a vCPU for Xen's RTDS, where core 0 is the first CPU and a tick has so many nanoseconds
 abbrev pub rtds_of : ℕ → ℕ → List Vcpu → List ℕ → Task → List ℕ
 rtds_of first tick host name t = pin_line (guest_of name) (number_of name) (first + t.home)
     ++ rtds_line (guest_of name) (number_of name) (period_in Rtds tick t) (budget_in Rtds tick t)
     (extra_of (is_capped host name))
 
--- the text for Xen's RTDS, of a plan of these vCPUs, and of a view
+-- the text for Xen's RTDS of a plan of these vCPUs, where core 0 is the first CPU and a tick has so many
+-- nanoseconds
 abbrev pub rtds_text_of : ℕ → ℕ → List Vcpu → ℕ → List (List ℕ) → List Task → List ℕ
 rtds_text_of first tick host cores names tasks = RTDS_HEAD.now ++ (made_line cores (length tasks) tick first
     ++ texts_below (vcpu_text (rtds_of first tick host) names tasks) (length tasks))
 
+-- the text for Xen's RTDS of the plan that a view shows
 abbrev pub rtds_text : ℕ → ℕ → List Vcpu → View → List ℕ
 rtds_text first tick host view =
     rtds_text_of first tick host view.cores view.names.items view.tasks.items
@@ -77,36 +81,40 @@ unfoldable pub into_line : List ℕ → List ℕ → ℕ → List ℕ
 into_line guest number cpu = codes "into " ++ (guest ++ (codes " " ++ (number ++ (codes " "
     ++ (decimal cpu ++ codes "\n")))))
 
--- it gets this budget in each period, in nanoseconds
+-- a vCPU's thread gets this budget in each period, in nanoseconds
 unfoldable pub chrt_line : ℕ → ℕ → List ℕ
 chrt_line period budget = codes "chrt --deadline --sched-runtime " ++ (decimal budget
     ++ (codes " --sched-deadline " ++ (decimal period ++ (codes " --sched-period " ++ (decimal period
     ++ codes " --pid 0 \"$task\"\n")))))
 
+-- the lines that make the thread of the vCPU of this name a deadline task on the CPU of its home
 abbrev pub deadline_of : Scheduler → ℕ → ℕ → List ℕ → Task → List ℕ
 deadline_of s first tick name t = into_line (guest_of name) (number_of name) (first + t.home)
     ++ chrt_line (period_in s tick t) (budget_in s tick t)
 
--- the CPUs of the cores
+-- the CPU that a core is, after a space
 abbrev pub cpu_word : ℕ → ℕ → List ℕ
 cpu_word first core = codes " " ++ decimal (first + core)
 
+-- the line that names the CPUs of so many cores, from the first CPU on
 abbrev pub cpus_line : ℕ → ℕ → List ℕ
 cpus_line first cores = codes "cpus=\"" ++ (texts_below (cpu_word first) cores ++ codes "\"\n")
 
--- how much of a CPU the kernel admits
+-- how much of a CPU the kernel admits, as the line that says so
 abbrev pub admitted : Scheduler → List ℕ
 admitted Rtds = ADMITTED.now
 admitted Deadline = ADMITTED.now
 admitted FullDeadline = ADMIT_ALL.now
 admitted Quota = ADMITTED.now
 
--- the text for deadline tasks, of a plan of these vCPUs, and of a view
+-- the text for deadline tasks of a plan of these vCPUs, where core 0 is the first CPU and a tick has so many
+-- nanoseconds
 abbrev pub deadline_text_of : Scheduler → ℕ → ℕ → ℕ → List (List ℕ) → List Task → List ℕ
 deadline_text_of s first tick cores names tasks = shell_head DEADLINE_HEAD.now
     ++ (made_line cores (length tasks) tick first ++ (admitted s ++ (cpus_line first cores ++ (PARTITIONS.now
     ++ texts_below (vcpu_text (deadline_of s first tick) names tasks) (length tasks)))))
 
+-- the text for deadline tasks of the plan that a view shows
 abbrev pub deadline_text : Scheduler → ℕ → ℕ → View → List ℕ
 deadline_text s first tick view =
     deadline_text_of s first tick view.cores view.names.items view.tasks.items

@@ -15,7 +15,8 @@ unfoldable pub own_lines : List ℕ → List ℕ → ℕ → List ℕ
 own_lines guest number cpu = codes "vcpu " ++ (guest ++ (codes " " ++ (number ++ (codes "\necho "
     ++ (decimal cpu ++ codes " > \"$own/cpuset.cpus\"\n")))))
 
--- it gets no more than this budget in each period, in microseconds, and weighs so much beside others
+-- a vCPU's group gets no more than this budget in each period, in microseconds, and weighs so much beside
+-- others
 unfoldable pub max_lines : ℕ → ℕ → ℕ → List ℕ
 max_lines period budget weight = codes "echo " ++ (decimal budget ++ (codes " " ++ (decimal period
     ++ (codes " > \"$own/cpu.max\"\necho " ++ (decimal weight ++ codes " > \"$own/cpu.weight\"\n")))))
@@ -25,11 +26,13 @@ abbrev pub quota_of : ℕ → ℕ → List ℕ → Task → List ℕ
 quota_of first tick name t = own_lines (guest_of name) (number_of name) (first + t.home)
     ++ max_lines (period_in Quota tick t) (budget_in Quota tick t) (weight_of t)
 
--- the text of a plan of these vCPUs, and of a view
+-- the text for quotas of a plan of these vCPUs, where core 0 is the first CPU and a tick has so many
+-- nanoseconds
 abbrev pub cgroup_text_of : ℕ → ℕ → ℕ → List (List ℕ) → List Task → List ℕ
 cgroup_text_of first tick cores names tasks = shell_head CGROUP_HEAD.now
     ++ (made_line cores (length tasks) tick first ++ (GROUPS.now
     ++ texts_below (vcpu_text (quota_of first tick) names tasks) (length tasks)))
 
+-- the text for quotas of the plan that a view shows
 abbrev pub cgroup_text : ℕ → ℕ → View → List ℕ
 cgroup_text first tick view = cgroup_text_of first tick view.cores view.names.items view.tasks.items

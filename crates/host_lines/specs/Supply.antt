@@ -22,11 +22,11 @@ unfoldable pub given_in : (ℕ → Bool) → ℕ → ℕ → ℕ
 given_in given from zero = 0
 given_in given from (suc n) = given_in given from n + (if given (from + n) then 1 else 0)
 
--- in each period it is given the budget at least
+-- in each period the vCPU is given the budget at least
 abbrev pub GivesBudget : (ℕ → Bool) → ℕ → ℕ → Type 0
 GivesBudget given period budget = (k : ℕ) → budget ≤ given_in given (k * period) period
 
--- from the first to the last of these units it is given nothing
+-- from the first to the last of these units of time the vCPU is given nothing
 pub record IsWait (given : ℕ → Bool) (first last : ℕ) : Type 0 where
   pub order : first ≤ last
   pub ungiven : (x : ℕ) → first ≤ x → x ≤ last → given x ≡ false

@@ -21,11 +21,13 @@ use Rattle.host_lines.specs.Reserved.{is_kept, reserved_of}
 
 -- ---- vCPUs
 
--- what was reserved is there, and kept
+-- the fault of a vCPU whose budget in each period the scheduler takes: the host admits none of its name,
+-- or its reservation isn't kept
 abbrev pub kept_fault : Scheduler → ℕ → ℕ → ℕ → Option Reservation → Option Unkept
 kept_fault s v period budget None = Some (Stranger v)
 kept_fault s v period budget (Some r) = if is_kept s period budget r then None else Some (NotKept v)
 
+-- the fault of a vCPU that would have this period and budget on the scheduler, in its unit of time
 abbrev pub budget_fault : Scheduler → List Vcpu → ℕ → List ℕ → ℕ → ℕ → Option Unkept
 budget_fault s host v name period budget =
     if not (is_within s period budget) then Some (OutOfRange v)
@@ -39,10 +41,12 @@ task_fault s tick host v name t =
     else if not (is_task t) then Some (NoTask v)
     else budget_fault s host v name (period_in s tick t) (budget_in s tick t)
 
+-- the fault of the vCPU of a number and a name, which has none where the plan has no line for it
 abbrev pub task_fault_in : Scheduler → ℕ → List Vcpu → ℕ → List ℕ → Option Task → Option Unkept
 task_fault_in s tick host v name None = None
 task_fault_in s tick host v name (Some t) = task_fault s tick host v name t
 
+-- the fault of the plan's vCPU of a number
 abbrev pub vcpu_fault : Scheduler → ℕ → List Vcpu → List (List ℕ) → List Task → ℕ → Option Unkept
 vcpu_fault s tick host names tasks v = task_fault_in s tick host v (name_at names v) (slice_get tasks v)
 
@@ -59,7 +63,7 @@ slot_fault tasks core Idle = None
 slot_fault tasks core (Slot v) = if is_away (slice_get tasks v) core then Some (Split v) else None
 slot_fault tasks core (Shared v) = None
 
--- the first such slot
+-- the fault of the first slot on another core than its vCPU's home
 abbrev pub split_fault : List Task → List Stretch → Option Unkept
 split_fault tasks [] = None
 split_fault tasks (s ∷ ss) = option_or (slot_fault tasks s.core s.by) (split_fault tasks ss)
@@ -78,6 +82,8 @@ unfoldable pub first_below : (ℕ → Option Unkept) → ℕ → Option Unkept
 first_below fault zero = None
 first_below fault (suc n) = option_or (first_below fault n) (fault n)
 
+-- why a plan of these vCPUs and slots isn't put on a scheduler: its first fault, of a vCPU, of a slot,
+-- or of a core
 abbrev pub unkept_in : Scheduler → ℕ → List Vcpu → List (List ℕ) → List Task → List Stretch → Option Unkept
 unkept_in s tick host names tasks slots =
     option_or (first_below (vcpu_fault s tick host names tasks) (length tasks))

@@ -12,11 +12,12 @@ use Rattle.host_lines.specs.Budgets.{budget_in, period_in}
 use Rattle.host_lines.specs.Guests.{guest_of}
 use Rattle.host_lines.specs.Unkept.{first_below}
 
--- two have different periods or quotas
+-- two tasks would have different periods or quotas, where a tick has so many nanoseconds
 abbrev pub is_unlike : ℕ → Task → Task → Bool
 is_unlike tick one other = not (period_in Quota tick one == period_in Quota tick other)
     || not (budget_in Quota tick one == budget_in Quota tick other)
 
+-- both vCPUs have lines in the plan, and would have different periods or quotas
 abbrev pub are_unlike : ℕ → Option Task → Option Task → Bool
 are_unlike tick None other = false
 are_unlike tick (Some one) None = false
@@ -28,7 +29,7 @@ unlike_pair tick names tasks v other =
     if bytes_eq (guest_of (name_at names other)) (guest_of (name_at names v))
     && are_unlike tick (slice_get tasks other) (slice_get tasks v) then Some (Unlike v) else None
 
--- beside those before it
+-- the fault of a vCPU beside those before it: one of them is of its guest, and unlike it
 abbrev pub unlike_fault : ℕ → List (List ℕ) → List Task → ℕ → Option Unkept
 unlike_fault tick names tasks v = first_below (unlike_pair tick names tasks v) v
 

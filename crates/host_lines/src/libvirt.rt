@@ -18,8 +18,9 @@ use tab_io::{Sink, WriteFault, write_all};
 use tab_words::{TextPiece, put_pieces};
 use view_doc::{Task, View};
 
-/// Writes the commands of virsh that pin a plan's vCPUs and give each guest a quota, and in comments the part of each
-/// guest's XML that says the same.
+/// Writes the commands of virsh that pin a plan's vCPUs and give each guest a period and a quota in
+/// microseconds, and in comments the part of each guest's XML that says the same. `first_cpu` is the
+/// CPU that core 0 is, and a tick has so many nanoseconds.
 ///
 /// A fault leaves a prefix of the text in the sink. Nothing is settled, and nothing is allocated.
 pub fn write_libvirt<K: Sink>(

@@ -56,8 +56,9 @@ fn put_rtds_text<K: Sink>(
     put_rtds_vcpus(sink, first_cpu, tick_ns, host, names, tasks)
 }
 
-/// Writes the lines that make a plan's vCPUs deadline tasks of Linux: a partition for each core, and for each vCPU its
-/// way into that of its home, and a period and a budget in nanoseconds.
+/// Writes the lines that make a plan's vCPUs deadline tasks of Linux: a partition for each core, and
+/// for each vCPU its way into that of its home, and a period and a budget in nanoseconds. `first_cpu`
+/// is the CPU that core 0 is, and a tick has so many nanoseconds.
 ///
 /// A fault leaves a prefix of the text in the sink. Nothing is settled, and nothing is allocated.
 pub fn write_deadline<K: Sink>(

@@ -15,8 +15,9 @@ use tab_io::{Sink, WriteFault, write_all};
 use tab_words::{TextPiece, put_pieces};
 use view_doc::{Task, View};
 
-/// Writes the lines that give a plan's vCPUs quotas of Linux's cgroups: for each a group of its own, with the CPU of its
-/// home, a quota and a period in microseconds, and a weight.
+/// Writes the lines that give a plan's vCPUs quotas of Linux's cgroups: for each a group of its own,
+/// with the CPU of its home, a quota and a period in microseconds, and a weight. `first_cpu` is the CPU
+/// that core 0 is, and a tick has so many nanoseconds.
 ///
 /// A fault leaves a prefix of the text in the sink. Nothing is settled, and nothing is allocated.
 pub fn write_cgroup<K: Sink>(

@@ -20,6 +20,7 @@ abbrev pub level_box : ℕ → ℕ → ℕ → ℕ → List ℕ
 level_box foot low top j =
     if nat_lt low top then box_path (9400 + j * 513) (foot - top) (9400 + j * 513 + 513) (foot - low) else []
 
+-- the box of a vCPU's ticks in the column of a number: from the level of the lower vCPUs to its own
 abbrev pub column_box : Frame → ℕ → ℕ → List Bar → ℕ → ℕ → List ℕ
 column_box f y high bars v j =
     level_box (y + high) (level_of f high bars v j) (level_of f high bars (v + 1) j) j
@@ -32,7 +33,7 @@ column_path f y high names tasks colours bars v =
     (note_of f (name_at names v) (slice_get tasks v)) []
     else []
 
--- the lane
+-- a lane that is drawn in columns: a path for each key that has a bar there
 abbrev pub columns_text : Frame → ℕ → ℕ → List (List ℕ) → List Task → List ℕ → List Bar → List ℕ
 columns_text f y high names tasks colours bars =
     texts_below (column_path f y high names tasks colours bars) (length names)

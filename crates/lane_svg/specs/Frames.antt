@@ -4,7 +4,7 @@ use Rattle.std.specs.Prelude.{ℕ, ◌+◌, ◌-◌, ◌*◌, ◌/◌, nat_le, i
 use Rattle.tab_core.specs.declared.TheConstants.{ROUND}
 use Rattle.view_lanes.specs.declared.frame.Frame.{Frame}
 
--- where a tick is
+-- where a tick is, from the left
 abbrev pub x_at : Frame → ℕ → ℕ
 x_at f t = 9400 + (t - f.from) * ROUND / (f.to - f.from)
 
@@ -12,17 +12,19 @@ x_at f t = 9400 + (t - f.from) * ROUND / (f.to - f.from)
 abbrev pub right_end : ℕ
 right_end = 9400 + ROUND
 
--- the height of each of so many lanes, and from one to the next
+-- the height of each of so many lanes
 abbrev pub height_of : ℕ → ℕ
 height_of lanes = 100 * max 14 (min 40 (560 / max 1 lanes))
 
+-- how far it is from the top of a lane to that of the next, where there are so many lanes
 abbrev pub pitch_of : ℕ → ℕ
 pitch_of lanes = height_of lanes + height_of lanes / 5
 
--- where the lane of a number begins, and where the last ends
+-- where the lane of a number begins, of so many lanes
 abbrev pub top_of : ℕ → ℕ → ℕ
 top_of lanes i = 9800 + i * pitch_of lanes
 
+-- where the last of so many lanes ends, with the gap below it
 abbrev pub foot_of : ℕ → ℕ
 foot_of lanes = top_of lanes lanes
 

@@ -23,6 +23,7 @@ lane_of f labels figures promises row y high share names tasks colours bars = la
     ++ (lane_body f y high names tasks colours bars ++ (waits_text f y high figures promises row
     ++ (keys_text f y high names colours bars ++ codes "</g>\n")))
 
+-- the lane of the core or vCPU of a number, which begins there and is so high
 abbrev pub lane_text : Frame → List (List ℕ) → Figures → List (Option ℕ) → ℕ → ℕ → ℕ → List (List ℕ) → List Task → List ℕ → List Bar
     → List ℕ
 lane_text f labels figures promises row y high names tasks colours bars =

@@ -13,11 +13,12 @@ use Rattle.view_lanes.specs.Amounts.{tenths_ms}
 use Rattle.view_lanes.specs.declared.frame.Bar.{Bar}
 use Rattle.view_lanes.specs.declared.frame.Frame.{Frame}
 
--- whether a bar has this key, and run in this way
+-- a bar ran in this way: shared, or in a slot
 abbrev pub runs_so : Bool → Bar → Bool
 runs_so false bar = not bar.shared
 runs_so true bar = bar.shared
 
+-- a bar has this key, and ran in this way
 abbrev pub is_of : ℕ → Bool → Bar → Bool
 is_of v shared bar = (bar.key == v) && runs_so shared bar
 
@@ -45,22 +46,26 @@ abbrev pub key_word : Bool → List ℕ
 key_word false = []
 key_word true = codes "core "
 
+-- what is said of a key: of a vCPU with a task its home, cost and period, of a core its number, else the name
 abbrev pub note_of : Frame → List ℕ → Option Task → List ℕ
 note_of f name None = key_word f.by_vcpu ++ name
 note_of f name (Some t) = task_note name t.home (tenths_ms f.tick t.cost) (tenths_ms f.tick t.period)
 
+-- the class of boxes of this way of running
 abbrev pub way_class : Bool → List ℕ
 way_class false = []
 way_class true = codes " sh"
 
+-- the words for this way of running, after a name
 abbrev pub way_word : Bool → List ℕ
 way_word false = []
 way_word true = codes ", shared"
 
--- where a path begins and how it ends
+-- the beginning of a path that has this colour and class
 unfoldable pub path_begin : ℕ → List ℕ → List ℕ
 path_begin colour class = codes "<path class=\"c" ++ (decimal colour ++ (class ++ codes "\" d=\""))
 
+-- the end of a path, with its title: a note and the way of running
 abbrev pub path_end : List ℕ → List ℕ → List ℕ
 path_end note word = codes "\"><title>" ++ (note ++ (word ++ codes "</title></path>\n"))
 
@@ -81,19 +86,21 @@ abbrev pub vcpu_paths : Frame → ℕ → ℕ → List (List ℕ) → List Task 
 vcpu_paths f y high names tasks colours bars v = vcpu_path f y high names tasks colours bars false v
     ++ vcpu_path f y high names tasks colours bars true v
 
--- a white line where a bar begins that is wide enough to bear one
+-- a line from the top of a lane to its foot
 unfoldable pub cut_line : ℕ → ℕ → ℕ → List ℕ
 cut_line x y high = codes "M" ++ (decimal x ++ (codes " " ++ (decimal y ++ (codes "V" ++ decimal (y + high)))))
 
+-- a line where this bar begins, if it is wide enough to bear one
 abbrev pub cut_of : Frame → ℕ → ℕ → Bar → List ℕ
 cut_of f y high bar =
     if nat_le (x_at f bar.from + 300) (x_at f bar.end) then cut_line (x_at f bar.from) y high else []
 
--- a name in the middle of its bar, where it is as wide
+-- a name around a point
 unfoldable pub name_text : ℕ → ℕ → List ℕ → List ℕ
 name_text x y name = codes "<text x=\"" ++ (decimal x ++ (codes "\" y=\"" ++ (decimal y ++ (codes "\">"
     ++ (name ++ codes "</text>\n")))))
 
+-- how wide a name is in letters of this height, with the space round it
 abbrev pub width_of : ℕ → List ℕ → ℕ
 width_of letters name = length name * (letters * 61 / 100) + 500
 
@@ -101,6 +108,7 @@ width_of letters name = length name * (letters * 61 / 100) + 500
 abbrev pub line_in : ℕ → ℕ → ℕ → ℕ
 line_in y high letters = y + high / 2 + letters * 35 / 100
 
+-- the name of a bar's key in the middle of the bar, if the bar is as wide as the name
 abbrev pub bar_name : Frame → ℕ → ℕ → List (List ℕ) → Bar → List ℕ
 bar_name f y high names bar =
     if nat_le (x_at f bar.from + width_of (letters_of high) (name_at names bar.key)) (x_at f bar.end)
@@ -125,17 +133,19 @@ bars_text f y high names tasks colours bars =
 abbrev pub ground_box : ℕ → ℕ → ℕ → List ℕ
 ground_box high pitch i = box_path 9400 (9800 + i * pitch) right_end (9800 + i * pitch + high)
 
--- a core's number left of its lane, and how much of the lane is somebody's, in tenths of a percent
+-- the number of a core, left of its lane
 unfoldable pub core_label : ℕ → ℕ → ℕ → ℕ → List ℕ
 core_label x core y letters = codes "<g><title>core " ++ (decimal core
     ++ (codes "</title>\n<text x=\"" ++ (decimal x ++ (codes "\" y=\"" ++ (decimal y ++ (codes "\" font-size=\"" ++ (decimal letters
     ++ (codes "\" class=\"label\" text-anchor=\"end\">core " ++ (decimal core ++ codes "</text>\n")))))))))
 
+-- how much of a lane is somebody's, in tenths of a percent, left of the lane
 unfoldable pub share_label : ℕ → ℕ → List ℕ
 share_label y share = codes "<text x=\"8700\" y=\"" ++ (decimal y
     ++ (codes "\" font-size=\"900\" class=\"dim\" text-anchor=\"end\">" ++ (decimal (share / 10)
     ++ (codes "." ++ (decimal (share % 10) ++ codes " %</text>\n")))))
 
+-- what is left of a core's lane: its number, and beside or below it how much of the lane is somebody's
 abbrev pub core_text : ℕ → ℕ → ℕ → ℕ → List ℕ
 core_text core y high share =
     if nat_le 2800 high
@@ -147,6 +157,7 @@ unfoldable pub vcpu_label : List ℕ → ℕ → List ℕ → List ℕ → List 
 vcpu_label name y front dots back = codes "<g><title>" ++ (name ++ (codes "</title>\n<text x=\"8700\" y=\"" ++ (decimal y
     ++ (codes "\" font-size=\"900\" class=\"name\" text-anchor=\"end\">" ++ (front ++ (dots ++ (back ++ codes "</text>\n")))))))
 
+-- the name of a vCPU, cut where it is long, left of its lane
 abbrev pub vcpu_text : List ℕ → ℕ → ℕ → List ℕ
 vcpu_text name y high = vcpu_label name (line_in y high 900) (short_front name) (short_dots name) (short_back name)
 
@@ -161,6 +172,7 @@ label_text true labels row y high share = vcpu_text (name_at labels row) y high
 unfoldable pub wait_line : ℕ → ℕ → ℕ → List ℕ
 wait_line x y end = codes "M" ++ (decimal x ++ (codes " " ++ (decimal y ++ (codes "H" ++ decimal end))))
 
+-- a line over those of the ticks between two that are shown
 abbrev pub wait_part : Frame → ℕ → ℕ → ℕ → List ℕ
 wait_part f y first last =
     if nat_lt (max first f.from) (min last f.to)
@@ -172,29 +184,32 @@ abbrev pub is_late : ℕ → ℕ → Option ℕ → Bool
 is_late tick wait None = false
 is_late tick wait (Some latency) = not (nat_lt wait (2 * ROUND) && nat_le (wait * tick) latency)
 
--- how its length is written
+-- the class of a wait's length: of one that is longer than promised, or of another
 abbrev pub wait_class : Bool → List ℕ
 wait_class false = codes "dim"
 wait_class true = codes "late"
 
--- what ends it: the promise, where there is one
+-- the end of a wait's length where a latency was promised, in tenths of a millisecond
 unfoldable pub promise_end : ℕ → List ℕ
 promise_end latency = codes "of " ++ (decimal (latency / 10) ++ (codes "." ++ (decimal (latency % 10)
     ++ codes " ms</text>\n")))
 
+-- the end of a wait's length where no latency was promised
 unfoldable pub plain_end : List ℕ
 plain_end = codes "ms</text>\n"
 
+-- the end of a wait's length, by the latency that was promised in nanoseconds, if one was
 abbrev pub wait_end : Option ℕ → List ℕ
 wait_end None = plain_end
 wait_end (Some latency) = promise_end (latency / 100000)
 
--- how long it is and how long it may be, in tenths of a millisecond, right of the lane
+-- how long a wait is, in tenths of a millisecond, right of the lane
 unfoldable pub wait_label : ℕ → List ℕ → ℕ → List ℕ
 wait_label y class wait = codes "\"/>\n<text x=\"112400\" y=\"" ++ (decimal y
     ++ (codes "\" font-size=\"800\" class=\"" ++ (class ++ (codes "\">" ++ (decimal (wait / 10) ++ (codes "."
     ++ (decimal (wait % 10) ++ codes " ")))))))
 
+-- how long a wait of so many ticks is and how long it may be, right of the lane
 abbrev pub wait_note : ℕ → ℕ → ℕ → Option ℕ → List ℕ
 wait_note tick y wait promise =
     wait_label y (wait_class (is_late tick wait promise)) (tenths_ms tick wait) ++ wait_end promise
@@ -210,15 +225,17 @@ abbrev pub wait_text : Frame → ℕ → ℕ → ℕ → ℕ → Option ℕ → 
 wait_text f y high wait mark promise =
     wait_at f (y + high / 2) (mark - wait) mark (line_in y high 800) wait promise
 
--- the lane of a vCPU of a plan has its longest wait
+-- the longest wait of a vCPU on its lane, if its end is known
 abbrev pub ending_text : Frame → ℕ → ℕ → ℕ → Option ℕ → Option ℕ → List ℕ
 ending_text f y high wait None promise = []
 ending_text f y high wait (Some mark) promise = wait_text f y high wait mark promise
 
+-- the longest wait on a vCPU's lane, if its length and its end are known
 abbrev pub marked_text : Frame → ℕ → ℕ → Option ℕ → Option ℕ → Option ℕ → List ℕ
 marked_text f y high None mark promise = []
 marked_text f y high (Some wait) mark promise = ending_text f y high wait mark promise
 
+-- the longest wait of this vCPU on its lane, in a picture of a plan by vCPU
 abbrev pub waits_text : Frame → ℕ → ℕ → Figures → List (Option ℕ) → ℕ → List ℕ
 waits_text f y high figures promises v =
     if f.by_vcpu && not f.is_run

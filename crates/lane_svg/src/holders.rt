@@ -16,7 +16,8 @@ pub(crate) fn holders_of(bars: &[Bar]) -> VcpuSet
     set
 }
 
-/// The keys that have a bar on one of the lanes.
+/// The numbers of all keys that have a bar on one of the lanes: of vCPUs on lanes of cores, of cores on
+/// lanes of vCPUs.
 pub fn holders_in(lanes: &[Lane]) -> VcpuSet
     ensures { (v : ℕ) → v < MAX_VCPUS → has_vcpu result v ≡ has_lane lanes.now v }
 {

@@ -58,7 +58,7 @@ fn count_of(holders: &VcpuSet, numbers: usize, bars: &[Bar]) -> u32
     count_below(holders, numbers)
 }
 
-/// How many of the numbers below one are members of a set.
+/// How many numbers below `numbers`, which is at most 256, are members of the set.
 pub fn count_below(set: &VcpuSet, numbers: usize) -> u32
     requires { numbers ≤ MAX_VCPUS }
     ensures value { result ≡ count_below (has_vcpu set.now) numbers }
@@ -71,7 +71,7 @@ pub fn count_below(set: &VcpuSet, numbers: usize) -> u32
     count
 }
 
-/// The place after one, if that is taken, or the same place. It is below 2^32 - 1.
+/// The place after this one if it is taken, else this one. The place is below 2^32 - 1.
 pub fn next_place(place: u32, taken: bool) -> u32
     requires { place < 2 ^ 32 - 1 }
     ensures { result ≡ place + (if taken then 1 else 0) }

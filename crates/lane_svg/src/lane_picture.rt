@@ -14,7 +14,15 @@ use view_doc::Task;
 use view_lanes::{Bar, Frame, held_in, is_dense, per_mille, span_of};
 use view_table::Figures;
 
-/// Writes the lane of a core or vCPU.
+/// Writes the lane of the core or vCPU with the number `row`, which begins at `y` from the top and is
+/// `high`, in units of the picture: its label, its bars, on a vCPU's lane of a plan its longest wait,
+/// and its key.
+///
+/// The vCPUs' names and figures, and the latencies that they were promised, in nanoseconds, are by vCPU
+/// number. The names, tasks and tones of the keys are by the numbers that the bars have, and each name
+/// has a tone.
+///
+/// A fault leaves a prefix of the text in the sink. Nothing is settled.
 pub fn put_lane<K: Sink>(
     sink: &mut K,
     frame: &Frame,

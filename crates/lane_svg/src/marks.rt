@@ -18,14 +18,16 @@ pub fn short_front(name: &[u8]) -> &[u8]
     }
 }
 
-/// What stands for those in the middle.
+/// The two dots between the first and the last letters of a name of more than 15 letters, and nothing
+/// for a shorter one, which `short_front` gives whole.
 pub fn short_dots(name: &[u8]) -> &'static [u8]
     ensures { result.now ≡ short_dots name.now }
 {
     if name.len() <= 15 { b"" } else { b".." }
 }
 
-/// The last six letters, where not all fit.
+/// The last six letters of a name of more than 15, and nothing for a shorter one, which `short_front`
+/// gives whole.
 pub fn short_back(name: &[u8]) -> &[u8]
     ensures { result.now ≡ short_back name.now }
 {
@@ -37,7 +39,10 @@ pub fn short_back(name: &[u8]) -> &[u8]
     }
 }
 
-/// Writes a path round a box.
+/// Writes the path round a box between two points, in units of the picture, from the left and from the
+/// top.
+///
+/// A fault leaves a prefix of the path in the sink. Nothing is settled, and nothing is allocated.
 #[tactic(auto, unfolding(crate::specs::Marks::box_path))]
 pub fn put_box<K: Sink>(sink: &mut K, x0: u64, y0: u64, x1: u64, y1: u64) -> Result<(), WriteFault>
     ensures { Writes (K.state sink.old) (K.state sink.new) (box_path x0 y0 x1 y1) result }

@@ -18,7 +18,8 @@ pub fn tails_of(vcpus: &[Vcpu], behind: u8) -> [Tail; 257]
     tails
 }
 
-/// The place of an owner's tail.
+/// The place that an owner's tail has in `tails_of`: 0 for an idle cell, and one more than its number
+/// for a vCPU.
 pub fn tail_place(owner: &Option<VcpuNo>) -> usize
     ensures place { result ≡ tail_place owner.now }
     ensures small { result ≤ MAX_VCPUS }

@@ -22,6 +22,7 @@ pub record LiveActorView : Type 0 where
   pub table : List FullSpan
   pub taken : Taken
 
+-- a core's actor by what it keeps
 abbrev pub live_actor_view : StateView → List FullSpan → Taken → LiveActorView
 live_actor_view state table taken = record { state = state; table = table; taken = taken }
 

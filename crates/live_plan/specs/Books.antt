@@ -27,6 +27,7 @@ pub record LiveView : Type 0 where
   pub counts : List ℕ
   pub cells : List (Global × ℕ)
 
+-- a live book by what it says
 abbrev pub live_view : Host → PlanView → OutlineView → List (List Edit) → List ℕ → List (Global × ℕ)
     → LiveView
 live_view host plan outline changes counts cells = record {

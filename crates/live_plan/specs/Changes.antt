@@ -23,6 +23,7 @@ pub record IsRefused (before : Host) (edits : List Edit) (after : Host) : Type 0
   pub unplanned : IsUnplanned host outcome
   pub stays : after ≡ before
 
+-- the change makes the second host of the first: the edited one where that has a plan, else the first itself
 abbrev pub Becomes : Host → List Edit → Host → Type 0
 Becomes before edits after = IsTaken before edits after ⊎ IsRefused before edits after
 

@@ -21,10 +21,12 @@ pub record CrewView : Type 0 where
   pub lead : Player LeadView
   pub maker : Maker
 
+-- the crew of a run of so many rounds, by its parts
 abbrev pub crew_view : ℕ → List (Player MemberView) → Player LeadView → Maker → CrewView
 crew_view rounds members lead maker =
     record { rounds = rounds; members = members; lead = lead; maker = maker }
 
+-- a core's actor as contracts see it, if there is one
 abbrev pub actor_in : Option (Player MemberView) → Option LiveActorView
 actor_in None = None
 actor_in (Some p) = Some p.actor.actor
@@ -33,6 +35,7 @@ actor_in (Some p) = Some p.actor.actor
 abbrev pub actor_of : CrewView → ℕ → Option LiveActorView
 actor_of crew c = actor_in (slice_get crew.members c)
 
+-- the planner of a crew
 abbrev pub planner_of : CrewView → PlannerView
 planner_of crew = crew.maker.planner
 

@@ -14,6 +14,7 @@ pub record MadeView : Type 0 where
   pub edits : List (List Edit)
   pub found : Found
 
+-- a made value by what it keeps
 abbrev pub made_view : ℕ → Host → List (List Edit) → Found → MadeView
 made_view change host edits found = record { change = change; host = host; edits = edits; found = found }
 

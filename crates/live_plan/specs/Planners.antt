@@ -18,6 +18,7 @@ pub record PlannerView : Type 0 where
   pub next : ℕ
   pub stopped : Bool
 
+-- a planner by what it keeps
 abbrev pub planner_view : List MadeView → Host → ℕ → Bool → PlannerView
 planner_view left standing next stopped =
     record { left = left; standing = standing; next = next; stopped = stopped }
@@ -29,7 +30,8 @@ pub record IsPlannerOf (b : LiveView) (p : PlannerView) : Type 0 where
   pub each : (k : ℕ) (m : MadeView) → slice_get p.left k ≡ Some m → IsMadeFor b (length b.changes - 1 - k) m
   pub stands : p.stopped ≡ false → HostAfter b.host b.changes p.next p.standing
 
--- it planned its next change, and made one put of that change's value, which is out of memory or isn't
+-- the planner planned its next change, and made one put of that change's value, which is out of memory or
+-- isn't
 pub record PlansNext (b : LiveView) (p : PlannerView) (s : ShelfView) (change : ℕ) (stopped : Bool)
     (q : PlannerView) (t : ShelfView) : Type 0 where
   pub going : p.stopped ≡ false

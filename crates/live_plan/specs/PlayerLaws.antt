@@ -42,6 +42,7 @@ core_lawful = record {
 pub core_short : (m : MemberView) (v : View) → CoreAgrees m v → m.actor.state.rounds * ROUND < OUT
 core_short m v agrees = omega (arith, agrees.short)
 
+-- the controllers of live runs are a lawful kind of actor
 pub lead_lawful : IsLawful lead_kind
 lead_lawful = record {
   begun = λ k v agrees. agrees.of_outline.started;

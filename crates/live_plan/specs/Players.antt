@@ -17,6 +17,7 @@ pub record MemberView : Type 0 where
   pub book : LiveView
   pub actor : LiveActorView
 
+-- a live core by its parts
 abbrev pub member_view : LiveView → LiveActorView → MemberView
 member_view book actor = record { book = book; actor = actor }
 
@@ -25,6 +26,7 @@ pub record LeadView : Type 0 where
   pub book : LiveView
   pub control : ControlState
 
+-- a live controller by its parts
 abbrev pub lead_view : LiveView → ControlState → LeadView
 lead_view book control = record { book = book; control = control }
 

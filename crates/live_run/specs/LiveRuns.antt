@@ -38,6 +38,7 @@ pub record RanView : Type 0 where
   pub changes : List (ℕ × Outcome)
   pub report : ReportView
 
+-- a run that was made, by its book, its changes and its report
 abbrev pub ran_view : BookView → List (ℕ × Outcome) → ReportView → RanView
 ran_view book changes report = record { book = book; changes = changes; report = report }
 

@@ -18,7 +18,7 @@ pub record AreTasksOf (host : Host) (tasks : List (Option Periodic)) : Type 0 wh
       → slice_get host.vcpus number ≡ Some vcpu → slice_get tasks number ≡ Some task
       → IsTaskOf vcpu.reservation host.tick_ns task
 
--- there is a reservation, and no period is admissible for it
+-- a vCPU has this reservation, and no period is admissible for it
 abbrev pub LacksPeriod : Option Reservation → ℕ → Type 0
 LacksPeriod reservation tick_ns = IsSomeAnd reservation (λ r. ¬ (HasPeriod r tick_ns))
 

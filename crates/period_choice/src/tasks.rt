@@ -10,10 +10,11 @@ use crate::fault::TaskFault;
 use std::alloc::Global;
 use tab_core::{Host, Periodic, Reservation, Tasks, Vcpu, VcpuNo};
 
-/// The budget of each of the host's vCPUs, by its number: the chosen one where it is admitted, with
-/// the host's tick.
+/// The budget of each of the host's vCPUs, by its number: the chosen one where it is admitted, with the
+/// host's tick.
 ///
-/// `NoPeriod` comes exactly where an admitted vCPU has no admissible period, and names the lowest.
+/// `NoPeriod` comes exactly where an admitted vCPU has no admissible period, and names the lowest. The
+/// only other fault is out of memory, which may come in place of any answer.
 pub fn tasks_of(alloc: Global, host: &Host) -> Result<Tasks, TaskFault>
     ensures ok { IfOk result (AreTasksOf host.now) }
     ensures only { IfOk result (λ tasks. (other : List (Option Periodic)) → AreTasksOf host.now other
@@ -24,9 +25,11 @@ pub fn tasks_of(alloc: Global, host: &Host) -> Result<Tasks, TaskFault>
     tasks_by(alloc, host, &[], &[])
 }
 
-/// The budgets of a host's vCPUs, where those are known that another host's vCPUs have with this tick:
-/// a vCPU whose reservation is that of its number there has its budget too, and only the others'
-/// periods are chosen.
+/// The budgets of a host's vCPUs as `tasks_of` gives them, where those are known that another host's
+/// vCPUs have with the same tick: a vCPU whose reservation is that of its number there has its budget
+/// too, and only the others' periods are chosen.
+///
+/// The faults are those of `tasks_of`.
 pub fn tasks_after(
     alloc: Global,
     host: &Host,

@@ -14,6 +14,7 @@ over_text over =
     ++ (codes " has " ++ (decimal over.demand
     ++ (codes " in " ++ (decimal over.from ++ (codes ".." ++ decimal over.to))))))
 
+-- the beginning of the refusal's line: the vCPU of this name has no room, and so many of its ticks are left
 unfoldable pub no_room_text : List ℕ → ℕ → List ℕ
 no_room_text name rest = codes "refused: no room for "
     ++ (name ++ (codes ", " ++ (decimal rest ++ codes " ticks left")))

@@ -52,7 +52,10 @@ pub fn plan<R: Threads + Sync>(rt: &R, alloc: Global, host: &Host) -> Result<Pla
     plan_staying(rt, alloc, host, &[])
 }
 
-/// The plan of a host, where the budgets of the host's vCPUs are known. So `NoPeriod` never comes.
+/// The plan of a host as `plan` makes it, where the budgets of the host's vCPUs are known.
+///
+/// `NoRoom` comes as from `plan`, and `NoPeriod` never, since each admitted vCPU has a budget.
+/// `NoMemory` may come in place of any answer.
 pub fn plan_with<R: Threads + Sync>(
     rt: &R,
     alloc: Global,

@@ -43,7 +43,11 @@ pub fn control_step(
     )
 }
 
-/// The controller's step, of any controller of the outline's events.
+/// One step of a controller of the outline's events, as `control_step` makes it, whatever the plans
+/// are.
+///
+/// The seat holds the controller, and the state agrees with its part, which it does again afterwards.
+/// `Behind` and `Finished` come as those of `control_step`.
 pub fn post_step(
     board: &RoundBoard,
     seat: &mut RoundSeat,

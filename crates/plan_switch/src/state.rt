@@ -9,7 +9,7 @@ pub struct ControlState {
 }
 
 impl ControlState {
-    /// No event is posted, and no clock was heard.
+    /// The state of a controller that has posted no event and heard no clock.
     pub fn new() -> ControlState
         ensures posted { result.posted ≡ 0 }
         ensures known { (d : ℕ) → slice_index result.known d ≡ 0 }

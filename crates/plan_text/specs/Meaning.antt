@@ -24,7 +24,7 @@ pub record IsFineSegment (tasks : List (Option Periodic)) (s : Segment) : Type 0
   pub small : s.end < 2 ^ 32
   pub owned : ForSome s.owner (λ v. has_task tasks v ≡ true)
 
--- rows of such segments
+-- the rows have only segments that a text may have
 abbrev pub AreFineRows : List (Option Periodic) → List (List Segment) → Type 0
 AreFineRows tasks rows = All (λ row. All (IsFineSegment tasks) row) rows
 

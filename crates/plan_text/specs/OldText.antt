@@ -39,13 +39,13 @@ pub record IsSegmentLine (line : Line) : Type 0 where
   pub small : end < 2 ^ 64
   pub words : line ≡ decimal end ∷ owner ∷ []
 
--- lines of cores and their segments, and the end
+-- the lines of cores and of their segments, and the last line
 abbrev pub AreOldRows : List Line → Type 0
 AreOldRows [] = ⊥
 AreOldRows (line ∷ lines) =
     ((IsCoreLine line ⊎ IsSegmentLine line) × AreOldRows lines) ⊎ ((line ≡ end_words) × (lines ≡ []))
 
--- the lines of these vCPUs, and such lines after them
+-- the lines of these vCPUs, and after them those of cores and segments and the last line
 abbrev pub AreOldVcpus : List NamedHome → List Line → Type 0
 AreOldVcpus [] lines = AreOldRows lines
 AreOldVcpus (vcpu ∷ vcpus) [] = ⊥
@@ -56,6 +56,6 @@ abbrev pub IsOldText : List NamedHome → List Line → Type 0
 IsOldText vcpus [] = ⊥
 IsOldText vcpus (head ∷ lines) = IsOldHead head × AreOldVcpus vcpus lines
 
--- with some vCPUs
+-- the lines are a plan's, with some vCPUs
 abbrev pub IsSomeOldText : List Line → Type 0
 IsSomeOldText lines = (vcpus : List NamedHome) × IsOldText vcpus lines

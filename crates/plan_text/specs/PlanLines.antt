@@ -46,7 +46,7 @@ abbrev pub core_lines : {S : Type 0} → (S → Line) → ℕ → List (List S) 
 core_lines line core [] = []
 core_lines line core (row ∷ rows) = (core_words core ∷ map line row) ++ core_lines line (core + 1) rows
 
--- the last line
+-- the last line of a plan text
 abbrev pub end_words : Line
 end_words = codes "end" ∷ []
 

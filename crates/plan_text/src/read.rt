@@ -20,7 +20,7 @@ use vcpu_names::Names;
 /// which it has one exactly for each admitted vCPU.
 ///
 /// Each line is words with one space or more between them, and no line is skipped. Segments are as
-/// they are written: neighbours may have one owner, and the ends may are in any order below 2^32.
+/// they are written: neighbours may have one owner, and the ends may be in any order below 2^32.
 ///
 /// The text of a host and tasks stands for one pair of tables at most, and is read as that.
 /// `BadLine` comes exactly where the bytes are the text of none.

@@ -49,7 +49,8 @@ impl<'a> RowReader<'a> {
     /// Reads the first line and those of the vCPUs of a text of less than 2^32 bytes, for this host and
     /// these tasks, of which it has one exactly for each admitted vCPU.
     ///
-    /// `BadLine` names the first bad line of the text, as `read_plan` does.
+    /// `BadLine` names the first bad line of the text, as `read_plan` does. The only other fault is out
+    /// of memory.
     pub fn of(
         alloc: Global,
         bytes: &'a [u8],

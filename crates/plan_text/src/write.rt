@@ -17,7 +17,8 @@ use table_form::{CoreTable, Plan};
 
 /// Writes the text of a plan for this host.
 ///
-/// The plan has a task exactly for each admitted vCPU of the host, and a row for each of its cores.
+/// The plan has a task exactly for each admitted vCPU of the host, and a row for each of its cores. A
+/// fault leaves a prefix of the text in the sink. Nothing is settled.
 pub fn write_plan<K: Sink>(sink: &mut K, host: &Host, plan: &Plan) -> Result<(), WriteFault>
     requires { IsPlanFor host.now (plan_view plan.now) }
     ensures { Writes (K.state sink.old) (K.state sink.new)

@@ -10,7 +10,7 @@ abbrev pub actor_text : Actor → List ℕ
 actor_text (Core core) = codes "core " ++ decimal core
 actor_text Controller = codes "controller"
 
--- why it isn't done, to the end of the line
+-- why a step isn't done, to the end of the line
 abbrev pub answer_text : Answer → List ℕ
 answer_text Done = codes "\n"
 answer_text (Behind who tick) =

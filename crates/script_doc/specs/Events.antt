@@ -58,7 +58,7 @@ pub record IsEvent (names : List (List ℕ)) (words : List (List ℕ)) (event : 
   pub line : IsLine words event.tick (named_act names event.act)
   pub within : IsActWithin (length names) event.act
 
--- it is a change of reservations
+-- the act is a change of reservations
 abbrev pub is_change : Act → Bool
 is_change (Wake vcpu) = false
 is_change (Block vcpu) = false

@@ -29,6 +29,7 @@ impl Edits {
         Edits { items }
     }
 
+    /// The edits, in the order in which they apply.
     pub fn items(&self) -> &[Edit]
         ensures { result.now ≡ self.now }
     {

@@ -29,7 +29,8 @@ impl Model for Script {
 impl Script {
     ghost use Rattle.script_doc.specs.Script.{NeverFall, changes_in};
 
-    /// The script of these events.
+    /// The script of these events: at most 65,535, whose ticks never fall, and of which at most 15 are
+    /// changes.
     pub fn of(events: Vec<Event>) -> Script
         requires order { NeverFall events.items }
         requires few { length events.items ≤ MAX_EVENTS }
@@ -39,6 +40,7 @@ impl Script {
         Script { events }
     }
 
+    /// The events in their order: at most 65,535, whose ticks never fall.
     pub fn events(&self) -> &[Event]
         ensures same { result.now ≡ self.now }
         ensures order { NeverFall self.now }

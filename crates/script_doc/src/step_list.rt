@@ -26,6 +26,7 @@ impl StepSequence {
         StepSequence { items }
     }
 
+    /// The steps, in the order in which they are taken.
     pub fn items(&self) -> &[Step]
         ensures { result.now ≡ self.now }
     {
@@ -55,6 +56,7 @@ impl LineNumbers {
         LineNumbers { items }
     }
 
+    /// The numbers of the lines, from 1, in the order of the steps.
     pub fn items(&self) -> &[u32]
         ensures { result.now ≡ self.now }
     {

@@ -58,7 +58,9 @@ pub fn write_mended<K: Sink>(sink: &mut K, bytes: &[u8]) -> Result<(), WriteFaul
     Ok(())
 }
 
-/// Writes the line that parts two sections.
+/// Writes the line `%%` that parts two sections.
+///
+/// A fault leaves a prefix of it in the sink. Nothing is settled.
 pub fn write_separator<K: Sink>(sink: &mut K) -> Result<(), WriteFault>
     ensures { Writes (K.state sink.old) (K.state sink.new) (codes "%%\n") result }
 {

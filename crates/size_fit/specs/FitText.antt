@@ -14,11 +14,13 @@ use Rattle.size_fit.specs.declared.fit.Room.{Room}
 
 -- ---- the head
 
+-- the first line: so many vCPUs fit so many cores
 unfoldable pub head_line : ℕ → ℕ → List ℕ
 head_line vcpus cores = codes "fits: vCPUs " ++ (decimal vcpus ++ (codes ", cores " ++ (decimal cores ++ codes "\n")))
 
 -- ---- loads
 
+-- the row that names the columns of loads
 abbrev pub load_head : List ℕ
 load_head = codes "\ncore    load %  headroom %\n"
 
@@ -31,6 +33,7 @@ unfoldable pub load_cells : ℕ → ℕ → List ℕ
 load_cells load ticks = percent_cell 5 (ppm_of load ticks)
     ++ (percent_cell 7 (ppm_of (ticks - load) ticks) ++ codes "\n")
 
+-- the row of a core: its load, and what is left of a round
 abbrev pub core_row : List ℕ → ℕ → List ℕ
 core_row loads core = count_cell 4 core ++ load_cells (slice_index loads core) ROUND
 
@@ -38,11 +41,13 @@ core_row loads core = count_cell 4 core ++ load_cells (slice_index loads core) R
 abbrev pub total_of : List ℕ → ℕ
 total_of loads = sum_by (λ load. load) loads
 
+-- the row of all cores together: their load, and what is left of their rounds
 abbrev pub host_row : List ℕ → List ℕ
 host_row loads = codes "host" ++ load_cells (total_of loads) (length loads * ROUND)
 
 -- ---- sizes
 
+-- the row that names the columns of sizes
 abbrev pub size_head : List ℕ
 size_head = codes "\n VMs  more  size\n"
 
@@ -53,16 +58,19 @@ size_row room = count_cell 4 room.size.machines
 
 -- ---- the whole
 
+-- the table of loads: a row for each core, by number, and one for all together
 abbrev pub loads_text : List ℕ → List ℕ
 loads_text loads = load_head ++ (texts_below (core_row loads) (length loads) ++ host_row loads)
 
+-- the table of sizes: how many VMs of each the host has, and how many more of it alone would fit
 abbrev pub rooms_text : List Room → List ℕ
 rooms_text rooms = size_head ++ flat_map size_row rooms
 
+-- what is written where VMs fit: how many vCPUs and cores there are, the loads, and the room for each size
 abbrev pub fit_text : ℕ → ℕ → List ℕ → List Room → List ℕ
 fit_text vcpus cores loads rooms = head_line vcpus cores ++ (loads_text loads ++ rooms_text rooms)
 
--- what is written where they don't fit: the line of the planner's refusal
+-- what is written where the VMs don't fit: the line of the planner's refusal
 abbrev pub refusal_line : List Vcpu → PlanFault → List ℕ
 refusal_line vcpus (plan.NoPeriod vcpu) = no_period_line (name_at (names_of vcpus) vcpu)
 refusal_line vcpus (plan.NoRoom vcpu rest over) = no_room_line (name_at (names_of vcpus) vcpu) rest over

@@ -6,6 +6,6 @@ use Rattle.table_form.specs.Tables.Rows.{Row}
 abbrev pub load_of : Row → ℕ
 load_of row = count_by is_some row
 
--- that of each core
+-- the load of each core, by number, in ticks of a round
 abbrev pub loads_of : List Row → List ℕ
 loads_of rows = map load_of rows

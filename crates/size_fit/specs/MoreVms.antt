@@ -12,6 +12,7 @@ pub record Nameless : Type 0 where
   pub runnable : Bool
   pub capped : Bool
 
+-- all of this vCPU but its name
 abbrev pub nameless : Vcpu → Nameless
 nameless vcpu = record { reservation = vcpu.reservation; runnable = vcpu.runnable; capped = vcpu.capped }
 

@@ -21,7 +21,7 @@ abbrev pub vcpu_name : Size → ℕ → ℕ → List ℕ
 vcpu_name size machine number =
     machine_name size.alone size.name.now machine ++ (codes "." ++ decimal number)
 
--- it is admitted and runnable, and capped if its size is
+-- a vCPU of a VM of this size: admitted and runnable, and capped if its size is
 abbrev pub vcpu_of : Size → ℕ → ℕ → Vcpu
 vcpu_of size machine number = record {
   name = vcpu_name size machine number;
@@ -34,11 +34,11 @@ vcpu_of size machine number = record {
 abbrev pub machine_vcpus : Size → ℕ → List Vcpu
 machine_vcpus size machine = map (vcpu_of size machine) (range_with_len 0 size.vcpus)
 
--- those of all VMs of a size
+-- the vCPUs of all VMs of a size
 abbrev pub size_vcpus : Size → List Vcpu
 size_vcpus size = flat_map (machine_vcpus size) (range_with_len 0 size.machines)
 
--- those of all sizes
+-- the vCPUs of all sizes
 abbrev pub sizes_vcpus : List Size → List Vcpu
 sizes_vcpus sizes = flat_map size_vcpus sizes
 

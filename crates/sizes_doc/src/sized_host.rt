@@ -10,12 +10,16 @@ use crate::twice::first_twice;
 use std::alloc::Global;
 use tab_core::{Host, MAX_VCPUS, Name, NameFault, Vcpu, Vcpus};
 
-/// The host of these sizes, with so many cores: the vCPUs of the first size's VMs, one VM after the
-/// other, then those of the next size. A tick has `tick_ns` nanoseconds; the lag is 1000 ticks, the sliver
-/// 30 and the quantum 1000. Each vCPU is admitted and runnable, and capped if its size is.
+/// The host of these sizes, with so many cores, 1 to 32: the vCPUs of the first size's VMs, one VM
+/// after the other, then those of the next size. A tick has `tick_ns` nanoseconds, 500 to 2002; the lag
+/// is 1000 ticks, the sliver 30 and the quantum 1000. Each vCPU is admitted and runnable, and capped if
+/// its size is.
 ///
-/// The vCPUs of VM K of a size are named NAME-K.0, NAME-K.1 and so on, with K from 0, and those of one VM
-/// with a name of its own NAME.0, NAME.1 and so on.
+/// The vCPUs of VM K of a size are named NAME-K.0, NAME-K.1 and so on, with K from 0, and those of one
+/// VM with a name of its own NAME.0, NAME.1 and so on.
+///
+/// `TooMany` comes only where the sizes have more than 256 vCPUs, `BadName` where a vCPU would have a
+/// name that isn't of the form of one, and `SameName` where two would have one name.
 pub fn host_of_sizes(
     alloc: Global,
     cores: u32,

@@ -5,7 +5,7 @@ use Rattle.table_form.specs.Running.Courses.{CourseView, no_plan}
 use Rattle.slice_table.specs.declared.full_span.FullSpan.{FullSpan}
 use Rattle.slice_table.specs.Slices.{IsTableOf}
 
--- there is one table for each plan of the course, that of core c
+-- the tables are those of core c, one for each plan of the course
 pub record AreSlicesOf (course : CourseView) (c : ℕ) (tables : List (List FullSpan)) : Type 0 where
   pub count : length tables ≡ length course.plans
   pub each : (k : ℕ) (table : List FullSpan) → slice_get tables k ≡ Some table

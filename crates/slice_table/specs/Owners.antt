@@ -12,13 +12,13 @@ abbrev pub AreOwnersIn : Row → List Bool → Type 0
 AreOwnersIn row set = (v : ℕ) → v < MAX_VCPUS
     → (IsTrue (has_vcpu set v) ↔ ((x : ℕ) × (slice_get row x ≡ Some (Some v))))
 
--- there is such a set for each row of the plan
+-- the sets are those of the owners in the plan's rows, one for each row
 pub record AreRowOwners (plan : PlanView) (sets : List (List Bool)) : Type 0 where
   pub count : length sets ≡ length plan.rows
   pub each : (d : ℕ) (row : Row) (set : List Bool) → slice_get plan.rows d ≡ Some row
       → slice_get sets d ≡ Some set → AreOwnersIn row set
 
--- for each plan of the course there is a set for each row of the plan
+-- the owners are those of the course's plans: for each plan a set for each of its rows
 pub record AreCourseOwners (course : CourseView) (owners : List (List (List Bool))) : Type 0 where
   pub count : length owners ≡ length course.plans
   pub each : (k : ℕ) (sets : List (List Bool)) → slice_get owners k ≡ Some sets

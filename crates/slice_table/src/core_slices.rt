@@ -42,7 +42,10 @@ impl CoreSlices {
         CoreSlices::make_with(alloc, course, &owners, core)
     }
 
-    /// The core's tables of the course's plans, where the owners in the rows of these are known.
+    /// The core's tables of the course's plans as `make` makes them, where the owners in the rows of
+    /// these plans are known: those of each plan, in the order of the plans.
+    ///
+    /// Fails only when memory runs out.
     pub fn make_with(
         alloc: Global,
         course: &Course,
@@ -62,7 +65,8 @@ impl CoreSlices {
         Ok(CoreSlices { tables })
     }
 
-    /// The table of the plan after the first `used` events.
+    /// The table of the plan after the first `used` events. The course has so many events, and the
+    /// tables are those of its plans.
     pub fn table_after(&self, course: &Course, used: u32) -> &SliceTable
         requires count { length self.now ≡ length course.now.plans }
         requires used { used ≤ length course.now.ticks }
@@ -74,7 +78,8 @@ impl CoreSlices {
 }
 
 impl SliceTable {
-    /// `span_at`, where nobody counts the steps.
+    /// The span of the core's row that holds this tick of a round, below 102,600, as `span_at` finds
+    /// it. No steps are counted.
     pub fn span(&self, tick: u32) -> Span<'_>
         requires { tick < ROUND }
         ensures after { tick < result.end }
@@ -101,7 +106,8 @@ impl SliceTable {
         self.numbered(number, tick)
     }
 
-    /// The span of the number, if there is one and it holds the tick, for a caller that has a guess.
+    /// The span of this number, if there is one and it holds this tick of a round: for a caller that
+    /// has a guess.
     pub fn span_guessed(&self, tick: u32, guess: u32) -> Option<Span<'_>>
         ensures none { IfNone result (HoldsTick (ends_of self.now) guess tick → ⊥) }
         ensures after { IfSome result (λ span. tick < span.end) }

@@ -72,7 +72,7 @@ impl Model for EntryList {
 }
 
 impl EntryList {
-    /// No entries, with room for so many short ones.
+    /// A list without entries, with room for so many short ones. Fails only when memory runs out.
     pub fn with_room(alloc: Global, entries: usize) -> Result<EntryList, AllocError>
         ensures { IfOk result (λ list. list ≡ []) }
     {
@@ -82,7 +82,7 @@ impl EntryList {
         })
     }
 
-    /// Appends an entry.
+    /// Appends an entry. Fails only when memory runs out, and leaves the list as it was then.
     pub fn push(&mut self, entry: SpanEntry) -> Result<(), AllocError>
         ensures ok { OnOk result (self.new ≡ self.old ++ entry ∷ []) }
         ensures err { OnErr result (self.new ≡ self.old) }
@@ -110,7 +110,7 @@ impl EntryList {
         self.short.len() + self.long.len()
     }
 
-    /// The entry of the number.
+    /// The entry of this number, which is below the count.
     pub fn at(&self, number: usize) -> SpanEntry
         requires { number < length self.now }
         ensures { result ≡ slice_index_or self.now number result }

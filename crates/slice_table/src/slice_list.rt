@@ -16,7 +16,9 @@ pub(crate) struct Block {
     pub rises: u32,
 }
 
-/// For each slice a number, in a bit and a share of four bytes. Contracts see the list of numbers.
+/// For each slice a number. Contracts see the list of numbers.
+///
+/// It takes a bit for each slice, and eight bytes for each 32 of them.
 #[derive(Drop)]
 pub struct SliceList {
     blocks: Vec<Block>,
@@ -54,7 +56,7 @@ impl SliceList {
         self.count as usize
     }
 
-    /// The number of a slice.
+    /// The number of a slice, which is below the count.
     pub fn number(&self, slice: usize) -> u32
         requires { slice < length self.now }
         ensures { result ≡ slice_index self.now slice }

@@ -43,7 +43,8 @@ impl Model for SliceTable {
 }
 
 impl SliceTable {
-    /// The table of the core's spans in the plan.
+    /// The table of the core's spans in the plan, which has a row for the core. Fails only when memory
+    /// runs out.
     pub fn build(alloc: Global, plan: &Plan, core: CoreNo) -> Result<SliceTable, NoMemory>
         requires { core < length plan.now.tables.rows }
         ensures { IfOk result (λ table. IsTableOf (plan_view plan.now) core table) }
@@ -52,7 +53,8 @@ impl SliceTable {
         SliceTable::build_with(alloc, plan, &owners, core)
     }
 
-    /// The table of the core's spans in the plan, where the owners in the plan's rows are known.
+    /// The table of the core's spans in the plan as `build` makes it, where the owners in the plan's
+    /// rows are known. Fails only when memory runs out.
     pub fn build_with(
         alloc: Global,
         plan: &Plan,
@@ -73,7 +75,8 @@ impl SliceTable {
         })
     }
 
-    /// What the place of the core's row shows: `Plan::spot`, in three steps.
+    /// What this place of the core's row shows, as `Plan::spot` finds it, in three steps. The tick is
+    /// one of a round, below 102,600.
     pub fn look_up<L: Ledger>(&self, tick: u32, steps: &mut Steps<L>) -> Spot
         requires { tick < ROUND }
         ensures spot { (plan : PlanView) (c : ℕ) → IsTableOf plan c self.now → IsSpot plan c tick result }
@@ -83,7 +86,8 @@ impl SliceTable {
         self.spans.spot(number)
     }
 
-    /// `look_up` for a dispatcher, which asks who may share and not who is away.
+    /// The span of the core's row that holds this tick of a round, below 102,600, in three steps: the
+    /// owner, the end, and who may share the time that the owner leaves, in place of who is away.
     pub fn span_at<L: Ledger>(&self, tick: u32, steps: &mut Steps<L>) -> Span<'_>
         requires { tick < ROUND }
         ensures after { tick < result.end }

@@ -41,7 +41,7 @@ impl Model for SpanList {
 }
 
 impl SpanList {
-    /// No spans, with room for so many.
+    /// A list without spans, with room for so many. Fails only when memory runs out.
     pub fn with_room(alloc: Global, spans: usize) -> Result<SpanList, AllocError>
         ensures { IfOk result (λ list. list ≡ []) }
     {
@@ -52,7 +52,9 @@ impl SpanList {
     }
 
     /// Appends a span, which shares what the number has, where that is what it shows. The result is the
-    /// number of what it shows.
+    /// number of what it shows. There are fewer spans than ticks of a round.
+    ///
+    /// Fails only when memory runs out.
     pub fn push(&mut self, span: FullSpan, number: u32) -> Result<u32, AllocError>
         requires { length self.old < ROUND }
         ensures { OnOk result (self.new ≡ self.old ++ span ∷ []) }
@@ -94,7 +96,7 @@ impl SpanList {
         self.entries.len()
     }
 
-    /// The end of the span of the number.
+    /// The tick of the round that ends the span of this number, which is below the count.
     pub fn end(&self, number: usize) -> u32
         requires { number < length self.now }
         ensures { result ≡ slice_index (ends_of self.now) number }
@@ -102,7 +104,7 @@ impl SpanList {
         self.entries.at(number).end
     }
 
-    /// The span of the number, without its sharers.
+    /// The span of this number, which is below the count, without its sharers.
     pub fn spot(&self, number: usize) -> Spot
         requires { number < length self.now }
         ensures { (span : FullSpan) → slice_get self.now number ≡ Some span
@@ -117,7 +119,7 @@ impl SpanList {
         }
     }
 
-    /// The span of the number, without the vCPUs away.
+    /// The span of this number, which is below the count, without the vCPUs away.
     pub fn span(&self, number: usize) -> Span<'_>
         requires { number < length self.now }
         ensures { (span : FullSpan) → slice_get self.now number ≡ Some span

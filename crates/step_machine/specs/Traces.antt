@@ -39,7 +39,7 @@ IsTrace course rounds old (step ∷ steps) new made = (mid : State) × (first : 
     × Moves course rounds old step mid × AreMadeBy step mid first
     × IsTrace course rounds mid steps new later × (made ≡ first ++ later)
 
--- it is of a core of the course, and used a count of the course's events
+-- an entry or a stint is of a core of the course, and a stint used a count of the course's events
 abbrev pub IsOfCourse : CourseView → Made → Type 0
 IsOfCourse course (Entered c e) = c < course.cores
 IsOfCourse course (Ran c t) = (c < course.cores) × (t.used ≤ length course.ticks)

@@ -17,7 +17,7 @@ pub record IsLargestSpans (course : CourseView) (c most : ℕ) : Type 0 where
   pub listed : slice_get course.plans number ≡ Some plan
   pub reached : HasSpans plan c ROUND most
 
--- these are the largest numbers of spans of the cores' rows, by core number
+-- the numbers are the largest numbers of spans of the cores' rows, by core number
 abbrev pub AreLargestSpans : CourseView → List ℕ → Type 0
 AreLargestSpans course spans = (c : ℕ) → c < course.cores → IsLargestSpans course c (slice_index spans c)
 

@@ -36,7 +36,8 @@ impl Model for MostSpans {
 }
 
 impl MostSpans {
-    /// Those of the course. Each plan is looked at once.
+    /// For each core of the course how many spans its row has in the plan where it has most. Each plan
+    /// is looked at once.
     pub fn of(course: &Course) -> MostSpans
         ensures { AreLargestSpans course.now result }
     {
@@ -45,8 +46,9 @@ impl MostSpans {
         }
     }
 
-    /// The most stints that a core can have in one round: as many as its row has spans in the plan where it
-    /// has most, and one for each whole lag and for each whole quantum in a round.
+    /// The most stints that a core can have in one round: as many as its row has spans in the plan
+    /// where it has most, and one for each whole lag and for each whole quantum in a round. It is below
+    /// 2^33.
     ///
     /// A run of so many rounds has room for all of the core's stints in that many times as much.
     pub fn round_stints(&self, course: &Course, core: CoreNo) -> u64
@@ -57,7 +59,8 @@ impl MostSpans {
         u64::from(spans) + u64::from(ROUND / course.lag()) + u64::from(ROUND / course.quantum())
     }
 
-    /// The bound on the stints of all cores together in a run of so many rounds.
+    /// The bound on the stints of all cores together in a run of so many rounds, at most 10,000. These
+    /// numbers are those of the course.
     pub fn bound(&self, course: &Course, rounds: u32) -> u64
         requires few { rounds ≤ MAX_ROUNDS }
         requires largest { AreLargestSpans course.now self.now }

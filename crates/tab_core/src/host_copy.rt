@@ -6,7 +6,7 @@ use crate::vcpu::{Vcpu, Vcpus};
 use std::alloc::Global;
 
 impl Host {
-    /// The host once more.
+    /// Another host with the same settings and vCPUs. Fails only when memory runs out.
     pub fn copy(&self, alloc: Global) -> Result<Host, NoMemory>
         ensures { IfOk result (λ host. host ≡ self.now) }
     {

@@ -9,10 +9,10 @@ use crate::vcpu::{Vcpu, Vcpus};
 use std::alloc::Global;
 
 impl Host {
-    /// The host with the edits applied in order, of which a later one prevails. All else of it is
-    /// as it was.
+    /// The host with the edits applied in order, of which a later one prevails. All else of it is as it
+    /// was.
     ///
-    /// Each edit is of one of the host's vCPUs.
+    /// Each edit is of one of the host's vCPUs. Fails only when memory runs out.
     pub fn edited(&self, alloc: Global, edits: &[Edit]) -> Result<Host, NoMemory>
         requires { AreEditsOf (length self.now.vcpus) edits.now }
         ensures { IfOk result (IsEdited self.now edits.now) }

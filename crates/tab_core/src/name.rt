@@ -55,7 +55,8 @@ impl From<AllocError> for NameFault {
 }
 
 impl Name {
-    /// The name of these bytes.
+    /// The name of these bytes. `BadName` comes exactly where they aren't of the form of a name; the
+    /// only other fault is out of memory.
     pub fn of(alloc: Global, bytes: &[u8]) -> Result<Name, NameFault>
         ensures ok { IfOk result (λ name. (name ≡ bytes.now) × IsName bytes.now) }
         ensures bad_name { IsErrOf result NameFault.BadName → ¬ (IsName bytes.now) }
@@ -69,7 +70,8 @@ impl Name {
         })
     }
 
-    /// Whether the bytes have the form of a name.
+    /// Whether the bytes have the form of a name: 1 to 32 out of `a-z A-Z 0-9 _ - .`, other than the
+    /// single byte `-`.
     pub fn has_form(bytes: &[u8]) -> bool
         ensures { result ≡ is_name bytes.now }
     {
@@ -86,6 +88,7 @@ impl Name {
         })
     }
 
+    /// The bytes of the name, 1 to 32.
     pub fn bytes(&self) -> &[u8]
         ensures same { result.now ≡ self.now }
         ensures good { IsName self.now }

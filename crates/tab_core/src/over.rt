@@ -43,6 +43,7 @@ impl Overs {
         Overs { items }
     }
 
+    /// The intervals, at most one for each core.
     pub fn items(&self) -> &[Over]
         ensures same { result.now ≡ self.now }
         ensures few { length self.now ≤ MAX_CORES }

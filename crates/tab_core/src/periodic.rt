@@ -41,6 +41,7 @@ impl Tasks {
         Tasks { items }
     }
 
+    /// The budget of each vCPU by its number, or none where it isn't admitted.
     pub fn items(&self) -> &[Option<Periodic>]
         ensures same { result.now ≡ self.now }
         ensures few { length self.now ≤ MAX_VCPUS }

@@ -50,13 +50,15 @@ impl Pieces {
         Pieces { items }
     }
 
+    /// The pieces, in their order.
     pub fn items(&self) -> &[Piece]
         ensures { result.now ≡ self.now }
     {
         &self.items
     }
 
-    /// Adds a piece after the others.
+    /// Adds a piece after the others. Fails only when memory runs out, and leaves the pieces as they
+    /// were then.
     pub fn push(&mut self, piece: Piece) -> Result<(), NoMemory>
         ensures ok { OnOk result (self.new ≡ self.old ++ piece ∷ []) }
         ensures err { OnErr result (self.new ≡ self.old) }

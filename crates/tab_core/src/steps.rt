@@ -32,7 +32,7 @@ impl<L: Ledger> Steps<L> {
         Steps { book, share }
     }
 
-    /// Tells one step.
+    /// Counts one step.
     pub fn tell(&mut self)
         ensures { self.new ≡ self.old + 1 }
     {

@@ -49,6 +49,7 @@ impl Vcpus {
         Vcpus { items }
     }
 
+    /// The vCPUs by number, at most 256, of which no two have one name.
     pub fn items(&self) -> &[Vcpu]
         ensures same { result.now ≡ self.now }
         ensures few { length self.now ≤ MAX_VCPUS }

@@ -6,11 +6,11 @@ use Rattle.tab_io.specs.declared.memory.MemSink.{MemSink}
 
 -- ---- sources
 
--- the bytes that it still gives
+-- the bytes that a source in memory still gives
 abbrev pub bytes_left : MemSource → List ℕ
 bytes_left s = drop s.at s.bytes.items
 
--- how often it was read, up to the last value of the count
+-- how often a source in memory was read, up to the last value of the count
 abbrev pub reads_of : MemSource → ℕ
 reads_of s = s.reads
 
@@ -18,7 +18,7 @@ reads_of s = s.reads
 abbrev pub fails_of : MemSource → List ℕ
 fails_of s = s.fails.items
 
--- what contracts see of it: it tells its bytes, and is sound where no read is listed
+-- what contracts see of a source in memory: it tells its bytes, and is sound where no read is listed
 abbrev pub source_state : MemSource → SourceView
 source_state s = record {
   rest = Some (bytes_left s);
@@ -28,19 +28,19 @@ source_state s = record {
 
 -- ---- sinks
 
--- the bytes that it took
+-- the bytes that a sink in memory took
 abbrev pub bytes_taken : MemSink → List ℕ
 bytes_taken s = s.bytes.items
 
--- how many bytes it takes in all
+-- how many bytes a sink in memory takes in all
 abbrev pub room_of : MemSink → ℕ
 room_of s = s.room
 
--- how many bytes it still takes
+-- how many bytes a sink in memory still takes
 abbrev pub room_left : MemSink → ℕ
 room_left s = room_of s - length (bytes_taken s)
 
--- what contracts see of it: it tells all
+-- what contracts see of a sink in memory: it tells all
 abbrev pub sink_state : MemSink → SinkView
 sink_state s = record {
   taken = Some (bytes_taken s);

@@ -3,7 +3,7 @@ use Rattle.std.specs.Prelude.{ℕ, List, ◌∷◌, decimal}
 use Rattle.tab_words.specs.declared.text.TextPiece.{TextPiece}
 use Rattle.tab_words.specs.declared.text.TextPiece.TheVariants.{Text, Number, Wide}
 
--- its bytes, or the decimal digits of its number
+-- the bytes of a piece, or the decimal digits of its number
 abbrev pub piece_text : TextPiece → List ℕ
 piece_text (Text bytes) = bytes.now
 piece_text (Number n) = decimal n

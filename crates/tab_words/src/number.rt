@@ -20,7 +20,8 @@ pub fn read_number(bytes: &[u8]) -> Option<u64>
     number_of_digits(bytes)
 }
 
-/// The core's number that the word spells, where it is below the count of cores.
+/// The core's number that the word spells in decimal digits, where it is below the count of cores,
+/// which is at most 32. None exactly where the word spells no such number.
 pub fn read_core(word: &[u8], cores: u32) -> Option<CoreNo>
     requires { cores ≤ MAX_CORES }
     ensures { MatchOption result ((core : ℕ) → core < cores → word.now ≡ decimal core → ⊥)

@@ -4,6 +4,7 @@ use Rattle.table_cells.specs.Cells.{count_cell, left, millis_cell, percent_cell,
 use Rattle.table_cells.specs.declared.cells.Cell.{Cell}
 use Rattle.table_cells.specs.declared.cells.Cell.TheVariants.{Text, Left, Right, Count, Percent, Millis}
 
+-- the bytes that a cell writes
 abbrev pub cell_text : Cell → List ℕ
 cell_text (Text text) = text.now
 cell_text (Left width text) = left width text.now

@@ -75,7 +75,7 @@ pub fn put_left<K: Sink>(sink: &mut K, width: usize, text: &[u8]) -> Result<(), 
     put_padding(sink, width, text)
 }
 
-/// The word for a truth.
+/// The word for whether something is so: `yes` or `no`.
 pub fn yes_or_no(truth: bool) -> &'static [u8]
     ensures { result.now ≡ yes_or_no truth }
 {

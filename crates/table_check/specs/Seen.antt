@@ -14,8 +14,8 @@ pub record Seen : Type 0 where
   pub marks : List ℕ
   pub counters : List ℕ
 
--- these rows were seen for these tasks: their shapes are good and no vCPU is on two of them at a
--- time, their ticks are marked, and the counters have what they give
+-- the rows were seen for these tasks: their shapes are good and no vCPU is on two of them at a time, their
+-- ticks are marked, and the counters have what they give
 pub record HaveSeen (tasks : List (Option Periodic)) (raw : List (List Segment)) (seen : Seen) : Type 0 where
   pub for_tasks : seen.tasks ≡ tasks
   pub shapes : HaveGoodShapes raw

@@ -53,7 +53,7 @@ fn put_owner(owners: &mut VcpuSet, owner: Option<VcpuNo>)
     }
 }
 
-// Whether a vCPU may are in the rows of both cores. Where one of the sets isn't there, nothing is seen.
+// Whether a vCPU may be in the rows of both cores. Where one of the sets isn't there, nothing is seen.
 pub(crate) fn may_meet(raw: &[Segments], owners: &[VcpuSet], core: usize, other: usize) -> bool
     requires { HaveOwners (rows_of raw.now) owners.now }
     ensures { result ≡ false → (v x : ℕ) → IsClash (rows_of raw.now) v x core other → ⊥ }

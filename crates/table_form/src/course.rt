@@ -64,7 +64,7 @@ impl Course {
         &self.outline
     }
 
-    /// The tick of an event, which are counted from 0.
+    /// The tick of the run at which an event comes. Events are counted from 0.
     pub fn tick_of(&self, event: u32) -> u32
         requires { event < length self.now.ticks }
         ensures { result ≡ tick_at self.now event }
@@ -80,7 +80,7 @@ impl Course {
         self.outline.count()
     }
 
-    /// The number of the plan after the first `n` events.
+    /// The number of the plan after the first `n` events. The course has so many events.
     pub fn plan_number(&self, n: u32) -> u32
         requires { n ≤ length self.now.ticks }
         ensures number { result ≡ plan_number_after self.now n }

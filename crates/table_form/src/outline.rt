@@ -49,7 +49,7 @@ impl Outline {
         }
     }
 
-    /// The tick of an event, which are counted from 0.
+    /// The tick of the run at which an event comes. Events are counted from 0.
     pub fn tick_of(&self, event: u32) -> u32
         requires { event < length self.now.ticks }
         ensures { result ≡ slice_index self.now.ticks event }

@@ -19,6 +19,8 @@ fn is_last_owner(segments: &[Segment], next: &Segment) -> bool
 }
 
 /// Appends a segment. The last one goes on to its end where that has the same owner.
+///
+/// Fails only when memory runs out, and leaves the segments as they were then.
 pub fn push_segment(segments: &mut Vec<Segment>, next: Segment) -> Result<(), AllocError>
     ensures ok { OnOk result (map segment_view segments.new.items
         ≡ put_before (map segment_view segments.old.items) (segment_view next ∷ [])) }

@@ -6,6 +6,7 @@ use Rattle.host_gen.specs.HostText.{host_text}
 use Rattle.tableau_sim.specs.Outcomes.{Outcome}
 use Rattle.tableau_sim.specs.Outcomes.Outcome.{Writes}
 
+-- what `gen` makes of a seed and of counts of cores and vCPUs: a host's text
 pub data Gens (seed cores vcpus : ℕ) : Outcome → Type 0 where
   Generated : (host : Host) → IsGenerated seed cores vcpus host
       → Gens seed cores vcpus (Writes (host_text host))

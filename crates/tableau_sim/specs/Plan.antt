@@ -25,6 +25,7 @@ pub record HasPlan (host : Host) (plan : PlanView) : Type 0 where
   pub is_for : IsPlanFor host plan
   pub reservations : KeepsReservations host plan
 
+-- what `plan` makes of these sections: a plan's text, or a refusal with its cause
 pub data Plans (sections : List (List ℕ)) : Outcome → Type 0 where
   Planned : (host : Host) (plan : PlanView) → IsHostText (host_section sections) host → HasPlan host plan
       → Plans sections (Writes (plan_text (names_of host.vcpus) plan))

@@ -34,6 +34,7 @@ pub record HasStayingPlan (homes : List (Option ℕ)) (host : Host) (plan : Plan
   pub is_for : IsPlanFor host plan
   pub reservations : KeepsReservations host plan
 
+-- what `plan stay` makes of these sections: a plan's text, or a refusal with its cause
 pub data PlansStaying (sections : List (List ℕ)) : Outcome → Type 0 where
   Planned : (host : Host) (homes : List (Option ℕ)) (plan : PlanView) → HasOldHomes sections host homes
       → HasStayingPlan homes host plan → PlansStaying sections (Writes (plan_text (names_of host.vcpus) plan))

@@ -32,9 +32,11 @@ use Rattle.tableau_sim.specs.Outcomes.{Outcome}
 use Rattle.tableau_sim.specs.Outcomes.Outcome.{Refuses, Writes}
 use Rattle.tableau_sim.specs.Sections.{host_section}
 
+-- the section of the script, which is the second
 abbrev pub script_section : List (List ℕ) → List ℕ
 script_section sections = slice_index_or sections 1 []
 
+-- the section of the steps, which is the third
 abbrev pub steps_section : List (List ℕ) → List ℕ
 steps_section sections = slice_index_or sections 2 []
 
@@ -77,6 +79,7 @@ pub record IsStepRefused (rounds : ℕ) (parts : Parts) (line : ℕ) (answer : A
   pub on_line : slice_get parts.lines place ≡ Some line
   pub refused : IsRefused course rounds parts.steps place answer
 
+-- what `replay` makes of so many rounds and of these sections: a run's text, or a refusal with its cause
 pub data Replays (rounds : ℕ) (sections : List (List ℕ)) : Outcome → Type 0 where
   Replayed : (parts : Parts) (course : CourseView) (state : State) (made : List Made)
       → HasParts rounds sections parts → RunsTo rounds parts course state made

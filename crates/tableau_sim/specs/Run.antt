@@ -65,6 +65,8 @@ burst_part Trace host events answers = []
 burst_part Burst host events answers = bursts_text host events answers
 burst_part Live host events answers = []
 
+-- what `run` makes of so many rounds and of these sections in a mode, for a run of this view: a text,
+-- or a refusal with its cause
 pub data Runs (rounds : ℕ) (mode : RunMode) (view : View) (sections : List (List ℕ)) : Outcome → Type 0 where
   Ran : (host : Host) (events : List Event) (book : BookView) (report : ReportView) (answers : List BurstAnswer)
       → HasScript rounds sections host events → IsBookOf host events book

@@ -13,9 +13,11 @@ use Rattle.tableau_sim.specs.Outcomes.{Outcome}
 use Rattle.tableau_sim.specs.Outcomes.Outcome.{Writes}
 use Rattle.tableau_sim.specs.Run.{RunsWhole, text_of_run}
 
+-- the first line: the seed
 unfoldable pub selftest_line : ℕ → List ℕ
 selftest_line seed = codes "selftest " ++ (decimal seed ++ codes "\n")
 
+-- what `selftest` makes of a seed, for a run of this view: a text
 pub data Selftests (seed : ℕ) (view : View) : Outcome → Type 0 where
   Tested : (host : Host) (book : BookView) (report : ReportView) → IsGenerated seed 8 64 host
       → IsBookOf host [] book → RunsWhole 4 host [] book.course view

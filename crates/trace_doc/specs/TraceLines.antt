@@ -26,6 +26,7 @@ pub record Fields : Type 0 where
   pub state : List ℕ
   pub cpu : Option (List ℕ)
 
+-- the fields of a line in their order, three or four
 abbrev pub field_list : Fields → List (List ℕ)
 field_list fields = fields.time ∷ fields.name ∷ fields.state ∷ option_to_list fields.cpu
 
@@ -72,18 +73,18 @@ pub record Row : Type 0 where
   pub number : ℕ
   pub text : List ℕ
 
--- those of the lines, of which the first has this number; one that is passed over counts as a line
+-- the rows of lines, of which the first has this number; a line that is passed over counts as a line
 unfoldable pub rows_from : ℕ → List (List ℕ) → List Row
 rows_from number [] = []
 rows_from number (line ∷ lines) =
     if is_passed_over line then rows_from (number + 1) lines
     else (record { number = number; text = line }) ∷ rows_from (number + 1) lines
 
--- those of a text
+-- the rows of a text
 abbrev pub rows_of : List ℕ → List Row
 rows_of bytes = rows_from 1 (lines_of bytes)
 
--- the row says this
+-- the row says what the mark has
 pub record IsMarkOf (names : List (List ℕ)) (row : Row) (mark : Mark) : Type 0 where
   pub placed : mark.line ≡ row.number
   pub says : Says names row.text mark

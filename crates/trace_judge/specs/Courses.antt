@@ -10,13 +10,14 @@ use Rattle.trace_doc.specs.declared.mark.State.TheVariants.{Run, Wait, Block}
 abbrev pub Course : Type 0
 Course = ℕ → Option State
 
+-- the two states are one
 abbrev pub is_same : State → State → Bool
 is_same Run Run = true
 is_same Wait Wait = true
 is_same Block Block = true
 is_same _ _ = false
 
--- whether this is the state
+-- a vCPU is in this state, which may be unknown
 abbrev pub is_in : State → Option State → Bool
 is_in state None = false
 is_in state (Some held) = is_same state held

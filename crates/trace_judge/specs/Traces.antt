@@ -27,6 +27,7 @@ end_of marks = latest 0 marks
 
 -- ---- one vCPU
 
+-- the vCPU that a mark names, if it is one of the host's, has this number
 abbrev pub is_vcpu : ℕ → Option ℕ → Bool
 is_vcpu vcpu None = false
 is_vcpu vcpu (Some other) = other == vcpu
@@ -39,7 +40,8 @@ marks_of vcpu marks = filter (λ mark. is_vcpu vcpu mark.vcpu) marks
 abbrev pub last_that : (Mark → Bool) → List Mark → Option Mark
 last_that test marks = find test (reverse marks)
 
--- what it does at a time: what the last of its marks up to then says, and nothing is known before the first
+-- what a vCPU does at a time, by its marks: what the last of them up to then says, and nothing is known
+-- before the first
 abbrev pub state_at : List Mark → Course
 state_at marks t = option_map (λ mark. mark.state) (last_that (λ mark. nat_le mark.time_ns t) marks)
 

@@ -5,7 +5,7 @@ use Rattle.trace_doc.specs.declared.mark.State.TheVariants.{Wait}
 use Rattle.trace_judge.specs.Courses.{Course, is_in}
 use Rattle.trace_judge.specs.declared.report.LongestWait.{LongestWait}
 
--- how long it has been waiting without an end when a time comes
+-- how many ns a vCPU has been waiting without an end when a time comes
 abbrev pub waited : Course → ℕ → ℕ
 waited course zero = 0
 waited course (suc t) = if is_in Wait (course t) then waited course t + 1 else 0
@@ -14,7 +14,7 @@ waited course (suc t) = if is_in Wait (course t) then waited course t + 1 else 0
 abbrev pub late_before : Course → ℕ → ℕ → ℕ
 late_before course latency time = total (λ t. if waited course (suc t) == latency + 1 then 1 else 0) time
 
--- this wait is the longest before a time, and the first of those that are as long; beside it is the CPU that was
+-- the wait is the longest before a time, and the first of those that are as long; its CPU is the one that was
 -- named last when it began
 pub record IsLongestWait (course : Course) (told : ℕ → Option ℕ) (time : ℕ) (wait : LongestWait) : Type 0 where
   pub some : 0 < wait.ns

@@ -8,7 +8,7 @@ use Rattle.trace_doc.specs.declared.mark.State.TheVariants.{Run, Wait, Block}
 use Rattle.trace_judge.specs.Courses.{Course, time_between}
 use Rattle.trace_judge.specs.declared.report.LeastShare.{LeastShare}
 
--- it runs or waits to
+-- a vCPU in this state runs or waits to run
 abbrev pub is_runnable : Option State → Bool
 is_runnable (Some Run) = true
 is_runnable (Some Wait) = true
@@ -20,7 +20,7 @@ pub record IsWindow (course : Course) (window time start : ℕ) : Type 0 where
   pub within : start + window ≤ time
   pub runnable : (t : ℕ) → start ≤ t → t < start + window → is_runnable (course t) ≡ true
 
--- how long it runs in the window
+-- how many ns a vCPU runs in the window
 abbrev pub run_in : Course → ℕ → ℕ → ℕ
 run_in course window start = time_between course Run start (start + window)
 

@@ -51,17 +51,19 @@ chart_of f stretches width first cores labels figures promises names tasks colou
     ++ (rounds_text f f.is_run stretches (foot_of (length lanes))
     ++ (legend_text f (foot_of (length lanes)) names tasks colours lanes ++ codes "</svg>\n")))))
 
--- the picture of a view: with lanes of cores, or of vCPUs
+-- the picture of a view with a lane for each core that is shown
 abbrev pub cores_chart : ChartOptions → View → Figures → List (Option ℕ) → List ℕ
 cores_chart options view figures promises = chart_of (frame_of view options) (shown_in view) options.width options.first
     (cores_in view) view.names.items figures promises view.names.items view.tasks.items (vcpu_tones view figures)
     (chart_lanes view options)
 
+-- the picture of a view with a lane for each vCPU that is shown
 abbrev pub vcpus_chart : ChartOptions → View → Figures → List (Option ℕ) → List ℕ
 vcpus_chart options view figures promises = chart_of (frame_of view options) (shown_in view) options.width options.first
     (cores_in view) view.names.items figures promises (core_names (cores_in view)) [] (core_tones (cores_in view))
     (chart_lanes view options)
 
+-- the picture of a view: with lanes of cores, or of vCPUs
 abbrev pub chart_text : ChartOptions → View → Figures → List (Option ℕ) → List ℕ
 chart_text options view figures promises =
     if options.by_vcpu then vcpus_chart options view figures promises

@@ -10,47 +10,54 @@ use Rattle.view_lanes.specs.Amounts.{per_mille, tenths_ms}
 use Rattle.view_lanes.specs.declared.frame.Bar.{Bar}
 use Rattle.view_lanes.specs.declared.frame.Frame.{Frame}
 
--- where the column of a place begins, and its row's line
+-- where the column of a place begins, from the left
 abbrev pub column_of : ℕ → ℕ
 column_of k = 4000 + k % 4 * 36000
 
+-- the line of a place's row, below lanes that end there
 abbrev pub row_of : ℕ → ℕ → ℕ
 row_of foot k = foot + 5500 + k / 4 * 1400
 
--- the first row: what is listed, and what is said of it where there are reservations
+-- what is listed: vCPUs, or cores
 abbrev pub listed_word : Bool → List ℕ
 listed_word false = codes "vCPU"
 listed_word true = codes "core"
 
+-- the head of a column of names: what is listed
 unfoldable pub legend_head : ℕ → ℕ → List ℕ → List ℕ
 legend_head x y word = codes "<text x=\"" ++ (decimal x ++ (codes "\" y=\"" ++ (decimal y
     ++ (codes "\" font-size=\"1000\" class=\"label\">" ++ (word ++ codes "</text>\n")))))
 
+-- the heads of the shares and of the periods in a column
 unfoldable pub task_head : ℕ → ℕ → ℕ → List ℕ
 task_head share period y = codes "<g font-size=\"900\" class=\"dim\" text-anchor=\"end\"><text x=\"" ++ (decimal share
     ++ (codes "\" y=\"" ++ (decimal y ++ (codes "\">share</text><text x=\"" ++ (decimal period
     ++ (codes "\" y=\"" ++ (decimal y ++ codes "\">period</text></g>\n")))))))
 
+-- the heads of the shares and of the periods, where the vCPU of the column's number has a task
 abbrev pub task_heads : ℕ → ℕ → Option Task → List ℕ
 task_heads x y None = []
 task_heads x y (Some t) = task_head (x + 19000) (x + 25000) y
 
+-- the heads of a column
 abbrev pub head_from : Bool → ℕ → ℕ → Option Task → List ℕ
 head_from by_vcpu x y task = legend_head x y (listed_word by_vcpu) ++ task_heads x y task
 
+-- the heads of the column of a number, below lanes that end there
 abbrev pub head_at : Frame → ℕ → List Task → ℕ → List ℕ
 head_at f foot tasks k = head_from f.by_vcpu (column_of k) (foot + 3800) (slice_get tasks k)
 
--- a vCPU's colour and name
+-- the box of a colour
 unfoldable pub swatch : ℕ → ℕ → ℕ → List ℕ
 swatch colour x y = codes "<path class=\"c" ++ (decimal colour ++ (codes "\" d=\"M" ++ (decimal x ++ (codes " " ++ (decimal y
     ++ codes "h1000v900h-1000z\"/>")))))
 
+-- a name, maybe cut: the letters before the dots, the dots, and those after them
 unfoldable pub legend_name : ℕ → ℕ → List ℕ → List ℕ → List ℕ → List ℕ
 legend_name x y front dots back = codes "<text x=\"" ++ (decimal x ++ (codes "\" y=\"" ++ (decimal y
     ++ (codes "\" font-size=\"900\" class=\"name\">" ++ (front ++ (dots ++ (back ++ codes "</text>\n")))))))
 
--- what it has, in tenths of a percent and of a millisecond
+-- a share in tenths of a percent, and a period in tenths of a millisecond
 unfoldable pub legend_task : ℕ → ℕ → ℕ → ℕ → ℕ → List ℕ
 legend_task x far y part period = codes "<g font-size=\"900\" class=\"dim\" text-anchor=\"end\"><text x=\""
     ++ (decimal x ++ (codes "\" y=\"" ++ (decimal y ++ (codes "\">" ++ (decimal (part / 10) ++ (codes "."
@@ -58,13 +65,16 @@ legend_task x far y part period = codes "<g font-size=\"900\" class=\"dim\" text
     ++ (codes "\">" ++ (decimal (period / 10) ++ (codes "." ++ (decimal (period % 10)
     ++ codes " ms</text></g>\n")))))))))))))))
 
+-- the share and the period of a task, where a tick has so many nanoseconds
 abbrev pub task_cells : ℕ → ℕ → ℕ → Task → List ℕ
 task_cells tick x y t = legend_task (x + 19000) (x + 25000) y (per_mille t.cost t.period) (tenths_ms tick t.period)
 
+-- the share and the period of a vCPU that has a task; nothing of any other key
 abbrev pub task_entry : ℕ → ℕ → ℕ → Option Task → List ℕ
 task_entry tick x y None = []
 task_entry tick x y (Some t) = task_cells tick x y t
 
+-- an entry: a colour, a name, and the task where there is one
 abbrev pub entry_at : ℕ → ℕ → ℕ → ℕ → List ℕ → Option Task → List ℕ
 entry_at tick x y colour name task = swatch colour x (y - 850)
     ++ (legend_name (x + 1300) y (short_front name) (short_dots name) (short_back name) ++ task_entry tick x y task)
@@ -75,6 +85,7 @@ legend_entry tick foot names tasks colours false k v = []
 legend_entry tick foot names tasks colours true k v = entry_at tick (column_of k) (row_of foot k)
     (slice_index colours v) (name_at names v) (slice_get tasks v)
 
+-- the entry of the key of this number, if it has a box, in the place of its rank among those that have one
 abbrev pub listed_at : ℕ → ℕ → List (List ℕ) → List Task → List ℕ → List (List Bar) → ℕ → List ℕ
 listed_at tick foot names tasks colours lanes v = legend_entry tick foot names tasks colours (has_lane lanes v)
     (count_below (has_lane lanes) v) v
@@ -83,10 +94,12 @@ listed_at tick foot names tasks colours lanes v = legend_entry tick foot names t
 abbrev pub listed_in : List (List Bar) → List (List ℕ) → ℕ
 listed_in lanes names = count_below (has_lane lanes) (length names)
 
+-- the list below lanes that end there: the heads of up to four columns, and an entry for each key
+-- that has a box
 abbrev pub legend_text : Frame → ℕ → List (List ℕ) → List Task → List ℕ → List (List Bar) → List ℕ
 legend_text f foot names tasks colours lanes = texts_below (head_at f foot tasks) (min (listed_in lanes names) 4)
     ++ texts_below (listed_at f.tick foot names tasks colours lanes) (length names)
 
--- where it ends: below its last row
+-- where the list of so many keys ends, below its last row
 abbrev pub end_of : ℕ → ℕ → ℕ
 end_of foot count = foot + 5500 + (count + 3) / 4 * 1400

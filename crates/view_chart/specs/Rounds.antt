@@ -19,6 +19,7 @@ round_text x foot word r = codes "<path class=\"round\" d=\"M" ++ (decimal x ++ 
     ++ (codes "\"/><text x=\"" ++ (decimal (x + 500)
     ++ (codes "\" y=\"7600\" font-size=\"1000\" class=\"label\">" ++ (word ++ (decimal r ++ codes "</text>\n"))))))))
 
+-- the tick at which a round begins, or that ends what is shown, if this is earlier
 abbrev pub begin_of : Frame → ℕ → ℕ
 begin_of f r = min f.to (r * ROUND)
 
@@ -26,6 +27,7 @@ begin_of f r = min f.to (r * ROUND)
 abbrev pub begin_at : Frame → ℕ → ℕ
 begin_at f k = x_at f (begin_of f (first_round f + k))
 
+-- the line and the number of the round of a number of those that are shown
 abbrev pub round_at : Frame → ℕ → ℕ → List ℕ
 round_at f foot k = round_text (begin_at f k) foot (round_word (rounds_shown f)) (first_round f + k)
 
@@ -41,6 +43,7 @@ unfoldable pub change_line : ℕ → ℕ → List ℕ
 change_line x end = codes "<path stroke=\"#c2410c\" stroke-width=\"140\" d=\"M" ++ (decimal x ++ (codes " 9300V"
     ++ (decimal end ++ codes "\"/>\n")))
 
+-- the line and the count where a round begins whose plan includes another count of events
 abbrev pub change_text : ℕ → ℕ → ℕ → List ℕ
 change_text x foot count = change_line x (foot + 300) ++ tick_text x (foot + 2400) count
 
@@ -49,24 +52,29 @@ abbrev pub new_count : ℕ → ℕ → Option ℕ → ℕ → List ℕ
 new_count x foot None count = tick_text x (foot + 2400) count
 new_count x foot (Some other) count = if other == count then [] else change_text x foot count
 
+-- the mark of a round's count, where the round has stints
 abbrev pub count_mark : ℕ → ℕ → Option ℕ → Option ℕ → List ℕ
 count_mark x foot other None = []
 count_mark x foot other (Some count) = new_count x foot other count
 
+-- the mark of the count of the round of a number of those that are shown
 abbrev pub count_at : Frame → List Stretch → ℕ → ℕ → List ℕ
 count_at f stretches foot k = count_mark (begin_at f k) foot (used_before stretches (first_round f) k)
     (used_in stretches (first_round f + k))
 
+-- the word for the counts, left of them
 unfoldable pub events_word : ℕ → List ℕ
 events_word y = codes "<text x=\"4000\" y=\"" ++ (decimal y
     ++ codes "\" font-size=\"900\" class=\"dim\"><title>how many events the plan of the round includes</title>events</text>\n")
 
 -- ---- both
 
+-- the marks of so many rounds: their numbers above the lanes, and their counts below
 abbrev pub marks_text : Frame → List Stretch → ℕ → ℕ → List ℕ
 marks_text f stretches foot rounds = texts_below (round_at f foot) rounds
     ++ (texts_below (count_at f stretches foot) rounds ++ events_word (foot + 2400))
 
+-- the marks of a run's rounds, where no more than 24 are shown; nothing of a plan
 abbrev pub rounds_text : Frame → Bool → List Stretch → ℕ → List ℕ
 rounds_text f false stretches foot = []
 rounds_text f true stretches foot =

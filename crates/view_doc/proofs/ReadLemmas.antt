@@ -59,7 +59,7 @@ parts : (front : Front) (told : Told) (next : Front) → front_behind front told
 parts front told next is = parts_of (place_behind front.place told) (names_behind front.names told)
     (ends_behind front.ends told) next is
 
--- one line more may are after the others
+-- one line more may be after the others
 pub led_more : (front : Front) (tolds : List Told) (last : Front) (told : Told) (next : Front)
     → IsLed front tolds last → front_behind last told ≡ Some next → IsLed front (tolds ++ told ∷ []) next
 led_more front [] last told next led is =

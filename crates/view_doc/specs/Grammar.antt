@@ -100,7 +100,7 @@ abbrev pub front_behind : Front → Told → Option Front
 front_behind front told =
     front_of (place_behind front.place told) (names_behind front.names told) (ends_behind front.ends told)
 
--- each may be where it is, and the last leaves this
+-- each of the lines may be where it is, and the last leaves this
 abbrev pub IsLed : Front → List Told → Front → Type 0
 IsLed front [] last = front ≡ last
 IsLed front (told ∷ tolds) last = (next : Front) × (front_behind front told ≡ Some next) × IsLed next tolds last

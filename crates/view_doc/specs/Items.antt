@@ -19,7 +19,7 @@ pub record IsNumber (word : List ℕ) : Type 0 where
   pub value : ℕ
   pub spelled : Spells word value
 
--- the word is there rightly
+-- the word may be in this place of a line
 abbrev pub Fills : List ℕ → Blank → Type 0
 Fills word (this other) = word ≡ other
 Fills word a_number = IsNumber word
@@ -32,29 +32,30 @@ Fits [] [] = Unit {0}
 Fits (word ∷ words) (blank ∷ form) = Fills word blank × Fits words form
 Fits _ _ = ⊥
 
--- the first line of a report: how many rounds, cores and events there are
+-- the form of a report's first line: how many rounds, cores and events there are
 abbrev pub report_form : List Blank
 report_form = this (codes "run") ∷ a_number ∷ this (codes "rounds") ∷ a_number ∷ this (codes "cores") ∷ a_number
     ∷ this (codes "events") ∷ []
 
--- on a round: the number of its plan
+-- the form of a round's line: the number of its plan
 abbrev pub round_form : List Blank
 round_form = this (codes "round") ∷ a_number ∷ this (codes "plan") ∷ a_number ∷ []
 
--- on a vCPU: how many ticks it was offered, had in its slots and had besides, and its gap
+-- the form of a vCPU's line: the ticks that it was offered, had in its slots and had besides, and its gap
 abbrev pub vcpu_form : List Blank
 vcpu_form = this (codes "vcpu") ∷ a_name ∷ this (codes "offered") ∷ a_number ∷ this (codes "slots") ∷ a_number
     ∷ this (codes "shared") ∷ a_number ∷ this (codes "gap") ∷ a_number ∷ []
 
--- on a core: how many ticks it ran slots, ran others, and idled
+-- the form of a core's line: the ticks in which it ran vCPUs in their slots, ran others, and idled
 abbrev pub core_form : List Blank
 core_form = this (codes "core") ∷ a_number ∷ this (codes "slots") ∷ a_number ∷ this (codes "shared") ∷ a_number
     ∷ this (codes "idle") ∷ a_number ∷ []
 
--- on a change that was planned, and on one that wasn't; the tick's word, which ends in a colon, isn't read
+-- the form of the line of a change that was planned; the tick's word, which ends in a colon, isn't read
 abbrev pub planned_form : List Blank
 planned_form = this (codes "change") ∷ a_number ∷ this (codes "at") ∷ any_word ∷ this (codes "planned") ∷ []
 
+-- the form of the line of a change that was refused: what is missing, and for which vCPU
 abbrev pub refused_form : List Blank
 refused_form = this (codes "change") ∷ a_number ∷ this (codes "at") ∷ any_word
     ∷ this (codes "no") ∷ any_word ∷ this (codes "for") ∷ a_name ∷ []

@@ -35,17 +35,18 @@ abbrev pub slots_in : Place → Told → List Told
 slots_in (Row cores c from) (segment to holder) = stint c from to 0 0 holder ∷ []
 slots_in _ _ = []
 
--- the segments of the lines from a place on, if these may are there
+-- the segments of the lines from a place on, if these may be there
 abbrev pub slots_from : Option Place → List Told → List Told
 slots_from None tolds = []
 slots_from (Some place) [] = []
 slots_from (Some place) (told ∷ tolds) = slots_in place told ++ slots_from (place_behind place told) tolds
 
--- how many cores the last head counts, and so many without one
+-- how many cores the last head counts after this line, and so many without one
 abbrev pub cores_behind : ℕ → Told → ℕ
 cores_behind cores (head more vcpus) = more
 cores_behind cores _ = cores
 
+-- how many cores the last head of these lines counts, and so many without one
 abbrev pub cores_after : ℕ → List Told → ℕ
 cores_after cores [] = cores
 cores_after cores (told ∷ tolds) = cores_after (cores_behind cores told) tolds

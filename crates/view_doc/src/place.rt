@@ -30,7 +30,7 @@ pub enum Place {
     Closed,
 }
 
-// The place after the statement, if it may are at this one.
+// The place after the statement, if it may be at this one.
 pub(crate) fn place_behind(place: &Place, statement: &Statement<'_>) -> Option<Place>
     ensures { (words : Line) → result ≡ place_behind place.now (told_by words statement.now) }
 {
@@ -63,7 +63,7 @@ pub(crate) fn row_at(place: &Place) -> Option<(CoreNo, u32)>
     }
 }
 
-// The place after a segment that ends at this tick, if the place is in a row and it may are there.
+// The place after a segment that ends at this tick, if the place is in a row and it may be there.
 pub(crate) fn row_behind(place: &Place, end: u32) -> Option<Place>
     ensures { IfSome result (λ next. (held : Held) → place_behind place.now (segment end held) ≡ Some next) }
 {

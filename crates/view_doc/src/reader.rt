@@ -97,7 +97,7 @@ impl<'a> Reader<'a> {
         }
     }
 
-    // Takes a line, if it says something that may are there.
+    // Takes a line, if it says something that may be there.
     pub(crate) fn take_line(&mut self, alloc: Global, line: &'a [u8]) -> Result<bool, NoMemory>
         ensures taken { IfOk result (λ taken. IsTrue taken → IsLineTaken (words_of line.now) self.old self.new) }
         ensures refused { IfOk result (λ taken. taken ≡ false → IsBadLine self.old.front (words_of line.now)) }
@@ -136,7 +136,7 @@ impl<'a> Reader<'a> {
         Ok(true)
     }
 
-    // Takes what a line says, if it may are there.
+    // Takes what a line says, if it may be there.
     fn take(&mut self, alloc: Global, statement: &Statement<'a>) -> Result<bool, NoMemory>
         requires { (words : Line) → HasNames (told_by words statement.now) }
         ensures taken { IfOk result (λ taken. IsTrue taken

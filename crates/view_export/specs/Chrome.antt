@@ -29,40 +29,44 @@ core_events c = codes ",\n{\"ph\":\"M\",\"pid\":0,\"tid\":" ++ (decimal c
     ++ (codes "\"}},\n{\"ph\":\"M\",\"pid\":0,\"tid\":" ++ (decimal c
     ++ (codes ",\"name\":\"thread_sort_index\",\"args\":{\"sort_index\":" ++ (decimal c ++ codes "}}")))))))
 
--- the event of whoever has a stretch, where a tick has so many nanoseconds: who and how, when and for
--- how long, and the ticks and counts
+-- the beginning of the event of a stretch that somebody has: the core, who and how
 unfoldable pub held_by : List (List ℕ) → Stretch → List ℕ
 held_by names s = codes ",\n{\"ph\":\"X\",\"pid\":0,\"tid\":" ++ (decimal s.core
     ++ (codes ",\"name\":\"" ++ (holder_name names s.by
     ++ (codes "\",\"cat\":\"" ++ (how_text s.by ++ codes "\",\"ts\":")))))
 
+-- the end of the event of a stretch: its ticks and counts of events
 unfoldable pub held_counts : Stretch → List ℕ
 held_counts s = codes ",\"args\":{\"from\":" ++ (decimal s.from
     ++ (codes ",\"end\":" ++ (decimal s.end
     ++ (codes ",\"used\":" ++ (decimal s.used
     ++ (codes ",\"seen\":" ++ (decimal s.seen ++ codes "}}")))))))
 
+-- the event of a stretch that somebody has, where a tick has so many nanoseconds
 abbrev pub held_event : ℕ → List (List ℕ) → Stretch → List ℕ
 held_event tick names s = held_by names s ++ (micros (s.from * tick)
     ++ (codes ",\"dur\":" ++ (micros ((s.end - s.from) * tick) ++ held_counts s)))
 
--- nobody's stretch has none
+-- the text of a stretch's event where somebody has the stretch; else nothing
 abbrev pub event_by : Use → List ℕ → List ℕ
 event_by Idle text = []
 event_by (Slot vcpu) text = text
 event_by (Shared vcpu) text = text
 
+-- the event of a stretch, if somebody has it
 abbrev pub stretch_event : ℕ → List (List ℕ) → Stretch → List ℕ
 stretch_event tick names s = event_by s.by (held_event tick names s)
 
--- the event of a core's entry into a round
+-- the beginning of the event of a core's entry into a round
 unfoldable pub entry_by : Entry → List ℕ
 entry_by e = codes ",\n{\"ph\":\"i\",\"s\":\"t\",\"pid\":0,\"tid\":" ++ (decimal e.core
     ++ (codes ",\"name\":\"round " ++ (decimal e.round ++ codes "\",\"ts\":")))
 
+-- the end of the event of a core's entry: the count of events
 unfoldable pub entry_count : Entry → List ℕ
 entry_count e = codes ",\"args\":{\"count\":" ++ (decimal e.count ++ codes "}}")
 
+-- the event of a core's entry into a round, where the round begins; a tick has so many nanoseconds
 abbrev pub entry_event : ℕ → Entry → List ℕ
 entry_event tick e = entry_by e ++ (micros (e.round * ROUND * tick) ++ entry_count e)
 

@@ -22,6 +22,7 @@ stint_line names s = decimal s.core ++ (codes "," ++ (decimal s.from ++ (codes "
     ++ (codes "," ++ (holder_name names s.by ++ (codes "," ++ (how_text s.by
     ++ (codes "," ++ (decimal s.used ++ (codes "," ++ (decimal s.seen ++ codes "\n"))))))))))))
 
+-- the line of a stint of a run, or of a segment of a plan
 abbrev pub csv_line : Bool → List (List ℕ) → Stretch → List ℕ
 csv_line false names s = slot_line names s
 csv_line true names s = stint_line names s

@@ -11,11 +11,12 @@ use Rattle.view_doc.specs.declared.view.Use.TheVariants.{Idle, Slot, Shared}
 use Rattle.view_doc.specs.declared.view.View.{View}
 use Rattle.view_export.specs.Shown.{how_text}
 
--- the row of a vCPU of the plan, and of one that has no reservation there
+-- the row of a vCPU that has a reservation in the plan
 unfoldable pub task_row : List ℕ → Task → List ℕ
 task_row name t = codes ",\n[\"" ++ (name ++ (codes "\"," ++ (decimal t.period
     ++ (codes "," ++ (decimal t.cost ++ (codes "," ++ (decimal t.home ++ codes "]")))))))
 
+-- the row of a vCPU that has no reservation in the plan
 unfoldable pub bare_row : List ℕ → List ℕ
 bare_row name = codes ",\n[\"" ++ (name ++ codes "\",null,null,null]")
 
@@ -34,15 +35,17 @@ quoted_holder names Idle = codes "null"
 quoted_holder names (Slot vcpu) = codes "\"" ++ (name_at names vcpu ++ codes "\"")
 quoted_holder names (Shared vcpu) = codes "\"" ++ (name_at names vcpu ++ codes "\"")
 
--- the row of a stretch: where and when, who, and how with the counts
+-- the beginning of a stretch's row: the core, and from where to where
 unfoldable pub row_begin : Stretch → List ℕ
 row_begin s = codes ",\n[" ++ (decimal s.core ++ (codes "," ++ (decimal s.from
     ++ (codes "," ++ (decimal s.end ++ codes ",")))))
 
+-- the end of a stretch's row: how somebody has it, and its counts of events
 unfoldable pub row_end : Stretch → List ℕ
 row_end s = codes ",\"" ++ (how_text s.by ++ (codes "\"," ++ (decimal s.used
     ++ (codes "," ++ (decimal s.seen ++ codes "]")))))
 
+-- the row of a stretch
 abbrev pub stretch_row : List (List ℕ) → Stretch → List ℕ
 stretch_row names s = row_begin s ++ (quoted_holder names s.by ++ row_end s)
 
@@ -51,7 +54,7 @@ unfoldable pub entry_row : Entry → List ℕ
 entry_row e = codes ",\n[" ++ (decimal e.core ++ (codes "," ++ (decimal e.round
     ++ (codes "," ++ (decimal e.count ++ codes "]")))))
 
--- what it is
+-- what is shown, a plan or a run
 abbrev pub kind_text : Bool → List ℕ
 kind_text false = codes "plan"
 kind_text true = codes "run"
@@ -62,12 +65,15 @@ json_begin tick cores kind = codes "{\"form\":1,\"kind\":\"" ++ (kind
     ++ (codes "\",\"tick_ns\":" ++ (decimal tick ++ (codes ",\"cores\":" ++ (decimal cores
     ++ codes ",\"vcpus\":[\n[\"name\",\"period\",\"cost\",\"home\"]")))))
 
+-- the beginning of the table of slots, with the names of its columns
 abbrev pub slot_head : List ℕ
 slot_head = codes "\n],\"slots\":[\n[\"core\",\"from\",\"end\",\"vcpu\",\"how\",\"used\",\"seen\"]"
 
+-- the beginning of the table of entries, with the names of its columns
 abbrev pub entry_head : List ℕ
 entry_head = codes "\n],\"rounds\":[\n[\"core\",\"round\",\"count\"]"
 
+-- the beginning of the table of stints, with the names of its columns
 abbrev pub stint_head : List ℕ
 stint_head = codes "\n],\"stints\":[\n[\"core\",\"from\",\"end\",\"vcpu\",\"how\",\"used\",\"seen\"]"
 

@@ -16,7 +16,7 @@ holder_name names Idle = []
 holder_name names (Slot vcpu) = name_at names vcpu
 holder_name names (Shared vcpu) = name_at names vcpu
 
--- how it came to run
+-- how a stretch is used: by nobody, in a slot, or shared
 abbrev pub how_text : Use → List ℕ
 how_text Idle = codes "idle"
 how_text (Slot vcpu) = codes "slot"

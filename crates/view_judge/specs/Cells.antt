@@ -5,43 +5,47 @@ use Rattle.tab_core.specs.declared.reservation.Reservation.{Reservation}
 use Rattle.trace_judge.specs.declared.report.LeastShare.{LeastShare}
 use Rattle.trace_judge.specs.declared.report.LongestWait.{LongestWait}
 
--- the share that was asked for
+-- the share that a vCPU asked for, in percent, or a dash
 abbrev pub asked_cell : Option Reservation → List ℕ
 asked_cell None = right 8 (codes "-")
 asked_cell (Some r) = percent_cell 3 r.share_ppm
 
--- the latency that was promised
+-- the latency that a vCPU was promised, in milliseconds, or a dash
 abbrev pub promised_cell : Option Reservation → List ℕ
 promised_cell None = right 11 (codes "-")
 promised_cell (Some r) = millis_cell 7 r.latency_ns
 
--- the least share of a window, and when the window begins
+-- the least share of a window, in percent, or a dash
 abbrev pub least_cell : Option LeastShare → List ℕ
 least_cell None = right 8 (codes "-")
 least_cell (Some least) = percent_cell 3 least.share_ppm
 
+-- when the window of the least share begins, in milliseconds, or a dash
 abbrev pub window_cell : Option LeastShare → List ℕ
 window_cell None = right 12 (codes "-")
 window_cell (Some least) = millis_cell 8 least.at_ns
 
--- the longest wait, when it begins, and the CPU that was named last by then
+-- the longest wait, in milliseconds, or a dash
 abbrev pub longest_cell : Option LongestWait → List ℕ
 longest_cell None = right 11 (codes "-")
 longest_cell (Some wait) = millis_cell 7 wait.ns
 
+-- when the longest wait begins, in milliseconds, or a dash
 abbrev pub begin_cell : Option LongestWait → List ℕ
 begin_cell None = right 12 (codes "-")
 begin_cell (Some wait) = millis_cell 8 wait.at_ns
 
+-- the number of a CPU, or a dash
 abbrev pub number_cell : Option ℕ → List ℕ
 number_cell None = right 4 (codes "-")
 number_cell (Some cpu) = count_cell 4 cpu
 
+-- the CPU that was named last by the time the longest wait began, or a dash
 abbrev pub cpu_cell : Option LongestWait → List ℕ
 cpu_cell None = right 4 (codes "-")
 cpu_cell (Some wait) = number_cell wait.cpu
 
--- how many waits were too long
+-- how many waits were too long, or a dash
 abbrev pub late_cell : Option ℕ → List ℕ
 late_cell None = right 5 (codes "-")
 late_cell (Some count) = count_cell 5 count

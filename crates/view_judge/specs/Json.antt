@@ -11,43 +11,47 @@ use Rattle.view_judge.specs.Verdicts.{is_kept}
 
 -- ---- the members of a vCPU's object
 
--- its name, and how long it was in each state
+-- the members of a vCPU's name, and of how long it was in each state
 unfoldable pub times_text : List ℕ → VcpuReport → List ℕ
 times_text name report = codes "{\"name\":\"" ++ (name ++ (codes "\",\"run_ns\":" ++ (decimal report.run_ns
     ++ (codes ",\"wait_ns\":" ++ (decimal report.wait_ns ++ (codes ",\"block_ns\":" ++ (decimal report.block_ns
     ++ codes ",")))))))
 
--- its longest wait
+-- the members of a longest wait
 unfoldable pub wait_text : LongestWait → List ℕ
 wait_text wait = codes "\"longest_wait_ns\":" ++ (decimal wait.ns ++ (codes ",\"longest_wait_at_ns\":"
     ++ (decimal wait.at_ns ++ codes ",")))
 
+-- the members of the longest wait, which are null where there is none
 abbrev pub longest_text : Option LongestWait → List ℕ
 longest_text None = codes "\"longest_wait_ns\":null,\"longest_wait_at_ns\":null,"
 longest_text (Some wait) = wait_text wait
 
--- how many waits were too long
+-- the member of how many waits were too long
 unfoldable pub count_text : ℕ → List ℕ
 count_text count = codes "\"late_waits\":" ++ (decimal count ++ codes ",")
 
+-- the member of how many waits were too long, which is null where no latency was promised
 abbrev pub late_text : Option ℕ → List ℕ
 late_text None = codes "\"late_waits\":null,"
 late_text (Some count) = count_text count
 
--- its least share of a window
+-- the members of a least share
 unfoldable pub share_text : LeastShare → List ℕ
 share_text least = codes "\"least_share_ppm\":" ++ (decimal least.share_ppm ++ (codes ",\"least_share_at_ns\":"
     ++ (decimal least.at_ns ++ codes ",")))
 
+-- the members of the least share of a window, which are null where there is none
 abbrev pub least_text : Option LeastShare → List ℕ
 least_text None = codes "\"least_share_ppm\":null,\"least_share_at_ns\":null,"
 least_text (Some least) = share_text least
 
--- whether all was kept, which ends its object
+-- the member of whether all was kept, which ends a vCPU's object
 abbrev pub kept_text : Bool → List ℕ
 kept_text true = codes "\"kept\":true}"
 kept_text false = codes "\"kept\":false}"
 
+-- the object of the vCPU of this name, of which this is reported
 abbrev pub vcpu_object : List ℕ → VcpuReport → List ℕ
 vcpu_object name report = times_text name report ++ (longest_text report.longest ++ (late_text report.late
     ++ (least_text report.least ++ kept_text report.kept)))
@@ -59,6 +63,7 @@ abbrev pub said_of : List ℕ → Option VcpuReport → List ℕ
 said_of name None = []
 said_of name (Some report) = vcpu_object name report
 
+-- the object of a vCPU, if there is one of which something is reported
 abbrev pub object_of : Option Vcpu → Option VcpuReport → List ℕ
 object_of None report = []
 object_of (Some vcpu) report = said_of vcpu.name report
@@ -71,6 +76,7 @@ comma_before v = if v == 0 then [] else codes ","
 abbrev pub entry_text : List Vcpu → List VcpuReport → ℕ → List ℕ
 entry_text vcpus reports v = comma_before v ++ object_of (slice_get vcpus v) (slice_get reports v)
 
+-- the word of JSON for whether something is so
 abbrev pub truth_text : Bool → List ℕ
 truth_text true = codes "true"
 truth_text false = codes "false"
@@ -85,5 +91,6 @@ abbrev pub json_of : ℕ → Bool → List Vcpu → List VcpuReport → List ℕ
 json_of window kept vcpus reports = json_begin window (truth_text kept)
     ++ (texts_below (entry_text vcpus reports) (length reports) ++ codes "]}\n")
 
+-- what a judge reports of a host's vCPUs, as JSON
 abbrev pub json_text : List Vcpu → Report → List ℕ
 json_text vcpus report = json_of report.window_ns (is_kept report) vcpus report.vcpus.items

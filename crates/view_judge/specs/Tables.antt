@@ -18,6 +18,7 @@ gap = codes "  "
 
 -- ---- shares
 
+-- the row that names the columns of shares, after names in a column of so many bytes
 unfoldable pub share_head : ℕ → List ℕ
 share_head width = left width (codes "vcpu")
     ++ codes "       run ms      wait ms     block ms   asked %   least %       from ms\n"
@@ -37,6 +38,7 @@ abbrev pub share_said : ℕ → Vcpu → Option VcpuReport → List ℕ
 share_said width vcpu None = []
 share_said width vcpu (Some report) = share_cells width vcpu.name vcpu.reservation report
 
+-- the row of shares of a vCPU, if there is one of which something is reported
 abbrev pub share_row_of : ℕ → Option Vcpu → Option VcpuReport → List ℕ
 share_row_of width None report = []
 share_row_of width (Some vcpu) report = share_said width vcpu report
@@ -47,6 +49,7 @@ share_row width vcpus reports v = share_row_of width (slice_get vcpus v) (slice_
 
 -- ---- waits
 
+-- the row that names the columns of waits, after names in a column of so many bytes
 unfoldable pub wait_head : ℕ → List ℕ
 wait_head width = codes "\n" ++ (left width (codes "vcpu")
     ++ codes "   longest ms       from ms   cpu  promised ms   late  kept\n")
@@ -67,6 +70,7 @@ abbrev pub wait_said : ℕ → Vcpu → Option VcpuReport → List ℕ
 wait_said width vcpu None = []
 wait_said width vcpu (Some report) = wait_cells width vcpu.name vcpu.reservation report
 
+-- the row of waits of a vCPU, if there is one of which something is reported
 abbrev pub wait_row_of : ℕ → Option Vcpu → Option VcpuReport → List ℕ
 wait_row_of width None report = []
 wait_row_of width (Some vcpu) report = wait_said width vcpu report
@@ -77,6 +81,7 @@ wait_row width vcpus reports v = wait_row_of width (slice_get vcpus v) (slice_ge
 
 -- ---- the whole
 
+-- the word for whether all was kept
 abbrev pub kept_word : Bool → List ℕ
 kept_word true = codes "kept"
 kept_word false = codes "not kept"
@@ -91,23 +96,28 @@ unfoldable pub line_text : List ℕ → ℕ → ℕ → List ℕ
 line_text kind count first = kind ++ (codes ": " ++ (decimal count ++ (codes ", the first is line " ++ (decimal first
     ++ codes "\n"))))
 
+-- the line of lines of a kind: how many there are, and the first of them; nothing where there is none
 abbrev pub first_text : List ℕ → ℕ → Option ℕ → List ℕ
 first_text kind count None = []
 first_text kind count (Some first) = line_text kind count first
 
--- nothing where none is
+-- the line of lines of a kind, and nothing where there is no such line
 abbrev pub count_text : List ℕ → LineCount → List ℕ
 count_text kind lines = first_text kind lines.count lines.first
 
+-- the name of lines after which two vCPUs run on one CPU
 abbrev pub shared_kind : List ℕ
 shared_kind = codes "lines that put two vCPUs on one CPU"
 
+-- the name of lines after which one vCPU runs on two CPUs
 abbrev pub doubled_kind : List ℕ
 doubled_kind = codes "lines that put a vCPU on two CPUs"
 
+-- the name of lines whose time is before that of an earlier line
 abbrev pub fall_kind : List ℕ
 fall_kind = codes "lines whose time falls"
 
+-- the name of lines of vCPUs that the host doesn't have
 abbrev pub unknown_kind : List ℕ
 unknown_kind = codes "lines of a vCPU that the host doesn't have"
 
@@ -116,17 +126,19 @@ abbrev pub lines_text : Report → List ℕ
 lines_text report = count_text shared_kind report.shared ++ (count_text doubled_kind report.doubled
     ++ (count_text fall_kind report.falls ++ count_text unknown_kind report.unknown))
 
--- both tables, with names in a column of a width
+-- the tables of shares and of waits, with names in a column of so many bytes
 abbrev pub rows_text : ℕ → List Vcpu → List VcpuReport → List ℕ
 rows_text width vcpus reports = share_head width ++ (texts_below (share_row width vcpus reports) (length reports)
     ++ (wait_head width ++ texts_below (wait_row width vcpus reports) (length reports)))
 
--- what is after them
+-- what is after the tables: the verdict, and what is wrong with the lines of the trace
 abbrev pub end_text : Bool → Report → List ℕ
 end_text kept report = verdict_text report.end_ns report.window_ns (kept_word kept) ++ lines_text report
 
+-- the tables and the end of a report, with names in a column of so many bytes
 abbrev pub tables_of : ℕ → Bool → List Vcpu → Report → List ℕ
 tables_of width kept vcpus report = rows_text width vcpus report.vcpus.items ++ end_text kept report
 
+-- what a judge reports of a host's vCPUs, as tables
 abbrev pub tables_text : List Vcpu → Report → List ℕ
 tables_text vcpus report = tables_of (width_below (names_of vcpus) (length vcpus)) (is_kept report) vcpus report

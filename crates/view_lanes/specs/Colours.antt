@@ -28,10 +28,11 @@ runs_on stretches core v = list_any (λ s. (s.core == core) && has_it s.by v) st
 abbrev pub stands_on : List Stretch → List Task → ℕ → ℕ → Bool
 stands_on stretches tasks core v = runs_on stretches core v || is_home (slice_get tasks v) core
 
--- two are on one core, of those below a number
+-- one of the cores below a number has both vCPUs
 abbrev pub meets_below : (ℕ → ℕ → Bool) → ℕ → ℕ → ℕ → Bool
 meets_below on u v cores = any_below (λ core. on core u && on core v) cores
 
+-- some core has both vCPUs
 abbrev pub meets : (ℕ → ℕ → Bool) → ℕ → ℕ → Bool
 meets on u v = meets_below on u v MAX_CORES
 
@@ -39,7 +40,7 @@ meets on u v = meets_below on u v MAX_CORES
 abbrev pub taken_below : (ℕ → ℕ → Bool) → List ℕ → ℕ → ℕ → ℕ → Bool
 taken_below on colours v k n = any_below (λ u. (slice_index colours u == k) && meets on u v) n
 
--- a lower one has it
+-- a lower vCPU that this one meets has the colour
 abbrev pub is_taken : (ℕ → ℕ → Bool) → List ℕ → ℕ → ℕ → Bool
 is_taken on colours v k = taken_below on colours v k v
 
@@ -59,7 +60,7 @@ colours_below on vcpus zero = []
 colours_below on vcpus (suc v) =
     colours_below on vcpus v ++ next_colour on vcpus (colours_below on vcpus v) v ∷ []
 
--- the colours of all
+-- the colours of all vCPUs, by number
 abbrev pub colours_of : List Stretch → List Task → ℕ → List ℕ
 colours_of stretches tasks vcpus = colours_below (stands_on stretches tasks) vcpus vcpus
 
@@ -75,10 +76,11 @@ abbrev pub twice_below : (ℕ → Bool) → ℕ → Bool
 twice_below test zero = false
 twice_below test (suc n) = twice_below test n || (test n && any_below test n)
 
--- the vCPU has slots on several cores of the plan
+-- the vCPU has a slot on the core
 abbrev pub stands_at : Figures → ℕ → ℕ → Bool
 stands_at figures v core = slice_index_or figures.stands.items (v * MAX_CORES + core) false
 
+-- the vCPU has slots on several cores of the plan
 abbrev pub is_split : Figures → ℕ → Bool
 is_split figures v = twice_below (stands_at figures v) MAX_CORES
 

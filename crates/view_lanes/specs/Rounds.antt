@@ -5,10 +5,11 @@ use Rattle.tab_core.specs.declared.TheConstants.{ROUND}
 use Rattle.view_doc.specs.declared.view.Stretch.{Stretch}
 use Rattle.view_lanes.specs.declared.frame.Frame.{Frame}
 
--- the rounds that are shown, where these are 24 at most: the first, and how many there are
+-- the number of the first round that is shown
 abbrev pub first_round : Frame → ℕ
 first_round f = f.from / ROUND
 
+-- how many rounds are shown, also in part
 abbrev pub rounds_shown : Frame → ℕ
 rounds_shown f = (f.to - 1) / ROUND + 1 - f.from / ROUND
 

@@ -33,7 +33,7 @@ last_end (s ∷ ss) = max s.end (last_end ss)
 abbrev pub rounds_of : List Stretch → ℕ
 rounds_of stretches = max 1 ((last_end stretches + (ROUND - 1)) / ROUND)
 
--- where the last of them ends; ticks are below 2^32
+-- the tick at which the last of the rounds ends that the stretches reach; ticks are below 2^32
 abbrev pub whole_of : List Stretch → ℕ
 whole_of stretches = min (rounds_of stretches * ROUND) (2 ^ 32 - 1)
 
@@ -53,14 +53,15 @@ frame_of view options = record {
   picture = options.picture;
 }
 
--- how many cores or vCPUs could have a lane, and how many have one: those that were asked for
+-- how many lanes there could be: one for each vCPU, or for each core
 abbrev pub rows_in : View → ChartOptions → ℕ
 rows_in view options = if options.by_vcpu then length view.names.items else cores_in view
 
+-- how many lanes are shown: those that there could be, from the first to the last that were asked for
 abbrev pub lanes_of : View → ChartOptions → ℕ
 lanes_of view options = min (options.last + 1) (rows_in view options) - options.first
 
--- the vCPU has it
+-- the vCPU has the ticks of the stretch
 abbrev pub has_it : Use → ℕ → Bool
 has_it Idle v = false
 has_it (Slot owner) v = owner == v
@@ -110,10 +111,11 @@ shows_nothing options view =
 abbrev pub is_dense : List Bar → Bool
 is_dense bars = nat_lt 342 (length bars)
 
--- one of the lanes is drawn in columns; one is drawn in boxes
+-- one of the lanes is drawn in columns
 abbrev pub some_dense : List (List Bar) → Bool
 some_dense lanes = list_any is_dense lanes
 
+-- one of the lanes is drawn in boxes
 abbrev pub some_boxes : List (List Bar) → Bool
 some_boxes lanes = list_any (λ bars. not (is_dense bars)) lanes
 
@@ -121,11 +123,12 @@ some_boxes lanes = list_any (λ bars. not (is_dense bars)) lanes
 abbrev pub held_in : Frame → List Bar → ℕ
 held_in f bars = min (f.to - f.from) (sum_by (λ bar. bar.end - bar.from) bars)
 
--- the lanes of a view, as many as are asked for
+-- the bars of so many lanes, from this core or vCPU on
 abbrev pub lanes_below : Frame → List Stretch → ℕ → ℕ → List (List Bar)
 lanes_below f stretches first zero = []
 lanes_below f stretches first (suc n) = lanes_below f stretches first n ++ lane_bars f stretches (first + n) ∷ []
 
+-- the bars of the lanes that are shown of a view
 abbrev pub chart_lanes : View → ChartOptions → List (List Bar)
 chart_lanes view options =
     lanes_below (frame_of view options) (shown_in view) options.first (lanes_of view options)

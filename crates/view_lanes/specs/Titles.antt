@@ -7,7 +7,7 @@ use Rattle.view_lanes.specs.declared.frame.Bar.{Bar}
 use Rattle.view_lanes.specs.declared.frame.Frame.{Frame}
 use Rattle.view_lanes.specs.declared.titles.Head.{Head}
 
--- what the head says
+-- what the head of a picture of these lanes says
 unfoldable pub head_of : Frame → List Stretch → ℕ → ℕ → List (List Bar) → Head
 head_of f stretches cores vcpus lanes = record {
   is_run = f.is_run;
@@ -25,24 +25,26 @@ head_of f stretches cores vcpus lanes = record {
   picture = f.picture;
 }
 
--- more than one
+-- the letter of a plural, where there are more than one
 abbrev pub plural : ℕ → List ℕ
 plural n = if n == 1 then [] else codes "s"
 
--- what it is
+-- what is shown, a plan or a run
 abbrev pub kind_word : Bool → List ℕ
 kind_word false = codes "Plan"
 kind_word true = codes "Run"
 
--- what the lanes are, where it isn't cores
+-- what is said of the lanes where they aren't the cores'
 abbrev pub lanes_word : Bool → List ℕ
 lanes_word false = []
 lanes_word true = codes ", by vCPU"
 
+-- the title of a plan or a run of so many cores and vCPUs, each count with its letter of a plural
 unfoldable pub title_of : List ℕ → ℕ → List ℕ → ℕ → List ℕ → List ℕ
 title_of kind cores many vcpus more = kind ++ (codes " of " ++ (decimal cores ++ (codes " core" ++ (many
     ++ (codes ", " ++ (decimal vcpus ++ (codes " vCPU" ++ more)))))))
 
+-- the title up to the count of vCPUs
 abbrev pub kind_text : Head → List ℕ
 kind_text h = title_of (kind_word h.is_run) h.cores (plural h.cores) h.vcpus (plural h.vcpus)
 
@@ -51,10 +53,12 @@ unfoldable pub counts_of : ℕ → List ℕ → ℕ → List ℕ → List ℕ
 counts_of rounds many stints more = codes ", " ++ (decimal rounds ++ (codes " round" ++ (many ++ (codes ", "
     ++ (decimal stints ++ (codes " stint" ++ more))))))
 
+-- how many rounds and stints a run has; nothing of a plan
 abbrev pub counts_text : Bool → ℕ → ℕ → List ℕ
 counts_text false rounds stints = []
 counts_text true rounds stints = counts_of rounds (plural rounds) stints (plural stints)
 
+-- the whole title: what is shown, its counts, and whose the lanes are
 abbrev pub title_text : Head → List ℕ
 title_text h = kind_text h ++ (counts_text h.is_run h.rounds h.stints ++ lanes_word h.by_vcpu)
 
@@ -63,7 +67,7 @@ unfoldable pub ticks_text : ℕ → ℕ → ℕ → List ℕ
 ticks_text from to lasting = codes "Ticks " ++ (decimal from ++ (codes " to " ++ (decimal to ++ (codes ": "
     ++ (decimal (lasting / 10) ++ (codes "." ++ (decimal (lasting % 10) ++ codes " ms")))))))
 
--- how much of them is somebody's, in tenths of a percent
+-- how much of the shown ticks vCPUs have, in tenths of a percent
 unfoldable pub share_text : ℕ → List ℕ
 share_text share = codes ", of which vCPUs have " ++ (decimal (share / 10) ++ (codes "." ++ (decimal (share % 10)
     ++ codes " %.")))
@@ -73,8 +77,10 @@ abbrev pub lanes_note : Bool → List ℕ
 lanes_note false = codes ". A line is the longest wait for a slot; right of it how long that is."
 lanes_note true = codes ". The lanes are the vCPUs', the boxes the cores'."
 
+-- the end of the line below the title: what is on the lanes of vCPUs, or how much of the lanes vCPUs have
 abbrev pub sub_end : Head → List ℕ
 sub_end h = if h.by_vcpu then lanes_note h.is_run else share_text h.share
 
+-- the line below the title: which ticks are shown, how long they last, and what of them
 abbrev pub sub_text : Head → List ℕ
 sub_text h = ticks_text h.from h.to h.lasting ++ sub_end h

@@ -4,7 +4,9 @@ ghost use Rattle.view_lanes.specs.Columns.{edge_of, overlap, width_at};
 use crate::frame::{Bar, Frame};
 use crate::shown::span_of;
 
-/// Where the column of a number begins, of so many.
+/// The tick at which column `j` of so many begins, of the ticks that the frame shows: the first that
+/// isn't left of the column. That of the number after the last column is where the last ends. There are
+/// 1 to 65,536 columns.
 pub fn edge_of(frame: &Frame, columns: u32, j: u32) -> u64
     requires some { 0 < columns }
     requires few { columns ≤ 65536 }
@@ -27,7 +29,8 @@ fn edge_from(from: u32, span: u32, columns: u32, j: u32) -> u64
     u64::from(from) + (wide + u64::from(columns - 1)) / u64::from(columns)
 }
 
-/// How many ticks a column has.
+/// How many ticks column `j` of so many has, of the ticks that the frame shows. There are 1 to 65,536
+/// columns.
 pub fn width_at(frame: &Frame, columns: u32, j: u32) -> u64
     requires some { 0 < columns }
     requires few { columns ≤ 65536 }
@@ -38,7 +41,7 @@ pub fn width_at(frame: &Frame, columns: u32, j: u32) -> u64
     edge_of(frame, columns, j + 1).saturating_sub(edge_of(frame, columns, j))
 }
 
-/// How many ticks of a bar are in a column.
+/// How many ticks a bar has from the tick `first` up to, and without, `last`.
 pub fn overlap(first: u64, last: u64, bar: &Bar) -> u64
     ensures value { result ≡ overlap first last bar.now }
     ensures small { result < 2 ^ 32 }

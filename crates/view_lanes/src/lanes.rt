@@ -27,7 +27,7 @@ impl Model for Lane {
 }
 
 impl Lane {
-    /// The bars.
+    /// The bars of the lane, in the order of the text.
     pub fn bars(&self) -> &[Bar]
         ensures { result.now ≡ self.now }
     {
@@ -45,7 +45,10 @@ impl Lane {
     }
 }
 
-/// The lanes of so many cores or vCPUs from one on.
+/// The lanes of `count` cores or vCPUs from the number `first` on, with their bars: a bar for each
+/// stretch of somebody that has ticks in the frame. There are at most 256.
+///
+/// Fails only when memory runs out.
 pub fn lanes_from(
     alloc: Global,
     frame: &Frame,
@@ -178,7 +181,7 @@ pub(crate) fn some_boxes(lanes: &[Lane]) -> bool
     lanes.iter().any(|lane| !is_dense(lane.bars()))
 }
 
-/// How many ticks of a lane are somebody's.
+/// How many of the ticks that the frame shows the bars of a lane have: at most all.
 pub fn held_in(frame: &Frame, bars: &[Bar]) -> u64
     ensures value { result ≡ held_in frame.now bars.now }
     ensures small { result < 2 ^ 32 }
@@ -191,7 +194,8 @@ pub fn held_in(frame: &Frame, bars: &[Bar]) -> u64
     held
 }
 
-/// How much of the lanes is somebody's, in tenths of a percent.
+/// How much of the ticks that the frame shows the lanes' bars have, all lanes together, in tenths of a
+/// percent. There are at most 256 lanes.
 pub fn share_in(frame: &Frame, lanes: &[Lane]) -> u64
     requires { length lanes.now ≤ MAX_VCPUS }
     ensures { result ≡ share_in frame.now lanes.now }

@@ -6,7 +6,7 @@ use crate::frame::Frame;
 use tab_core::ROUND;
 use view_doc::Stretch;
 
-/// How many rounds are shown.
+/// How many rounds a frame shows, also in part.
 pub fn rounds_shown(frame: &Frame) -> u64
     ensures { result ≡ rounds_shown frame.now }
 {
@@ -14,7 +14,7 @@ pub fn rounds_shown(frame: &Frame) -> u64
     last.saturating_sub(u64::from(frame.from / ROUND))
 }
 
-/// The first of them.
+/// The number of the first round that a frame shows, also in part.
 pub fn first_round(frame: &Frame) -> u64
     ensures value { result ≡ first_round frame.now }
     ensures small { result < 2 ^ 32 }
@@ -22,7 +22,8 @@ pub fn first_round(frame: &Frame) -> u64
     u64::from(frame.from / ROUND)
 }
 
-/// How many events the plans of 24 rounds from one on include, each if a stint begins in it.
+/// For each of the 24 rounds from round `first` on how many events its plan includes, and none where no
+/// stretch begins in the round. The first round is below 2^32.
 pub fn used_counts(stretches: &[Stretch], first: u64) -> [Option<u32>; 24]
     requires { first < 2 ^ 32 }
     ensures { AreUsed stretches.now first result }

@@ -29,7 +29,8 @@ fn reach_of(stretches: &[Stretch]) -> u32
     reach
 }
 
-/// The count of the cores.
+/// How many cores a view has: as many as its plan's head counts, or more where a stint of a run is on a
+/// core of a higher number.
 pub fn cores_in(view: &View) -> u32
     ensures value { result ≡ cores_in view.now }
     ensures few { view.now.cores ≤ MAX_CORES → result ≤ MAX_CORES }
@@ -75,7 +76,8 @@ pub(crate) fn rounds_of(stretches: &[Stretch]) -> u64
     ((last + u64::from(ROUND - 1)) / u64::from(ROUND)).max(1)
 }
 
-/// The ticks that are shown.
+/// The ticks that a picture of the view with these options shows: up to the end of the last round, or
+/// to an earlier tick that was asked for.
 pub fn frame_of(view: &View, options: &ChartOptions) -> Frame
     ensures { result ≡ frame_of view.now options.now }
 {
@@ -101,7 +103,8 @@ fn rows_in(view: &View, options: &ChartOptions) -> u64
     }
 }
 
-/// How many lanes there are.
+/// How many lanes a picture of the view with these options has: one for each core, or for each vCPU,
+/// from the first to the last that were asked for.
 pub fn lanes_of(view: &View, options: &ChartOptions) -> u64
     ensures value { result ≡ lanes_of view.now options.now }
     ensures few { view.now.cores ≤ MAX_CORES → length view.now.names.items ≤ MAX_VCPUS → result ≤ MAX_VCPUS }
@@ -111,7 +114,8 @@ pub fn lanes_of(view: &View, options: &ChartOptions) -> u64
     all.saturating_sub(u64::from(options.first))
 }
 
-/// Whether nothing is shown: no tick, or no lane.
+/// Whether a picture of the view with these options would show nothing: no tick, or no lane. Such a
+/// picture isn't drawn.
 pub fn shows_nothing(view: &View, options: &ChartOptions) -> bool
     ensures { result ≡ shows_nothing options.now view.now }
 {

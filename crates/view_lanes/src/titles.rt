@@ -11,30 +11,35 @@ use tab_io::{Sink, WriteFault, write_all};
 use tab_words::{TextPiece, put_pieces};
 use view_doc::Stretch;
 
-/// What the head of a picture says.
+/// What the head of a picture or of a text says.
 #[derive(Clone, Copy)]
 pub struct Head {
     pub is_run: bool,
     pub by_vcpu: bool,
     pub cores: u32,
     pub vcpus: u64,
-    // How many rounds and stretches there are, drawn or not.
+    /// How many rounds the stretches reach, and one at least.
     pub rounds: u64,
+    /// How many stretches there are, drawn or not.
     pub stints: u64,
+    /// The first tick that is shown.
     pub from: u32,
+    /// The tick that ends what is shown.
     pub to: u32,
-    // Tenths of a millisecond from the one to the other.
+    /// How long what is shown lasts, in tenths of a millisecond.
     pub lasting: u64,
-    // Tenths of a percent.
+    /// How much of the lanes vCPUs have, in tenths of a percent.
     pub share: u64,
-    // Whether a lane is drawn in boxes, and whether one is in columns.
+    /// Whether a lane is drawn in boxes.
     pub boxes: bool,
+    /// Whether a lane is drawn in columns.
     pub columns: bool,
-    // The picture's number on its page.
+    /// The picture's number on its page.
     pub picture: u32,
 }
 
-/// What the head says.
+/// What the head of a picture of these lanes says, for so many cores and vCPUs, of which there are at
+/// most 256. `stretches` are all of the plan or the run.
 #[tactic(auto, unfolding(crate::specs::Titles::head_of))]
 pub fn head_of(frame: &Frame, stretches: &[Stretch], cores: u32, vcpus: u64, lanes: &[Lane]) -> Head
     requires { length lanes.now ≤ MAX_VCPUS }
@@ -57,6 +62,10 @@ pub fn head_of(frame: &Frame, stretches: &[Stretch], cores: u32, vcpus: u64, lan
     }
 }
 
+/// Writes the title: whether a plan or a run is shown, how many cores, vCPUs, rounds and stints it has,
+/// and whose the lanes are.
+///
+/// A fault leaves a prefix of it in the sink. Nothing is settled.
 pub fn put_title<K: Sink>(sink: &mut K, head: &Head) -> Result<(), WriteFault>
     ensures { Writes (K.state sink.old) (K.state sink.new) (title_text head.now) result }
 {
@@ -168,7 +177,10 @@ fn lanes_word(by_vcpu: bool) -> &'static [u8]
     if by_vcpu { b", by vCPU" } else { b"" }
 }
 
-/// Writes which ticks are shown, and what of them.
+/// Writes the line below the title: which ticks are shown and how long they last, and how much of the
+/// lanes vCPUs have, or what is on lanes of vCPUs.
+///
+/// A fault leaves a prefix of it in the sink. Nothing is settled.
 pub fn put_sub<K: Sink>(sink: &mut K, head: &Head) -> Result<(), WriteFault>
     ensures { Writes (K.state sink.old) (K.state sink.new) (sub_text head.now) result }
 {

@@ -9,7 +9,10 @@ use tab_core::{MAX_CORES, Name, NoMemory};
 use view_doc::View;
 use view_table::Figures;
 
-/// The tones of the vCPUs.
+/// The tones of a view's vCPUs, by number: a colour each, and in a plan a dark foot for those that have
+/// slots on several cores, as the figures say. There are at most 256 vCPUs.
+///
+/// Fails only when memory runs out.
 pub fn vcpu_tones(alloc: Global, view: &View, figures: &Figures) -> Result<Vec<u32>, NoMemory>
     requires { length view.now.names.items ≤ MAX_VCPUS }
     ensures tones { IfOk result (λ tones. tones.items ≡ vcpu_tones view.now figures.now) }
@@ -85,7 +88,10 @@ fn stands_at(figures: &Figures, v: usize, core: usize) -> bool
     }
 }
 
-/// The tones of so many cores.
+/// The tones of so many cores, at most 32, by number: a colour each, with stripes from the thirteenth
+/// core on.
+///
+/// Fails only when memory runs out.
 pub fn core_tones(alloc: Global, cores: u32) -> Result<Vec<u32>, NoMemory>
     requires { cores ≤ MAX_CORES }
     ensures tones { IfOk result (λ tones. tones.items ≡ core_tones cores) }
@@ -108,7 +114,9 @@ fn core_tone(core: u32) -> u32
     if core < 12 { core } else { core + 12 }
 }
 
-/// The numbers of so many cores, as they are written.
+/// The numbers of so many cores as names, in decimal digits.
+///
+/// Fails only when memory runs out.
 pub fn core_names(alloc: Global, cores: u32) -> Result<Vec<Name>, NoMemory>
     ensures names { IfOk result (λ names. names.items ≡ core_names cores) }
     ensures count { IfOk result (λ names. length names.items ≡ cores) }

@@ -22,14 +22,14 @@ owner_holder names (Some vcpu) = in_slot (name_at names vcpu)
 
 -- ---- the vCPUs that have a task, in their order
 
--- their names
+-- the names of the vCPUs that have a task
 abbrev pub admitted_names : List (List ℕ) → List (Option Periodic) → List (List ℕ)
 admitted_names [] tasks = []
 admitted_names (name ∷ names) [] = []
 admitted_names (name ∷ names) (None ∷ tasks) = admitted_names names tasks
 admitted_names (name ∷ names) (Some t ∷ tasks) = name ∷ admitted_names names tasks
 
--- their tasks and homes
+-- the tasks and homes of the vCPUs that have a task
 abbrev pub admitted_tasks : List (Option Periodic) → List (Option ℕ) → List Task
 admitted_tasks [] homes = []
 admitted_tasks (t ∷ tasks) [] = []
@@ -94,7 +94,7 @@ task_told name None home = []
 task_told name (Some t) None = []
 task_told name (Some t) (Some home) = task name t.period t.cost home ∷ []
 
--- those of all vCPUs
+-- the lines of all vCPUs that have a task
 abbrev pub tasks_told : List (List ℕ) → List (Option Periodic) → List (Option ℕ) → List Told
 tasks_told [] tasks homes = []
 tasks_told (name ∷ names) [] homes = []
@@ -105,7 +105,7 @@ tasks_told (name ∷ names) (t ∷ tasks) (home ∷ homes) = task_told name t ho
 abbrev pub segment_told : List (List ℕ) → SegmentView → Told
 segment_told names s = segment s.end (owner_holder names s.owner)
 
--- those of cores, the first of which has this number
+-- the lines of cores, the first of which has this number: each core's own and those of its segments
 abbrev pub cores_told : List (List ℕ) → ℕ → List (List SegmentView) → List Told
 cores_told names c [] = []
 cores_told names c (row ∷ rows) = (core c ∷ map (segment_told names) row) ++ cores_told names (c + 1) rows
@@ -116,7 +116,7 @@ plan_told names plan =
     head (length plan.rows) (count_by is_admitted plan.tasks)
     ∷ (tasks_told names plan.tasks plan.homes ++ (cores_told names 0 (rows_of plan) ++ end ∷ []))
 
--- what they leave: a whole plan, the names of its vCPUs that have a task, and no stint
+-- what the lines of a plan leave: a whole plan, the names of its vCPUs that have a task, and no stint
 abbrev pub plan_front : List (List ℕ) → PlanView → Front
 plan_front names plan = record {
   place = Planned;

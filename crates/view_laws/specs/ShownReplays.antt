@@ -30,7 +30,7 @@ entries_made [] = []
 entries_made (Entered c e ∷ made) = (record { core = c; round = e.round; count = e.used }) ∷ entries_made made
 entries_made (Ran c s ∷ made) = entries_made made
 
--- the stints alone
+-- the stints alone that the steps made
 abbrev pub stints_made : List (List ℕ) → CourseView → List Made → List Told
 stints_made names course [] = []
 stints_made names course (Entered c e ∷ made) = stints_made names course made
@@ -53,6 +53,6 @@ abbrev pub made_told : List (List ℕ) → CourseView → Made → Told
 made_told names course (Entered c e) = entry c e.round e.used
 made_told names course (Ran c s) = stint_told names course c s
 
--- all lines
+-- what all lines of a replay's text say
 abbrev pub replay_told : List (List ℕ) → CourseView → List Made → ℕ → List Told
 replay_told names course made count = map (made_told names course) made ++ posted count ∷ []

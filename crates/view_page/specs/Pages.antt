@@ -90,6 +90,8 @@ differences_part (Some text) = framed_text text
 
 -- ---- the page
 
+-- the page of a plan or a run: its tables and pictures, and where these are given, the script and what
+-- differs from an older plan
 abbrev pub page_text : Option (List Vcpu) → ℕ → View → Figures → Option (List ℕ) → Option (List ℕ) → List ℕ
 page_text host tick view figures script differences = top_text (cores_in view) (length view.names.items) tick
     ++ (tables_part host tick view ++ (pictures_part tick view figures ++ (script_part script

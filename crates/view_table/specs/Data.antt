@@ -27,11 +27,12 @@ abbrev pub asked_by : Option (List Vcpu) → List ℕ → Option Reservation
 asked_by None name = None
 asked_by (Some vcpus) name = asked_of vcpus name
 
--- its share and its latency
+-- the share that a vCPU has reserved, in parts per million, if it has
 abbrev pub share_or : Option Reservation → Option ℕ
 share_or None = None
 share_or (Some r) = Some r.share_ppm
 
+-- the latency that a vCPU has reserved, in nanoseconds, if it has
 abbrev pub latency_or : Option Reservation → Option ℕ
 latency_or None = None
 latency_or (Some r) = Some r.latency_ns
@@ -40,15 +41,17 @@ latency_or (Some r) = Some r.latency_ns
 abbrev pub wait_or : ℕ → ℕ → Option ℕ
 wait_or tick wait = if nat_lt wait (2 * ROUND) then Some (wait * tick) else None
 
--- whether all that was promised is kept, in JSON and in a column
+-- the word of JSON for whether something is so
 abbrev pub truth_text : Bool → List ℕ
 truth_text true = codes "true"
 truth_text false = codes "false"
 
+-- whether all that was promised is kept, in JSON; null where nothing was promised
 abbrev pub json_kept : ℕ → Option Reservation → ℕ → ℕ → List ℕ
 json_kept tick None share wait = codes "null"
 json_kept tick (Some r) share wait = truth_text (is_kept tick r share wait)
 
+-- whether all that was promised is kept, in a column; nothing where nothing was promised
 abbrev pub csv_kept : ℕ → Option Reservation → ℕ → ℕ → List ℕ
 csv_kept tick None share wait = []
 csv_kept tick (Some r) share wait = yes_or_no (is_kept tick r share wait)
@@ -60,6 +63,7 @@ abbrev pub part_before : List ℕ → Bool → List ℕ
 part_before between true = between
 part_before between false = []
 
+-- the number of a core where the vCPU has a slot, with this before it unless it is the first of them
 abbrev pub core_data : List ℕ → List Stretch → ℕ → ℕ → List ℕ
 core_data between slots v core = if stands_on slots v core
     then part_before between (any_below (stands_on slots v) core) ++ decimal core else []
@@ -72,13 +76,13 @@ json_shares name asked t = codes "{\"name\":\"" ++ (name
     ++ (codes "\",\"asked_ppm\":" ++ (number_or (codes "null") (share_or asked)
     ++ (codes ",\"given_ppm\":" ++ (decimal (share_of t) ++ codes ",")))))
 
--- its period, its longest wait, and the latency that it was promised
+-- a vCPU's period, its longest wait, and the latency that it was promised, in nanoseconds
 unfoldable pub json_times : ℕ → Option Reservation → Task → ℕ → List ℕ
 json_times tick asked t wait = codes "\"period_ns\":" ++ (decimal (t.period * tick)
     ++ (codes ",\"wait_ns\":" ++ (number_or (codes "null") (wait_or tick wait)
     ++ (codes ",\"promised_ns\":" ++ (number_or (codes "null") (latency_or asked) ++ codes ",")))))
 
--- whether it has what it was promised, and its home
+-- whether a vCPU has what it was promised, and its home
 unfoldable pub json_home : ℕ → Option Reservation → Task → ℕ → List ℕ
 json_home tick asked t wait = codes "\"kept\":" ++ (json_kept tick asked (share_of t) wait
     ++ (codes ",\"home\":" ++ (decimal t.home ++ codes ",\"cores\":[")))
@@ -92,23 +96,27 @@ json_facts tick name asked t wait = json_shares name asked t
 abbrev pub comma_before : ℕ → List ℕ
 comma_before n = if n == 0 then [] else codes ","
 
+-- the object of the vCPU of a number, if the plan has a line for it
 abbrev pub json_of : Option (List Vcpu) → ℕ → List (List ℕ) → List Stretch → ℕ → ℕ → Option Task → List ℕ
 json_of host tick names slots cores v None = []
 json_of host tick names slots cores v (Some t) = comma_before v
     ++ (json_facts tick (name_at names v) (asked_by host (name_at names v)) t (wait_of slots v)
     ++ (texts_below (core_data (codes ",") slots v) cores ++ codes "]}"))
 
+-- the object of the vCPU of a number of a view
 abbrev pub json_row : Option (List Vcpu) → ℕ → View → ℕ → List ℕ
 json_row host tick view v = json_of host tick view.names.items view.slots.items view.cores v
     (slice_get view.tasks.items v)
 
--- the load of a core
+-- the load of a core, in parts per million of a round
 abbrev pub load_data : List Stretch → ℕ → List ℕ
 load_data slots core = comma_before core ++ decimal (of_round (load_of slots core))
 
+-- the beginning of the text, up to the vCPUs
 unfoldable pub json_begin : ℕ → List ℕ
 json_begin tick = codes "{\"form\":1,\"tick_ns\":" ++ (decimal tick ++ codes ",\"vcpus\":[")
 
+-- what is between the vCPUs and the loads
 abbrev pub load_head : List ℕ
 load_head = codes "],\"load_ppm\":["
 
@@ -125,12 +133,12 @@ unfoldable pub csv_shares : List ℕ → Option Reservation → Task → List �
 csv_shares name asked t = name ++ (codes "," ++ (number_or [] (share_or asked)
     ++ (codes "," ++ (decimal (share_of t) ++ codes ","))))
 
--- its period, its longest wait, and the latency that it was promised
+-- a vCPU's period, its longest wait, and the latency that it was promised, in nanoseconds
 unfoldable pub csv_times : ℕ → Option Reservation → Task → ℕ → List ℕ
 csv_times tick asked t wait = decimal (t.period * tick) ++ (codes "," ++ (number_or [] (wait_or tick wait)
     ++ (codes "," ++ (number_or [] (latency_or asked) ++ codes ","))))
 
--- whether it has what it was promised, and its home
+-- whether a vCPU has what it was promised, and its home
 unfoldable pub csv_home : ℕ → Option Reservation → Task → ℕ → List ℕ
 csv_home tick asked t wait = csv_kept tick asked (share_of t) wait
     ++ (codes "," ++ (decimal t.home ++ codes ","))
@@ -140,12 +148,14 @@ abbrev pub csv_facts : ℕ → List ℕ → Option Reservation → Task → ℕ 
 csv_facts tick name asked t wait = csv_shares name asked t
     ++ (csv_times tick asked t wait ++ csv_home tick asked t wait)
 
+-- the row of the vCPU of a number, if the plan has a line for it
 abbrev pub csv_of : Option (List Vcpu) → ℕ → List (List ℕ) → List Stretch → ℕ → ℕ → Option Task → List ℕ
 csv_of host tick names slots cores v None = []
 csv_of host tick names slots cores v (Some t) =
     csv_facts tick (name_at names v) (asked_by host (name_at names v)) t (wait_of slots v)
     ++ (texts_below (core_data (codes " ") slots v) cores ++ codes "\n")
 
+-- the row of the vCPU of a number of a view
 abbrev pub csv_row : Option (List Vcpu) → ℕ → View → ℕ → List ℕ
 csv_row host tick view v = csv_of host tick view.names.items view.slots.items view.cores v
     (slice_get view.tasks.items v)

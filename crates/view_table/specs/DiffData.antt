@@ -15,39 +15,44 @@ use Rattle.view_table.specs.declared.diff_data.Style.{Style}
 
 -- ---- a vCPU in one of the plans
 
--- its share, period, longest wait and home
+-- what a vCPU has in one of the plans, in JSON: its share, period, longest wait and home
 unfoldable pub json_side : ℕ → Task → ℕ → List ℕ
 json_side tick t wait = codes "{\"share_ppm\":" ++ (decimal (share_of t) ++ (codes ",\"period_ns\":"
     ++ (decimal (t.period * tick) ++ (codes ",\"wait_ns\":" ++ (number_or (codes "null") (wait_or tick wait)
     ++ (codes ",\"home\":" ++ (decimal t.home ++ codes "}")))))))
 
+-- what a vCPU has in one of the plans, in columns: its share, period, longest wait and home
 unfoldable pub csv_side : ℕ → Task → ℕ → List ℕ
 csv_side tick t wait = decimal (share_of t) ++ (codes "," ++ (decimal (t.period * tick) ++ (codes ","
     ++ (number_or [] (wait_or tick wait) ++ (codes "," ++ decimal t.home)))))
 
--- that the plan hasn't it
+-- what is written where a plan hasn't the vCPU
 abbrev pub no_side : Form → List ℕ
 no_side Json = codes "null"
 no_side Csv = codes ",,,"
 
+-- what a vCPU has in one of the plans, in this form
 abbrev pub side_text : Form → ℕ → Task → ℕ → List ℕ
 side_text Json tick t wait = json_side tick t wait
 side_text Csv tick t wait = csv_side tick t wait
 
+-- what a vCPU has in one of the plans, if that has a line for it
 abbrev pub side_of : Style → Option Task → ℕ → List ℕ
 side_of style None wait = no_side style.form
 side_of style (Some t) wait = side_text style.form style.tick_ns t wait
 
--- the vCPU of a number there, if there is one
+-- what the vCPU of a number has in a plan, if there is one
 abbrev pub side_in : Style → View → Option ℕ → List ℕ
 side_in style view None = no_side style.form
 side_in style view (Some v) = side_of style (slice_get view.tasks.items v) (wait_of view.slots.items v)
 
 -- ---- a row
 
+-- the beginning of a vCPU's object: its name
 unfoldable pub json_name : List ℕ → List ℕ
 json_name name = codes "{\"name\":\"" ++ (name ++ codes "\",\"old\":")
 
+-- the beginning of a vCPU's row: its name
 unfoldable pub csv_name : List ℕ → List ℕ
 csv_name name = name ++ codes ","
 
@@ -61,13 +66,16 @@ abbrev pub row_middle : Form → List ℕ
 row_middle Json = codes ",\"new\":"
 row_middle Csv = codes ","
 
+-- what is after the new plan's part of a vCPU
 abbrev pub row_end : Form → List ℕ
 row_end Json = codes "}"
 row_end Csv = codes "\n"
 
+-- the beginning of a vCPU's row, after so many rows: its name, and what it has in the old plan
 abbrev pub old_part : Style → ℕ → List ℕ → View → Option ℕ → List ℕ
 old_part style n name view v = row_begin style.form n name ++ side_in style view v
 
+-- the end of a vCPU's row: what it has in the new plan
 abbrev pub new_part : Style → View → Option ℕ → List ℕ
 new_part style view w = row_middle style.form ++ (side_in style view w ++ row_end style.form)
 
@@ -82,10 +90,12 @@ added_row style old new w =
     old_part style (length old.tasks.items + w) (name_at new.names.items w) old None
     ++ new_part style new (Some w)
 
+-- the row of a vCPU of the new plan, if the old one hasn't it
 abbrev pub new_found : Style → View → View → ℕ → Option ℕ → List ℕ
 new_found style old new w None = added_row style old new w
 new_found style old new w (Some v) = []
 
+-- the row of the vCPU of a number of the new plan, if the old one hasn't it
 abbrev pub new_row : Style → View → View → ℕ → List ℕ
 new_row style old new w = new_found style old new w (number_in old (name_at new.names.items w))
 
@@ -100,9 +110,11 @@ both_rows style old new = texts_below (old_row style old new) (length old.tasks.
 abbrev pub loads_part : List ℕ → View → List ℕ
 loads_part before view = before ++ texts_below (load_data view.slots.items) view.cores
 
+-- the loads of the old plan's cores, with what is before them
 abbrev pub old_loads : View → List ℕ
 old_loads view = loads_part (codes "],\"load_ppm\":{\"old\":[") view
 
+-- the loads of the new plan's cores, with what is before them
 abbrev pub new_loads : View → List ℕ
 new_loads view = loads_part (codes "],\"new\":[") view
 
@@ -111,6 +123,7 @@ abbrev pub slots_end : Bool → List ℕ
 slots_end true = codes "]},\"slots_differ\":false}\n"
 slots_end false = codes "]},\"slots_differ\":true}\n"
 
+-- the end of the text: whether the two plans differ in their segments
 abbrev pub slots_part : View → View → List ℕ
 slots_part old new =
     slots_end (same_slots old.names.items new.names.items old.slots.items new.slots.items)

@@ -19,6 +19,7 @@ unfoldable pub vm_end : List ℕ → ℕ → ℕ
 vm_end name zero = length name
 vm_end name (suc k) = if (slice_index name k == 46) && nat_lt 0 k then k else vm_end name k
 
+-- the VM of the vCPU of this name
 abbrev pub vm_of : List ℕ → List ℕ
 vm_of name = take (vm_end name (length name)) name
 
@@ -36,14 +37,15 @@ unfoldable pub sum_where : (ℕ → Bool) → (ℕ → ℕ) → ℕ → ℕ
 sum_where test figure zero = 0
 sum_where test figure (suc v) = sum_where test figure v + (if test v then figure v else 0)
 
--- how many of them pass
+-- how many of the vCPUs below n pass
 abbrev pub count_where : (ℕ → Bool) → ℕ → ℕ
 count_where test n = sum_where test (λ v. 1) n
 
--- the sum, and the greatest, of the vCPUs below n that are of the VM
+-- the sum of a figure of the vCPUs below n that are of the VM
 abbrev pub sum_in : (ℕ → ℕ) → List (List ℕ) → List ℕ → ℕ → ℕ
 sum_in figure names vm n = sum_where (is_of names vm) figure n
 
+-- the greatest figure of the vCPUs below n that are of the VM, and 0 where there is none
 unfoldable pub most_in : (ℕ → ℕ) → List (List ℕ) → List ℕ → ℕ → ℕ
 most_in figure names vm zero = 0
 most_in figure names vm (suc v) = max (most_in figure names vm v) (if is_of names vm v then figure v else 0)
@@ -53,18 +55,20 @@ abbrev pub share_in : Option Task → ℕ
 share_in None = 0
 share_in (Some t) = share_of t
 
--- a core where some vCPU of the VM has a slot
+-- the vCPU is of the VM, and has a slot on the core
 abbrev pub vm_stands : List (List ℕ) → List ℕ → List Stretch → ℕ → ℕ → Bool
 vm_stands names vm slots core v = stands_on slots v core && is_of names vm v
 
+-- the number of a core where a vCPU of the VM has a slot; else nothing
 abbrev pub vm_core : List (List ℕ) → List ℕ → List Stretch → ℕ → ℕ → List ℕ
 vm_core names vm slots count core =
     if any_below (vm_stands names vm slots core) count then codes " " ++ decimal core else []
 
--- what the host's vCPU of the name of this number has reserved, if one is admitted, and its share
+-- what the host's vCPU of the name of this number has reserved, if one is admitted
 abbrev pub asked_at : List Vcpu → List (List ℕ) → ℕ → Option Reservation
 asked_at vcpus names v = asked_of vcpus (name_at names v)
 
+-- the share that was reserved, in parts per million; 0 where nothing was
 abbrev pub ppm_of : Option Reservation → ℕ
 ppm_of None = 0
 ppm_of (Some r) = r.share_ppm
@@ -81,11 +85,12 @@ least_in vcpus names vm zero = None
 least_in vcpus names vm (suc v) = if is_of names vm v
     then lesser (least_in vcpus names vm v) (asked_at vcpus names v) else least_in vcpus names vm v
 
--- what was promised to the vCPU of a number isn't kept; nothing was where none of its name is admitted
+-- the share and the wait of a vCPU don't keep what was promised to it; where nothing was, nothing is broken
 abbrev pub is_broken_by : ℕ → Option Reservation → ℕ → ℕ → Bool
 is_broken_by tick None share wait = false
 is_broken_by tick (Some r) share wait = not (is_kept tick r share wait)
 
+-- what was promised to the vCPU of a number isn't kept; nothing was where none of its name is admitted
 abbrev pub is_broken : ℕ → List Vcpu → List (List ℕ) → List Task → List Stretch → ℕ → Bool
 is_broken tick vcpus names tasks slots v =
     is_broken_by tick (asked_at vcpus names v) (share_in (slice_get tasks v)) (wait_of slots v)

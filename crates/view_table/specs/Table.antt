@@ -81,6 +81,7 @@ asked_cells tick width name t wait r = left width name ++ (asked_cell r ++ (perc
     ++ (millis_cell 7 (t.period * tick) ++ (wait_cell tick wait
     ++ (promised_cell r ++ kept_cell tick r (share_of t) wait)))))
 
+-- the cells of a vCPU's row, with what was asked for where there is a host
 abbrev pub row_cells : Option (List Vcpu) → ℕ → ℕ → List ℕ → Task → ℕ → List ℕ
 row_cells None tick width name t wait = plain_cells tick width name t wait
 row_cells (Some vcpus) tick width name t wait = asked_cells tick width name t wait (asked_of vcpus name)
@@ -91,17 +92,20 @@ row_of host tick width names slots cores v None = []
 row_of host tick width names slots cores v (Some t) =
     row_cells host tick width (name_at names v) t (wait_of slots v) ++ core_words slots cores v
 
+-- the row of the vCPU of a number of these tasks
 abbrev pub vcpu_row : Option (List Vcpu) → ℕ → ℕ → List (List ℕ) → List Task → List Stretch → ℕ → ℕ → List ℕ
 vcpu_row host tick width names tasks slots cores v =
     row_of host tick width names slots cores v (slice_get tasks v)
 
--- the row of a core: its load and what is left, of a round
+-- the row of a core: its load, and what is left of a round
 unfoldable pub core_cells : ℕ → ℕ → List ℕ
 core_cells core load = count_cell 4 core ++ (percent_cell 5 (of_round load)
     ++ (percent_cell 7 (of_round (ROUND - load)) ++ codes "\n"))
 
+-- the row of the core of a number
 abbrev pub core_row : List Stretch → ℕ → List ℕ
 core_row slots core = core_cells core (load_of slots core)
 
+-- the row that names the columns of cores, after an empty line
 abbrev pub core_head : List ℕ
 core_head = codes "\ncore    load %  headroom %\n"

@@ -10,7 +10,7 @@ use Rattle.view_doc.specs.declared.view.View.{View}
 use Rattle.view_table.specs.Groups.{asked_at, count_where, is_broken, ppm_of, share_in, sum_where}
 use Rattle.view_table.specs.Loads.{load_of}
 
--- each vCPU passes
+-- the test that each vCPU passes
 abbrev pub each : ℕ → Bool
 each v = true
 
@@ -18,19 +18,20 @@ each v = true
 abbrev pub given_below : List Task → ℕ → ℕ
 given_below tasks n = sum_where each (λ v. share_in (slice_get tasks v)) n
 
--- the shares together that the host has for them
+-- the shares together that the host has for the vCPUs below n, in parts per million
 abbrev pub asked_below : List Vcpu → List (List ℕ) → ℕ → ℕ
 asked_below vcpus names n = sum_where each (λ v. ppm_of (asked_at vcpus names v)) n
 
--- the host admits a vCPU of the name of this number
+-- something was reserved
 abbrev pub is_asked : Option Reservation → Bool
 is_asked None = false
 is_asked (Some r) = true
 
+-- the host admits a vCPU of the name of this number
 abbrev pub is_admitted : List Vcpu → List (List ℕ) → ℕ → Bool
 is_admitted vcpus names v = is_asked (asked_at vcpus names v)
 
--- it is admitted, and has what it was promised
+-- the vCPU of a number is admitted, and has what it was promised
 abbrev pub has_all : ℕ → List Vcpu → List (List ℕ) → List Task → List Stretch → ℕ → Bool
 has_all tick vcpus names tasks slots v =
     is_admitted vcpus names v && not (is_broken tick vcpus names tasks slots v)
@@ -68,6 +69,7 @@ total_of (Some vcpus) tick names tasks slots cores =
     (count_where (has_all tick vcpus names tasks slots) (length tasks))
     (count_where (is_admitted vcpus names) (length tasks))
 
+-- the line of totals of a view
 abbrev pub total_text : Option (List Vcpu) → ℕ → View → List ℕ
 total_text host tick view =
     total_of host tick view.names.items view.tasks.items view.slots.items view.cores

@@ -15,13 +15,15 @@ use Rattle.view_table.specs.declared.sums.Matter.TheVariants.{Home}
 abbrev pub is_vm : View → List ℕ → Bool
 is_vm view vm = any_below (is_of view.names.items vm) (length view.tasks.items)
 
--- how many of its vCPUs are, their shares together, and the longest of their waits
+-- how many vCPUs of the plan are of the VM
 abbrev pub vm_count : View → List ℕ → ℕ
 vm_count view vm = count_where (is_of view.names.items vm) (length view.tasks.items)
 
+-- the shares of the VM's vCPUs together, in parts per million of a core
 abbrev pub vm_share : View → List ℕ → ℕ
 vm_share view vm = sum_in (λ v. share_in (slice_get view.tasks.items v)) view.names.items vm (length view.tasks.items)
 
+-- the longest of the waits of the VM's vCPUs, in ticks
 abbrev pub vm_wait : View → List ℕ → ℕ
 vm_wait view vm = most_in (wait_of view.slots.items) view.names.items vm (length view.tasks.items)
 
@@ -31,10 +33,11 @@ vm_moves old new vm = count_where (changes_there Home old new vm) (length old.ta
 
 -- ---- lines
 
--- what a line is about
+-- the beginning of a line that is about a VM
 abbrev pub vm_word : List ℕ
 vm_word = codes "vm "
 
+-- the line of a VM that has another count of vCPUs; nothing where it has the same
 abbrev pub vcpus_change : List ℕ → ℕ → ℕ → List ℕ
 vcpus_change vm a b = unless_same a b
     (change_line vm_word vm (codes " vcpus ") (count_cell 0 a) (count_cell 0 b) (codes "\n"))
@@ -44,6 +47,7 @@ unfoldable pub moves_line : List ℕ → ℕ → ℕ → List ℕ
 moves_line vm moves count = vm_word ++ (vm ++ (codes " other homes " ++ (count_cell 0 moves
     ++ (codes " of " ++ (count_cell 0 count ++ codes "\n")))))
 
+-- the line of a VM of which vCPUs have another home; nothing where none has
 abbrev pub moves_change : List ℕ → ℕ → ℕ → List ℕ
 moves_change vm moves count = unless_same moves 0 (moves_line vm moves count)
 
@@ -58,7 +62,7 @@ vm_both tick old new vm = vcpus_change vm (vm_count old vm) (vm_count new vm)
 abbrev pub old_vm : ℕ → View → View → List ℕ → List ℕ
 old_vm tick old new vm = if is_vm new vm then vm_both tick old new vm else lone_line vm_word vm (codes " gone\n")
 
--- those of the VM whose first vCPU has this number; other vCPUs have none
+-- the lines of the old plan's VM whose first vCPU has this number; nothing for another vCPU
 abbrev pub old_vm_lines : ℕ → View → View → ℕ → List ℕ
 old_vm_lines tick old new v = if is_first old v then old_vm tick old new (vm_at old v) else []
 
@@ -66,6 +70,7 @@ old_vm_lines tick old new v = if is_first old v then old_vm tick old new (vm_at 
 abbrev pub new_vm : View → List ℕ → List ℕ
 new_vm old vm = if is_vm old vm then [] else lone_line vm_word vm (codes " new\n")
 
+-- the line of the new plan's VM whose first vCPU has this number, if the old plan hasn't the VM
 abbrev pub new_vm_lines : View → View → ℕ → List ℕ
 new_vm_lines old new w = if is_first new w then new_vm old (vm_at new w) else []
 

@@ -18,10 +18,11 @@ use Rattle.view_text.specs.declared.options.TextOptions.{TextOptions}
 
 -- ---- a column
 
--- how many of its ticks a vCPU has, and how many all have: at most all
+-- how many ticks of the column of a number a vCPU has
 abbrev pub owned_at : Frame → ℕ → List Bar → ℕ → ℕ → ℕ
 owned_at f columns bars j v = ticks_of (λ w. w == v) f columns bars j
 
+-- how many ticks of the column of a number the vCPUs have together: at most as many as the column has
 abbrev pub held_at : Frame → ℕ → List Bar → ℕ → ℕ
 held_at f columns bars j = min (width_at f columns j) (sum_by (ticks_in f columns j) bars)
 
@@ -38,25 +39,30 @@ letter_of v = if nat_lt v 26 then 97 + v else if nat_lt v 52 then 39 + v else 35
 unfoldable pub letter_for : ℕ → ℕ → ℕ → ℕ
 letter_for v most idle = if most == 0 then 46 else if nat_le idle most then letter_of v else 58
 
+-- the letter of the column of a number, in which this vCPU has the most ticks
 abbrev pub letter_by : Frame → ℕ → List Bar → ℕ → ℕ → ℕ
 letter_by f columns bars j v =
     letter_for v (owned_at f columns bars j v) (width_at f columns j - held_at f columns bars j)
 
+-- the letter of the column of a number
 abbrev pub letter_at : Frame → ℕ → ℕ → List Bar → ℕ → ℕ
 letter_at f columns vcpus bars j = letter_by f columns bars j (leader (owned_at f columns bars j) vcpus)
 
+-- the letter of the column of a number, as a text
 abbrev pub cell_at : Frame → ℕ → ℕ → List Bar → ℕ → List ℕ
 cell_at f columns vcpus bars j = letter_at f columns vcpus bars j ∷ []
 
 -- ---- a line
 
--- what is between a core's number and its columns, and before a share
+-- the spaces between a core's number and its columns
 abbrev pub gap_behind : ℕ → List ℕ
 gap_behind core = if nat_lt core 10 then codes "  " else codes " "
 
+-- the spaces before a share, in tenths of a percent
 abbrev pub gap_before : ℕ → List ℕ
 gap_before share = if nat_lt share 100 then codes "    " else if nat_lt share 1000 then codes "   " else codes "  "
 
+-- the beginning of a core's line, up to its columns
 unfoldable pub line_begin : ℕ → List ℕ → List ℕ
 line_begin core gap = codes "core " ++ (decimal core ++ gap)
 
@@ -64,6 +70,7 @@ line_begin core gap = codes "core " ++ (decimal core ++ gap)
 unfoldable pub line_end : List ℕ → ℕ → List ℕ
 line_end gap share = gap ++ (decimal (share / 10) ++ (codes "." ++ (decimal (share % 10) ++ codes " %\n")))
 
+-- the line of a core: its number, its columns, and how much of its lane is somebody's
 abbrev pub line_of : Frame → ℕ → ℕ → ℕ → ℕ → List Bar → List ℕ
 line_of f columns vcpus core share bars = line_begin core (gap_behind core)
     ++ (texts_below (cell_at f columns vcpus bars) columns ++ line_end (gap_before share) share)
@@ -75,10 +82,11 @@ line_at f columns vcpus first lanes i = line_of f columns vcpus (first + i)
 
 -- ---- the text
 
--- the letter of a vCPU and its name; eight are in a line
+-- a name after a letter, and what is after the name
 unfoldable pub key_name : List ℕ → List ℕ → List ℕ
 key_name name gap = codes "=" ++ (name ++ gap)
 
+-- what is after the name of a number: the end of the line after each eighth and the last, else a space
 abbrev pub key_gap : ℕ → ℕ → List ℕ
 key_gap vcpus v = if (v % 8 == 7) || (v + 1 == vcpus) then codes "\n" else codes " "
 
@@ -86,16 +94,19 @@ key_gap vcpus v = if (v % 8 == 7) || (v + 1 == vcpus) then codes "\n" else codes
 abbrev pub lettered : ℕ → ℕ
 lettered vcpus = min 52 vcpus
 
+-- the letter of the vCPU of a number, and its name
 abbrev pub key_at : List (List ℕ) → ℕ → List ℕ
 key_at names v = letter_of v ∷ key_name (name_at names v) (key_gap (lettered (length names)) v)
 
--- how many have none, where some haven't
+-- how many vCPUs have no letter of their own
 unfoldable pub more_line : ℕ → List ℕ → List ℕ
 more_line more many = codes "#=" ++ (decimal more ++ (codes " more vCPU" ++ (many ++ codes "\n")))
 
+-- how many vCPUs have no letter of their own, where there are some
 abbrev pub more_text : ℕ → List ℕ
 more_text vcpus = if nat_lt 52 vcpus then more_line (vcpus - 52) (plural (vcpus - 52)) else []
 
+-- the title and the line below it
 abbrev pub head_lines : Head → List ℕ
 head_lines h = title_text h ++ (codes "\n" ++ (sub_text h ++ codes "\n"))
 

@@ -84,7 +84,7 @@ has_other : (vcpu other home : ℕ) (core_of : List (Option ℕ)) → vcpu ≢ o
 has_other vcpu other home core_of ne =
     ap (λ o. one_if (is_some o)) (get_or-set_other core_of other vcpu (Some home) None ne)
 
--- a vCPU came to are on a core
+-- a vCPU came to be on a core
 pub keeps_on : (tasks : List (Option Periodic)) (cores : ℕ) (rank : ByDemand) (rest : List ByDemand)
     (p : PartialPlacement) (home load : ℕ) → home < cores → IsRankIn tasks rank
     → load ≡ get_or p.loads home 0 + rank.demand → load ≤ ROUND

@@ -11,7 +11,7 @@ use Rattle.worst_fit.specs.Load.{task_demand}
 abbrev pub total_demand : List (Option Periodic) → ℕ
 total_demand tasks = sum_by task_demand tasks
 
--- the most that one of them takes
+-- the most ticks of a round that one of the tasks takes
 abbrev pub largest_demand : List (Option Periodic) → ℕ
 largest_demand [] = 0
 largest_demand (task ∷ tasks) = max (task_demand task) (largest_demand tasks)

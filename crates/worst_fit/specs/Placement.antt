@@ -15,7 +15,7 @@ least_load [] = 0
 least_load (load ∷ []) = load
 least_load (load ∷ next ∷ loads) = min load (least_load (next ∷ loads))
 
--- the lowest core that has it
+-- the lowest core of least load
 abbrev pub least_core : List ℕ → ℕ
 least_core [] = 0
 least_core (load ∷ []) = 0
@@ -39,7 +39,7 @@ place_next p rank =
     }
     else record p { left = p.left ++ rank.vcpu ∷ [] }
 
--- one after the other
+-- the vCPUs of these ranks placed one after the other
 unfoldable pub place_all : PartialPlacement → List ByDemand → PartialPlacement
 place_all p [] = p
 place_all p (rank ∷ order) = place_all (place_next p rank) order
@@ -48,7 +48,7 @@ place_all p (rank ∷ order) = place_all (place_next p rank) order
 abbrev pub nothing_placed : ℕ → ℕ → PartialPlacement
 nothing_placed cores vcpus = record { loads = replicate cores 0; core_of = replicate vcpus None; left = [] }
 
--- who stays so far, and the ranks of those that move, in their order
+-- the vCPUs that stay so far, and the ranks of those that move, in their order
 pub record Staying : Type 0 where
   pub placed : PartialPlacement
   pub moving : List ByDemand
@@ -75,12 +75,12 @@ abbrev pub stay_next : List (Option ℕ) → Staying → ByDemand → Staying
 stay_next homes s rank =
     stay_at s rank (home_with_room s.placed.loads rank.demand (get_or homes rank.vcpu None))
 
--- one after the other
+-- the vCPUs of these ranks looked at one after the other, which stay or move
 unfoldable pub stay_all : List (Option ℕ) → Staying → List ByDemand → Staying
 stay_all homes s [] = s
 stay_all homes s (rank ∷ order) = stay_all homes (stay_next homes s rank) order
 
--- who of these vCPUs stays at these old homes, from empty cores on
+-- which of these vCPUs stay at these old homes, from empty cores on
 abbrev pub who_stays : List (Option ℕ) → ℕ → ℕ → List ByDemand → Staying
 who_stays homes cores vcpus order =
     stay_all homes (record { placed = nothing_placed cores vcpus; moving = [] }) order

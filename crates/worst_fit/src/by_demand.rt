@@ -15,6 +15,7 @@ use tab_core::{NoMemory, Periodic, VcpuNo};
 /// the lower number.
 #[derive(Clone, Copy, PartialEq, Eq)]
 pub struct ByDemand {
+    /// The ticks of a round that the vCPU's budget takes.
     pub demand: u32,
     pub vcpu: VcpuNo,
 }
@@ -46,7 +47,9 @@ impl PartialOrd for ByDemand {
     }
 }
 
-/// The admitted vCPUs by falling demand, ties to the lower number.
+/// The admitted vCPUs by falling demand, ties to the lower number. There are at most 256 tasks.
+///
+/// Fails only when memory runs out.
 pub fn falling_order(alloc: Global, tasks: &[Option<Periodic>]) -> Result<Vec<ByDemand>, NoMemory>
     requires { length tasks.now ≤ MAX_VCPUS }
     ensures { IfOk result (λ ranks. IsFallingOrder tasks.now ranks.items) }

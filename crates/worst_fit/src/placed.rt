@@ -30,6 +30,7 @@ impl PlacedCores {
         PlacedCores { items }
     }
 
+    /// The core of each vCPU by its number, or none where it is on none.
     pub fn items(&self) -> &[Option<CoreNo>]
         ensures same { result.now ≡ self.now }
         ensures few { length self.now ≤ MAX_VCPUS }
@@ -61,6 +62,7 @@ impl LeftOver {
         LeftOver { items }
     }
 
+    /// The vCPUs that no core has room for, in the order in which they were tried.
     pub fn items(&self) -> &[VcpuNo]
         ensures { result.now ≡ self.now }
     {
@@ -71,6 +73,8 @@ impl LeftOver {
 /// Where the vCPUs of a host are, and who is left over.
 #[derive(Drop)]
 pub struct Placed {
+    /// The core of each vCPU by its number, or none.
     pub core_of: PlacedCores,
+    /// The admitted vCPUs that are on no core.
     pub left: LeftOver,
 }

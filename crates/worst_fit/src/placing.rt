@@ -14,8 +14,9 @@ use tab_core::{CoreNo, NoMemory, ROUND, Tasks, VcpuNo};
 /// Places the admitted vCPUs on the cores by worst-fit decreasing.
 ///
 /// They are taken by falling demand, ties to the lower number. Each goes to the core of least load,
-/// ties to the lower core, if the load is then at most a round, and is left over otherwise. There
-/// are 1 to 32 cores. Within the bound of `IsWithinBound` nobody is left over.
+/// ties to the lower core, if the load is then at most a round, and is left over otherwise. There are 1
+/// to 32 cores. Within the bound of `IsWithinBound` nobody is left over. Fails only when memory runs
+/// out.
 ///
 /// Source: D. S. Johnson, "Near-optimal bin packing algorithms", thesis, MIT, 1973.
 pub fn place(alloc: Global, tasks: &Tasks, cores: u32) -> Result<Placed, NoMemory>
@@ -33,13 +34,13 @@ pub fn place(alloc: Global, tasks: &Tasks, cores: u32) -> Result<Placed, NoMemor
 
 /// Places the admitted vCPUs on the cores, where those that have old homes stay if they can.
 ///
-/// `homes` has the old home of each vCPU by its number. A vCPU beyond its end has none, and a home
-/// at or beyond the count of cores is none. The vCPUs are taken by falling demand, ties to the lower
+/// `homes` has the old home of each vCPU by its number. A vCPU beyond its end has none, and a home at
+/// or beyond the count of cores is none. The vCPUs are taken by falling demand, ties to the lower
 /// number. Each goes to its old home if the load there is then at most a round, and moves otherwise.
 /// Those that move and those without an old home are placed next, beside these, as by `place`.
 ///
 /// There are 1 to 32 cores. Within the bound of `IsWithinBound` nobody is left over: that vCPUs stay
-/// costs nothing of it.
+/// costs nothing of it. Fails only when memory runs out.
 pub fn place_staying(
     alloc: Global,
     tasks: &Tasks,

@@ -12,11 +12,13 @@ use std::alloc::Global;
 use tab_core::{NoMemory, Tasks, VcpuSet};
 use table_form::{Homes, Plan, Rows, Tables};
 
-/// The plan of an allotment: in each interval the vCPUs' ticks are laid in rising number, one after
-/// the other, along core 0, then core 1, and so on. A vCPU that reaches a core's end goes on at the
+/// The plan of an allotment: in each interval the vCPUs' ticks are laid in rising number, one after the
+/// other, along core 0, then core 1, and so on. A vCPU that reaches a core's end goes on at the
 /// interval's start on the next core. What no vCPU gets is idle. The home of an admitted vCPU is the
 /// core with most of its cells, of those the lowest. Any set of vCPUs may be capped, since each vCPU
 /// gets exactly its cost in each of its periods.
+///
+/// The allotment is one of these tasks to so many cores, at most 32. Fails only when memory runs out.
 ///
 /// Source: the wrap-around rule of R. McNaughton, "Scheduling with deadlines and loss functions",
 /// Management Science 6, 1959, in each interval.

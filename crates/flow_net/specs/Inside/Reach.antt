@@ -91,7 +91,7 @@ pub record IsRooted (l : Load) (lack : ℕ → ℕ → ℕ) (rv rk : ℕ) (q : R
   pub read : 0 < q.scan rv interval
   pub lacks : 0 < lack rv rk
 
--- the ticks on which the links up to number `x` are are as they were
+-- the ticks on the links up to number `x` are as they were
 pub record IsKeptTo (f g : ℕ → ℕ → ℕ) (q : Reached) (x : ℕ) : Type 0 where
   pub here : (z : ℕ) → z ≤ x → g (q.by z) (q.at z) ≡ f (q.by z) (q.at z)
   pub before : (z : ℕ) → z ≤ x → 0 < q.back z

@@ -2,7 +2,7 @@
 use Rattle.table_form.specs.Planning.Drafts.{IsDraft}
 use Rattle.table_form.specs.declared.draft.Draft.{Draft}
 
--- what its type keeps
+-- what the type of drafts keeps
 abbrev pub draft_facts : (draft : Draft)
     → IsDraft draft.tasks draft.pieces draft.tables.homes draft.tables.rows
 draft_facts draft = record {

@@ -30,7 +30,7 @@ IsPick eligible last None = (v : ℕ) → eligible v → ⊥
 IsPick eligible last (Some v) = IsLeast eligible (after_last last) v
     ⊎ (((w : ℕ) → eligible w → after_last last ≤ w → ⊥) × IsLeast eligible 0 v)
 
--- there is an owner, and it is runnable
+-- the slot has an owner, and the owner is runnable
 abbrev pub owner_runs : Option ℕ → List Bool → Bool
 owner_runs None runnable = false
 owner_runs (Some v) runnable = has_vcpu runnable v

@@ -57,7 +57,7 @@ with_plans o plans numbers = record {
 abbrev pub PlanIs : OutlineView → List PlanView → List ℕ → ℕ → PlanView → Type 0
 PlanIs o plans numbers n plan = plan_after (with_plans o plans numbers) n ≡ plan
 
--- it holds of each course of the outline whose plan after the first n events is this one
+-- this holds of each course of the outline whose plan after the first n events is the plan
 abbrev pub InEachCourse : OutlineView → ℕ → PlanView → (CourseView → Type 0) → Type 0
 InEachCourse o n plan Holds = (plans : List PlanView) (numbers : List ℕ) → PlanIs o plans numbers n plan
     → Holds (with_plans o plans numbers)
