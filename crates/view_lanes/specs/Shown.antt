@@ -53,6 +53,17 @@ frame_of view options = record {
   picture = options.picture;
 }
 
+-- those of a host's trace, which ends at a tick
+abbrev pub trace_frame : ChartOptions → ℕ → Frame
+trace_frame options end = record {
+  from = options.from;
+  to = end_at options.to end;
+  tick = options.tick_ns;
+  by_vcpu = options.by_vcpu;
+  is_run = true;
+  picture = options.picture;
+}
+
 -- how many cores or vCPUs could have a lane, and how many have one: those that were asked for
 abbrev pub rows_in : View → ChartOptions → ℕ
 rows_in view options = if options.by_vcpu then length view.names.items else cores_in view

@@ -1,5 +1,5 @@
 -- The title of a picture or a text, and the line below it.
-use Rattle.std.specs.Prelude.{ℕ, ◌==◌, ◌/◌, ◌%◌, ◌++◌, Bool, true, false, List, [], codes, decimal, if◌then◌else◌, ◌-◌, length}
+use Rattle.std.specs.Prelude.{ℕ, ◌==◌, ◌*◌, ◌/◌, ◌%◌, ◌++◌, Bool, true, false, List, [], codes, decimal, if◌then◌else◌, ◌-◌, length}
 use Rattle.view_doc.specs.declared.view.Stretch.{Stretch}
 use Rattle.view_lanes.specs.Amounts.{tenths_ms}
 use Rattle.view_lanes.specs.Shown.{rounds_of, share_in, some_boxes, some_dense}
@@ -78,3 +78,23 @@ sub_end h = if h.by_vcpu then lanes_note h.is_run else share_text h.share
 
 abbrev pub sub_text : Head → List ℕ
 sub_text h = ticks_text h.from h.to h.lasting ++ sub_end h
+
+-- ---- a host's trace
+
+abbrev pub trace_kind : Head → List ℕ
+trace_kind h = title_of (codes "Trace") h.cores (plural h.cores) h.vcpus (plural h.vcpus)
+
+unfoldable pub stints_text : ℕ → List ℕ → List ℕ
+stints_text stints many = codes ", " ++ (decimal stints ++ (codes " stint" ++ many))
+
+abbrev pub trace_title : Head → List ℕ
+trace_title h = trace_kind h ++ (stints_text h.stints (plural h.stints) ++ lanes_word h.by_vcpu)
+
+-- which ns are shown, and how long they last in tenths of a millisecond
+unfoldable pub times_text : ℕ → ℕ → ℕ → List ℕ
+times_text from to lasting = decimal from ++ (codes " to " ++ (decimal to ++ (codes " ns: "
+    ++ (decimal (lasting / 10) ++ (codes "." ++ (decimal (lasting % 10) ++ codes " ms"))))))
+
+-- the ticks have so many ns
+abbrev pub trace_sub : Head → ℕ → List ℕ
+trace_sub h tick = times_text (h.from * tick) (h.to * tick) h.lasting ++ sub_end h

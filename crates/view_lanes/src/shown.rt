@@ -1,6 +1,6 @@
 ghost use Rattle.std.specs.Prelude.{◌≡◌, ◌<◌, ◌≤◌, ◌-◌, ◌^◌, length};
 ghost use Rattle.tab_core.specs.declared.TheConstants.{MAX_CORES, MAX_VCPUS};
-ghost use Rattle.view_lanes.specs.Shown.{cores_in, frame_of, lanes_of, last_end, reach_of, rounds_of, rows_in, shown_in, shows_nothing, whole_of};
+ghost use Rattle.view_lanes.specs.Shown.{cores_in, end_at, frame_of, lanes_of, last_end, reach_of, rounds_of, rows_in, shown_in, shows_nothing, trace_frame, whole_of};
 
 use crate::frame::{ChartOptions, Frame};
 use tab_core::ROUND;
@@ -52,11 +52,7 @@ fn last_end(stretches: &[Stretch]) -> u32
 fn end_of(view: &View, options: &ChartOptions) -> u32
     ensures { result ≡ (frame_of view.now options.now).to }
 {
-    let whole = whole_of(shown_in(view));
-    match options.to {
-        Some(tick) => tick.min(whole),
-        None => whole,
-    }
+    end_at(options.to, whole_of(shown_in(view)))
 }
 
 // Where the last round ends, as far as ticks are counted.
@@ -86,6 +82,30 @@ pub fn frame_of(view: &View, options: &ChartOptions) -> Frame
         by_vcpu: options.by_vcpu,
         is_run: view.is_run,
         picture: options.picture,
+    }
+}
+
+/// The ticks that are shown of a host's trace, which ends at a tick.
+pub fn trace_frame(options: &ChartOptions, end: u32) -> Frame
+    ensures { result ≡ trace_frame options.now end }
+{
+    Frame {
+        from: options.from,
+        to: end_at(options.to, end),
+        tick: options.tick_ns,
+        by_vcpu: options.by_vcpu,
+        is_run: true,
+        picture: options.picture,
+    }
+}
+
+// The end, or an earlier tick that was asked for.
+fn end_at(to: Option<u32>, end: u32) -> u32
+    ensures { result ≡ end_at to end }
+{
+    match to {
+        Some(tick) => tick.min(end),
+        None => end,
     }
 }
 

@@ -1,7 +1,7 @@
-ghost use Rattle.std.specs.Prelude.{◌≡◌, ◌≤◌, length};
+ghost use Rattle.std.specs.Prelude.{◌≡◌, ◌≤◌, ◌*◌, length};
 ghost use Rattle.tab_core.specs.declared.TheConstants.{MAX_VCPUS};
 ghost use Rattle.tab_io.specs.Sinks.{Writes};
-ghost use Rattle.view_lanes.specs.Titles.{counts_of, counts_text, head_of, kind_text, kind_word, lanes_note, lanes_word, plural, share_text, sub_end, sub_text, ticks_text, title_of, title_text};
+ghost use Rattle.view_lanes.specs.Titles.{counts_of, counts_text, head_of, kind_text, kind_word, lanes_note, lanes_word, plural, share_text, stints_text, sub_end, sub_text, ticks_text, times_text, title_of, title_text, trace_kind, trace_sub, trace_title};
 
 use crate::amounts::tenths_ms;
 use crate::frame::Frame;
@@ -150,6 +150,75 @@ fn put_counts_of<'a, K: Sink>(
             TextPiece::Wide(stints),
             TextPiece::Text(b" stint"),
             TextPiece::Text(more),
+        ],
+    )
+}
+
+/// Writes the title of a host's trace.
+pub fn put_trace_title<K: Sink>(sink: &mut K, head: &Head) -> Result<(), WriteFault>
+    ensures { Writes (K.state sink.old) (K.state sink.new) (trace_title head.now) result }
+{
+    put_trace_kind(sink, head)?;
+    put_stints(sink, head.stints, plural(head.stints))?;
+    put_lanes_word(sink, head.by_vcpu)
+}
+
+fn put_trace_kind<K: Sink>(sink: &mut K, head: &Head) -> Result<(), WriteFault>
+    ensures { Writes (K.state sink.old) (K.state sink.new) (trace_kind head.now) result }
+{
+    put_title_of(
+        sink,
+        b"Trace",
+        head.cores,
+        plural(u64::from(head.cores)),
+        head.vcpus,
+        plural(head.vcpus),
+    )
+}
+
+#[tactic(auto, unfolding(crate::specs::Titles::stints_text))]
+fn put_stints<K: Sink>(sink: &mut K, stints: u64, many: &[u8]) -> Result<(), WriteFault>
+    ensures { Writes (K.state sink.old) (K.state sink.new) (stints_text stints many.now) result }
+{
+    put_pieces(
+        sink,
+        &[
+            TextPiece::Text(b", "),
+            TextPiece::Wide(stints),
+            TextPiece::Text(b" stint"),
+            TextPiece::Text(many),
+        ],
+    )
+}
+
+/// Writes which times of a host's trace are shown, whose ticks have so many ns, and what of them.
+pub fn put_trace_sub<K: Sink>(sink: &mut K, head: &Head, tick: u16) -> Result<(), WriteFault>
+    ensures { Writes (K.state sink.old) (K.state sink.new) (trace_sub head.now tick) result }
+{
+    put_times(
+        sink,
+        u64::from(head.from) * u64::from(tick),
+        u64::from(head.to) * u64::from(tick),
+        head.lasting,
+    )?;
+    put_sub_end(sink, head)
+}
+
+#[tactic(auto, unfolding(crate::specs::Titles::times_text))]
+fn put_times<K: Sink>(sink: &mut K, from: u64, to: u64, lasting: u64) -> Result<(), WriteFault>
+    ensures { Writes (K.state sink.old) (K.state sink.new) (times_text from to lasting) result }
+{
+    put_pieces(
+        sink,
+        &[
+            TextPiece::Wide(from),
+            TextPiece::Text(b" to "),
+            TextPiece::Wide(to),
+            TextPiece::Text(b" ns: "),
+            TextPiece::Wide(lasting / 10),
+            TextPiece::Text(b"."),
+            TextPiece::Wide(lasting % 10),
+            TextPiece::Text(b" ms"),
         ],
     )
 }

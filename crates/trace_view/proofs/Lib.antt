@@ -1,0 +1,4 @@
+pub mod DrawableLemmas
+pub mod NameLemmas
+pub mod ReadLemmas
+pub mod StintLemmas

@@ -1,0 +1,3 @@
+-- What is kept on the way, private to this crate.
+pub mod Readings
+pub mod Walks

@@ -1,0 +1,90 @@
+ghost use Rattle.std.specs.Prelude.{◌≡◌, ℕ, All, [], ◌∷◌, IfOk, List, MatchOption, OnOk, Some};
+ghost use Rattle.std.specs.Option.{option_to_list};
+ghost use Rattle.trace_doc.specs.declared.mark.Mark.{Mark};
+ghost use Rattle.trace_view.specs.Drawable.{IsPlacedMark};
+ghost use Rattle.trace_view.specs.Inside.Walks.{HasWalked};
+ghost use Rattle.trace_view.specs.Stints.{AreClear, IsClash, stint_at, stints_of};
+
+use std::alloc::{AllocError, Global};
+use tab_core::{CoreNo, NoMemory, VcpuNo};
+use trace_doc::{Mark, State};
+
+// A stretch of time, from the line of a number on, in which a vCPU runs on a CPU.
+#[derive(Clone, Copy)]
+pub(crate) struct Stint {
+    pub(crate) line: u64,
+    pub(crate) vcpu: VcpuNo,
+    pub(crate) cpu: CoreNo,
+    pub(crate) from_ns: u64,
+    pub(crate) end_ns: u64,
+}
+
+// The stretches in which vCPUs run by these marks, up to a time, in the marks' order.
+pub(crate) fn stints_of(alloc: Global, marks: &[Mark], end_ns: u64) -> Result<Vec<Stint>, NoMemory>
+    requires placed { All IsPlacedMark marks.now }
+    ensures { IfOk result (λ stints. stints.items ≡ stints_of end_ns marks.now) }
+{
+    let mut next = [end_ns; 256];
+    let mut stints = Vec::new(alloc);
+    for i in (0..marks.len()).rev() {
+        walk_mark(&mut next, &mut stints, &marks[i])?;
+    }
+    stints.reverse();
+    Ok(stints)
+}
+
+// Goes back by one mark: puts the stretch that begins there, and keeps when its vCPU's next mark is.
+fn walk_mark(
+    next: &mut [u64; 256],
+    stints: &mut Vec<Stint>,
+    mark: &Mark,
+) -> Result<(), NoMemory>
+    requires placed { IsPlacedMark mark.now }
+    ensures { OnOk result ((end : ℕ) (marks : List Mark) → HasWalked end marks next.old stints.old.items
+        → HasWalked end (mark.now ∷ marks) next.new stints.new.items) }
+{
+    let Some(vcpu) = mark.vcpu else {
+        return Ok(());
+    };
+    let i = vcpu.index();
+    if let Some(stint) = stint_at(mark, vcpu, next[i]) {
+        if stints.push(stint).is_err() {
+            return Err(AllocError);
+        }
+    }
+    next[i] = mark.time_ns;
+    Ok(())
+}
+
+// The stretch that begins at a mark of a vCPU and ends at a time, if the vCPU runs there and it has a nanosecond.
+fn stint_at(mark: &Mark, vcpu: VcpuNo, end_ns: u64) -> Option<Stint>
+    requires placed { IsPlacedMark mark.now }
+    requires own { mark.now.vcpu ≡ Some vcpu }
+    ensures { option_to_list result ≡ stint_at mark.now end_ns }
+{
+    match (mark.state, mark.cpu) {
+        (State::Run, Some(cpu)) if mark.time_ns < end_ns => Some(Stint {
+            line: mark.line,
+            vcpu,
+            cpu: CoreNo(cpu),
+            from_ns: mark.time_ns,
+            end_ns,
+        }),
+        _ => None,
+    }
+}
+
+// The line of the first stint that begins on a CPU before one that was there before has ended.
+pub(crate) fn clash_in(stints: &[Stint]) -> Option<u64>
+    ensures { MatchOption result (AreClear [] stints.now) (IsClash stints.now) }
+{
+    let mut ends = [0u64; 32];
+    for stint in stints {
+        let cpu = stint.cpu.index();
+        if stint.from_ns < ends[cpu] {
+            return Some(stint.line);
+        }
+        ends[cpu] = ends[cpu].max(stint.end_ns);
+    }
+    None
+}
