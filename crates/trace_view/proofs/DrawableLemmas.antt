@@ -9,9 +9,13 @@ use Rattle.trace_doc.specs.declared.mark.Mark.{Mark}
 use Rattle.trace_doc.proofs.MarkLemmas.{said}
 use Rattle.trace_doc.proofs.RowLemmas.{marks_more}
 use Rattle.vcpu_names.specs.Names.{name_at}
-use Rattle.trace_view.specs.Drawable.{AreApart, AreDrawable, AreNumbered, AreRising, IsPlacedMark, last_time, row_of}
+use Rattle.trace_view.specs.Drawable.{AreDrawable, AreNumbered, AreRising, CantFollow, HasCause, IsPlacedMark, IsUnplaced, IsWrong, last_time, row_of}
 use Rattle.trace_view.specs.Inside.Readings.{HasRead, IsKnownAs, IsNew, IsOld}
+use Rattle.trace_view.specs.declared.fault.LineCause.{LineCause}
+use Rattle.trace_view.specs.declared.fault.LineCause.TheVariants.{NoForm, Falls, NoName, ManyVcpus, NoCpu, HighCpu}
 use Rattle.trace_view.specs.declared.reading.Reading.{Reading}
+use Rattle.trace_doc.specs.declared.mark.State.{State}
+use Rattle.trace_doc.specs.declared.mark.State.TheVariants.{Run, Wait, Block}
 use Rattle.trace_view.proofs.NameLemmas.{apart_more, good_more, name_stays, named_more}
 
 -- ---- marks, and one more
@@ -146,3 +150,47 @@ read_more rows number text name mark vcpu old new read line own known good few t
           read.drawable line own known.either known.at good few tells last placed);
       time = rw marks (time ∙ sym (last_more 0 old.marks.items mark));
     }
+
+-- a row can't be drawn after those that were read
+pub cant_follow : (rows : List Row) (text : List ℕ) (cause : LineCause) (old : Reading) → HasRead rows old
+    → HasCause old.names.items old.time_ns text cause → CantFollow rows text cause
+cant_follow rows text cause old read wrong = record {
+  names = old.names.items;
+  marks = old.marks.items;
+  before = read.drawable;
+  wrong = rw (sym read.time) wrong;
+}
+
+-- what a line says of a name is the cause
+pub cause_of : (names : List (List ℕ)) (last : ℕ) (text name : List ℕ) (time : ℕ) (state : State)
+    (cpu : Option ℕ) (cause : LineCause) → Tells text name time state cpu → IsWrong names last name time state cpu cause
+    → HasCause names last text cause
+cause_of names last text name time state cpu NoForm tells wrong = absurd wrong
+cause_of names last text name time state cpu Falls tells wrong =
+    record { name = name; time = time; state = state; cpu = cpu; tells = tells; wrong = wrong }
+cause_of names last text name time state cpu NoName tells wrong =
+    record { name = name; time = time; state = state; cpu = cpu; tells = tells; wrong = wrong }
+cause_of names last text name time state cpu ManyVcpus tells wrong =
+    record { name = name; time = time; state = state; cpu = cpu; tells = tells; wrong = wrong }
+cause_of names last text name time state cpu NoCpu tells wrong =
+    record { name = name; time = time; state = state; cpu = cpu; tells = tells; wrong = wrong }
+cause_of names last text name time state cpu HighCpu tells wrong =
+    record { name = name; time = time; state = state; cpu = cpu; tells = tells; wrong = wrong }
+
+-- a vCPU that isn't placed is wrong
+pub unplaced_wrong : (names : List (List ℕ)) (last : ℕ) (name : List ℕ) (time : ℕ) (state : State) (cpu : Option ℕ)
+    (cause : LineCause) → IsUnplaced state cpu cause → IsWrong names last name time state cpu cause
+unplaced_wrong names last name time Run None NoCpu is = is
+unplaced_wrong names last name time Run (Some c) HighCpu is = is
+unplaced_wrong names last name time Run None NoForm is = absurd is
+unplaced_wrong names last name time Run None Falls is = absurd is
+unplaced_wrong names last name time Run None NoName is = absurd is
+unplaced_wrong names last name time Run None ManyVcpus is = absurd is
+unplaced_wrong names last name time Run None HighCpu is = absurd is
+unplaced_wrong names last name time Run (Some c) NoForm is = absurd is
+unplaced_wrong names last name time Run (Some c) Falls is = absurd is
+unplaced_wrong names last name time Run (Some c) NoName is = absurd is
+unplaced_wrong names last name time Run (Some c) ManyVcpus is = absurd is
+unplaced_wrong names last name time Run (Some c) NoCpu is = absurd is
+unplaced_wrong names last name time Wait cpu cause is = absurd is
+unplaced_wrong names last name time Block cpu cause is = absurd is
