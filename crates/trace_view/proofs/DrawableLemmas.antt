@@ -10,7 +10,8 @@ use Rattle.trace_doc.proofs.MarkLemmas.{said}
 use Rattle.trace_doc.proofs.RowLemmas.{marks_more}
 use Rattle.vcpu_names.specs.Names.{name_at}
 use Rattle.trace_view.specs.Drawable.{AreDrawable, AreNumbered, AreRising, CantFollow, HasCause, IsPlacedMark, IsUnplaced, IsWrong, last_time, row_of}
-use Rattle.trace_view.specs.Inside.Readings.{HasRead, IsKnownAs, IsNew, IsOld}
+use Rattle.trace_view.specs.Inside.Named.{IsKnownAs, IsNew, IsOld}
+use Rattle.trace_view.specs.Inside.Readings.{HasRead}
 use Rattle.trace_view.specs.declared.fault.LineCause.{LineCause}
 use Rattle.trace_view.specs.declared.fault.LineCause.TheVariants.{NoForm, Falls, NoName, ManyVcpus, NoCpu, HighCpu}
 use Rattle.trace_view.specs.declared.reading.Reading.{Reading}

@@ -1,6 +1,9 @@
 -- Stints, from the last mark back, and one after the other.
-use Rattle.std.proofs.Common.{◌≡◌, ℕ, ◌+◌, ◌-◌, ◌/◌, ◌<◌, ◌≤◌, ◌==◌, ◌^◌, All, Bool, true, false, if◌then◌else◌, List, [], ◌∷◌, ◌++◌, length, max, nat_lt, refl, sym, ap, ◌∙◌, inl, inr, append_assoc, Option, Some, None, reverse, get_or, arith}
-use Rattle.std.proofs.lemmas.Bool.{cases_eq}
+use Rattle.std.proofs.Common.{◌≡◌, ℕ, ◌+◌, ◌-◌, ◌*◌, ◌/◌, ◌<◌, ◌≤◌, ◌==◌, ◌^◌, All, drop, map, suc, take, Bool, true, false, if◌then◌else◌, List, [], ◌∷◌, ◌++◌, length, max, nat_lt, refl, sym, ap, ◌∙◌, inl, inr, append_assoc, Option, Some, None, reverse, get_or, arith}
+use Rattle.std.proofs.Math.Nat.{div-mul-le_self}
+use Rattle.std.proofs.Math.Seq.{drop-cons, take-suc}
+use Rattle.std.proofs.lemmas.Nat.{le-div}
+use Rattle.std.proofs.lemmas.List.{take-append-drop}
 use Rattle.std.proofs.lemmas.Bool.Decides.{nat_tests}
 use Rattle.std.proofs.lemmas.Grind.{common_steps}
 use Rattle.std.proofs.lemmas.List.{append-nil, reverse-append}
@@ -14,7 +17,9 @@ use Rattle.trace_doc.specs.declared.mark.State.{State}
 use Rattle.trace_doc.specs.declared.mark.State.TheVariants.{Run, Wait, Block}
 use Rattle.trace_view.specs.Drawable.{AreRising, last_time}
 use Rattle.trace_view.specs.Inside.Walks.{HasWalked, IsWithin}
-use Rattle.trace_view.specs.Stints.{AreClear, end_on, end_of, next_of, next_time, stint_at, stint_in, stints_in, stints_of}
+use Rattle.view_doc.specs.declared.view.Stretch.{Stretch}
+use Rattle.trace_view.specs.Traces.{AreLasting, IsFirstShort, stretch_of}
+use Rattle.trace_view.specs.Stints.{AreClear, IsClash, end_on, end_of, next_of, next_time, stint_at, stint_in, stints_in, stints_of}
 use Rattle.trace_view.specs.declared.stints.Stint.{Stint}
 
 -- ---- no vCPU, no CPU
@@ -49,7 +54,7 @@ walked_none end mark marks next stints own walked =
     record {
       size = walked.size;
       times = λ v low. rw own (walked.times v low);
-      stints = walked.stints ∙ ap reverse (sym (stints_with end mark marks None own
+      walked = walked.walked ∙ ap reverse (sym (stints_with end mark marks None own
       ∙ ap (λ (first : List Stint). first ++ stints_of end marks) none));
     }
 
@@ -73,7 +78,7 @@ walked_more end mark marks old new stints vcpu first own low walked size times i
       size = size;
       times = λ v small. rw own
           (times v small ∙ ap (λ t. if vcpu == v then mark.time_ns else t) (walked.times v small));
-      stints = ap (λ (all : List Stint). all ++ option_to_list first) walked.stints
+      walked = ap (λ (all : List Stint). all ++ option_to_list first) walked.walked
           ∙ ap (λ (all : List Stint). reverse (stints_of end marks) ++ all) (sym one)
           ∙ sym (reverse-append (option_to_list first) (stints_of end marks))
           ∙ ap (λ (all : List Stint). reverse (all ++ stints_of end marks)) from
@@ -151,3 +156,79 @@ all_within end time (mark ∷ marks) rising within =
     (next_of_within end mark.time_ns marks mark.vcpu rising.1 within) in
     All-append (EndsBy end) (stint_at mark (next_of end marks mark.vcpu)) (stints_of end marks) first
     (all_within end mark.time_ns marks rising.1 within)
+
+-- a part of less isn't more
+div_low : (a b k : ℕ) → 0 < k → a ≤ b → a / k ≤ b / k
+div_low a b k some low =
+    let whole : a / k * k ≤ a = div-mul-le_self a k in
+    le-div (a / k) b k some (omega (arith, whole, low))
+
+one_counted : (begin end tick : ℕ) (stint : Stint) → 0 < tick → (end - begin) / tick < 2 ^ 32 → EndsBy end stint
+    → IsWithin begin tick stint
+one_counted begin end tick stint some fits ends =
+    let last : (stint.end_ns - begin) / tick ≤ (end - begin) / tick =
+    div_low (stint.end_ns - begin) (end - begin) tick some (omega (arith, ends.1)) in
+    let first : (stint.from_ns - begin) / tick ≤ (end - begin) / tick =
+    div_low (stint.from_ns - begin) (end - begin) tick some (omega (arith, ends.0, ends.1)) in
+    (omega (arith, first, fits), omega (arith, last, fits))
+
+-- the ticks of stints that end by the end can be counted
+pub all_counted : (begin end tick : ℕ) (stints : List Stint) → 0 < tick → (end - begin) / tick < 2 ^ 32
+    → All (EndsBy end) stints → All (IsWithin begin tick) stints
+all_counted begin end tick stints some fits all k d low =
+    one_counted begin end tick (get_or stints k d) some fits (all k d low)
+
+-- ---- a stint of a list
+
+-- the stints up to one of them, it, and those after it
+pub parts_at : (stints : List Stint) (i : ℕ) (d : Stint) → i < length stints
+    → stints ≡ take i stints ++ get_or stints i d ∷ drop (suc i) stints
+parts_at stints i d low =
+    sym (take-append-drop i stints) ∙ ap (λ (back : List Stint). take i stints ++ back) (drop-cons stints i d low)
+
+-- one more, and what follows of it for one that is there
+pub take_next : (stints : List Stint) (i : ℕ) (d : Stint) → i < length stints
+    → take (i + 1) stints ≡ take i stints ++ get_or stints i d ∷ []
+take_next stints i d low =
+    let next : i + 1 ≡ suc i = omega arith in
+    ap (λ n. take n stints) next ∙ take-suc stints i d low
+
+pub clear_next : (stints : List Stint) (i : ℕ) (d : Stint) → i < length stints → AreClear [] (take i stints)
+    → end_on (get_or stints i d).cpu (take i stints) ≤ (get_or stints i d).from_ns
+    → AreClear [] (take (i + 1) stints)
+clear_next stints i d low clear free =
+    rw (take_next stints i d low) (clear_more (take i stints) (get_or stints i d) clear free)
+
+pub ends_next : (stints : List Stint) (i : ℕ) (d : Stint) (cpu now : ℕ) → i < length stints
+    → now ≡ (if (get_or stints i d).cpu == cpu then max (end_on cpu (take i stints)) (get_or stints i d).end_ns
+    else end_on cpu (take i stints))
+    → now ≡ end_on cpu (take (i + 1) stints)
+ends_next stints i d cpu now low is =
+    is ∙ sym (end_more cpu (take i stints) (get_or stints i d)) ∙ ap (end_on cpu) (sym (take_next stints i d low))
+
+pub first_clash : (stints : List Stint) (i : ℕ) (d : Stint) → i < length stints → AreClear [] (take i stints)
+    → (get_or stints i d).from_ns < end_on (get_or stints i d).cpu (take i stints)
+    → IsClash stints (get_or stints i d).line
+first_clash stints i d low clear taken = record {
+  front = take i stints;
+  stint = get_or stints i d;
+  back = drop (suc i) stints;
+  whole = parts_at stints i d low;
+  clear = clear;
+  taken = taken;
+  at = refl;
+}
+
+pub first_short : (begin tick : ℕ) (stints : List Stint) (i : ℕ) (d : Stint) (stretches : List Stretch)
+    → i < length stints → stretches ≡ map (stretch_of begin tick) (take i stints) → AreLasting stretches
+    → (stretch_of begin tick (get_or stints i d)).end ≤ (stretch_of begin tick (get_or stints i d)).from
+    → IsFirstShort begin tick stints (get_or stints i d).line
+first_short begin tick stints i d stretches low are lasting short = record {
+  front = take i stints;
+  stint = get_or stints i d;
+  back = drop (suc i) stints;
+  whole = parts_at stints i d low;
+  lasting = rw (sym are) lasting;
+  short = short;
+  at = refl;
+}

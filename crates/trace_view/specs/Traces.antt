@@ -68,14 +68,18 @@ pub record IsDrawn (bytes : List ℕ) (trace : HostTrace) : Type 0 where
 
 -- ---- why it isn't
 
--- the first stint that has no tick of its own is from the line of this number on
+-- a stint has no tick of its own
+abbrev pub IsShort : ℕ → ℕ → Stint → Type 0
+IsShort begin tick stint = (stretch_of begin tick stint).end ≤ (stretch_of begin tick stint).from
+
+-- the first stint that has none is from the line of this number on
 pub record IsFirstShort (begin tick : ℕ) (stints : List Stint) (line : ℕ) : Type 0 where
   pub front : List Stint
   pub stint : Stint
   pub back : List Stint
   pub whole : stints ≡ front ++ stint ∷ back
   pub lasting : AreLasting (map (stretch_of begin tick) front)
-  pub short : (stretch_of begin tick stint).end ≤ (stretch_of begin tick stint).from
+  pub short : IsShort begin tick stint
   pub at : stint.line ≡ line
 
 -- each line can be drawn, and this holds of what they say

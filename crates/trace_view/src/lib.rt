@@ -6,6 +6,8 @@
 
 mod fault;
 mod host_trace;
+mod lines;
+mod names;
 mod read;
 mod reading;
 mod stints;

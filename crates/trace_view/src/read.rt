@@ -6,7 +6,8 @@ ghost use Rattle.trace_view.specs.Traces.{HasFault, IsDrawn, is_host_trace};
 
 use crate::fault::TraceFault;
 use crate::host_trace::HostTrace;
-use crate::reading::{Reading, read_lines};
+use crate::lines::read_lines;
+use crate::reading::Reading;
 use crate::stints::{clash_in, stints_of};
 use crate::stretches::{stretches_of, tick_of};
 use script_doc::is_skipped;

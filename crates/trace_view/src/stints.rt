@@ -1,4 +1,4 @@
-ghost use Rattle.std.specs.Prelude.{◌≡◌, ℕ, All, [], ◌∷◌, IfOk, List, MatchOption, OnOk, Some};
+ghost use Rattle.std.specs.Prelude.{◌≡◌, ℕ, All, [], ◌∷◌, ◌++◌, IfOk, List, MatchOption, OnOk, Some};
 ghost use Rattle.std.specs.Option.{option_to_list};
 ghost use Rattle.trace_doc.specs.declared.mark.Mark.{Mark};
 ghost use Rattle.trace_view.specs.Drawable.{IsPlacedMark};
@@ -47,13 +47,22 @@ fn walk_mark(
         return Ok(());
     };
     let i = vcpu.index();
-    if let Some(stint) = stint_at(mark, vcpu, next[i]) {
-        if stints.push(stint).is_err() {
-            return Err(AllocError);
-        }
-    }
+    put_stint(stints, stint_at(mark, vcpu, next[i]))?;
     next[i] = mark.time_ns;
     Ok(())
+}
+
+// Puts a stretch to the others, if there is one.
+fn put_stint(stints: &mut Vec<Stint>, stint: Option<Stint>) -> Result<(), NoMemory>
+    ensures { OnOk result (stints.new.items ≡ stints.old.items ++ option_to_list stint) }
+{
+    let Some(stint) = stint else {
+        return Ok(());
+    };
+    match stints.push(stint) {
+        Ok(()) => Ok(()),
+        Err(_) => Err(AllocError),
+    }
 }
 
 // The stretch that begins at a mark of a vCPU and ends at a time, if the vCPU runs there and it has a nanosecond.

@@ -1,6 +1,6 @@
-ghost use Rattle.std.specs.Prelude.{◌≡◌, ◌<◌, ◌≤◌, ◌-◌, ◌/◌, ◌^◌, All, IfErr, IfOk, IfSome, map};
+ghost use Rattle.std.specs.Prelude.{◌≡◌, ◌↔◌, ◌<◌, ◌≤◌, ◌-◌, ◌/◌, ◌^◌, All, IfErr, IfOk, IfSome, IsTrue, map};
 ghost use Rattle.trace_view.specs.Inside.Walks.{IsShortFault, IsWithin};
-ghost use Rattle.trace_view.specs.Traces.{AreLasting, fits, stretch_of, tick_of};
+ghost use Rattle.trace_view.specs.Traces.{AreLasting, IsShort, fits, stretch_of, tick_of};
 
 use crate::fault::TraceFault;
 use crate::stints::Stint;
@@ -22,18 +22,29 @@ pub(crate) fn stretches_of(
 {
     let mut stretches = Vec::new(alloc);
     for stint in stints {
-        let stretch = stretch_of(begin_ns, tick_ns, stint);
-        if stretch.from >= stretch.end {
+        if is_short(begin_ns, tick_ns, stint) {
             return Err(TraceFault::Short {
                 line: stint.line,
                 tick_ns,
             });
         }
-        if stretches.push(stretch).is_err() {
+        if stretches
+            .push(stretch_of(begin_ns, tick_ns, stint))
+            .is_err()
+        {
             return Err(TraceFault::NoMemory);
         }
     }
     Ok(stretches)
+}
+
+// Whether a stint has no tick of its own.
+fn is_short(begin_ns: u64, tick_ns: u16, stint: &Stint) -> bool
+    requires { 0 < tick_ns }
+    ensures { IsTrue result ↔ IsShort begin_ns tick_ns stint.now }
+{
+    let tick = u64::from(tick_ns);
+    stint.end_ns.saturating_sub(begin_ns) / tick <= stint.from_ns.saturating_sub(begin_ns) / tick
 }
 
 // A stint as a stretch of ticks from a time on, in a slot.

@@ -1,27 +1,10 @@
 -- What is kept of a trace whose lines are read.
-use Rattle.std.specs.Prelude.{◌≡◌, ℕ, ◌<◌, ◌⊎◌, List, [], ◌∷◌, ◌++◌, length}
+use Rattle.std.specs.Prelude.{◌≡◌, ℕ, List}
 use Rattle.trace_doc.specs.TraceLines.{Row, rows_of}
-use Rattle.vcpu_names.specs.Names.{IsUnknown, name_at}
 use Rattle.trace_view.specs.Drawable.{AreDrawable, CantFollow, IsFirstUndrawn, last_time}
 use Rattle.trace_view.specs.declared.fault.TraceFault.{TraceFault}
 use Rattle.trace_view.specs.declared.fault.TraceFault.TheVariants.{BadLine, Shared, TooLong, Short, NoMemory}
 use Rattle.trace_view.specs.declared.reading.Reading.{Reading}
-
--- the names stay, and the vCPU is one of them
-pub record IsOld (old new : List (List ℕ)) (vcpu : ℕ) : Type 0 where
-  pub same : new ≡ old
-  pub known : vcpu < length old
-
--- the name is new, and the vCPU is after the others
-pub record IsNew (old new : List (List ℕ)) (name : List ℕ) (vcpu : ℕ) : Type 0 where
-  pub more : new ≡ old ++ name ∷ []
-  pub unknown : IsUnknown old name
-  pub next : vcpu ≡ length old
-
--- the vCPU has the name among these names, which the others became with it
-pub record IsKnownAs (old new : List (List ℕ)) (name : List ℕ) (vcpu : ℕ) : Type 0 where
-  pub at : name_at new vcpu ≡ name
-  pub either : IsOld old new vcpu ⊎ IsNew old new name vcpu
 
 -- these rows were read
 pub record HasRead (rows : List Row) (reading : Reading) : Type 0 where

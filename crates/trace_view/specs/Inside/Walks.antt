@@ -12,7 +12,7 @@ use Rattle.trace_view.specs.declared.stints.Stint.{Stint}
 pub record HasWalked (end : ℕ) (marks : List Mark) (next : List ℕ) (stints : List Stint) : Type 0 where
   pub size : length next ≡ MAX_VCPUS
   pub times : (v : ℕ) → v < MAX_VCPUS → slice_index next v ≡ next_time end marks v
-  pub stints : stints ≡ reverse (stints_of end marks)
+  pub walked : stints ≡ reverse (stints_of end marks)
 
 -- the stint's ticks can be counted
 abbrev pub IsWithin : ℕ → ℕ → Stint → Type 0

@@ -1,6 +1,6 @@
 use Rattle.std.proofs.Common.{◌≢◌, ℕ, ◌<◌}
 use Rattle.vcpu_names.specs.Names.{name_at}
-use Rattle.trace_view.proofs.reading.number_in.Given as goal
+use Rattle.trace_view.proofs.names.number_in.Given as goal
 
 -- none of those so far has the name
 abbrev pub invariant-loop-v : goal.invariant-loop-v

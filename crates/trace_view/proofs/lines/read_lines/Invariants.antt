@@ -1,5 +1,5 @@
 use Rattle.trace_view.proofs.ReadLemmas.{AreRead}
-use Rattle.trace_view.proofs.reading.read_lines.Given as goal
+use Rattle.trace_view.proofs.lines.read_lines.Given as goal
 
 -- the lines so far were read
 abbrev pub invariant-loop-line : goal.invariant-loop-line
