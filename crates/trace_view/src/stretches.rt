@@ -1,6 +1,7 @@
 ghost use Rattle.std.specs.Prelude.{◌≡◌, ◌↔◌, ◌<◌, ◌≤◌, ◌-◌, ◌/◌, ◌^◌, All, IfErr, IfOk, IfSome, IsTrue, map};
 ghost use Rattle.trace_view.specs.Inside.Walks.{IsShortFault, IsWithin};
 ghost use Rattle.trace_view.specs.Traces.{AreLasting, IsShort, fits, stretch_of, tick_of};
+ghost use Rattle.view_doc.specs.declared.view.Use.TheVariants.{Slot};
 
 use crate::fault::TraceFault;
 use crate::stints::Stint;
@@ -29,7 +30,12 @@ pub(crate) fn stretches_of(
             });
         }
         if stretches
-            .push(stretch_of(begin_ns, tick_ns, stint))
+            .push(stretch_of(
+                begin_ns,
+                tick_ns,
+                stint,
+                Use::Slot(stint.vcpu),
+            ))
             .is_err()
         {
             return Err(TraceFault::NoMemory);
@@ -47,8 +53,9 @@ fn is_short(begin_ns: u64, tick_ns: u16, stint: &Stint) -> bool
     stint.end_ns.saturating_sub(begin_ns) / tick <= stint.from_ns.saturating_sub(begin_ns) / tick
 }
 
-// A stint as a stretch of ticks from a time on, in a slot.
-fn stretch_of(begin_ns: u64, tick_ns: u16, stint: &Stint) -> Stretch
+// A stint as a stretch of ticks from a time on, in a slot of its vCPU.
+fn stretch_of(begin_ns: u64, tick_ns: u16, stint: &Stint, by: Use) -> Stretch
+    requires slot { by ≡ Slot stint.now.vcpu }
     requires some { 0 < tick_ns }
     requires within { IsWithin begin_ns tick_ns stint.now }
     ensures { result ≡ stretch_of begin_ns tick_ns stint.now }
@@ -60,7 +67,7 @@ fn stretch_of(begin_ns: u64, tick_ns: u16, stint: &Stint) -> Stretch
         end: (stint.end_ns.saturating_sub(begin_ns) / tick) as u32,
         used: 0,
         seen: 0,
-        by: Use::Slot(stint.vcpu),
+        by,
     }
 }
 
