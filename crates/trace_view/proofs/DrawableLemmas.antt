@@ -40,9 +40,9 @@ marks_wider names name [] [] known all are numbered = tt
 marks_wider names name (row ∷ rows) (mark ∷ marks) known all are numbered = (
   record {
     placed = are.0.placed;
-    says = says_more names name row.text mark numbered.0 numbered.1.0 are.0.says;
+    says = says_more names name row.text mark numbered.0 numbered.1 are.0.says;
   },
-  marks_wider names name rows marks (max known (suc numbered.0)) all are.1 numbered.1.1.1,
+  marks_wider names name rows marks (max known (suc numbered.0)) all are.1 numbered.3,
 )
 marks_wider names name [] (mark ∷ marks) known all are numbered = absurd are
 marks_wider names name (row ∷ rows) [] known all are numbered = absurd are
@@ -52,8 +52,8 @@ numbered_more : (known : ℕ) (marks : List Mark) (all : ℕ) (mark : Mark) (vcp
 numbered_more known [] all mark vcpu is own low =
     (vcpu, own, omega (arith, is, low), ap (λ n. max n (suc vcpu)) is)
 numbered_more known (first ∷ marks) all mark vcpu are own low =
-    (are.0, are.1.0, are.1.1.0,
-    numbered_more (max known (suc are.0)) marks all mark vcpu are.1.1.1 own low)
+    (are.0, are.1, are.2,
+    numbered_more (max known (suc are.0)) marks all mark vcpu are.3 own low)
 
 pub last_more : (time : ℕ) (marks : List Mark) (mark : Mark) → last_time time (marks ++ mark ∷ []) ≡ mark.time_ns
 last_more time [] mark = refl

@@ -50,8 +50,8 @@ pub fn read_trace(alloc: Global, bytes: &[u8]) -> Result<HostTrace, TraceFault>
 
 // What the lines of a trace show, which all were read.
 fn drawn(alloc: Global, reading: Reading) -> Result<HostTrace, TraceFault>
-    ensures drawn { IfOk result (λ trace. (bytes : List ℕ) → HasReadAll bytes reading.entry → IsDrawn bytes trace) }
-    ensures fault { IfErr result (λ fault. (bytes : List ℕ) → HasReadAll bytes reading.entry → HasFault bytes fault) }
+    ensures drawn { IfOk result (λ trace. (bytes : List ℕ) → HasReadAll bytes reading → IsDrawn bytes trace) }
+    ensures fault { IfErr result (λ fault. (bytes : List ℕ) → HasReadAll bytes reading → HasFault bytes fault) }
 {
     let begin_ns = begin_of(&reading.marks);
     let end_ns = reading.time_ns;
