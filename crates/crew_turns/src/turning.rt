@@ -3,7 +3,7 @@ ghost use Rattle.round_words.specs.Seats.{view_of, IsSeatOf};
 ghost use Rattle.crew_turns.specs.declared.clocks.TheConstants.{OUT as THE_OUT};
 ghost use Rattle.crew_turns.specs.Going.{PartsGoOn, SameActors};
 ghost use Rattle.crew_turns.specs.Inside.Clocks.{AreTicks, IsPosting};
-ghost use Rattle.crew_turns.specs.Inside.Turns.{AreCores, CoresAgree, CoresGoOn, CoresTold, GuessTold, RunTold, TurnTold, left_of, or_stops, or_waits};
+ghost use Rattle.crew_turns.specs.Inside.Turns.{CanTurn, CoresTold, GuessTold, HasTurned, RunTold, TurnTold, left_of, or_stops, or_waits};
 ghost use Rattle.crew_turns.specs.Troops.{AreAgreed, AreSame};
 
 use crate::clocks::{OUT, find_least};
@@ -115,15 +115,8 @@ fn turn_cores<C: CoreStepper + Drop, G: Gate>(
     cores: &mut [Player<C>],
     roster: &mut Roster,
 ) -> Progress
-    requires board { IsSeatOf site.now.board.now seat.old }
-    requires cores { AreCores C.kind cores.old }
-    requires agree { CoresAgree C.kind cores.old (view_of seat.old) }
-    requires ticks { AreTicks C.kind cores.old (view_of seat.old) roster.old.ticks }
-    ensures board { IsSeatOf site.now.board.now seat.new }
-    ensures cores { AreCores C.kind cores.new }
-    ensures ticks { AreTicks C.kind cores.new (view_of seat.new) roster.new.ticks }
-    ensures posting { roster.new.posting ≡ roster.old.posting }
-    ensures goes { CoresGoOn C.kind cores.old (view_of seat.old) cores.new (view_of seat.new) }
+    requires { CanTurn C.kind site.now.board.now seat.old cores.old roster.old.ticks }
+    ensures turned { HasTurned C.kind site.now.board.now seat.old cores.old roster.old seat.new cores.new roster.new }
     ensures told { CoresTold C.kind roster.old.ticks (view_of seat.old) result cores.new roster.new.ticks (view_of seat.new) }
 {
     if turn_guessed(site, seat, cores, roster) {
@@ -140,15 +133,8 @@ fn turn_guessed<C: CoreStepper + Drop, G: Gate>(
     cores: &mut [Player<C>],
     roster: &mut Roster,
 ) -> bool
-    requires board { IsSeatOf site.now.board.now seat.old }
-    requires cores { AreCores C.kind cores.old }
-    requires agree { CoresAgree C.kind cores.old (view_of seat.old) }
-    requires ticks { AreTicks C.kind cores.old (view_of seat.old) roster.old.ticks }
-    ensures board { IsSeatOf site.now.board.now seat.new }
-    ensures cores { AreCores C.kind cores.new }
-    ensures ticks { AreTicks C.kind cores.new (view_of seat.new) roster.new.ticks }
-    ensures posting { roster.new.posting ≡ roster.old.posting }
-    ensures goes { CoresGoOn C.kind cores.old (view_of seat.old) cores.new (view_of seat.new) }
+    requires { CanTurn C.kind site.now.board.now seat.old cores.old roster.old.ticks }
+    ensures turned { HasTurned C.kind site.now.board.now seat.old cores.old roster.old seat.new cores.new roster.new }
     ensures told { GuessTold roster.old.ticks result roster.new.ticks }
 {
     let core = roster.guess.core();
@@ -171,15 +157,8 @@ fn turn_least<C: CoreStepper + Drop, G: Gate>(
     cores: &mut [Player<C>],
     roster: &mut Roster,
 ) -> Progress
-    requires board { IsSeatOf site.now.board.now seat.old }
-    requires cores { AreCores C.kind cores.old }
-    requires agree { CoresAgree C.kind cores.old (view_of seat.old) }
-    requires ticks { AreTicks C.kind cores.old (view_of seat.old) roster.old.ticks }
-    ensures board { IsSeatOf site.now.board.now seat.new }
-    ensures cores { AreCores C.kind cores.new }
-    ensures ticks { AreTicks C.kind cores.new (view_of seat.new) roster.new.ticks }
-    ensures posting { roster.new.posting ≡ roster.old.posting }
-    ensures goes { CoresGoOn C.kind cores.old (view_of seat.old) cores.new (view_of seat.new) }
+    requires { CanTurn C.kind site.now.board.now seat.old cores.old roster.old.ticks }
+    ensures turned { HasTurned C.kind site.now.board.now seat.old cores.old roster.old seat.new cores.new roster.new }
     ensures told { CoresTold C.kind roster.old.ticks (view_of seat.old) result cores.new roster.new.ticks (view_of seat.new) }
 {
     if cores.is_empty() {
@@ -207,18 +186,11 @@ fn run_core<C: CoreStepper + Drop, G: Gate>(
     core: u32,
     limit: u32,
 ) -> Progress
-    requires board { IsSeatOf site.now.board.now seat.old }
-    requires cores { AreCores C.kind cores.old }
-    requires agree { CoresAgree C.kind cores.old (view_of seat.old) }
-    requires ticks { AreTicks C.kind cores.old (view_of seat.old) roster.old.ticks }
+    requires turn { CanTurn C.kind site.now.board.now seat.old cores.old roster.old.ticks }
     requires core { core < length cores.old }
     requires on { slice_index roster.old.ticks core ≢ THE_OUT }
     requires limit { slice_index roster.old.ticks core ≤ limit }
-    ensures board { IsSeatOf site.now.board.now seat.new }
-    ensures cores { AreCores C.kind cores.new }
-    ensures ticks { AreTicks C.kind cores.new (view_of seat.new) roster.new.ticks }
-    ensures posting { roster.new.posting ≡ roster.old.posting }
-    ensures goes { CoresGoOn C.kind cores.old (view_of seat.old) cores.new (view_of seat.new) }
+    ensures turned { HasTurned C.kind site.now.board.now seat.old cores.old roster.old seat.new cores.new roster.new }
     ensures told { RunTold C.kind core roster.old.ticks (view_of seat.old) result cores.new roster.new.ticks (view_of seat.new) }
 {
     let player = &mut cores[core as usize];

@@ -1,16 +1,20 @@
 -- What a turn of steps brings.
 use Rattle.std.specs.Prelude.{◌≡◌, ◌≢◌, ◌⊎◌, ℕ, ◌+◌, ◌<◌, ◌≤◌, Bool, true, false, List, Some, length, slice_get, slice_index}
+use Rattle.round_words.specs.declared.board.RoundBoard.{RoundBoard}
 use Rattle.round_words.specs.declared.view.View.{View}
+use Rattle.round_words.specs.SeatViews.{SeatView}
+use Rattle.round_words.specs.Seats.{view_of, IsSeatOf}
 use Rattle.round_words.specs.Views.{controller, holds, part}
 use Rattle.crew_turns.specs.Going.{PartsGoOn, SameActors}
 use Rattle.crew_turns.specs.Kinds.{Kind}
 use Rattle.crew_turns.specs.Numbers.{IsLeast}
 use Rattle.crew_turns.specs.Troops.{AllHaveEnded, AreAtRest}
-use Rattle.crew_turns.specs.Inside.Clocks.{lead_left, ticks_left}
+use Rattle.crew_turns.specs.Inside.Clocks.{AreTicks, lead_left, ticks_left}
 use Rattle.crew_turns.specs.declared.clocks.TheConstants.{OUT}
 use Rattle.crew_turns.specs.declared.player.Player.{Player}
 use Rattle.crew_turns.specs.declared.turning.Progress.{Progress}
 use Rattle.crew_turns.specs.declared.turning.Progress.TheVariants.{Moved, Waits, Stopped, Done}
+use Rattle.crew_turns.specs.declared.turning.Roster.{Roster}
 
 -- the core ran on as far as the clock, which is OUT where it has ended. Where it didn't move it waits
 abbrev pub RunsOn : {C : Type 0} → Kind C → C → View → ℕ → C → View → Type 0
@@ -34,6 +38,24 @@ pub record CoresGoOn {C : Type 0} (core : Kind C) (cores : List (Player C)) (v :
   pub parts : PartsGoOn v w
   pub control : part w controller ≡ part v controller
   pub agree : CoresAgree core cores' w
+
+-- a turn of the cores can be made: they agree with the view of a seat of the board, and each core's number is right
+pub record CanTurn {C : Type 0} (core : Kind C) (of : RoundBoard) (seat : SeatView) (players : List (Player C))
+    (numbers : List ℕ) : Type 0 where
+  pub board : IsSeatOf of seat
+  pub cores : AreCores core players
+  pub agree : CoresAgree core players (view_of seat)
+  pub ticks : AreTicks core players (view_of seat) numbers
+
+-- a turn of the cores was made: cores made some steps, each core's number is right, and whether the controller is to go
+-- on is as it was
+pub record HasTurned {C : Type 0} (core : Kind C) (of : RoundBoard) (seat : SeatView) (players : List (Player C))
+    (roster : Roster) (seat' : SeatView) (players' : List (Player C)) (roster' : Roster) : Type 0 where
+  pub board : IsSeatOf of seat'
+  pub cores : AreCores core players'
+  pub ticks : AreTicks core players' (view_of seat') roster'.ticks
+  pub posting : roster'.posting ≡ roster.posting
+  pub goes : CoresGoOn core players (view_of seat) players' (view_of seat')
 
 -- what came of the turn of core c
 abbrev pub RunTold : {C : Type 0} → Kind C → ℕ → List ℕ → View → Progress → List (Player C) → List ℕ → View → Type 0
