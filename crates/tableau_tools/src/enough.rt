@@ -15,7 +15,8 @@ use tab_core::{MAX_TICK_NS, MIN_TICK_NS, ROUND};
 /// themselves, on hosts of as many cores as the host of most cores has. A VM that fits no such host alone is refused.
 ///
 /// There is room on a host for each VM, but more hosts are walked for each VM too. So few are tried first, and twice as
-/// many where these don't do. Hosts that have no VM don't change where the others go.
+/// many where these don't do. Hosts that have no VM don't change where the others go, which is argued and not proved: a
+/// VM goes to the fullest host that it fits.
 pub(crate) fn more_hosts<T: Threads + Sync>(
     threads: &T,
     alloc: Global,
